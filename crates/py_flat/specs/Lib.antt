@@ -1,0 +1,11 @@
+pub mod Limits
+pub mod Bytes
+pub mod Lines
+pub mod Calls
+pub mod FlatFile
+pub mod Refusals
+pub mod ExactStep
+pub mod AllowedStep
+pub mod BinaryStep
+pub mod Owed
+pub mod Causes
