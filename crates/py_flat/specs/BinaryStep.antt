@@ -1,14 +1,14 @@
 -- What may come of a call of a binary stream over any raw: the allowed step on flat files.
-use Rattle.std.specs.Prelude.{◌≡◌, ◌≢◌, ℕ, ◌+◌, ◌<◌, ◌≤◌, ◌⊎◌, Bool, true, false, ◌&&◌, ◌||◌, not, IsTrue, ℤ, pos, zero, suc, List, [], ◌++◌, length, take, drop, Option, Some, None, is_none}
+use Rattle.std.specs.Prelude.{◌≡◌, ◌≢◌, ℕ, ◌<◌, ◌≤◌, ◌⊎◌, Bool, true, false, ◌&&◌, ◌||◌, not, IsTrue, pos, zero, suc, List, [], ◌++◌, length, take, drop, Option, Some, None, is_none}
 use Rattle.py_flat.specs.declared.fault.IoFault.{IoFault}
 use Rattle.py_flat.specs.declared.fault.IoFault.TheVariants as fault
 use Rattle.py_flat.specs.declared.life.Life.{Life}
 use Rattle.py_flat.specs.declared.life.Life.TheVariants as life
 use Rattle.py_flat.specs.Bytes.{lay, resized, first_of}
 use Rattle.py_flat.specs.Lines.{Lf, first_line, lines_within, joined}
-use Rattle.py_flat.specs.Calls.{FileCall, Read, Read1, ReadLine, ReadLines, Peek, ReadInto, ReadInto1, Write, WriteLines, Seek, Tell, Truncate, Flush, Close, Detach, Readable, Writable, Seekable, Closed, OtherKind, FileReply, Bytes, Lines, Count, Done, NotReady, Unwritten, Refused}
+use Rattle.py_flat.specs.Calls.{FileCall, Read, Read1, ReadLine, ReadLines, Peek, ReadInto, ReadInto1, Write, WriteLines, Seek, Tell, Truncate, Flush, Close, Detach, FileReply, Bytes, Lines, Count, NotReady, Unwritten, Refused}
 use Rattle.py_flat.specs.FlatFile.{FlatFile, Buffering, Unbuffered, Buffered}
-use Rattle.py_flat.specs.Refusals.{refusal, is_getter, lacks, is_unbuffered}
+use Rattle.py_flat.specs.Refusals.{refusal, is_getter, lacks}
 use Rattle.py_flat.specs.ExactStep.{rest, after_read, after_write, in_life, buffer_full, one_transfer, carried_out}
 use Rattle.py_flat.specs.AllowedStep.{AllowedStep}
 

@@ -1,5 +1,5 @@
 -- A file's bytes, read from a place and written at a place. A character list of a memory stream goes the same way.
-use Rattle.std.specs.Prelude.{ℕ, ◌+◌, ◌-◌, List, [], ◌∷◌, ◌++◌, length, take, drop, replicate, Option, Some, None, Bool, nat_eq, if◌then◌else◌}
+use Rattle.std.specs.Prelude.{ℕ, ◌+◌, ◌-◌, List, [], ◌∷◌, ◌++◌, length, take, drop, replicate, Option, Some, None, nat_eq, if◌then◌else◌}
 
 -- what is left from a place on: nothing at the end and past it
 abbrev pub left_at : List ℕ → ℕ → List ℕ

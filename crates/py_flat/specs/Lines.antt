@@ -1,5 +1,5 @@
 -- Where lines end, and how a list is cut into them. Bytes and characters go the same way: each is its number.
-use Rattle.std.specs.Prelude.{ℕ, ◌+◌, Bool, true, false, ◌&&◌, ◌||◌, not, List, [], ◌∷◌, ◌++◌, length, Option, Some, None, nat_eq, nat_le, nat_lt, if◌then◌else◌}
+use Rattle.std.specs.Prelude.{ℕ, ◌+◌, Bool, false, ◌&&◌, ◌||◌, not, List, [], ◌∷◌, ◌++◌, length, Option, Some, None, nat_eq, nat_le, nat_lt, if◌then◌else◌}
 use Rattle.py_flat.specs.Bytes.{first_of}
 
 -- what ends a line: LF; CR; CR LF; any of these

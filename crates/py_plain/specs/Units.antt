@@ -1,0 +1,20 @@
+-- The first unit of some bytes in any encoding.
+use Rattle.std.specs.Prelude.{ℕ, Bool, List, Option}
+use Rattle.py_plain.specs.declared.encoding.Encoding.{Encoding}
+use Rattle.py_plain.specs.declared.encoding.Encoding.TheVariants.{Utf8}
+use Rattle.py_plain.specs.declared.unit.Unit.{Unit}
+use Rattle.py_plain.specs.Utf8.{utf8_unit}
+
+-- the order of the bytes of a unit, as a mark at the start of a stream says it: none has been read, or little or big end first
+pub data Order : Type 0 where
+  Unknown : Order
+  Little : Order
+  Big : Order
+
+-- what some bytes begin with, read in an order; `at_start` says that they stand at byte place 0
+abbrev pub first_unit : Encoding → Order → Bool → List ℕ → Option Unit
+first_unit Utf8 order at_start bytes = utf8_unit bytes
+
+-- the order that holds behind a unit
+abbrev pub order_after : Encoding → Order → Option Unit → Order
+order_after Utf8 order unit = order

@@ -1,0 +1,16 @@
+//! What every text is compared with: the newline rule over the plain decoding of all the bytes at once.
+//!
+//! Here are the definitions (`specs/`): the first unit of some bytes, what a handler makes of a refused range, items
+//! and the plain decoding, the newline rule and the first line, the place in a text and what is left from it, and the
+//! step of each call. Beside them is the plain slow program that decodes a whole list and answers calls on it.
+#![tactic(auto)]
+
+mod encoding;
+mod handler;
+mod newlines;
+mod unit;
+
+pub use encoding::Encoding;
+pub use handler::Handler;
+pub use newlines::Newlines;
+pub use unit::Unit;
