@@ -1,0 +1,5 @@
+pub mod RawStream
+pub mod RawMode
+pub mod Source
+pub mod Sink
+pub mod Opener

@@ -1,0 +1,18 @@
+//! The outside: raw streams, what opens them, and where a program reads its script and prints its replies.
+//!
+//! Each is a trait whose clauses say all that the layers above may rest on: what moves, when it may fail or ask to
+//! wait, and which counts rise then. What an outside doesn't tell (a real file tells no content) is claimed of none.
+#![tactic(auto)]
+
+mod opener;
+mod raw_error;
+mod raw_stream;
+mod sink;
+mod source;
+
+pub use opener::{OpenError, Opener};
+pub use py_flat::{Chars, Data, IoFault, Life, Lines, ModeError, ParseModeError};
+pub use raw_error::RawError;
+pub use raw_stream::RawStream;
+pub use sink::Sink;
+pub use source::{Failed, Source};

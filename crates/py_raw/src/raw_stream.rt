@@ -1,0 +1,98 @@
+ghost use Rattle.std.specs.Prelude.{◌≡◌, ◌≤◌, true, false, length, IsTrue};
+ghost use Rattle.py_flat.specs.Limits.{greatest_place};
+ghost use Rattle.py_raw.specs.RawStream.{Raw, Keeps, StaysOpen, ReadOutcome, WriteOutcome, SeekOutcome, TellOutcome, EndOutcome, TruncateOutcome, CloseOutcome, WriteFits};
+
+use crate::RawError;
+
+/// A stream of bytes under the buffers: a file, a pipe, a device, or memory.
+///
+/// Places and sizes are bytes from the start, at most 9223372036854775807. A call may move fewer bytes than asked,
+/// ask to wait (`None`) or fail; each of these has its cause in a count of the stream that rose.
+pub trait RawStream {
+    /// What the stream shows: its counts, what it can do, and, where it tells them, its bytes and place.
+    ghost shows: { Self → Raw };
+
+    /// Reads up to as many bytes as `buf` is long, from the place on, into its front; the place moves behind them.
+    ///
+    /// `Some(n)` says how many: 0 into a buffer that isn't empty only at the end or past it. `None`: not ready, all is
+    /// as before. After `Fault` the bytes are unchanged; after `Memory` all is.
+    fn readinto(&mut self, buf: &mut [u8]) -> Result<Option<usize>, RawError>
+        requires open { (shows self.old).closed ≡ false }
+        requires can { (shows self.old).readable ≡ true }
+        ensures keeps { Keeps (shows self.old) (shows self.new) }
+        ensures open { StaysOpen (shows self.old) (shows self.new) }
+        ensures outcome { ReadOutcome (shows self.old) buf.old result buf.new (shows self.new) };
+
+    /// Writes a front of `piece` at the place, zeros up to it where it lies past the end; the place moves behind it.
+    ///
+    /// `Some(n)` says how many bytes were taken; 0 of a piece that isn't empty is a fault. `None`: not ready, all is as
+    /// before. After `Fault` a front of the piece may have been written; after `Memory` all is unchanged.
+    fn write(&mut self, piece: &[u8]) -> Result<Option<usize>, RawError>
+        requires open { (shows self.old).closed ≡ false }
+        requires can { (shows self.old).writable ≡ true }
+        requires fits { WriteFits (shows self.old) piece.now }
+        ensures keeps { Keeps (shows self.old) (shows self.new) }
+        ensures open { StaysOpen (shows self.old) (shows self.new) }
+        ensures outcome { WriteOutcome (shows self.old) piece.now result (shows self.new) };
+
+    /// Moves to a place from the start; past the end is allowed. After an error the bytes are unchanged.
+    fn seek(&mut self, place: u64) -> Result<(), RawError>
+        requires open { (shows self.old).closed ≡ false }
+        requires can { (shows self.old).seekable ≡ true }
+        requires within { place ≤ greatest_place }
+        ensures keeps { Keeps (shows self.old) (shows self.new) }
+        ensures open { StaysOpen (shows self.old) (shows self.new) }
+        ensures outcome { SeekOutcome (shows self.old) place result (shows self.new) };
+
+    /// The place. After an error the bytes are unchanged.
+    fn tell(&mut self) -> Result<u64, RawError>
+        requires open { (shows self.old).closed ≡ false }
+        requires can { (shows self.old).seekable ≡ true }
+        ensures keeps { Keeps (shows self.old) (shows self.new) }
+        ensures open { StaysOpen (shows self.old) (shows self.new) }
+        ensures outcome { TellOutcome (shows self.old) result (shows self.new) };
+
+    /// How many bytes there are; the place is kept. After an error the bytes are unchanged.
+    fn end(&mut self) -> Result<u64, RawError>
+        requires open { (shows self.old).closed ≡ false }
+        requires can { (shows self.old).seekable ≡ true }
+        ensures keeps { Keeps (shows self.old) (shows self.new) }
+        ensures open { StaysOpen (shows self.old) (shows self.new) }
+        ensures outcome { EndOutcome (shows self.old) result (shows self.new) };
+
+    /// Cuts the bytes to a size, or lengthens them by zeros; the place is kept.
+    ///
+    /// After `Fault` the bytes are unchanged or have that size; after `Memory` all is unchanged.
+    fn truncate(&mut self, size: u64) -> Result<(), RawError>
+        requires open { (shows self.old).closed ≡ false }
+        requires can { (shows self.old).writable ≡ true }
+        requires within { size ≤ greatest_place }
+        ensures keeps { Keeps (shows self.old) (shows self.new) }
+        ensures open { StaysOpen (shows self.old) (shows self.new) }
+        ensures outcome { TruncateOutcome (shows self.old) size result (shows self.new) };
+
+    /// Closes the stream, which stays closed after `Fault` too. After `Memory` nothing changed.
+    fn close(&mut self) -> Result<(), RawError>
+        requires open { (shows self.old).closed ≡ false }
+        ensures keeps { Keeps (shows self.old) (shows self.new) }
+        ensures outcome { CloseOutcome (shows self.old) result (shows self.new) };
+
+    /// Whether the stream is closed.
+    fn closed(&self) -> bool
+        ensures { result ≡ (shows self.now).closed };
+
+    /// Whether it can be read from, closed or not.
+    fn readable(&self) -> bool
+        ensures { result ≡ (shows self.now).readable };
+
+    /// Whether it can be written to, closed or not.
+    fn writable(&self) -> bool
+        ensures { result ≡ (shows self.now).writable };
+
+    /// Whether it can be moved, closed or not.
+    fn seekable(&self) -> bool
+        ensures { result ≡ (shows self.now).seekable };
+
+    /// The bytes that it tells are no longer than a file can be.
+    ghost told_length: { (raw : Self) → IsTrue (shows raw).tells → length (shows raw).bytes ≤ greatest_place };
+}
