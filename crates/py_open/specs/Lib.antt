@@ -1,0 +1,2 @@
+pub mod OpenArgs
+pub mod Reader

@@ -1,0 +1,104 @@
+-- The buffered reader under a text: what it is seen as, and what its calls may do.
+use Rattle.std.specs.Prelude.{◌≡◌, ◌≢◌, ℕ, ◌+◌, ◌-◌, ◌<◌, ◌≤◌, true, false, IsTrue, List, [], ◌++◌, length, take, drop, Option, Some, None, Result, Ok, Err, Vec}
+use Rattle.std.specs.declared.alloc.Global.{Global}
+use Rattle.py_flat.specs.declared.fault.IoFault.{IoFault}
+use Rattle.py_flat.specs.declared.fault.IoFault.TheVariants as fault
+use Rattle.py_flat.specs.declared.life.Life.{Life}
+use Rattle.py_flat.specs.declared.life.Life.TheVariants as life
+use Rattle.py_flat.specs.Limits.{greatest_place}
+use Rattle.py_flat.specs.Bytes.{left_at}
+use Rattle.py_flat.specs.Causes.{Rose}
+use Rattle.py_flat.specs.Refusals.{life_fault}
+use Rattle.py_flat.specs.BinaryStep.{IsFrontOf}
+use Rattle.py_raw.specs.declared.raw_error.RawError.{RawError}
+use Rattle.py_raw.specs.declared.raw_error.RawError.TheVariants as raw_error
+use Rattle.py_raw.specs.RawStream.{Raw, Keeps, WhereTold, AsksToWait, FailsWithout, LacksMemory}
+
+-- the raw, the place of the next byte, the life, the buffer's size, and the bytes that it holds from there on
+pub record ReaderView : Type 0 where
+  pub raw : Raw
+  pub place : ℕ
+  pub life : Life
+  pub size : ℕ
+  pub held : List ℕ
+
+-- told: the held bytes are the raw's from the place on, and the raw stands behind them
+pub record HoldsTold (raw : Raw) (place : ℕ) (held : List ℕ) : Type 0 where
+  pub bytes : left_at raw.bytes place ≡ held ++ left_at raw.bytes raw.place
+  pub behind : raw.place ≡ place + length held
+
+-- what holds of every reader
+pub record IsReader (raw : Raw) (place : ℕ) (current : Life) (size : ℕ) (held : List ℕ) : Type 0 where
+  pub buffered : 0 < size
+  pub reads : raw.readable ≡ true
+  pub is_open : current ≡ life.Live → raw.closed ≡ false
+  pub within : place + length held ≤ greatest_place
+  pub told : WhereTold raw (current ≡ life.Live → HoldsTold raw place held)
+
+-- told: a buffer that was filled from a place, where the raw stood, holds what comes there; nothing only at the end
+pub record FillsTold (old : Raw) (size place count : ℕ) (buffer : List ℕ) (new : Raw) : Type 0 where
+  pub bytes : new.bytes ≡ old.bytes
+  pub holds : old.place ≡ place → HoldsTold new place (take count buffer)
+  pub end : old.place ≡ place → 0 < size → count ≡ 0 → length old.bytes ≤ place
+
+pub record Fills (old : Raw) (size place count : ℕ) (buffer : List ℕ) (new : Raw) : Type 0 where
+  pub fits : count ≤ size
+  pub within : place + count ≤ greatest_place
+  pub told : WhereTold old (FillsTold old size place count buffer new)
+
+-- one transfer into a buffer of a size; the fault of the raw and the want of memory are its own
+abbrev pub FillOutcome : Raw → ℕ → ℕ → Result (Option ℕ) RawError → List ℕ → Raw → Type 0
+FillOutcome old size place (Ok (Some count)) buffer new = Fills old size place count buffer new
+FillOutcome old size place (Ok None) buffer new = AsksToWait old new
+FillOutcome old size place (Err raw_error.Fault) buffer new = FailsWithout 1 old new
+FillOutcome old size place (Err raw_error.Memory) buffer new = LacksMemory old new
+
+-- what every call keeps: the buffer's size; of the raw what it can do, its counts, and its bytes
+pub record KeepsReader (old new : ReaderView) : Type 0 where
+  pub size : new.size ≡ old.size
+  pub raw : Keeps old.raw new.raw
+  pub bytes : WhereTold old.raw (new.raw.bytes ≡ old.raw.bytes)
+
+-- nothing was given: place and life are as before
+pub record GivesNothing (old new : ReaderView) : Type 0 where
+  pub place : new.place ≡ old.place
+  pub life : new.life ≡ old.life
+
+-- told: a front of what is left, empty only at the end
+pub record GivesTold (old : ReaderView) (size : ℕ) (part : List ℕ) : Type 0 where
+  pub front : IsFrontOf part (left_at old.raw.bytes old.place)
+  pub end : part ≡ [] → 0 < size → length old.raw.bytes ≤ old.place
+
+-- some bytes were given, and the place moved behind them
+pub record Gives (old : ReaderView) (size : ℕ) (part : List ℕ) (new : ReaderView) : Type 0 where
+  pub fits : length part ≤ size
+  pub live : new.life ≡ life.Live
+  pub place : new.place ≡ old.place + length part
+  pub told : WhereTold old.raw (GivesTold old size part)
+
+-- the faults of a read: by the life, with all as it was; of the raw, which fails the reader; for want of memory
+abbrev pub ReadFails : ReaderView → IoFault → ReaderView → Type 0
+ReadFails old fault.RawFault new = Rose old.raw.faults new.raw.faults × (new.life ≡ life.Failed)
+ReadFails old fault.NoMemory new = GivesNothing old new
+ReadFails old fault new = (life_fault old.life ≡ Some fault) × (new ≡ old)
+
+abbrev pub Read1Outcome : ReaderView → ℕ → Result (Option (Vec ℕ Global)) IoFault → ReaderView → Type 0
+Read1Outcome old size (Ok (Some part)) new = Gives old size part.items new
+Read1Outcome old size (Ok None) new = Rose old.raw.waits new.raw.waits × GivesNothing old new
+Read1Outcome old size (Err fault) new = ReadFails old fault new
+
+-- what the buffer holds is given: the raw isn't called
+abbrev pub GivesHeld : ReaderView → ℕ → Result (Option (Vec ℕ Global)) IoFault → ReaderView → Type 0
+GivesHeld old size (Ok (Some part)) new = (part.items ≡ take size old.held) × (new ≡ record old { place = old.place + length part.items; held = drop size old.held })
+GivesHeld old size (Ok None) new = ⊥
+GivesHeld old size (Err refused) new = (refused ≡ fault.NoMemory) × (new ≡ old)
+
+-- closing: a closed reader stays so; a fault of the raw leaves it closed; want of memory, and a life that refuses, as it was
+abbrev pub CloseFails : ReaderView → IoFault → ReaderView → Type 0
+CloseFails old fault.RawFault new = Rose old.raw.faults new.raw.faults × (new.life ≡ life.Closed)
+CloseFails old fault.NoMemory new = new ≡ old
+CloseFails old fault new = (life_fault old.life ≡ Some fault) × (new ≡ old)
+
+abbrev pub CloseOutcome : ReaderView → Result (Unit {0}) IoFault → ReaderView → Type 0
+CloseOutcome old (Ok done) new = (new.life ≡ life.Closed) × (old.life ≡ life.Closed → new ≡ old)
+CloseOutcome old (Err fault) new = CloseFails old fault new

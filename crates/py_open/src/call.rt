@@ -1,0 +1,95 @@
+ghost use Rattle.std.specs.Prelude.{◌≡◌, IfOk};
+
+use py_flat::{Chars, Data, Lines};
+use std::alloc::{AllocError, Global};
+
+/// A call of a session. Sizes, limits and places are bytes of a binary session and characters of a text one; `None`
+/// stands for a size that isn't given.
+#[derive(Debug, Drop)]
+pub enum Call {
+    /// Reads so many, or all.
+    Read(Option<usize>),
+    /// Reads by one transfer, at most so many bytes.
+    Read1(Option<usize>),
+    /// Reads a line with its end, at most so many.
+    ReadLine(Option<usize>),
+    /// Reads lines until their total is above the hint.
+    ReadLines(Option<usize>),
+    /// Shows some bytes that come next.
+    Peek,
+    /// Reads so many bytes into a buffer.
+    ReadInto(usize),
+    /// Reads at most so many bytes into a buffer, by one transfer.
+    ReadInto1(usize),
+    /// Writes bytes.
+    Write(Data),
+    /// Writes lines, one behind the other.
+    WriteLines(Lines),
+    /// Writes a text.
+    WriteText(Chars),
+    /// Moves by an offset from the start (0), the place (1) or the end (2).
+    Seek(i64, i32),
+    /// Moves a text to a cookie, or by whence 1 or 2.
+    SeekText(Data, i32),
+    /// Asks for the place, of a text for its cookie.
+    Tell,
+    /// Cuts or lengthens the file to a size, or to the place.
+    Truncate(Option<u64>),
+    /// Passes on what is owed.
+    Flush,
+    /// Closes the session.
+    Close,
+    /// Hands the lower stream back.
+    Detach,
+    /// Asks for a text's chunk size.
+    ChunkSize,
+    /// Sets a text's chunk size.
+    SetChunkSize(usize),
+    /// Asks whether the session reads.
+    Readable,
+    /// Asks whether it writes.
+    Writable,
+    /// Asks whether it can be moved.
+    Seekable,
+    /// Asks whether it is closed.
+    Closed,
+    /// Asks for a text's encoding.
+    Encoding,
+    /// Asks for a text's handler.
+    Errors,
+}
+
+impl Call {
+    /// A copy of the same call, or `Err` for want of memory.
+    pub fn try_clone(&self, alloc: Global) -> Result<Self, AllocError>
+        ensures { IfOk result (λ call. call ≡ self.now) }
+    {
+        Ok(match self {
+            Call::Read(size) => Call::Read(*size),
+            Call::Read1(size) => Call::Read1(*size),
+            Call::ReadLine(limit) => Call::ReadLine(*limit),
+            Call::ReadLines(hint) => Call::ReadLines(*hint),
+            Call::Peek => Call::Peek,
+            Call::ReadInto(size) => Call::ReadInto(*size),
+            Call::ReadInto1(size) => Call::ReadInto1(*size),
+            Call::Write(bytes) => Call::Write(bytes.try_clone(alloc)?),
+            Call::WriteLines(lines) => Call::WriteLines(lines.try_clone(alloc)?),
+            Call::WriteText(text) => Call::WriteText(text.try_clone(alloc)?),
+            Call::Seek(offset, whence) => Call::Seek(*offset, *whence),
+            Call::SeekText(cookie, whence) => Call::SeekText(cookie.try_clone(alloc)?, *whence),
+            Call::Tell => Call::Tell,
+            Call::Truncate(size) => Call::Truncate(*size),
+            Call::Flush => Call::Flush,
+            Call::Close => Call::Close,
+            Call::Detach => Call::Detach,
+            Call::ChunkSize => Call::ChunkSize,
+            Call::SetChunkSize(size) => Call::SetChunkSize(*size),
+            Call::Readable => Call::Readable,
+            Call::Writable => Call::Writable,
+            Call::Seekable => Call::Seekable,
+            Call::Closed => Call::Closed,
+            Call::Encoding => Call::Encoding,
+            Call::Errors => Call::Errors,
+        })
+    }
+}

@@ -1,0 +1,16 @@
+//! Opening by a mode, and sessions: calls made one by one, each answered as the model says.
+//!
+//! `run_session` opens a session over a raw stream and makes a list of calls; its replies are a run of the model from
+//! the opening's flat file to the session's own. The buffered reader, the decoder and the text are private parts.
+#![tactic(auto)]
+
+mod call;
+mod mode;
+mod open_args;
+mod reader;
+mod reply;
+
+pub use call::Call;
+pub use mode::{EncodeMode, FileMode, Mode};
+pub use open_args::OpenArgs;
+pub use reply::Reply;

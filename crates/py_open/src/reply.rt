@@ -1,0 +1,56 @@
+ghost use Rattle.std.specs.Prelude.{◌≡◌, IfOk};
+
+use py_flat::{Chars, Data, IoFault, Lines};
+use std::alloc::{AllocError, Global};
+
+/// What a session answers to a call.
+#[derive(Debug, Drop)]
+pub enum Reply {
+    /// Bytes that were read.
+    Bytes(Data),
+    /// Characters that were read.
+    Text(Chars),
+    /// Lines that were read.
+    Lines(Lines),
+    /// How many bytes or characters were written; of `ChunkSize` the size.
+    Count(u64),
+    /// A place, or the size of a truncated file, in bytes.
+    Place(u64),
+    /// Done.
+    Done,
+    /// The raw asked to wait before anything was read.
+    NotReady,
+    /// Yes or no.
+    Flag(bool),
+    /// The name of an encoding or a handler.
+    Name(Chars),
+    /// The bytes that the raw isn't known to have taken, and where the first of them belongs (`None` where the raw
+    /// can't seek).
+    Unwritten { bytes: Data, place: Option<u64> },
+    /// Why the call was refused.
+    Refused(IoFault),
+}
+
+impl Reply {
+    /// A copy of the same reply, or `Err` for want of memory.
+    pub fn try_clone(&self, alloc: Global) -> Result<Self, AllocError>
+        ensures { IfOk result (λ reply. reply ≡ self.now) }
+    {
+        Ok(match self {
+            Reply::Bytes(bytes) => Reply::Bytes(bytes.try_clone(alloc)?),
+            Reply::Text(text) => Reply::Text(text.try_clone(alloc)?),
+            Reply::Lines(lines) => Reply::Lines(lines.try_clone(alloc)?),
+            Reply::Count(count) => Reply::Count(*count),
+            Reply::Place(place) => Reply::Place(*place),
+            Reply::Done => Reply::Done,
+            Reply::NotReady => Reply::NotReady,
+            Reply::Flag(value) => Reply::Flag(*value),
+            Reply::Name(name) => Reply::Name(name.try_clone(alloc)?),
+            Reply::Unwritten { bytes, place } => Reply::Unwritten {
+                bytes: bytes.try_clone(alloc)?,
+                place: *place,
+            },
+            Reply::Refused(fault) => Reply::Refused(*fault),
+        })
+    }
+}
