@@ -7,6 +7,7 @@
 
 mod chars;
 mod data;
+mod examples;
 mod fault;
 mod life;
 mod lines;
