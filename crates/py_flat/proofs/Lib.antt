@@ -1,1 +1,4 @@
+pub mod Cutting
+pub mod Laying
+pub mod Settling
 mod Text

@@ -1,6 +1,5 @@
 -- What the worked examples speak of: flat files to begin with, and runs of calls.
-use Rattle.std.specs.Prelude.{ℕ, Bool, true, false, List, [], ◌∷◌, length}
-use Rattle.py_flat.specs.declared.life.Life.{Life}
+use Rattle.std.specs.Prelude.{ℕ, true, false, List, [], ◌∷◌, length}
 use Rattle.py_flat.specs.declared.life.Life.TheVariants as life
 use Rattle.py_flat.specs.Calls.{FileCall, FileReply}
 use Rattle.py_flat.specs.FlatFile.{Abilities, Buffering, Unbuffered, Buffered, FlatFile}
