@@ -1,4 +1,5 @@
-ghost use Rattle.std.specs.Prelude.{◌≡◌, ◌≢◌, ℕ, ◌+◌, ◌<◌, ◌≤◌, max, true, false, ◌↔◌, Option, Some, List, [], ◌++◌, length, take, drop};
+ghost use Rattle.std.specs.Prelude.{◌≡◌, ◌≢◌, ℕ, ◌+◌, ◌<◌, ◌≤◌, max, nat_eq, true, false, ◌↔◌, Option, Some, List, [], ◌++◌, length, take, drop};
+ghost use Rattle.std.specs.Cmp.Lexicographic.{pointwise};
 ghost use Rattle.py_flat.specs.declared.fault.IoFault.{IoFault};
 ghost use Rattle.py_flat.specs.declared.fault.IoFault.TheVariants as fault;
 ghost use Rattle.py_flat.specs.Bytes.{lay};
@@ -82,4 +83,10 @@ pub fn counts_rise_or_stand_at_their_end()
     ensures never_falls { (more old new : ℕ) → RoseBy more old new → old ≤ greatest_count → old ≤ new }
     ensures risen { (more old new : ℕ) → 0 < more → RoseBy more old new → Rose old new }
     ensures tested { (old new : ℕ) → (rose old new ≡ true) ↔ Rose old new }
+{}
+
+/// What `==` finds equal is the same: bytes, or characters, and lines.
+pub fn equal_lists_are_the_same()
+    ensures bytes { (a b : List ℕ) → (pointwise nat_eq a b ≡ true) ↔ (a ≡ b) }
+    ensures lines { (a b : List (List ℕ)) → (pointwise (pointwise nat_eq) a b ≡ true) ↔ (a ≡ b) }
 {}

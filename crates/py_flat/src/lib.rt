@@ -29,9 +29,9 @@ pub use fault::IoFault;
 pub use laws::{
     a_first_line_is_a_front, a_laying_resumes_from_within_its_front, a_settled_refusal_leaves_all,
     a_settled_reply_blames_nobody, a_smooth_step_is_settled, counts_rise_or_stand_at_their_end,
-    laying_behind_is_laying_both, laying_lengthens_to_its_end, laying_nothing_changes_nothing,
-    laying_over_hides_what_was_laid, lines_joined_are_the_whole, nothing_owed_is_the_raw,
-    what_was_laid_is_read_back,
+    equal_lists_are_the_same, laying_behind_is_laying_both, laying_lengthens_to_its_end,
+    laying_nothing_changes_nothing, laying_over_hides_what_was_laid, lines_joined_are_the_whole,
+    nothing_owed_is_the_raw, what_was_laid_is_read_back,
 };
 pub use life::Life;
 pub use lines::Lines;
