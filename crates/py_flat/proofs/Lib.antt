@@ -1,1 +1,5 @@
+pub mod Cutting
+pub mod Equality
+pub mod Laying
+pub mod Settling
 mod Text

@@ -9,3 +9,4 @@ pub mod AllowedStep
 pub mod BinaryStep
 pub mod Owed
 pub mod Causes
+pub mod Examples

@@ -1,4 +1,6 @@
-ghost use Rattle.std.specs.Prelude.{◌≡◌, [], chars, string_bytes, IfOk};
+ghost use Rattle.std.specs.Prelude.{◌≡◌, [], chars, string_bytes, nat_eq, IfOk};
+ghost use Rattle.std.specs.Cmp.{partial_equiv_from_equiv};
+ghost use Rattle.std.specs.Cmp.Lexicographic.{pointwise, nat_list_eq_equiv};
 
 use std::alloc::{AllocError, Global};
 use std::marker::Model;
@@ -63,5 +65,41 @@ impl Chars {
         ensures { IfOk result (λ c. c ≡ self.now) }
     {
         Chars::from_text(alloc, &self.text)
+    }
+}
+
+/// Two texts are equal that have the same characters.
+impl PartialEq for Chars {
+    ghost eq = { pointwise nat_eq };
+
+    ghost laws = { partial_equiv_from_equiv nat_list_eq_equiv };
+
+    fn eq(&self, other: &Self) -> bool {
+        self.as_str() == other.as_str()
+    }
+}
+
+impl Eq for Chars {
+    ghost laws = { nat_list_eq_equiv };
+}
+
+#[cfg(test)]
+mod tests {
+    use super::*;
+    use std::test::Fail;
+
+    #[test]
+    fn chars_keep_their_text(rt: HostRuntime) -> Result<(), Fail> {
+        let alloc = rt.alloc();
+        assert_eq!(rt; Chars::new(alloc).as_str(), "");
+        for text in ["", "a\r\n", "é€\u{1F600}"] {
+            let chars = Chars::from_text(alloc, text)?;
+            assert_eq!(rt; chars.as_str(), text);
+            let copy = chars.try_clone(alloc)?;
+            assert_eq!(rt; copy, chars);
+            assert_eq!(rt; Chars::from_string(copy.into_string()).as_str(), text);
+        }
+        assert!(rt; Chars::from_text(alloc, "e")? != Chars::from_text(alloc, "é")?);
+        Ok(())
     }
 }

@@ -1,4 +1,6 @@
-ghost use Rattle.std.specs.Prelude.{◌≡◌, ◌↔◌, [], length, IsTrue, IfOk};
+ghost use Rattle.std.specs.Prelude.{◌≡◌, ◌↔◌, [], length, nat_eq, IsTrue, IfOk};
+ghost use Rattle.std.specs.Cmp.{partial_equiv_from_equiv};
+ghost use Rattle.std.specs.Cmp.Lexicographic.{pointwise, nat_list_eq_equiv};
 
 use std::alloc::{AllocError, Global};
 use std::marker::Model;
@@ -77,5 +79,47 @@ impl Data {
         ensures { IfOk result (λ d. d ≡ self.now) }
     {
         Data::from_slice(alloc, &self.bytes)
+    }
+}
+
+/// Two lists are equal that have the same bytes.
+impl PartialEq for Data {
+    ghost eq = { pointwise nat_eq };
+
+    ghost laws = { partial_equiv_from_equiv nat_list_eq_equiv };
+
+    fn eq(&self, other: &Self) -> bool {
+        self.as_slice() == other.as_slice()
+    }
+}
+
+impl Eq for Data {
+    ghost laws = { nat_list_eq_equiv };
+}
+
+#[cfg(test)]
+mod tests {
+    use super::*;
+    use std::test::Fail;
+
+    #[test]
+    fn data_keeps_its_bytes(rt: HostRuntime) -> Result<(), Fail> {
+        let alloc = rt.alloc();
+        assert_eq!(rt; Data::new(alloc).as_slice(), [].as_slice());
+        for (bytes, len, none) in [
+            (b"".as_slice(), 0, true),
+            (b"\0".as_slice(), 1, false),
+            (b"a\xFF\n".as_slice(), 3, false),
+        ] {
+            let data = Data::from_slice(alloc, bytes)?;
+            assert_eq!(rt; data.as_slice(), bytes);
+            assert_eq!(rt; data.len(), len);
+            assert_eq!(rt; data.is_empty(), none);
+            let copy = data.try_clone(alloc)?;
+            assert_eq!(rt; copy, data);
+            assert_eq!(rt; Data::from_vec(copy.into_vec()).as_slice(), bytes);
+        }
+        assert!(rt; Data::from_slice(alloc, b"ab")? != Data::from_slice(alloc, b"abc")?);
+        Ok(())
     }
 }

@@ -80,3 +80,40 @@ pub enum IoFault {
     #[error("index out of bounds on dimension {dimension}")]
     IndexError { dimension: usize },
 }
+
+#[cfg(test)]
+mod tests {
+    use super::*;
+    use std::test::Fail;
+
+    #[test]
+    fn faults_say_what_went_wrong(rt: HostRuntime) -> Result<(), Fail> {
+        let alloc = rt.alloc();
+        for (fault, text) in [
+            (IoFault::Closed, "I/O operation on closed file"),
+            (
+                IoFault::WouldBlock { taken: 7 },
+                "write could not complete without blocking (7 bytes taken)",
+            ),
+            (
+                IoFault::UnicodeDecodeError { start: 2, end: 5 },
+                "can't decode bytes in position 2-5",
+            ),
+            (
+                IoFault::IndexError { dimension: 1 },
+                "index out of bounds on dimension 1",
+            ),
+            (
+                IoFault::ParseMode(ParseModeError::NoFile),
+                "Must have exactly one of create/read/write/append mode and at most one plus",
+            ),
+            (
+                IoFault::ModeText(ModeError::BadRwa),
+                "Must have exactly one of create/read/write/append mode and at most one plus",
+            ),
+        ] {
+            assert_eq!(rt; format!(in alloc; "{fault}")?.as_str(), text);
+        }
+        Ok(())
+    }
+}
