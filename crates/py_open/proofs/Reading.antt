@@ -1,6 +1,7 @@
 -- How a reader's buffer goes from call to call.
-use Rattle.std.proofs.Common.{◌≡◌, ◌≢◌, ℕ, zero, suc, ◌+◌, ◌-◌, ◌<◌, ◌≤◌, ◌⊎◌, ⊎_elim, true, false, IsTrue, List, [], ◌++◌, length, take, drop, Option, Some, None, Result, Ok, Err, Vec, sym, ap, ◌∙◌, subst, refl, arith}
+use Rattle.std.proofs.Common.{◌≡◌, ◌≢◌, ℕ, zero, suc, ◌+◌, ◌-◌, ◌<◌, ◌≤◌, ◌⊎◌, ⊎_elim, true, false, IsTrue, List, [], ◌∷◌, ◌++◌, length, take, drop, Option, Some, None, Result, Ok, Err, Vec, sym, ap, ◌∙◌, subst, refl, arith}
 use Rattle.std.proofs.lemmas.List.{append_assoc, length-drop, length-take, length-take-le, take-append-drop, drop-drop, drop-append-le, drop-take, take-take, take-append-le}
+use Rattle.std.proofs.lemmas.Slice.{between_from_start}
 use Rattle.std.specs.List.{slice_range}
 use Rattle.std.specs.declared.alloc.Global.{Global}
 use Rattle.py_flat.specs.declared.fault.IoFault.{IoFault}
@@ -8,11 +9,12 @@ use Rattle.py_flat.specs.declared.life.Life.{Life}
 use Rattle.py_flat.specs.declared.life.Life.TheVariants as life
 use Rattle.py_flat.specs.Limits.{greatest_place}
 use Rattle.py_flat.specs.Bytes.{left_at}
+use Rattle.py_flat.specs.Refusals.{life_fault}
 use Rattle.py_flat.specs.BinaryStep.{IsFrontOf}
 use Rattle.py_raw.specs.RawStream.{Raw, ReadTold, ReadOutcome}
 use Rattle.py_raw.specs.declared.raw_error.RawError.{RawError}
 use Rattle.py_raw.specs.declared.raw_error.RawError.TheVariants as raw_error
-use Rattle.py_open.specs.Reader.{ReaderView, HoldsTold, IsReader, FillsTold, FillOutcome, GivesHeld, ReadFails, Read1Outcome}
+use Rattle.py_open.specs.Reader.{ReaderView, HoldsTold, IsReader, FillsTold, Fills, FillOutcome, GivesHeld, ReadFails, Read1Outcome}
 
 abbrev pub made : Raw → ℕ → Life → ℕ → List ℕ → ReaderView
 made raw place current size held = record { raw = raw; place = place; life = current; size = size; held = held }
@@ -128,3 +130,29 @@ gave old mid new size (Err refused) places before after told held = subst (λ (w
   place = ap (λ (view : ReaderView). view.place) held.1 ∙ places;
   life = ap (λ (view : ReaderView). view.life) held.1 ∙ (after ∙ sym before);
 })
+
+-- only a live stream's life refuses nothing
+pub lives : (current : Life) → life_fault current ≡ None → current ≡ life.Live
+lives life.Live none = refl
+lives life.Failed none = cc
+lives life.Closed none = cc
+lives life.Detached none = cc
+
+-- what a reader holds is the front of what is left; `end` says when it may hold nothing
+pub holds_front : (raw : Raw) (place asked : ℕ) (held : List ℕ) → HoldsTold raw place held → (held ≡ [] → 0 < asked → length raw.bytes ≤ place) → HoldsFront raw place asked held
+holds_front raw place asked held told end = record {
+  front = (left_at raw.bytes raw.place, sym told.bytes);
+  end = end;
+}
+
+-- the same of an empty buffer that was filled
+pub filled_front : (old new : Raw) (size place asked count : ℕ) (buffer : List ℕ) → HoldsTold old place [] → 0 < size → size ≤ length buffer → Fills old size place count buffer new → IsTrue old.tells → HoldsFront old place asked (slice_range buffer 0 count)
+filled_front old new size place asked count buffer empty some within fills tells =
+    let told = fills.told tells in
+    let stands : old.place ≡ place = omega (arith, empty.behind) in
+    let holds = told.holds stands in
+    let whole : slice_range buffer 0 count ≡ take count buffer = between_from_start buffer count in
+    subst (HoldsFront old place asked) (sym whole) (record {
+      front = (left_at new.bytes new.place, sym (ap (λ (bytes : List ℕ). left_at bytes place) (sym told.bytes) ∙ holds.bytes));
+      end = λ none some_asked. told.end stands some (omega (arith, ap length none, length-take-le count buffer (omega (arith, fills.fits))));
+    })
