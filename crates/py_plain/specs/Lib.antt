@@ -1,5 +1,7 @@
 pub mod Utf8
 pub mod Units
+pub mod UnitLaws
+pub mod Spelling
 pub mod Handlers
 pub mod Items
 pub mod NewlineRule

@@ -7,10 +7,13 @@
 
 mod encoding;
 mod handler;
+mod laws;
 mod newlines;
 mod unit;
+mod utf8;
 
 pub use encoding::Encoding;
 pub use handler::Handler;
+pub use laws::utf8_units;
 pub use newlines::Newlines;
-pub use unit::Unit;
+pub use unit::{Unit, first_unit};

@@ -1,0 +1,4 @@
+mod Rows
+mod Spells
+mod Encoded
+mod UnitLaws
