@@ -2,3 +2,4 @@ mod Rows
 mod Spells
 mod Encoded
 mod UnitLaws
+mod Walks

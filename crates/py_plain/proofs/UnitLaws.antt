@@ -1,5 +1,5 @@
 -- What a unit of UTF-8 says of the bytes that it stands for.
-use Rattle.std.proofs.Common.{◌≡◌, ℕ, zero, suc, ◌+◌, ◌-◌, ◌*◌, ◌/◌, ◌<◌, ◌≤◌, ◌⊎◌, inl, inr, cond, List, [], ◌∷◌, ◌++◌, length as len, take, Some, refl, sym, ap, subst, ◌∙◌, arith}
+use Rattle.std.proofs.Common.{◌≡◌, ℕ, zero, suc, ◌+◌, ◌-◌, ◌*◌, ◌/◌, ◌<◌, ◌≤◌, ◌⊎◌, inl, inr, cond, List, [], ◌∷◌, ◌++◌, length as len, take, Some, IsSome, IfSome, refl, sym, ap, subst, ◌∙◌, arith}
 use Rattle.std.specs.Char.{IsScalar, encode_utf8}
 use Rattle.std.proofs.lemmas.Bool.{cond-true, cond-false, cond_both, lt-ltb, le-ltb, le-leb, and_from, cases_lt}
 use lib.Utf8.{scalar_cases}
@@ -186,3 +186,12 @@ unit_within [] unit is = absurd (cc)
 unit_within (byte ∷ rest) unit is =
     let same : unit_after byte (lead byte) rest ≡ unit = cc in
     subst (λ u. IsWithin u (suc (len rest))) same (unit_uses byte rest)
+
+-- the same of the unit, if there is one
+pub unit_within_if : (bytes : List ℕ) → IfSome (utf8_unit bytes) (λ unit. IsWithin unit (len bytes))
+unit_within_if [] = tt
+unit_within_if (byte ∷ rest) = unit_uses byte rest
+
+pub unit_some : (bytes : List ℕ) → 0 < len bytes → IsSome (utf8_unit bytes)
+unit_some [] more = absurd (omega arith)
+unit_some (byte ∷ rest) more = refl

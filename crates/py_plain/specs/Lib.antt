@@ -4,6 +4,7 @@ pub mod UnitLaws
 pub mod Spelling
 pub mod Handlers
 pub mod Items
+pub mod Decoding
 pub mod NewlineRule
 pub mod TextFile
 pub mod Rest

@@ -5,6 +5,7 @@
 //! step of each call. Beside them is the plain slow program that decodes a whole list and answers calls on it.
 #![tactic(auto)]
 
+mod decoded;
 mod encoding;
 mod handler;
 mod laws;
@@ -12,6 +13,7 @@ mod newlines;
 mod unit;
 mod utf8;
 
+pub use decoded::{Decoded, decode};
 pub use encoding::Encoding;
 pub use handler::Handler;
 pub use laws::utf8_units;

@@ -1,5 +1,6 @@
-ghost use Rattle.std.specs.Prelude.{◌≡◌, Bool};
+ghost use Rattle.std.specs.Prelude.{◌≡◌, ◌<◌, Bool, length, IsSome, IfSome};
 ghost use Rattle.py_plain.specs.Units.{Order, first_unit};
+ghost use Rattle.py_plain.specs.UnitLaws.{IsWithin};
 
 use crate::Encoding;
 use crate::utf8::utf8_unit;
@@ -20,7 +21,10 @@ pub enum Unit {
 ///
 /// Neither an order mark nor the start of a stream matters to UTF-8.
 pub fn first_unit(encoding: Encoding, bytes: &[u8]) -> Option<Unit>
-    ensures { (order : Order) (at_start : Bool) → result ≡ first_unit encoding order at_start bytes.now }
+    ensures unit { (order : Order) (at_start : Bool) → result
+        ≡ first_unit encoding order at_start bytes.now }
+    ensures some { 0 < length bytes.now → IsSome result }
+    ensures within { IfSome result (λ unit. IsWithin unit (length bytes.now)) }
 {
     match encoding {
         Encoding::Utf8 => utf8_unit(bytes),
