@@ -3,3 +3,4 @@ mod Spells
 mod Encoded
 mod UnitLaws
 mod Walks
+mod Translating

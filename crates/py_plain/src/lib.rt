@@ -17,5 +17,5 @@ pub use decoded::{Decoded, decode};
 pub use encoding::Encoding;
 pub use handler::Handler;
 pub use laws::utf8_units;
-pub use newlines::Newlines;
+pub use newlines::{Newlines, translate};
 pub use unit::{Unit, first_unit};
