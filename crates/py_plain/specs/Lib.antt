@@ -9,3 +9,5 @@ pub mod NewlineRule
 pub mod TextFile
 pub mod Rest
 pub mod TextStep
+pub mod PlainSteps
+pub mod PlainView

@@ -11,6 +11,7 @@ mod handler;
 mod laws;
 mod line;
 mod newlines;
+mod plain_text;
 mod unit;
 mod utf8;
 
@@ -20,4 +21,5 @@ pub use handler::Handler;
 pub use laws::utf8_units;
 pub use line::{Line, first_line};
 pub use newlines::{Newlines, translate};
+pub use plain_text::PlainText;
 pub use unit::{Unit, first_unit};
