@@ -12,6 +12,8 @@ mod laws;
 mod line;
 mod newlines;
 mod plain_text;
+#[cfg(test)]
+mod tests;
 mod unit;
 mod utf8;
 
