@@ -1,8 +1,13 @@
 pub mod Utf8
 pub mod Units
+pub mod UnitLaws
+pub mod Spelling
 pub mod Handlers
 pub mod Items
+pub mod Decoding
 pub mod NewlineRule
 pub mod TextFile
 pub mod Rest
 pub mod TextStep
+pub mod PlainSteps
+pub mod PlainView

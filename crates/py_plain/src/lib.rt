@@ -5,12 +5,23 @@
 //! step of each call. Beside them is the plain slow program that decodes a whole list and answers calls on it.
 #![tactic(auto)]
 
+mod decoded;
 mod encoding;
 mod handler;
+mod laws;
+mod line;
 mod newlines;
+mod plain_text;
+#[cfg(test)]
+mod tests;
 mod unit;
+mod utf8;
 
+pub use decoded::{Decoded, decode};
 pub use encoding::Encoding;
 pub use handler::Handler;
-pub use newlines::Newlines;
-pub use unit::Unit;
+pub use laws::utf8_units;
+pub use line::{Line, first_line};
+pub use newlines::{Newlines, translate};
+pub use plain_text::PlainText;
+pub use unit::{Unit, first_unit};

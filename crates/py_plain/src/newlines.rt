@@ -1,3 +1,9 @@
+ghost use Rattle.std.specs.Prelude.{◌≡◌, ◌++◌, ◌==◌, false, IfOk, OnOk};
+ghost use Rattle.py_flat.specs.Lines.{cr};
+ghost use Rattle.py_plain.specs.NewlineRule.{released, passes, universal, ends_held, translated};
+
+use std::alloc::{AllocError, Global};
+
 /// The rule of a text's line ends, by the `newline` argument of Python's `open`.
 #[derive(Clone, Copy, Debug, Default, PartialEq, Eq)]
 pub enum Newlines {
@@ -12,4 +18,64 @@ pub enum Newlines {
     Cr,
     /// CR LF: nothing is changed, and lines end at CR LF.
     Crlf,
+}
+
+/// Gives an LF for a CR that was held.
+fn release(out: &mut Vec<char>, held: bool) -> Result<(), AllocError>
+    ensures { OnOk result (out.new.items ≡ out.old.items ++ released held) }
+{
+    if held {
+        out.push('\n')?;
+    }
+    Ok(())
+}
+
+/// Gives what a character behind a CR, or behind none, passes: a CR is held, and an LF is one with the CR before it.
+fn pass(out: &mut Vec<char>, held: bool, character: char) -> Result<(), AllocError>
+    ensures { OnOk result (out.new.items ≡ out.old.items ++ passes held character) }
+{
+    let is_held = character == '\r' || (held && character == '\n');
+    if !is_held {
+        out.push(character)?;
+    }
+    Ok(())
+}
+
+/// Whether a character is a CR, which is held until the next one or the end.
+fn is_cr(character: char) -> bool
+    ensures { result ≡ (character == cr) }
+{
+    character == '\r'
+}
+
+/// CR LF and CR as LF.
+fn universal(alloc: Global, characters: &[char]) -> Result<Vec<char>, AllocError>
+    ensures { IfOk result (λ v. v.items
+        ≡ universal false characters.now ++ released (ends_held false characters.now)) }
+{
+    let mut out = Vec::new(alloc);
+    let mut held = false;
+    for character in characters {
+        release(&mut out, held)?;
+        pass(&mut out, held, *character)?;
+        held = is_cr(*character);
+    }
+    release(&mut out, held)?;
+    Ok(out)
+}
+
+/// The newline rule: what is read of a whole list of characters. The `Err` is want of memory.
+pub fn translate(
+    alloc: Global,
+    rule: Newlines,
+    characters: &[char],
+) -> Result<Vec<char>, AllocError>
+    ensures { IfOk result (λ v. v.items ≡ translated rule characters.now) }
+{
+    match rule {
+        Newlines::Universal => universal(alloc, characters),
+        Newlines::Passthrough | Newlines::Lf | Newlines::Cr | Newlines::Crlf => {
+            Vec::from_slice(alloc, characters)
+        }
+    }
 }

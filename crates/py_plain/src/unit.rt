@@ -1,3 +1,10 @@
+ghost use Rattle.std.specs.Prelude.{◌≡◌, ◌<◌, Bool, length, IsSome, IfSome};
+ghost use Rattle.py_plain.specs.Units.{Order, first_unit};
+ghost use Rattle.py_plain.specs.UnitLaws.{IsWithin};
+
+use crate::Encoding;
+use crate::utf8::utf8_unit;
+
 /// What some bytes begin with.
 #[derive(Clone, Copy, Debug, PartialEq, Eq)]
 pub enum Unit {
@@ -8,4 +15,18 @@ pub enum Unit {
     Malformed { length: usize },
     /// All that is left, which may still become a character: a refused range where nothing follows.
     Cut { length: usize },
+}
+
+/// What some bytes begin with in an encoding: nothing where there are none.
+///
+/// Neither an order mark nor the start of a stream matters to UTF-8.
+pub fn first_unit(encoding: Encoding, bytes: &[u8]) -> Option<Unit>
+    ensures unit { (order : Order) (at_start : Bool) → result
+        ≡ first_unit encoding order at_start bytes.now }
+    ensures some { 0 < length bytes.now → IsSome result }
+    ensures within { IfSome result (λ unit. IsWithin unit (length bytes.now)) }
+{
+    match encoding {
+        Encoding::Utf8 => utf8_unit(bytes),
+    }
 }

@@ -1,0 +1,7 @@
+mod Rows
+mod Spells
+mod Encoded
+mod UnitLaws
+mod Walks
+mod Translating
+mod Spelled

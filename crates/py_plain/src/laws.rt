@@ -1,0 +1,19 @@
+ghost use Rattle.std.specs.Prelude.{◌≡◌, ◌≤◌, ◌++◌, ℕ, List, length, take, Some};
+ghost use Rattle.std.specs.Char.{IsScalar, encode_utf8};
+ghost use Rattle.py_plain.specs.declared.unit.Unit.{Unit as Read};
+ghost use Rattle.py_plain.specs.declared.unit.Unit.TheVariants.{Character, Malformed, Cut};
+ghost use Rattle.py_plain.specs.Utf8.{utf8_unit};
+ghost use Rattle.py_plain.specs.UnitLaws.{IsWithin};
+
+/// A unit of UTF-8 is a character exactly where the bytes begin with that character's own bytes, and a range that is
+/// no character has one to three bytes, no more than are left.
+///
+/// It does nothing: what it ensures is a law of the definitions.
+pub fn utf8_units()
+    ensures characters { (bytes : List ℕ) (c n : ℕ) → utf8_unit bytes ≡ Some (Character c n)
+        → IsScalar c × (take n bytes ≡ encode_utf8 c) }
+    ensures encoded { (c : ℕ) (rest : List ℕ) → IsScalar c
+        → utf8_unit (encode_utf8 c ++ rest) ≡ Some (Character c (length (encode_utf8 c))) }
+    ensures within { (bytes : List ℕ) (unit : Read) → utf8_unit bytes ≡ Some unit
+        → IsWithin unit (length bytes) }
+{}
