@@ -1,5 +1,5 @@
 -- The buffered reader under a text: what it is seen as, and what its calls may do.
-use Rattle.std.specs.Prelude.{◌≡◌, ◌≢◌, ℕ, ◌+◌, ◌-◌, ◌<◌, ◌≤◌, true, false, IsTrue, List, [], ◌++◌, length, take, drop, Option, Some, None, Result, Ok, Err, Vec}
+use Rattle.std.specs.Prelude.{◌≡◌, ◌≢◌, ℕ, ◌+◌, ◌-◌, ◌<◌, ◌≤◌, true, false, IsTrue, IsFalse, List, [], ◌++◌, length, take, drop, Option, Some, None, Result, Ok, Err, Vec}
 use Rattle.std.specs.declared.alloc.Global.{Global}
 use Rattle.py_flat.specs.declared.fault.IoFault.{IoFault}
 use Rattle.py_flat.specs.declared.fault.IoFault.TheVariants as fault
@@ -10,6 +10,7 @@ use Rattle.py_flat.specs.Bytes.{left_at}
 use Rattle.py_flat.specs.Causes.{Rose}
 use Rattle.py_flat.specs.Refusals.{life_fault}
 use Rattle.py_flat.specs.BinaryStep.{IsFrontOf}
+use Rattle.py_open.specs.declared.open_refused.OpenRefused.{OpenRefused}
 use Rattle.py_raw.specs.declared.raw_error.RawError.{RawError}
 use Rattle.py_raw.specs.declared.raw_error.RawError.TheVariants as raw_error
 use Rattle.py_raw.specs.RawStream.{Raw, Keeps, WhereTold, AsksToWait, FailsWithout, LacksMemory}
@@ -102,3 +103,51 @@ CloseFails old fault new = (life_fault old.life ≡ Some fault) × (new ≡ old)
 abbrev pub CloseOutcome : ReaderView → Result (Unit {0}) IoFault → ReaderView → Type 0
 CloseOutcome old (Ok done) new = (new.life ≡ life.Closed) × (old.life ≡ life.Closed → new ≡ old)
 CloseOutcome old (Err fault) new = CloseFails old fault new
+
+-- Opening.
+
+-- a raw that can't seek stands at place 0, where it tells
+abbrev pub StandsAtStart : Raw → Type 0
+StandsAtStart raw = IsFalse raw.seekable → WhereTold raw (raw.place ≡ 0)
+
+-- where a raw stands: told, that place, and no place of one that can't seek but 0
+pub record PlaceOf (old : Raw) (place : ℕ) (new : Raw) : Type 0 where
+  pub within : place ≤ greatest_place
+  pub start : IsFalse old.seekable → place ≡ 0
+  pub told : WhereTold old ((new.bytes ≡ old.bytes) × (new.place ≡ old.place) × (IsTrue old.seekable → place ≡ old.place))
+
+abbrev pub PlaceOutcome : Raw → Result ℕ RawError → Raw → Type 0
+PlaceOutcome old (Ok place) new = PlaceOf old place new
+PlaceOutcome old (Err raw_error.Fault) new = FailsWithout 0 old new
+PlaceOutcome old (Err raw_error.Memory) new = LacksMemory old new
+
+-- told: the reader begins where the raw stood
+abbrev pub BeginsTold : Raw → ReaderView → Type 0
+BeginsTold raw reader = (reader.raw.bytes ≡ raw.bytes) × (reader.place ≡ raw.place)
+
+-- an open reader: the raw can be read from; nothing was read
+pub record OpensReader (raw : Raw) (size : ℕ) (reader : ReaderView) : Type 0 where
+  pub opened : raw.closed ≡ false
+  pub reads : raw.readable ≡ true
+  pub keeps : Keeps raw reader.raw
+  pub life : reader.life ≡ life.Live
+  pub size_is : reader.size ≡ size
+  pub start : IsFalse raw.seekable → reader.place ≡ 0
+  pub told : WhereTold raw (BeginsTold raw reader)
+
+-- the raw that is handed back: what it can do, its counts, and its bytes
+pub record HandsRawBack (old new : Raw) : Type 0 where
+  pub keeps : Keeps old new
+  pub bytes : WhereTold old (new.bytes ≡ old.bytes)
+
+-- why a raw isn't opened: closed; not to be read from; a fault of its own; want of memory
+abbrev pub RefusesRaw : Raw → IoFault → Raw → Type 0
+RefusesRaw raw fault.Closed back = (raw.closed ≡ true) × (back ≡ raw)
+RefusesRaw raw fault.Unsupported back = (raw.closed ≡ false) × (raw.readable ≡ false) × (back ≡ raw)
+RefusesRaw raw fault.RawFault back = (raw.closed ≡ false) × (raw.readable ≡ true) × Rose raw.faults back.faults × HandsRawBack raw back
+RefusesRaw raw fault.NoMemory back = (raw.closed ≡ false) × (raw.readable ≡ true) × HandsRawBack raw back
+RefusesRaw raw fault back = ⊥
+
+abbrev pub OpenOutcome : {R : Type 0} → (R → Raw) → R → ℕ → Result ReaderView (OpenRefused R) → Type 0
+OpenOutcome shows raw size (Ok reader) = OpensReader (shows raw) size reader
+OpenOutcome shows raw size (Err refused) = RefusesRaw (shows raw) refused.fault (shows refused.raw)

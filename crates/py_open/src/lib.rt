@@ -7,10 +7,12 @@
 mod call;
 mod mode;
 mod open_args;
+mod open_refused;
 mod reader;
 mod reply;
 
 pub use call::Call;
 pub use mode::{EncodeMode, FileMode, Mode};
 pub use open_args::OpenArgs;
+pub use open_refused::OpenRefused;
 pub use reply::Reply;

@@ -2,9 +2,10 @@
 ghost use Rattle.std.specs.Prelude.{◌≡◌, ◌+◌, ◌<◌, ◌≤◌, ◌⊎◌, true, false, [], length, vec_len};
 ghost use Rattle.py_flat.specs.Limits.{greatest_place};
 ghost use Rattle.py_flat.specs.Refusals.{life_fault as fault_of_life};
-ghost use Rattle.py_open.specs.Reader.{FillOutcome, KeepsReader, Read1Outcome, GivesHeld, CloseOutcome};
+ghost use Rattle.py_open.specs.Reader.{StandsAtStart, PlaceOutcome, OpenOutcome, FillOutcome, KeepsReader, Read1Outcome, GivesHeld, CloseOutcome};
 ghost use Rattle.py_raw.specs.RawStream.{Keeps, StaysOpen};
 
+use crate::OpenRefused;
 use py_flat::{IoFault, Life};
 use py_raw::{RawError, RawStream};
 use std::alloc::Global;
@@ -69,6 +70,16 @@ fn room(size: usize, place: u64) -> usize
     }
 }
 
+/// Where a raw stands: it is asked where it can seek, and stands at 0 where it can't.
+fn first_place<R: RawStream>(raw: &mut R) -> Result<u64, RawError>
+    requires open { (R.shows raw.old).closed ≡ false }
+    ensures keeps { Keeps (R.shows raw.old) (R.shows raw.new) }
+    ensures open { StaysOpen (R.shows raw.old) (R.shows raw.new) }
+    ensures outcome { PlaceOutcome (R.shows raw.old) result (R.shows raw.new) }
+{
+    if raw.seekable() { raw.tell() } else { Ok(0) }
+}
+
 /// Fills the front of a buffer by one transfer of a raw that stands at a place, and answers how many bytes came.
 fn fill_front<R: RawStream>(
     raw: &mut R,
@@ -104,6 +115,66 @@ fn fill<R: RawStream>(
 }
 
 impl<R: RawStream> Reader<R> {
+    /// A reader of a raw that stands where it begins, with a buffer of `buffer_size` bytes. A raw that can seek is asked
+    /// where it stands; one that can't stands at place 0.
+    ///
+    /// Refused, the raw is handed back: `Closed`, then `Unsupported` where it can't be read from, then `NoMemory`, and
+    /// `RawFault` where it fails to say where it stands.
+    pub fn new(alloc: Global, raw: R, buffer_size: usize) -> Result<Self, OpenRefused<R>>
+        requires size { 0 < buffer_size }
+        requires start { StandsAtStart (R.shows raw) }
+        ensures { OpenOutcome R.shows raw buffer_size result }
+    {
+        if raw.closed() {
+            return Err(OpenRefused {
+                raw,
+                fault: IoFault::Closed,
+            });
+        }
+        if !raw.readable() {
+            return Err(OpenRefused {
+                raw,
+                fault: IoFault::Unsupported,
+            });
+        }
+        match vec![in alloc; 0u8; buffer_size] {
+            Ok(buffer) => Reader::over(raw, buffer),
+            Err(_) => Err(OpenRefused {
+                raw,
+                fault: IoFault::NoMemory,
+            }),
+        }
+    }
+
+    /// A reader with this buffer.
+    fn over(raw: R, buffer: Vec<u8>) -> Result<Self, OpenRefused<R>>
+        requires size { 0 < vec_len buffer }
+        requires start { StandsAtStart (R.shows raw) }
+        requires open { (R.shows raw).closed ≡ false }
+        requires can { (R.shows raw).readable ≡ true }
+        ensures { OpenOutcome R.shows raw (vec_len buffer) result }
+    {
+        let mut raw = raw;
+        match first_place(&mut raw) {
+            Ok(place) => Ok(Reader {
+                raw,
+                buffer,
+                start: 0,
+                end: 0,
+                place,
+                life: Life::Live,
+            }),
+            Err(RawError::Fault) => Err(OpenRefused {
+                raw,
+                fault: IoFault::RawFault,
+            }),
+            Err(RawError::Memory) => Err(OpenRefused {
+                raw,
+                fault: IoFault::NoMemory,
+            }),
+        }
+    }
+
     /// Some bytes that come next, at most `size`; none at the end, and where none are asked for. `None`: not ready.
     pub fn read1(&mut self, alloc: Global, size: usize) -> Result<Option<Vec<u8>>, IoFault>
         ensures keeps { KeepsReader self.old self.new }
