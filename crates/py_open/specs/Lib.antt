@@ -1,2 +1,3 @@
 pub mod OpenArgs
 pub mod Reader
+pub mod Text

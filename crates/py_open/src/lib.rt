@@ -10,6 +10,7 @@ mod open_args;
 mod open_refused;
 mod reader;
 mod reply;
+mod text;
 
 pub use call::Call;
 pub use mode::{EncodeMode, FileMode, Mode};

@@ -267,7 +267,14 @@ impl<R: RawStream> Reader<R> {
         self.life
     }
 
-    /// The raw, in every life, and the place of the next byte.
+    /// The place of the next byte.
+    pub fn place(&self) -> u64
+        ensures { result ≡ self.now.place }
+    {
+        self.place
+    }
+
+    /// The raw, in every life.
     pub fn into_raw(self) -> R
         ensures { R.shows result ≡ self.raw }
     {
