@@ -1,3 +1,4 @@
 pub mod OpenArgs
+pub mod Plan
 pub mod Reader
 pub mod Text
