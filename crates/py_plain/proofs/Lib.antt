@@ -4,4 +4,4 @@ mod Encoded
 mod UnitLaws
 mod Walks
 mod Translating
-mod Spelled
+mod Strings

@@ -20,7 +20,7 @@ mod utf8;
 pub use decoded::{Decoded, decode};
 pub use encoding::Encoding;
 pub use handler::Handler;
-pub use laws::utf8_units;
+pub use laws::{plain_steps, utf8_units};
 pub use line::{Line, first_line};
 pub use newlines::{Newlines, translate};
 pub use plain_text::PlainText;

@@ -64,7 +64,8 @@ fn universal(alloc: Global, characters: &[char]) -> Result<Vec<char>, AllocError
     Ok(out)
 }
 
-/// The newline rule: what is read of a whole list of characters. The `Err` is want of memory.
+/// The newline rule: what is read of a whole list of characters, by the `newline` argument of Python's `open`. The
+/// `Err` is want of memory.
 pub fn translate(
     alloc: Global,
     rule: Newlines,

@@ -1,6 +1,6 @@
 use crate::{
     Decoded, Encoding, Handler, Line, Newlines, PlainText, Unit, decode, first_line, first_unit,
-    translate, utf8_units,
+    plain_steps, translate, utf8_units,
 };
 use py_flat::{IoFault, Life};
 use std::alloc::Global;
@@ -161,6 +161,7 @@ fn a_closed_text_refuses_all_but_close(rt: HostRuntime) -> Result<(), Fail> {
         Err(fault) => assert_eq!(rt; fault, IoFault::Closed),
     }
     text.close()?;
+    plain_steps();
     Ok(())
 }
 

@@ -19,7 +19,8 @@ pub enum Unit {
 
 /// What some bytes begin with in an encoding: nothing where there are none.
 ///
-/// Neither an order mark nor the start of a stream matters to UTF-8.
+/// UTF-8 is read by the Unicode Standard's Table 3-7 and the maximal subparts of its section 3.9. Neither an order mark
+/// nor the start of a stream matters to it.
 pub fn first_unit(encoding: Encoding, bytes: &[u8]) -> Option<Unit>
     ensures unit { (order : Order) (at_start : Bool) → result
         ≡ first_unit encoding order at_start bytes.now }

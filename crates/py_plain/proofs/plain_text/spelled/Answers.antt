@@ -2,7 +2,7 @@ use Rattle.std.proofs.Common.{sym, ap, ◌∙◌, string_bytes}
 use Rattle.std.specs.Str.{encode_utf8_all}
 use Rattle.std.proofs.lemmas.List.{take_all}
 use Rattle.std.proofs.lemmas.Str.{chars_from_encodes, IsUtf8-string_bytes}
-use Rattle.py_plain.proofs.Spelled.{encodes_more}
+use Rattle.py_plain.proofs.Strings.{encodes_more}
 use Rattle.py_plain.proofs.plain_text.spelled.Goals as goal
 
 pub loop-character-preserved : goal.loop-character-preserved
