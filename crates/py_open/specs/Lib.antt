@@ -1,4 +1,6 @@
 pub mod OpenArgs
+pub mod Calls
 pub mod Plan
 pub mod Reader
 pub mod Text
+pub mod Session

@@ -1,0 +1,142 @@
+-- A session: what it is seen as, and what one call of it may do.
+use Rattle.std.specs.Prelude.{◌≡◌, ◌≢◌, ℕ, ◌≤◌, Bool, true, false, ◌||◌, IsTrue, List, length, Option, Some, None}
+use Rattle.py_flat.specs.declared.fault.IoFault.{IoFault}
+use Rattle.py_flat.specs.declared.fault.IoFault.TheVariants as fault
+use Rattle.py_flat.specs.declared.life.Life.{Life}
+use Rattle.py_flat.specs.declared.life.Life.TheVariants as life
+use Rattle.py_flat.specs.Calls.{FileReply, Text, Done, NotReady, Refused}
+use Rattle.py_flat.specs.Causes.{Rose, rose}
+use Rattle.py_plain.specs.TextFile.{TextPlace, clean_at, TextFile}
+use Rattle.py_plain.specs.TextStep.{TextCall, Read, ReadLine, Close, OtherKind, text_refusal, asks_any, place_taking, TextStep}
+use Rattle.py_raw.specs.RawStream.{Raw, Keeps, WhereTold}
+use Rattle.py_open.specs.declared.call.Call.{Call}
+use Rattle.py_open.specs.declared.reply.Reply.{Reply}
+use Rattle.py_open.specs.Calls.{text_call, said}
+
+-- the flat file of a session, by its kind
+pub data SessionFile : Type 0 where
+  OfText : (file : TextFile) → SessionFile
+
+-- the flat file; the raw under it, with its counts; and whether the last answer was short, since the raw asked to wait
+pub record SessionView : Type 0 where
+  pub file : SessionFile
+  pub raw : Raw
+  pub short : Bool
+
+-- What the model says of a call.
+
+-- what a call is refused by before the file is looked at: first by the life, then by the kind
+abbrev pub session_refusal : SessionFile → Call → Option IoFault
+session_refusal (OfText file) call = text_refusal file (text_call call)
+
+-- the allowed step
+abbrev pub SessionStep : SessionFile → Call → FileReply → Bool → Bool → SessionFile → Type 0
+SessionStep (OfText before) call reply waited faulted (OfText after) = TextStep before (text_call call) reply waited faulted after
+
+-- Causes.
+
+-- whether a reply says that the raw asked to wait
+abbrev pub says_wait : FileReply → Bool
+says_wait NotReady = true
+says_wait (Refused (fault.WouldBlock taken)) = true
+says_wait _ = false
+
+-- whether it says that the raw failed
+abbrev pub says_fault : FileReply → Bool
+says_fault (Refused fault.RawFault) = true
+says_fault _ = false
+
+-- a wait or a short answer comes only where the raw's waits rose in this call, RawFault only where its faults did
+pub record HasCauses (before : SessionView) (reply : FileReply) (after : SessionView) : Type 0 where
+  pub waits : IsTrue (after.short || says_wait reply) → Rose before.raw.waits after.raw.waits
+  pub faults : IsTrue (says_fault reply) → Rose before.raw.faults after.raw.faults
+
+-- Refusals.
+
+-- a call that the life or the kind refuses answers so, calls no raw and leaves all as it was
+pub record Refuses (before : SessionView) (refused : IoFault) (reply : FileReply) (after : SessionView) : Type 0 where
+  pub says : reply ≡ Refused refused
+  pub file : after.file ≡ before.file
+  pub raw : after.raw ≡ before.raw
+  pub whole : after.short ≡ false
+
+-- Completeness.
+
+-- the replies that an accepted call may have where nothing waits or fails; want of memory is free
+abbrev pub IsAnswerTo : TextCall → FileReply → Type 0
+IsAnswerTo (Read size) (Text characters) = Unit {0}
+IsAnswerTo (Read size) (Refused (fault.UnicodeDecodeError start end)) = Unit {0}
+IsAnswerTo (ReadLine limit) (Text characters) = Unit {0}
+IsAnswerTo (ReadLine limit) (Refused (fault.UnicodeDecodeError start end)) = Unit {0}
+IsAnswerTo Close Done = Unit {0}
+IsAnswerTo call (Refused fault.NoMemory) = Unit {0}
+IsAnswerTo call reply = ⊥
+
+-- an accepted call in which no count rose is answered so, and whole
+pub record IsComplete (before : SessionView) (call : Call) (reply : FileReply) (after : SessionView) : Type 0 where
+  pub answer : IsAnswerTo (text_call call) reply
+  pub whole : after.short ≡ false
+
+abbrev pub Completes : SessionView → Call → FileReply → SessionView → Type 0
+Completes before call reply after = session_refusal before.file call ≡ None → rose before.raw.waits after.raw.waits ≡ false → rose before.raw.faults after.raw.faults ≡ false → IsComplete before call reply after
+
+-- Life and place, whether the raw tells or not.
+
+abbrev pub life_after : TextCall → FileReply → Life → Life
+life_after Close Done current = life.Closed
+life_after Close (Refused fault.RawFault) current = life.Closed
+life_after call (Refused fault.RawFault) current = life.Failed
+life_after call reply current = current
+
+-- a whole read of all goes to where the bytes end, clean
+pub record GoesToEnd (before after : TextPlace) : Type 0 where
+  pub clean : after ≡ clean_at after.at before.order
+  pub forth : before.at ≤ after.at
+
+-- so many characters were taken, no more than asked for
+pub record TakesText (size : Option ℕ) (characters : List ℕ) (dirty : Bool) (before after : TextPlace) : Type 0 where
+  pub taken : after ≡ place_taking before (length characters) dirty
+  pub within : (limit : ℕ) → size ≡ Some limit → length characters ≤ limit
+
+-- the place after each reply; after a fault it isn't told
+abbrev pub PlaceMoves : TextCall → Bool → FileReply → TextPlace → TextPlace → Type 0
+PlaceMoves (Read None) false (Text characters) before after = GoesToEnd before after
+PlaceMoves (Read size) true (Text characters) before after = TakesText size characters true before after
+PlaceMoves (Read size) false (Text characters) before after = TakesText size characters (asks_any size) before after
+PlaceMoves (ReadLine limit) true (Text characters) before after = TakesText limit characters true before after
+PlaceMoves (ReadLine limit) false (Text characters) before after = TakesText limit characters (asks_any limit) before after
+PlaceMoves call short (Refused fault.RawFault) before after = Unit {0}
+PlaceMoves call short reply before after = after ≡ before
+
+-- what every call keeps of a text, and what it moves
+pub record TextMoves (before : TextFile) (call : TextCall) (short : Bool) (reply : FileReply) (after : TextFile) : Type 0 where
+  pub can : after.can ≡ before.can
+  pub settings : after.settings ≡ before.settings
+  pub life_is : after.life ≡ life_after call reply before.life
+  pub place : PlaceMoves call short reply before.place after.place
+
+abbrev pub Moves : SessionFile → Call → Bool → FileReply → SessionFile → Type 0
+Moves (OfText before) call short reply (OfText after) = TextMoves before (text_call call) short reply after
+
+-- The one clause of every call of a session.
+
+-- what the raw can do stays and its counts never fall; refusals; causes; life and place; completeness; and, where the
+-- raw tells, the step of the model
+pub record AnswersText (before : TextFile) (old : Raw) (call : TextCall) (reply : FileReply) (after : TextFile) (new : Raw) (short : Bool) : Type 0 where
+  pub keeps : Keeps old new
+  pub refused : (refused : IoFault) → text_refusal before call ≡ Some refused → (reply ≡ Refused refused) × (after ≡ before) × (new ≡ old) × (short ≡ false)
+  pub waits : IsTrue (short || says_wait reply) → Rose old.waits new.waits
+  pub faults : IsTrue (says_fault reply) → Rose old.faults new.faults
+  pub moves : TextMoves before call short reply after
+  pub complete : text_refusal before call ≡ None → rose old.waits new.waits ≡ false → rose old.faults new.faults ≡ false → IsAnswerTo call reply × (short ≡ false)
+  pub told : WhereTold old (TextStep before call reply (short || says_wait reply) (says_fault reply) after)
+
+-- what the raw can do stays and its counts never fall; refusals; causes; life and place; completeness; and, where the
+-- raw tells, the step of the model
+pub record Answers (before : SessionView) (call : Call) (reply : Reply) (after : SessionView) : Type 0 where
+  pub keeps : Keeps before.raw after.raw
+  pub refused : (refused : IoFault) → session_refusal before.file call ≡ Some refused → Refuses before refused (said reply) after
+  pub causes : HasCauses before (said reply) after
+  pub moves : Moves before.file call after.short (said reply) after.file
+  pub complete : Completes before call (said reply) after
+  pub told : WhereTold before.raw (SessionStep before.file call (said reply) (after.short || says_wait (said reply)) (says_fault (said reply)) after.file)
