@@ -3,3 +3,4 @@ pub mod RawMode
 pub mod Source
 pub mod Sink
 pub mod Opener
+pub mod MemSource

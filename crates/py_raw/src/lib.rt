@@ -4,12 +4,14 @@
 //! wait, and which counts rise then. What an outside doesn't tell (a real file tells no content) is claimed of none.
 #![tactic(auto)]
 
+mod mem_source;
 mod opener;
 mod raw_error;
 mod raw_stream;
 mod sink;
 mod source;
 
+pub use mem_source::MemSource;
 pub use opener::{OpenError, Opener};
 pub use py_flat::{Chars, Data, IoFault, Life, Lines, ModeError, ParseModeError};
 pub use raw_error::RawError;
