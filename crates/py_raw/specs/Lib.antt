@@ -4,3 +4,4 @@ pub mod Source
 pub mod Sink
 pub mod Opener
 pub mod MemSource
+pub mod MemSink

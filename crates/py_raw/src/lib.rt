@@ -4,6 +4,7 @@
 //! wait, and which counts rise then. What an outside doesn't tell (a real file tells no content) is claimed of none.
 #![tactic(auto)]
 
+mod mem_sink;
 mod mem_source;
 mod opener;
 mod raw_error;
@@ -11,6 +12,7 @@ mod raw_stream;
 mod sink;
 mod source;
 
+pub use mem_sink::MemSink;
 pub use mem_source::MemSource;
 pub use opener::{OpenError, Opener};
 pub use py_flat::{Chars, Data, IoFault, Life, Lines, ModeError, ParseModeError};
