@@ -5,3 +5,5 @@ pub mod Sink
 pub mod Opener
 pub mod MemSource
 pub mod MemSink
+pub mod ReadSource
+pub mod WriteSink

@@ -9,8 +9,10 @@ mod mem_source;
 mod opener;
 mod raw_error;
 mod raw_stream;
+mod read_source;
 mod sink;
 mod source;
+mod write_sink;
 
 pub use mem_sink::MemSink;
 pub use mem_source::MemSource;
@@ -18,5 +20,7 @@ pub use opener::{OpenError, Opener};
 pub use py_flat::{Chars, Data, IoFault, Life, Lines, ModeError, ParseModeError};
 pub use raw_error::RawError;
 pub use raw_stream::RawStream;
+pub use read_source::ReadSource;
 pub use sink::Sink;
 pub use source::{Failed, Source};
+pub use write_sink::WriteSink;
