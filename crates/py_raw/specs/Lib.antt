@@ -7,3 +7,5 @@ pub mod MemSource
 pub mod MemSink
 pub mod ReadSource
 pub mod WriteSink
+pub mod Entries
+pub mod MemOpener

@@ -4,16 +4,20 @@
 //! wait, and which counts rise then. What an outside doesn't tell (a real file tells no content) is claimed of none.
 #![tactic(auto)]
 
+mod entries;
+mod mem_opener;
 mod mem_sink;
 mod mem_source;
 mod opener;
 mod raw_error;
+mod raw_mode;
 mod raw_stream;
 mod read_source;
 mod sink;
 mod source;
 mod write_sink;
 
+pub use mem_opener::MemOpener;
 pub use mem_sink::MemSink;
 pub use mem_source::MemSource;
 pub use opener::{OpenError, Opener};
