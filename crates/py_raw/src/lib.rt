@@ -5,6 +5,7 @@
 #![tactic(auto)]
 
 mod entries;
+mod file_opener;
 mod mem_opener;
 mod mem_sink;
 mod mem_source;
