@@ -6,6 +6,7 @@
 
 mod opener;
 mod raw_error;
+mod raw_flags;
 mod raw_stream;
 mod sink;
 mod source;
@@ -13,6 +14,7 @@ mod source;
 pub use opener::{OpenError, Opener};
 pub use py_flat::{Chars, Data, IoFault, Life, Lines, ModeError, ParseModeError};
 pub use raw_error::RawError;
+pub use raw_flags::RawFlags;
 pub use raw_stream::RawStream;
 pub use sink::Sink;
 pub use source::{Failed, Source};
