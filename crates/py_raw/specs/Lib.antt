@@ -1,3 +1,4 @@
+pub mod Flags
 pub mod RawStream
 pub mod RawMode
 pub mod Source
