@@ -1,7 +1,11 @@
-ghost use Rattle.std.specs.Prelude.{◌≡◌, IsSome, IsOk, OnOk, OnErr};
+ghost use Rattle.std.specs.Prelude.{◌≡◌, ⊤, [], Some, MatchOption, IsSome, IsOk, IfOk, OnOk, OnErr};
+ghost use Rattle.py_raw.specs.RawMode.{IsRawMode};
+ghost use Rattle.py_raw.specs.Opener.{opened_bytes};
 ghost use Rattle.py_raw.specs.Entries.{held_in, HoldsNow};
 
+use crate::OpenError;
 use crate::entries::{Entry, append, bytes_at, place_of, replace_at};
+use crate::raw_mode::{file_letter, misses};
 use std::alloc::{AllocError, Global};
 
 /// Paths with bytes in memory, which opens raw streams of them: what a test opens its files by.
@@ -34,10 +38,44 @@ fn put_in(
     }
 }
 
+/// The bytes that an opening keeps: none where `w` empties the path, or where it holds nothing.
+fn kept<'a>(entries: &'a [Entry], path: &str, mode: &str) -> Option<&'a [u8]>
+    requires { IsRawMode mode.now }
+    ensures none { MatchOption result (opened_bytes mode.now (held_in entries.now path.now) ≡ []) (λ bytes. opened_bytes mode.now (held_in entries.now path.now) ≡ bytes.now) }
+    ensures held { MatchOption result ⊤ (λ bytes. held_in entries.now path.now ≡ Some bytes.now) }
+{
+    if file_letter(mode) == b'w' {
+        return None;
+    }
+    bytes_at(entries, path)
+}
+
+/// Gives the path that a mode opens its bytes, and answers a copy of them. After an error every path holds what it held.
+fn open_in(
+    entries: &mut Vec<Entry>,
+    alloc: Global,
+    path: &str,
+    mode: &str,
+) -> Result<Vec<u8>, AllocError>
+    requires { IsRawMode mode.now }
+    ensures bytes { IfOk result (λ bytes. bytes.items ≡ opened_bytes mode.now (held_in entries.old.items path.now)) }
+    ensures held { OnOk result (HoldsNow entries.old.items path.now (opened_bytes mode.now (held_in entries.old.items path.now)) entries.new.items) }
+    ensures err { OnErr result (entries.new.items ≡ entries.old.items) }
+{
+    match kept(entries, path, mode) {
+        Some(bytes) => Vec::from_slice(alloc, bytes),
+        None => {
+            put_in(entries, alloc, path, Vec::new(alloc))?;
+            Ok(Vec::new(alloc))
+        }
+    }
+}
+
 impl MemOpener {
-    ghost use Rattle.std.specs.Prelude.{true, MatchOption};
-    ghost use Rattle.py_raw.specs.Opener.{HoldsTheSame};
-    ghost use Rattle.py_raw.specs.MemOpener.{shown_opener, Puts};
+    ghost use Rattle.std.specs.Prelude.{true};
+    ghost use Rattle.py_raw.specs.RawStream.{Raw};
+    ghost use Rattle.py_raw.specs.Opener.{HoldsTheSame, OpenKeeps, OpenOutcome, DoneKeeps, DoneOutcome};
+    ghost use Rattle.py_raw.specs.MemOpener.{shown_opener, opened_raw, Puts};
 
     /// An opener none of whose paths holds anything.
     pub fn new(alloc: Global) -> Self
@@ -66,5 +104,41 @@ impl MemOpener {
         ensures { MatchOption result ((shown_opener self.now).holds path.now ≡ None) (λ bytes. (shown_opener self.now).holds path.now ≡ Some bytes.now) }
     {
         bytes_at(&self.entries, path)
+    }
+
+    /// Opens a path by a mode, and answers the bytes of the stream.
+    fn open_bytes(&mut self, alloc: Global, path: &str, mode: &str) -> Result<Vec<u8>, OpenError>
+        requires { IsRawMode mode.now }
+        ensures keeps { OpenKeeps (shown_opener self.old) (shown_opener self.new) }
+        ensures outcome { OpenOutcome (λ bytes. opened_raw mode.now bytes.items) (shown_opener self.old) path.now mode.now result (shown_opener self.new) }
+    {
+        // Asked before anything wants memory, so that a fault comes exactly here.
+        if misses(mode, bytes_at(&self.entries, path).is_some()) {
+            self.faults = self.faults.saturating_add(1);
+            return Err(OpenError::Fault);
+        }
+        match open_in(&mut self.entries, alloc, path, mode) {
+            Ok(bytes) => Ok(bytes),
+            Err(_) => Err(OpenError::Memory),
+        }
+    }
+
+    /// Takes back the bytes of a stream of that path, and adds its counts.
+    fn take_back(
+        &mut self,
+        path: &str,
+        bytes: Vec<u8>,
+        faults: u64,
+        waits: u64,
+    ) -> Result<(), OpenError>
+        ensures keeps { (raw : Raw) → raw.faults ≡ faults → raw.waits ≡ waits → DoneKeeps raw (shown_opener self.old) (shown_opener self.new) }
+        ensures outcome { (raw : Raw) → raw.bytes ≡ bytes.items → DoneOutcome raw (shown_opener self.old) path.now result (shown_opener self.new) }
+    {
+        self.raw_faults = self.raw_faults.saturating_add(faults);
+        self.raw_waits = self.raw_waits.saturating_add(waits);
+        match put_in(&mut self.entries, self.alloc, path, bytes) {
+            Ok(()) => Ok(()),
+            Err(_) => Err(OpenError::Memory),
+        }
     }
 }
