@@ -26,6 +26,7 @@ pub use opener::{OpenError, Opener};
 pub use py_flat::{Chars, Data, IoFault, Life, Lines, ModeError, ParseModeError};
 pub use raw_error::RawError;
 pub use raw_flags::RawFlags;
+pub use raw_mode::is_raw_mode;
 pub use raw_stream::RawStream;
 pub use read_source::ReadSource;
 pub use sink::Sink;

@@ -1,10 +1,28 @@
-ghost use Rattle.std.specs.Prelude.{◌≡◌, ◌&&◌, ◌||◌, true, not, nat_eq, if◌then◌else◌};
+ghost use Rattle.std.specs.Prelude.{◌≡◌, ◌↔◌, IsTrue, ◌&&◌, ◌||◌, true, not, nat_eq, if◌then◌else◌};
 ghost use Rattle.std.specs.Int.RustNames.{bit_or};
-ghost use Rattle.py_raw.specs.RawMode.{IsRawMode, file_letter, has_plus, mode_reads, mode_writes, letter_r, letter_w, letter_x, letter_a};
+ghost use Rattle.py_raw.specs.RawMode.{IsRawMode, IsFileLetter, file_letter, has_plus, mode_reads, mode_writes, letter_r, letter_w, letter_x, letter_a};
 ghost use Rattle.py_raw.specs.Flags.{can_read, can_write, can_seek, has_bits};
 
 use crate::RawFlags;
 use bitflags::Flags;
+
+/// Whether a byte is a file letter.
+fn is_file_letter(letter: u8) -> bool
+    ensures { IsTrue result ↔ IsFileLetter letter }
+{
+    letter == b'r' || letter == b'w' || letter == b'x' || letter == b'a'
+}
+
+/// Whether a text is one of the modes that an opener takes: `rb`, `rb+`, `wb`, `wb+`, `xb`, `xb+`, `ab`, `ab+`.
+pub fn is_raw_mode(mode: &str) -> bool
+    ensures { IsTrue result ↔ IsRawMode mode.now }
+{
+    match mode.as_bytes() {
+        [letter, b'b'] => is_file_letter(*letter),
+        [letter, b'b', b'+'] => is_file_letter(*letter),
+        _ => false,
+    }
+}
 
 /// The file letter of a raw mode: `r`, `w`, `x` or `a`.
 pub(crate) fn file_letter(mode: &str) -> u8
