@@ -4,6 +4,9 @@
 //! wait, and which counts rise then. What an outside doesn't tell (a real file tells no content) is claimed of none.
 #![tactic(auto)]
 
+mod cut;
+mod laying;
+mod mem_raw;
 mod opener;
 mod raw_error;
 mod raw_flags;
@@ -11,6 +14,8 @@ mod raw_stream;
 mod sink;
 mod source;
 
+pub use cut::Cut;
+pub use mem_raw::MemRaw;
 pub use opener::{OpenError, Opener};
 pub use py_flat::{Chars, Data, IoFault, Life, Lines, ModeError, ParseModeError};
 pub use raw_error::RawError;
