@@ -1,4 +1,6 @@
+pub mod Cuts
 pub mod Flags
+pub mod MemRaw
 pub mod RawStream
 pub mod RawMode
 pub mod Source

@@ -4,9 +4,12 @@
 //! wait, and which counts rise then. What an outside doesn't tell (a real file tells no content) is claimed of none.
 #![tactic(auto)]
 
+mod cut;
 mod entries;
 mod file_opener;
+mod laying;
 mod mem_opener;
+mod mem_raw;
 mod mem_sink;
 mod mem_source;
 mod opener;
@@ -19,7 +22,9 @@ mod sink;
 mod source;
 mod write_sink;
 
+pub use cut::Cut;
 pub use mem_opener::MemOpener;
+pub use mem_raw::MemRaw;
 pub use mem_sink::MemSink;
 pub use mem_source::MemSource;
 pub use opener::{OpenError, Opener};
