@@ -5,6 +5,8 @@
 #![tactic(auto)]
 
 mod cut;
+#[cfg(test)]
+mod each_mode;
 mod entries;
 mod file_opener;
 mod laying;

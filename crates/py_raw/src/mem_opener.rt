@@ -3,9 +3,9 @@ ghost use Rattle.py_raw.specs.RawMode.{IsRawMode};
 ghost use Rattle.py_raw.specs.Opener.{opened_bytes};
 ghost use Rattle.py_raw.specs.Entries.{held_in, HoldsNow};
 
-use crate::OpenError;
 use crate::entries::{Entry, append, bytes_at, place_of, replace_at};
-use crate::raw_mode::{file_letter, misses};
+use crate::raw_mode::{file_letter, misses, mode_flags};
+use crate::{MemRaw, OpenError, Opener};
 use std::alloc::{AllocError, Global};
 
 /// Paths with bytes in memory, which opens raw streams of them: what a test opens its files by.
@@ -140,5 +140,74 @@ impl MemOpener {
             Ok(()) => Ok(()),
             Err(_) => Err(OpenError::Memory),
         }
+    }
+}
+
+impl Opener for MemOpener {
+    ghost use Rattle.py_raw.specs.Opener.{OpenKeeps, OpenOutcome, DoneKeeps, DoneOutcome};
+    ghost use Rattle.py_raw.specs.MemRaw.{shown, view_of};
+    ghost use Rattle.py_raw.specs.MemOpener.{shown_opener, opened_raw};
+
+    type Raw = MemRaw;
+
+    ghost shows = { shown_opener };
+
+    /// Opens a path by a mode. `Fault` comes exactly where `x` finds the path or `r` misses it, before anything wants
+    /// memory. The stream holds a copy of the bytes, can seek, and moves all that a call asks.
+    fn open_raw(&mut self, alloc: Global, path: &str, mode: &str) -> Result<MemRaw, OpenError>
+        requires { IsRawMode mode.now }
+        ensures keeps { OpenKeeps (shown_opener self.old) (shown_opener self.new) }
+        ensures outcome { OpenOutcome shown (shown_opener self.old) path.now mode.now result (shown_opener self.new) }
+        ensures opened { IfOk result (λ raw. view_of raw ≡ record { shows = opened_raw mode.now (opened_bytes mode.now ((shown_opener self.old).holds path.now)); plan = []; refused = []; calls = 0 }) }
+    {
+        match self.open_bytes(alloc, path, mode) {
+            Ok(bytes) => {
+                let flags = mode_flags(mode);
+                Ok(MemRaw::new(bytes, flags, Vec::new(alloc), Vec::new(alloc)))
+            }
+            Err(error) => Err(error),
+        }
+    }
+
+    /// Puts the bytes of a stream away at its path, and adds its counts, which stop at 18446744073709551615. Memory is
+    /// wanted only where the path holds nothing; it then goes on holding nothing.
+    fn done(&mut self, path: &str, raw: MemRaw) -> Result<(), OpenError> {
+        let faults = raw.fault_count();
+        let waits = raw.wait_count();
+        self.take_back(path, raw.into_bytes(), faults, waits)
+    }
+}
+
+#[cfg(test)]
+mod tests {
+    use super::*;
+    use crate::each_mode::{EACH_MODE, opens};
+
+    #[test]
+    fn each_mode_opens_and_keeps_what_it_should(rt: HostRuntime) -> Result<(), AllocError> {
+        let alloc = rt.alloc();
+        for (mode, missing, existing) in EACH_MODE {
+            let mut opener = MemOpener::new(alloc);
+            opener.put(alloc, "held", Vec::from_slice(alloc, b"old")?)?;
+            let made = opens(&rt, alloc, &mut opener, "missing", mode);
+            assert_eq!(rt; made, missing.is_some(), "{mode} of a missing path");
+            let now = opener.bytes_at("missing");
+            assert!(rt;
+                now == missing.map(|text| text.as_bytes()),
+                "{mode} of a missing path"
+            );
+            let opened = opens(&rt, alloc, &mut opener, "held", mode);
+            assert_eq!(rt;
+                opened,
+                existing.is_some(),
+                "{mode} of a path that holds some"
+            );
+            let now = opener.bytes_at("held");
+            assert!(rt;
+                now == Some(existing.unwrap_or("old").as_bytes()),
+                "{mode} of a path that holds some"
+            );
+        }
+        Ok(())
     }
 }

@@ -2,6 +2,7 @@ ghost use Rattle.std.specs.Prelude.{◌≤◌};
 ghost use Rattle.py_flat.specs.Limits.{greatest_place, greatest_count};
 
 mod calls;
+mod counts;
 mod state;
 #[cfg(test)]
 mod tests;
