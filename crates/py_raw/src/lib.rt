@@ -5,6 +5,7 @@
 #![tactic(auto)]
 
 mod cut;
+mod file_raw;
 mod laying;
 mod mem_raw;
 mod opener;
@@ -15,6 +16,7 @@ mod sink;
 mod source;
 
 pub use cut::Cut;
+pub use file_raw::FileRaw;
 pub use mem_raw::MemRaw;
 pub use opener::{OpenError, Opener};
 pub use py_flat::{Chars, Data, IoFault, Life, Lines, ModeError, ParseModeError};
