@@ -1,4 +1,5 @@
 pub mod Cuts
+pub mod FileRaw
 pub mod Flags
 pub mod MemRaw
 pub mod RawStream

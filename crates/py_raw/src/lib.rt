@@ -9,6 +9,7 @@ mod cut;
 mod each_mode;
 mod entries;
 mod file_opener;
+mod file_raw;
 mod laying;
 mod mem_opener;
 mod mem_raw;
@@ -26,6 +27,7 @@ mod write_sink;
 
 pub use cut::Cut;
 pub use mem_opener::MemOpener;
+pub use file_raw::FileRaw;
 pub use mem_raw::MemRaw;
 pub use mem_sink::MemSink;
 pub use mem_source::MemSource;
