@@ -13,3 +13,4 @@ pub mod ReadSource
 pub mod WriteSink
 pub mod Entries
 pub mod MemOpener
+pub mod FileOpener

@@ -5,6 +5,7 @@ ghost use Rattle.py_raw.specs.RawStream.{Keeps, StaysOpen, WriteFits, ReadOutcom
 ghost use Rattle.py_flat.specs.Limits.{greatest_place};
 ghost use Rattle.py_flat.specs.Causes.{counted};
 
+mod counts;
 #[cfg(test)]
 mod tests;
 

@@ -26,8 +26,9 @@ mod source;
 mod write_sink;
 
 pub use cut::Cut;
-pub use mem_opener::MemOpener;
+pub use file_opener::FileOpener;
 pub use file_raw::FileRaw;
+pub use mem_opener::MemOpener;
 pub use mem_raw::MemRaw;
 pub use mem_sink::MemSink;
 pub use mem_source::MemSource;

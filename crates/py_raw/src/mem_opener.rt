@@ -111,6 +111,7 @@ impl MemOpener {
         requires { IsRawMode mode.now }
         ensures keeps { OpenKeeps (shown_opener self.old) (shown_opener self.new) }
         ensures outcome { OpenOutcome (λ bytes. opened_raw mode.now bytes.items) (shown_opener self.old) path.now mode.now result (shown_opener self.new) }
+        ensures faults { OnOk result ((shown_opener self.new).faults ≡ (shown_opener self.old).faults) }
     {
         // Asked before anything wants memory, so that a fault comes exactly here.
         if misses(mode, bytes_at(&self.entries, path).is_some()) {
@@ -133,6 +134,9 @@ impl MemOpener {
     ) -> Result<(), OpenError>
         ensures keeps { (raw : Raw) → raw.faults ≡ faults → raw.waits ≡ waits → DoneKeeps raw (shown_opener self.old) (shown_opener self.new) }
         ensures outcome { (raw : Raw) → raw.bytes ≡ bytes.items → DoneOutcome raw (shown_opener self.old) path.now result (shown_opener self.new) }
+        ensures same { OnErr result (HoldsTheSame (shown_opener self.old) (shown_opener self.new)) }
+        ensures faults { (shown_opener self.new).faults ≡ (shown_opener self.old).faults }
+        ensures complete { IsSome ((shown_opener self.old).holds path.now) → IsOk result }
     {
         self.raw_faults = self.raw_faults.saturating_add(faults);
         self.raw_waits = self.raw_waits.saturating_add(waits);
@@ -144,7 +148,7 @@ impl MemOpener {
 }
 
 impl Opener for MemOpener {
-    ghost use Rattle.py_raw.specs.Opener.{OpenKeeps, OpenOutcome, DoneKeeps, DoneOutcome};
+    ghost use Rattle.py_raw.specs.Opener.{HoldsTheSame, OpenKeeps, OpenOutcome, DoneKeeps, DoneOutcome};
     ghost use Rattle.py_raw.specs.MemRaw.{shown, view_of};
     ghost use Rattle.py_raw.specs.MemOpener.{shown_opener, opened_raw};
 
@@ -158,6 +162,7 @@ impl Opener for MemOpener {
         requires { IsRawMode mode.now }
         ensures keeps { OpenKeeps (shown_opener self.old) (shown_opener self.new) }
         ensures outcome { OpenOutcome shown (shown_opener self.old) path.now mode.now result (shown_opener self.new) }
+        ensures faults { OnOk result ((shown_opener self.new).faults ≡ (shown_opener self.old).faults) }
         ensures opened { IfOk result (λ raw. view_of raw ≡ record { shows = opened_raw mode.now (opened_bytes mode.now ((shown_opener self.old).holds path.now)); plan = []; refused = []; calls = 0 }) }
     {
         match self.open_bytes(alloc, path, mode) {
@@ -171,7 +176,13 @@ impl Opener for MemOpener {
 
     /// Puts the bytes of a stream away at its path, and adds its counts, which stop at 18446744073709551615. Memory is
     /// wanted only where the path holds nothing; it then goes on holding nothing.
-    fn done(&mut self, path: &str, raw: MemRaw) -> Result<(), OpenError> {
+    fn done(&mut self, path: &str, raw: MemRaw) -> Result<(), OpenError>
+        ensures keeps { DoneKeeps (shown raw) (shown_opener self.old) (shown_opener self.new) }
+        ensures outcome { DoneOutcome (shown raw) (shown_opener self.old) path.now result (shown_opener self.new) }
+        ensures same { OnErr result (HoldsTheSame (shown_opener self.old) (shown_opener self.new)) }
+        ensures faults { (shown_opener self.new).faults ≡ (shown_opener self.old).faults }
+        ensures complete { IsSome ((shown_opener self.old).holds path.now) → IsOk result }
+    {
         let faults = raw.fault_count();
         let waits = raw.wait_count();
         self.take_back(path, raw.into_bytes(), faults, waits)
