@@ -1,6 +1,6 @@
 -- A raw stream over a file, which tells nothing.
-use Rattle.std.specs.Prelude.{ℕ, Bool, true, false, List, [], take, Option, Some, None, Result, Ok, Err, if◌then◌else◌}
-use Rattle.std.specs.Io.KnownBytes.{Consumes, Appends, Keeps}
+use Rattle.std.specs.Prelude.{◌≡◌, ℕ, ◌<◌, length, Bool, true, false, List, [], take, Option, Some, None, Result, Ok, Err, if◌then◌else◌}
+use Rattle.std.specs.Io.KnownBytes.{Consumes, Appends, Keeps, IsAtEnd}
 use Rattle.std.specs.declared.io.ErrorKind.{ErrorKind}
 use Rattle.std.specs.declared.io.ErrorKind.TheVariants.{WouldBlock, Interrupted}
 use Rattle.std.specs.declared.io.Error.{Error}
@@ -44,9 +44,9 @@ after_reply raw (Ok (Some count)) = raw
 after_reply raw (Ok None) = record raw { waits = counted raw.waits 1 }
 after_reply raw (Err error) = record raw { faults = counted raw.faults 1 }
 
--- a read takes what it gave from what is known to be left in the file, and nothing without an answer
+-- a read takes what it gave from what is known to be left in the file, none only at its end, and nothing without an answer
 abbrev pub TakesFromFile : Option (List ℕ) → Option (List ℕ) → Result (Option ℕ) RawError → List ℕ → Type 0
-TakesFromFile old new (Ok (Some count)) buffer = Consumes old new (take count buffer)
+TakesFromFile old new (Ok (Some count)) buffer = Consumes old new (take count buffer) × (count ≡ 0 → 0 < length buffer → IsAtEnd new)
 TakesFromFile old new (Ok None) buffer = Keeps old new
 TakesFromFile old new (Err error) buffer = Keeps old new
 
