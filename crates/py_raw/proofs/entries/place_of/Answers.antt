@@ -1,4 +1,4 @@
-use Rattle.std.proofs.Common.{◌<◌, length, false, ◌≡◌, arith}
+use Rattle.std.proofs.Common.{false, ◌≡◌, arith}
 use Rattle.std.specs.Str.{bytes_eq}
 use Rattle.py_raw.specs.Entries.{path_of}
 use Rattle.py_raw.proofs.Lookups.{none_more}
