@@ -5,7 +5,7 @@ use std::alloc::{AllocError, Global};
 
 /// A call of a session. Sizes, limits and places are bytes of a binary session and characters of a text one; `None`
 /// stands for a size that isn't given.
-#[derive(Debug, Drop)]
+#[derive(Debug, PartialEq, Eq, Drop)]
 pub enum Call {
     /// Reads so many, or all.
     Read(Option<usize>),

@@ -13,6 +13,8 @@ mod reader;
 mod reply;
 mod run;
 mod session;
+#[cfg(test)]
+mod tests;
 mod text;
 
 pub use call::Call;

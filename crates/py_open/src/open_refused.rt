@@ -1,7 +1,7 @@
 use py_flat::IoFault;
 
 /// Why a raw stream wasn't opened, and the raw that is handed back.
-#[derive(Debug)]
+#[derive(Debug, Drop)]
 pub struct OpenRefused<R> {
     /// The raw stream, with nothing read from it.
     pub raw: R,

@@ -14,6 +14,7 @@ use std::marker::Model;
 /// The greatest place of a stream.
 pub(crate) const GREATEST_PLACE: u64 = 9223372036854775807;
 
+#[derive(Drop)]
 pub(crate) struct Reader<R: RawStream> {
     raw: R,
     buffer: Vec<u8>,

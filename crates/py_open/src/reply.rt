@@ -4,7 +4,7 @@ use py_flat::{Chars, Data, IoFault, Lines};
 use std::alloc::{AllocError, Global};
 
 /// What a session answers to a call.
-#[derive(Debug, Drop)]
+#[derive(Debug, PartialEq, Eq, Drop)]
 pub enum Reply {
     /// Bytes that were read.
     Bytes(Data),

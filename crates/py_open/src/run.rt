@@ -8,6 +8,7 @@ use py_raw::RawStream;
 use std::alloc::Global;
 
 /// A session after a list of calls, and their replies in order.
+#[derive(Drop)]
 pub struct Run<R: RawStream> {
     /// The session.
     pub session: Session<R>,

@@ -16,6 +16,7 @@ use std::marker::Model;
 /// A stream that was opened, and on which calls are made one by one.
 ///
 /// So far it is a text that is read: every call but `Read`, `ReadLine` and `Close` is `Unsupported`.
+#[derive(Drop)]
 pub struct Session<R: RawStream> {
     alloc: Global,
     text: Text<R>,
@@ -32,7 +33,7 @@ impl<R: RawStream> Model for Session<R> {
 }
 
 /// A raw stream that a session hands back.
-#[derive(Debug)]
+#[derive(Debug, Drop)]
 pub struct Detached<R> {
     /// The raw stream.
     pub raw: R,

@@ -15,6 +15,7 @@ use std::alloc::{AllocError, Global};
 use std::marker::Model;
 
 /// What a read of the reader brought.
+#[derive(Clone, Copy)]
 pub(crate) enum Chunk {
     /// Some bytes.
     More,
@@ -55,6 +56,7 @@ pub(crate) enum Answer {
     NotReady,
 }
 
+#[derive(Drop)]
 pub(crate) struct Text<R: RawStream> {
     reader: Reader<R>,
     chunk_size: usize,

@@ -1,0 +1,199 @@
+//! Sessions over raws in memory, compared with worked examples and with the plain slow text.
+use crate::run::run_opened;
+use crate::{Call, OpenArgs, OpenRefused, Reply, Run, run_session};
+use py_flat::{Chars, IoFault, Life};
+use py_plain::{Newlines, PlainText};
+use py_raw::{Cut, MemRaw, RawFlags};
+use std::alloc::{AllocError, Global};
+use std::process::Abort;
+use std::test::Fail;
+
+/// A raw over some bytes that can be read and moved, and follows a plan.
+fn raw_of(alloc: Global, bytes: &[u8], plan: Vec<Cut>) -> Result<MemRaw, AllocError> {
+    let flags = RawFlags::able(true, false, true);
+    let bytes = bytes.to_vec(alloc)?;
+    Ok(MemRaw::new(bytes, flags, plan, Vec::new(alloc)))
+}
+
+fn text(alloc: Global, text: &str) -> Result<Reply, AllocError> {
+    Ok(Reply::Text(Chars::from_text(alloc, text)?))
+}
+
+fn decode_error(start: u64, end: u64) -> Reply {
+    Reply::Refused(IoFault::UnicodeDecodeError { start, end })
+}
+
+/// The arguments of an opening with the newline argument LF.
+fn line_feed(alloc: Global) -> Result<OpenArgs, AllocError> {
+    let mut args = OpenArgs::default();
+    args.newline = Some(Chars::from_text(alloc, "\n")?);
+    Ok(args)
+}
+
+/// A run over a raw with a small buffer and small chunks.
+fn small_run(
+    rt: &impl Abort,
+    alloc: Global,
+    raw: MemRaw,
+    sizes: (usize, usize),
+    calls: &[Call],
+) -> Run<MemRaw>
+    requires buffer { 0 < sizes.0 }
+    requires chunk { 0 < sizes.1 }
+    requires start { StandsAtStart (shown raw) }
+{
+    match run_opened(alloc, raw, sizes.0, sizes.1, calls) {
+        Ok(run) => run,
+        Err(_) => panic!(rt; "the opening was refused"),
+    }
+}
+
+#[test]
+fn a_text_is_read_by_a_line_and_then_to_its_end(rt: HostRuntime) -> Result<(), Fail> {
+    let alloc = rt.alloc();
+    let raw = raw_of(alloc, &[0xC3, 0xA9, 0x0A, 0x78], Vec::new(alloc))?;
+    let calls = [Call::ReadLine(None), Call::Read(None), Call::Close];
+    let Ok(run) = run_session(alloc, raw, "r", line_feed(alloc)?, &calls) else {
+        return Err(Fail::from("refused"));
+    };
+    let replies = [text(alloc, "é\n")?, text(alloc, "x")?, Reply::Done];
+    assert_eq!(rt; run.replies.as_slice(), replies.as_slice());
+    assert_eq!(rt; run.session.life(), Life::Closed);
+    let handed = run.session.finish();
+    assert_eq!(rt; handed.raw.bytes_of(), [0xC3, 0xA9, 0x0A, 0x78].as_slice());
+    assert_eq!(rt; handed.unwritten.len(), 0);
+    Ok(())
+}
+
+#[test]
+fn waits_cuts_and_refused_ranges_lose_nothing(rt: HostRuntime) -> Result<(), Fail> {
+    let alloc = rt.alloc();
+    let euro = [0xE2, 0x82, 0xAC];
+    let plan = vec![in alloc; Cut::Take(1), Cut::Wait, Cut::Take(1), Cut::Wait, Cut::Take(1)]?;
+    let calls = [Call::Read(Some(1)), Call::Read(Some(1)), Call::Read(Some(1))];
+    let run = small_run(&rt, alloc, raw_of(alloc, &euro, plan)?, (4, 4), &calls);
+    let replies = [Reply::NotReady, Reply::NotReady, text(alloc, "€")?];
+    assert_eq!(rt; run.replies.as_slice(), replies.as_slice());
+
+    let bad = [0x61, 0x62, 0xFF, 0x63];
+    let calls = [
+        Call::Read(Some(3)),
+        Call::Read(Some(2)),
+        Call::Read(Some(1)),
+        Call::Read(None),
+    ];
+    let run = small_run(&rt, alloc, raw_of(alloc, &bad, Vec::new(alloc))?, (4, 4), &calls);
+    let replies = [
+        decode_error(2, 3),
+        text(alloc, "ab")?,
+        decode_error(2, 3),
+        decode_error(2, 3),
+    ];
+    assert_eq!(rt; run.replies.as_slice(), replies.as_slice());
+    Ok(())
+}
+
+#[test]
+fn every_size_answers_as_the_plain_text(rt: HostRuntime) -> Result<(), Fail> {
+    let alloc = rt.alloc();
+    let texts = [
+        "".as_bytes(),
+        "a\nbb\nccc".as_bytes(),
+        "é\n€\n😀".as_bytes(),
+        &[0x61, 0x0A, 0xE2, 0x82],
+        &[0xF0, 0x9F, 0x98, 0x80, 0xC0, 0x61],
+    ];
+    let calls = [
+        Call::ReadLine(None),
+        Call::Read(Some(2)),
+        Call::ReadLine(Some(1)),
+        Call::Read(Some(0)),
+        Call::Read(None),
+        Call::Read(None),
+        Call::ReadLine(None),
+    ];
+    for bytes in texts {
+        for buffer in 1..4 {
+            for chunk in 1..4 {
+                let raw = raw_of(alloc, bytes, Vec::new(alloc))?;
+                let run = small_run(&rt, alloc, raw, (buffer, chunk), &calls);
+                let mut plain = PlainText::new(bytes.to_vec(alloc)?, Newlines::Lf);
+                assert_eq!(rt; run.replies.len(), calls.len());
+                for (call, reply) in calls.iter().zip(&run.replies) {
+                    let answer = match call {
+                        Call::Read(size) => plain.read(alloc, *size),
+                        Call::ReadLine(limit) => plain.readline(alloc, *limit),
+                        _ => Err(IoFault::Unsupported),
+                    };
+                    let expected = match answer {
+                        Ok(text) => Reply::Text(text),
+                        Err(fault) => Reply::Refused(fault),
+                    };
+                    assert_eq!(rt; *reply, expected, "of {bytes:?} by {buffer} and {chunk}");
+                }
+            }
+        }
+    }
+    Ok(())
+}
+
+#[test]
+fn lives_and_kinds_refuse(rt: HostRuntime) -> Result<(), Fail> {
+    let alloc = rt.alloc();
+    let raw = raw_of(alloc, &[0x61], Vec::new(alloc))?;
+    let calls = [
+        Call::Tell,
+        Call::Readable,
+        Call::Close,
+        Call::Tell,
+        Call::Read(None),
+        Call::Close,
+    ];
+    let run = small_run(&rt, alloc, raw, (4, 4), &calls);
+    let replies = [
+        Reply::Refused(IoFault::Unsupported),
+        Reply::Refused(IoFault::Unsupported),
+        Reply::Done,
+        Reply::Refused(IoFault::Closed),
+        Reply::Refused(IoFault::Closed),
+        Reply::Done,
+    ];
+    assert_eq!(rt; run.replies.as_slice(), replies.as_slice());
+
+    let flags = RawFlags::able(true, false, true);
+    let faults = vec![in alloc; 1]?;
+    let raw = MemRaw::new("abc".as_bytes().to_vec(alloc)?, flags, Vec::new(alloc), faults);
+    let calls = [Call::Read(None), Call::Read(None), Call::Close];
+    let run = small_run(&rt, alloc, raw, (4, 4), &calls);
+    let replies = [
+        Reply::Refused(IoFault::RawFault),
+        Reply::Refused(IoFault::Failed),
+        Reply::Refused(IoFault::Failed),
+    ];
+    assert_eq!(rt; run.replies.as_slice(), replies.as_slice());
+    assert_eq!(rt; run.session.life(), Life::Failed);
+    Ok(())
+}
+
+#[test]
+fn a_refused_opening_hands_the_raw_back(rt: HostRuntime) -> Result<(), Fail> {
+    let alloc = rt.alloc();
+    let bytes = || "ab".as_bytes().to_vec(alloc);
+    let readable = RawFlags::able(true, false, true);
+    let writable = RawFlags::able(false, true, true);
+    for (mode, flags, fault) in [
+        ("rb", readable, IoFault::Unsupported),
+        ("rr", readable, IoFault::Unsupported),
+        ("r", writable, IoFault::Unsupported),
+    ] {
+        let raw = MemRaw::new(bytes()?, flags, Vec::new(alloc), Vec::new(alloc));
+        match run_session(alloc, raw, mode, line_feed(alloc)?, &[]) {
+            Ok(_) => panic!(&rt; "opened by {mode}"),
+            Err(OpenRefused { raw, fault: why }) => {
+                assert_eq!(rt; why, fault);
+                assert_eq!(rt; raw.bytes_of(), "ab".as_bytes());
+            }
+        }
+    }
+    Ok(())
+}
