@@ -1,0 +1,5 @@
+pub mod Words
+pub mod Script
+pub mod Faults
+pub mod ReplyLine
+pub mod RunWords
