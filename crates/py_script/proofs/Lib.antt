@@ -1,2 +1,3 @@
 mod Decimals
+mod LineLemmas
 mod ScriptLemmas

@@ -1,5 +1,5 @@
 -- The line that a reply is written as: this project's script language, docs/PROGRAM.md.
-use Rattle.std.specs.Prelude.{ℕ, Bool, true, false, List, [], ◌∷◌, ◌++◌, map, length, Option, Some, None, codes, encode_utf8_all, decimal}
+use Rattle.std.specs.Prelude.{ℕ, true, false, List, [], ◌∷◌, ◌++◌, map, length, Option, Some, None, codes, encode_utf8_all, decimal}
 use Rattle.hex.specs.Hex.{encode_lower}
 use Rattle.py_open.specs.declared.reply.Reply.{Reply}
 use Rattle.py_open.specs.declared.reply.Reply.TheVariants.{Bytes, Text, Lines, Count, Place, Done, NotReady, Flag, Name, Unwritten, Refused}

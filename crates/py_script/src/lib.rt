@@ -1,14 +1,17 @@
 //! The words of a program that runs scripts of calls: what a script, a reply's line and the command line mean.
 //!
+//! A script is read into calls (`parse_script`), replies and refusals are written as lines (`push_reply_line`,
 //! `push_refused_line`), and the command line's words are told apart (`run_path`). Nothing here opens, reads or prints.
 #![tactic(auto)]
 
 mod decimal;
 mod fault_line;
+mod reply_line;
 mod run_words;
 mod script;
 
 pub use decimal::parse_decimal;
 pub use fault_line::{fault_name, push_refused_line};
+pub use reply_line::push_reply_line;
 pub use run_words::run_path;
 pub use script::{MAX_SCRIPT_SIZE, parse_line, parse_script};
