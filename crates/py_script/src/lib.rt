@@ -5,12 +5,17 @@
 #![tactic(auto)]
 
 mod decimal;
+mod examples;
 mod fault_line;
 mod reply_line;
 mod run_words;
 mod script;
 
 pub use decimal::parse_decimal;
+pub use examples::{
+    examples_of_refusals, examples_of_replies, examples_of_scripts, examples_of_words,
+    examples_out_of_form,
+};
 pub use fault_line::{fault_name, push_refused_line};
 pub use reply_line::push_reply_line;
 pub use run_words::run_path;
