@@ -20,3 +20,6 @@ pub use fault_line::{fault_name, push_refused_line};
 pub use reply_line::push_reply_line;
 pub use run_words::run_path;
 pub use script::{MAX_SCRIPT_SIZE, parse_line, parse_script};
+
+#[cfg(test)]
+mod tests;
