@@ -3,3 +3,4 @@ pub mod Script
 pub mod Faults
 pub mod ReplyLine
 pub mod RunWords
+pub mod ReplyRange

@@ -64,7 +64,7 @@ fn push_fields(alloc: Global, line: &mut Vec<u8>, reply: &Reply) -> Result<(), A
 }
 
 /// The UTF-8 of a text, lent.
-fn utf8(text: &Chars) -> &[u8]
+pub(crate) fn utf8(text: &Chars) -> &[u8]
     ensures { result.now ≡ encode_utf8_all text.now }
 {
     text.as_str().as_bytes()

@@ -156,7 +156,6 @@ fn words_of_a_run_give_its_path(rt: HostRuntime) -> Result<(), Fail> {
             texts.push(String::from_str(rt.alloc(), word)?)?;
         }
         assert_eq!(rt; run_path(&texts), want);
-        assert_eq!(rt; run_path(&texts[..3]), None);
     }
     Ok(())
 }
