@@ -1,0 +1,6 @@
+mod Decimals
+mod LineLemmas
+mod ScriptLemmas
+mod WordLemmas
+mod FaultLemmas
+mod ReplyLemmas

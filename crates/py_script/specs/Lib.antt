@@ -1,0 +1,6 @@
+pub mod Words
+pub mod Script
+pub mod Faults
+pub mod ReplyLine
+pub mod RunWords
+pub mod ReplyRange

@@ -1,0 +1,31 @@
+-- Words of a line, and the numbers among them: this project's script language, docs/PROGRAM.md.
+use Rattle.std.specs.Prelude.{ℕ, ◌+◌, ◌-◌, ◌*◌, ◌^◌, ◌==◌, ◌&&◌, nat_le, nat_lt, Bool, List, [], ◌∷◌, ◌++◌, Option, Some, None, if◌then◌else◌}
+use Rattle.std.specs.List.{slice_split}
+
+-- the words of a line, parted by one space: two spaces in a row have an empty word between them
+abbrev pub words_of : List ℕ → List (List ℕ)
+words_of line = slice_split (λ byte. byte == 32) line
+
+-- words, each with a space before it
+abbrev pub spaced : List (List ℕ) → List ℕ
+spaced [] = []
+spaced (word ∷ words) = (32 ∷ word) ++ spaced words
+
+-- whether a byte is a decimal digit
+unfoldable pub is_digit : ℕ → Bool
+is_digit byte = nat_le 48 byte && nat_le byte 57
+
+-- the value of decimal digits behind those of `value`; None where a byte is no digit
+abbrev pub value_onto : ℕ → List ℕ → Option ℕ
+value_onto value [] = Some value
+value_onto value (digit ∷ digits) = if is_digit digit then value_onto (value * 10 + (digit - 48)) digits else None
+
+-- a number that a size of this machine holds, 64 bits
+abbrev pub as_size : Option ℕ → Option ℕ
+as_size None = None
+as_size (Some value) = if nat_lt value (2 ^ 64) then Some value else None
+
+-- the number of one or more decimal digits, leading zeros too, with no sign; None where it is above 18446744073709551615
+abbrev pub decimal_value : List ℕ → Option ℕ
+decimal_value [] = None
+decimal_value (digit ∷ digits) = as_size (value_onto 0 (digit ∷ digits))

@@ -1,0 +1,32 @@
+ghost use Rattle.std.specs.Prelude.{◌≡◌, ◌∷◌, []};
+ghost use Rattle.py_script.specs.Words.{value_onto, as_size, decimal_value};
+
+/// The number of one or more decimal digits, leading zeros too, with no sign; `None` for other bytes and for a number
+/// above 18446744073709551615.
+pub fn parse_decimal(digits: &[u8]) -> Option<usize>
+    ensures { result ≡ decimal_value digits.now }
+{
+    if digits.is_empty() {
+        return None;
+    }
+    let mut value = 0;
+    for digit in digits {
+        value = value_with(value, *digit)?;
+    }
+    Some(value)
+}
+
+/// A value with one more digit behind it; `None` where the byte is no digit, and for a number above
+/// 18446744073709551615.
+#[tactic(auto, unfolding(crate::specs::Words::is_digit))]
+fn value_with(value: usize, digit: u8) -> Option<usize>
+    ensures { result ≡ as_size (value_onto value (digit ∷ [])) }
+{
+    if digit >= b'0' && digit <= b'9' {
+        value
+            .checked_mul(10)?
+            .checked_add(usize::from(digit - b'0'))
+    } else {
+        None
+    }
+}

@@ -1,0 +1,153 @@
+ghost use Rattle.std.specs.Prelude.{◌≡◌, ◌++◌, ◌∷◌, [], length, map, decimal, encode_utf8_all, OnOk, OnErr, IfOk};
+ghost use Rattle.py_script.specs.Words.{spaced};
+ghost use Rattle.py_script.specs.Faults.{fault_name, fault_numbers};
+ghost use Rattle.py_script.specs.ReplyLine.{hex_of, place_of, reply_word, reply_fields, reply_line};
+
+use crate::fault_name;
+use hex::encode;
+use py_flat::{Chars, Data, IoFault};
+use py_open::Reply;
+use std::alloc::{AllocError, Global};
+
+/// Adds the line of a reply, with its LF, at the end of some bytes. At `Err`, for want of memory, the bytes are
+/// unchanged.
+///
+/// The line begins with a word for the reply's kind, and each further word stands behind one space: bytes, a text's
+/// UTF-8 and lines as hex in lower case (`-` for none), numbers as decimals (docs/PROGRAM.md).
+pub fn push_reply_line(alloc: Global, out: &mut Vec<u8>, reply: &Reply) -> Result<(), AllocError>
+    ensures ok { OnOk result (out.new.items ≡ out.old.items ++ reply_line reply.now) }
+    ensures err { OnErr result (out.new.items ≡ out.old.items) }
+{
+    let mut line = Vec::from_slice(alloc, reply_word(reply).as_bytes())?;
+    push_fields(alloc, &mut line, reply)?;
+    line.push(b'\n')?;
+    out.extend_from_slice(&line)
+}
+
+/// The word that a reply's line begins with.
+fn reply_word(reply: &Reply) -> &'static str
+    ensures { result.now ≡ reply_word reply.now }
+{
+    match reply {
+        Reply::Bytes(_) => "bytes",
+        Reply::Text(_) => "text",
+        Reply::Lines(_) => "lines",
+        Reply::Count(_) => "count",
+        Reply::Place(_) => "place",
+        Reply::Done => "ok",
+        Reply::NotReady => "notready",
+        Reply::Flag(true) => "true",
+        Reply::Flag(false) => "false",
+        Reply::Name(_) => "name",
+        Reply::Unwritten { .. } => "detached",
+        Reply::Refused(_) => "err",
+    }
+}
+
+/// Adds the words that follow the first, each behind a space.
+fn push_fields(alloc: Global, line: &mut Vec<u8>, reply: &Reply) -> Result<(), AllocError>
+    ensures { OnOk result (line.new.items ≡ line.old.items ++ spaced (reply_fields reply.now)) }
+{
+    match reply {
+        Reply::Bytes(bytes) => push_hex(alloc, line, bytes.as_slice()),
+        Reply::Text(text) => push_hex(alloc, line, utf8(text)),
+        Reply::Lines(lines) => push_lines(alloc, line, lines.as_slice()),
+        Reply::Count(count) => push_number(alloc, line, *count),
+        Reply::Place(place) => push_number(alloc, line, *place),
+        Reply::Done => Ok(()),
+        Reply::NotReady => Ok(()),
+        Reply::Flag(_) => Ok(()),
+        Reply::Name(name) => push_word(line, utf8(name)),
+        Reply::Unwritten { bytes, place } => push_unwritten(alloc, line, bytes.as_slice(), *place),
+        Reply::Refused(fault) => push_fault(alloc, line, *fault),
+    }
+}
+
+/// The UTF-8 of a text, lent.
+pub(crate) fn utf8(text: &Chars) -> &[u8]
+    ensures { result.now ≡ encode_utf8_all text.now }
+{
+    text.as_str().as_bytes()
+}
+
+/// Adds a word, behind a space.
+fn push_word(line: &mut Vec<u8>, word: &[u8]) -> Result<(), AllocError>
+    ensures { OnOk result (line.new.items ≡ line.old.items ++ spaced (word.now ∷ [])) }
+{
+    line.push(b' ')?;
+    line.extend_from_slice(word)
+}
+
+/// Adds a number as a decimal, behind a space.
+fn push_number(alloc: Global, line: &mut Vec<u8>, number: u64) -> Result<(), AllocError>
+    ensures { OnOk result (line.new.items ≡ line.old.items ++ spaced (decimal number ∷ [])) }
+{
+    let digits = format!(in alloc; "{number}")?;
+    push_word(line, digits.as_bytes())
+}
+
+/// Adds bytes as hex, behind a space.
+fn push_hex(alloc: Global, line: &mut Vec<u8>, bytes: &[u8]) -> Result<(), AllocError>
+    ensures { OnOk result (line.new.items ≡ line.old.items ++ spaced (hex_of bytes.now ∷ [])) }
+{
+    if bytes.is_empty() {
+        push_word(line, "-".as_bytes())
+    } else {
+        let digits = encode(alloc, bytes)?;
+        push_word(line, digits.as_bytes())
+    }
+}
+
+/// Adds how many lines there are, and each as hex, all behind a space.
+fn push_lines(alloc: Global, line: &mut Vec<u8>, lines: &[Data]) -> Result<(), AllocError>
+    ensures { OnOk result (line.new.items ≡ line.old.items ++ spaced (decimal (length lines.now) ∷ map hex_of lines.now)) }
+{
+    push_number(alloc, line, lines.len() as u64)?;
+    for bytes in lines {
+        push_hex(alloc, line, bytes.as_slice())?;
+    }
+    Ok(())
+}
+
+/// Adds bytes that are not known to be written, and where the first of them belongs, each behind a space.
+fn push_unwritten(
+    alloc: Global,
+    line: &mut Vec<u8>,
+    bytes: &[u8],
+    place: Option<u64>,
+) -> Result<(), AllocError>
+    ensures { OnOk result (line.new.items ≡ line.old.items ++ spaced (hex_of bytes.now ∷ place_of place ∷ [])) }
+{
+    push_hex(alloc, line, bytes)?;
+    match place {
+        Some(place) => push_number(alloc, line, place),
+        None => push_word(line, "-".as_bytes()),
+    }
+}
+
+/// Adds a fault's name and its numbers, each behind a space.
+fn push_fault(alloc: Global, line: &mut Vec<u8>, fault: IoFault) -> Result<(), AllocError>
+    ensures { OnOk result (line.new.items ≡ line.old.items ++ spaced (fault_name fault ∷ map decimal (fault_numbers fault))) }
+{
+    push_word(line, fault_name(fault).as_bytes())?;
+    match fault {
+        IoFault::WouldBlock { taken } => push_number(alloc, line, taken),
+        IoFault::UnicodeDecodeError { start, end } => push_two_numbers(alloc, line, start, end),
+        IoFault::UnicodeEncodeError { start, end } => push_two_numbers(alloc, line, start, end),
+        IoFault::IndexError { dimension } => push_number(alloc, line, dimension as u64),
+        _ => Ok(()),
+    }
+}
+
+/// Adds two numbers as decimals, each behind a space.
+fn push_two_numbers(
+    alloc: Global,
+    line: &mut Vec<u8>,
+    first: u64,
+    second: u64,
+) -> Result<(), AllocError>
+    ensures { OnOk result (line.new.items ≡ line.old.items ++ spaced (decimal first ∷ decimal second ∷ [])) }
+{
+    push_number(alloc, line, first)?;
+    push_number(alloc, line, second)
+}

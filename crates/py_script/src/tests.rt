@@ -1,0 +1,161 @@
+use super::*;
+use py_flat::{Chars, Data, IoFault, Lines, ModeError, ParseModeError};
+use py_open::Reply;
+use std::alloc::Global;
+use std::process::Abort;
+use std::test::Fail;
+
+#[test]
+fn scripts_make_the_calls_of_their_lines(rt: HostRuntime) -> Result<(), Fail> {
+    let cases = [
+        ("", "Some([])"),
+        ("readline\nread\n", "Some([ReadLine(None), Read(None)])"),
+        (
+            "# all of it\n\nread 007\nreadline 0\nclose",
+            "Some([Read(Some(7)), ReadLine(Some(0)), Close])",
+        ),
+        (
+            "read 18446744073709551615",
+            "Some([Read(Some(18446744073709551615))])",
+        ),
+        ("read 18446744073709551616", "None"),
+        ("read 99999999999999999999", "None"),
+        ("read\nred\n", "None"),
+        ("read  1", "None"),
+        ("read ", "None"),
+        (" read", "None"),
+        ("read\r\n", "None"),
+        ("read +1", "None"),
+        ("read -1", "None"),
+        ("read 1 2", "None"),
+        ("close 1", "None"),
+    ];
+    for (script, want) in cases {
+        let calls = parse_script(rt.alloc(), script.as_bytes())?;
+        let shown = format!(in rt.alloc(); "{calls:?}")?;
+        assert_eq!(rt; shown.as_str(), want, "at {script:?}");
+    }
+    Ok(())
+}
+
+#[test]
+fn replies_are_printed_as_lines(rt: HostRuntime) -> Result<(), Fail> {
+    let alloc = rt.alloc();
+    let mut lines = Lines::new(alloc);
+    lines.push(Data::from_slice(alloc, b"a\n".as_slice())?)?;
+    lines.push(Data::new(alloc))?;
+    lines.push(Data::from_slice(alloc, b"b".as_slice())?)?;
+    let cases = [
+        (
+            Reply::Bytes(Data::from_slice(alloc, [0, 255].as_slice())?),
+            "bytes 00ff\n",
+        ),
+        (Reply::Bytes(Data::new(alloc)), "bytes -\n"),
+        (
+            Reply::Text(Chars::from_text(alloc, "\u{e9}\n")?),
+            "text c3a90a\n",
+        ),
+        (Reply::Text(Chars::new(alloc)), "text -\n"),
+        (Reply::Lines(lines), "lines 3 610a - 62\n"),
+        (Reply::Count(0), "count 0\n"),
+        (
+            Reply::Place(9223372036854775807),
+            "place 9223372036854775807\n",
+        ),
+        (Reply::Done, "ok\n"),
+        (Reply::NotReady, "notready\n"),
+        (Reply::Flag(true), "true\n"),
+        (Reply::Flag(false), "false\n"),
+        (
+            Reply::Name(Chars::from_text(alloc, "utf-8")?),
+            "name utf-8\n",
+        ),
+    ];
+    for (reply, want) in &cases {
+        check_line(&rt, alloc, reply, want)?;
+    }
+    Ok(())
+}
+
+#[test]
+fn refusals_are_printed_by_name(rt: HostRuntime) -> Result<(), Fail> {
+    let alloc = rt.alloc();
+    let bytes = Data::from_slice(alloc, b"hi".as_slice())?;
+    let cases = [
+        (
+            Reply::Unwritten {
+                bytes,
+                place: Some(3),
+            },
+            "detached 6869 3\n",
+        ),
+        (
+            Reply::Unwritten {
+                bytes: Data::new(alloc),
+                place: None,
+            },
+            "detached - -\n",
+        ),
+        (Reply::Refused(IoFault::Closed), "err Closed\n"),
+        (
+            Reply::Refused(IoFault::WouldBlock { taken: 7 }),
+            "err WouldBlock 7\n",
+        ),
+        (
+            Reply::Refused(IoFault::UnicodeDecodeError { start: 2, end: 3 }),
+            "err UnicodeDecodeError 2 3\n",
+        ),
+        (
+            Reply::Refused(IoFault::UnicodeEncodeError { start: 0, end: 1 }),
+            "err UnicodeEncodeError 0 1\n",
+        ),
+        (
+            Reply::Refused(IoFault::IndexError { dimension: 1 }),
+            "err IndexError 1\n",
+        ),
+        (
+            Reply::Refused(IoFault::ParseMode(ParseModeError::InvalidMode)),
+            "err InvalidMode\n",
+        ),
+        (
+            Reply::Refused(IoFault::ModeText(ModeError::BadRwa)),
+            "err BadRwa\n",
+        ),
+    ];
+    for (reply, want) in &cases {
+        check_line(&rt, alloc, reply, want)?;
+    }
+    let mut out = Vec::new(alloc);
+    push_refused_line(alloc, &mut out, IoFault::RawFault)?;
+    assert_eq!(rt; out.as_slice(), "refused RawFault\n".as_bytes());
+    Ok(())
+}
+
+/// Tests that a reply's line is what is wanted, behind what was printed before.
+fn check_line(rt: &impl Abort, alloc: Global, reply: &Reply, want: &str) -> Result<(), Fail> {
+    let mut out = Vec::from_slice(alloc, b"ok\n".as_slice())?;
+    push_reply_line(alloc, &mut out, reply)?;
+    let whole = format!(in alloc; "ok\n{want}")?;
+    assert_eq!(rt; out.as_slice(), whole.as_bytes(), "at {want:?}");
+    Ok(())
+}
+
+#[test]
+fn words_of_a_run_give_its_path(rt: HostRuntime) -> Result<(), Fail> {
+    let cases = [
+        (["run", "a b", "r", "newline=0a"], Some("a b")),
+        (["run", "", "r", "newline=0A"], Some("")),
+        (["run", "a", "r", "newline="], None),
+        (["run", "a", "r", "newline=0d"], None),
+        (["run", "a", "w", "newline=0a"], None),
+        (["Run", "a", "r", "newline=0a"], None),
+    ];
+    for (words, want) in cases {
+        let mut texts = Vec::new(rt.alloc());
+        for word in words {
+            texts.push(String::from_str(rt.alloc(), word)?)?;
+        }
+        assert_eq!(rt; run_path(&texts), want);
+    }
+    Ok(())
+}
