@@ -1,0 +1,118 @@
+-- What the program did, by the status that it ends with.
+use Rattle.std.specs.Prelude.{◌≡◌, ◌≢◌, ℕ, ◌⊎◌, IsTrue, List, [], ◌∷◌, ◌++◌, Option, Some, None, codes}
+use Rattle.py_flat.specs.declared.fault.IoFault.{IoFault}
+use Rattle.py_flat.specs.Causes.{Rose}
+use Rattle.py_raw.specs.RawStream.{Raw}
+use Rattle.py_raw.specs.Source.{SourceView, SourceKeeps}
+use Rattle.py_raw.specs.Sink.{SinkView, SinkKeeps}
+use Rattle.py_raw.specs.Opener.{OpenerView, OpenKeeps, Opens, OpenFaults, HoldsTheSame, DoneKeeps, PutsAway}
+use Rattle.py_open.specs.declared.call.Call.{Call}
+use Rattle.py_open.specs.declared.call.Call.TheVariants.{Close}
+use Rattle.py_open.specs.declared.reply.Reply.{Reply}
+use Rattle.py_open.specs.Reader.{RefusesRaw}
+use Rattle.py_open.specs.Session.{SessionView}
+use Rattle.py_open.specs.Run.{RunsCalls}
+use Rattle.py_script.specs.ReplyLine.{reply_lines}
+use Rattle.py_script.specs.Faults.{refused_line}
+use Rattle.py_script.specs.RunWords.{run_words}
+use Rattle.py_io_cli.specs.declared.status.Status.{Status}
+use Rattle.py_io_cli.specs.declared.status.Status.TheVariants as status
+use Rattle.py_io_cli.specs.Outside.{IsOutOfForm, ReadsScript, Prints, PrintsFront}
+
+-- what the program works with
+pub record Outside : Type 0 where
+  pub opener : OpenerView
+  pub source : SourceView
+  pub sink : SinkView
+
+-- Over a raw that was opened.
+
+-- the calls of the script, and the Close that the program adds
+abbrev pub closed_calls : List Call → List Call
+closed_calls calls = calls ++ Close ∷ []
+
+-- the calls were made by a session over the raw with chunks of 8192 bytes, whose raw is `back`; `lines` are those of
+-- the replies
+pub record RanCalls (raw : Raw) (calls : List Call) (back : Raw) (lines : List ℕ) : Type 0 where
+  pub session : SessionView
+  pub replies : List Reply
+  pub run : RunsCalls raw 8192 (closed_calls calls) session replies
+  pub raw_is : back ≡ session.raw
+  pub lines_are : lines ≡ reply_lines replies
+
+-- the opening was refused and the raw handed back; `lines` is the refusal's
+pub record RefusedRaw (raw : Raw) (back : Raw) (lines : List ℕ) : Type 0 where
+  pub refused : IoFault
+  pub why : RefusesRaw raw refused back
+  pub lines_are : lines ≡ refused_line refused
+
+-- what there is to print over a raw
+abbrev pub HasLines : Raw → List Call → Raw → List ℕ → Type 0
+HasLines raw calls back lines = RanCalls raw calls back lines ⊎ RefusedRaw raw back lines
+
+-- by the status: every reply was printed; or the refusal was; or a front of the one or the other, since the sink failed
+-- or there was no memory
+abbrev pub RawOutcome : Raw → List Call → Status → Raw → SinkView → SinkView → Type 0
+RawOutcome raw calls status.Done back old new = (lines : List ℕ) × RanCalls raw calls back lines × Prints old lines new
+RawOutcome raw calls status.Refused back old new = (lines : List ℕ) × RefusedRaw raw back lines × Prints old lines new
+RawOutcome raw calls status.SinkFailed back old new = (lines : List ℕ) × HasLines raw calls back lines × PrintsFront old lines new × Rose old.faults new.faults
+RawOutcome raw calls status.NoMemory back old new = (lines : List ℕ) × HasLines raw calls back lines × PrintsFront old lines new
+RawOutcome raw calls _ back old new = ⊥
+
+-- the path was opened to be read, the calls ended so, and the raw was put away again, whatever the opener answered
+pub record OpensPath (path : List ℕ) (calls : List Call) (ended : Status) (before after : Outside) : Type 0 where
+  pub raw : Raw
+  pub mid : OpenerView
+  pub back : Raw
+  pub open_keeps : OpenKeeps before.opener mid
+  pub opens : Opens before.opener path (codes "rb") raw mid
+  pub does : RawOutcome raw calls ended back before.sink after.sink
+  pub done_keeps : DoneKeeps back mid after.opener
+  pub puts : IsTrue before.opener.tells → PutsAway back mid path after.opener
+
+-- nothing was opened, and nothing printed
+pub record OpensNothing (before after : Outside) : Type 0 where
+  pub keeps : OpenKeeps before.opener after.opener
+  pub holds : IsTrue before.opener.tells → HoldsTheSame before.opener after.opener
+  pub sink : after.sink ≡ before.sink
+
+-- the path couldn't be opened; or couldn't be put away when all was printed
+abbrev pub OpenerFails : List ℕ → List Call → Outside → Outside → Type 0
+OpenerFails path calls before after = (OpensNothing before after × OpenFaults before.opener path (codes "rb") after.opener) ⊎ (OpensPath path calls status.Done before after × Rose before.opener.faults after.opener.faults)
+
+-- once the script was read
+abbrev pub CallsOutcome : List ℕ → List Call → Status → Outside → Outside → Type 0
+CallsOutcome path calls status.Done before after = OpensPath path calls status.Done before after
+CallsOutcome path calls status.Refused before after = OpensPath path calls status.Refused before after
+CallsOutcome path calls status.SinkFailed before after = OpensPath path calls status.SinkFailed before after
+CallsOutcome path calls status.NoMemory before after = OpensPath path calls status.NoMemory before after ⊎ (OpensPath path calls status.Done before after ⊎ OpensNothing before after)
+CallsOutcome path calls status.OpenerFailed before after = OpenerFails path calls before after
+CallsOutcome path calls _ before after = ⊥
+
+-- The whole program.
+
+-- the words name a path, and only the source was called
+pub record OnlyReads (words : List (List ℕ)) (before after : Outside) : Type 0 where
+  pub path : List ℕ
+  pub form : run_words words ≡ Some path
+  pub source : SourceKeeps before.source after.source
+  pub opener : after.opener ≡ before.opener
+  pub sink : after.sink ≡ before.sink
+
+-- the words name a path, the script was read to its end, and its calls ended so
+pub record RunsScript (words : List (List ℕ)) (ended : Status) (before after : Outside) : Type 0 where
+  pub path : List ℕ
+  pub form : run_words words ≡ Some path
+  pub calls : List Call
+  pub source : SourceKeeps before.source after.source
+  pub reads : IsTrue before.source.tells → ReadsScript before.source calls after.source
+  pub sink : SinkKeeps before.sink after.sink
+  pub does : CallsOutcome path calls ended before after
+
+-- what the program did, by its status
+abbrev pub Outcome : Status → List (List ℕ) → Outside → Outside → Type 0
+Outcome status.NoForm words before after = (run_words words ≡ None) × (after ≡ before)
+Outcome status.OutOfForm words before after = OnlyReads words before after × (IsTrue before.source.tells → IsOutOfForm before.source.left)
+Outcome status.SourceFailed words before after = OnlyReads words before after × Rose before.source.faults after.source.faults
+Outcome status.NoMemory words before after = OnlyReads words before after ⊎ RunsScript words status.NoMemory before after
+Outcome ended words before after = RunsScript words ended before after
