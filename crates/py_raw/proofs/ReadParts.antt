@@ -13,16 +13,19 @@ pub record MovesOf (asked count : ℕ) : Type 0 where
   pub within : count ≤ asked
   pub none : count ≡ 0 → asked ≡ 0
 
+-- by an element of the plan
 pub moves_by : (cut : Option Cut) (asked count : ℕ) → read_by cut asked ≡ Moves count → MovesOf asked count
 moves_by None asked count is = let same : asked ≡ count = cc in record { within = omega arith; none = λ e. omega arith }
 moves_by (Some (Take most)) asked count is = let same : min (max most 1) asked ≡ count = cc in record { within = omega arith; none = λ e. omega arith }
 moves_by (Some Wait) asked count is = cc
 moves_by (Some (Break most)) asked count is = cc
 
+-- a call that is listed moves nothing
 moves_unless : (refused : Bool) (cut : Option Cut) (asked count : ℕ) → (if refused then Refuses else read_by cut asked) ≡ Moves count → MovesOf asked count
 moves_unless true cut asked count is = cc
 moves_unless false cut asked count is = moves_by cut asked count is
 
+-- in the turn of the next call
 pub moves_in_turn : (raw : MemRawView) (asked count : ℕ) → read_turn raw asked ≡ Moves count → MovesOf asked count
 moves_in_turn raw asked count is = moves_unless (is_refused raw) (next_cut raw) asked count is
 

@@ -36,6 +36,7 @@ pub record MemRawView : Type 0 where
   pub refused : List ℕ
   pub calls : ℕ
 
+-- such a view of a stream
 abbrev pub view_of : MemRaw → MemRawView
 view_of raw = record { shows = shown raw; plan = raw.plan.items; refused = raw.refused.items; calls = raw.calls }
 
@@ -77,8 +78,7 @@ laid raw piece = record raw { shows = record raw.shows { bytes = lay raw.shows.b
 abbrev pub cut_to : MemRawView → ℕ → MemRawView
 cut_to raw size = record raw { shows = record raw.shows { bytes = resized raw.shows.bytes size } }
 
--- What a transfer answers.
-
+-- what a turn answers: none of a piece is answered with 0, and counts as a fault
 abbrev pub reply_of : Turn → Result (Option ℕ) RawError
 reply_of Refuses = Err Fault
 reply_of (Moves count) = Ok (Some count)
@@ -96,6 +96,7 @@ readable_count raw size = min size (length (left_at raw.shows.bytes raw.shows.pl
 abbrev pub read_turn : MemRawView → ℕ → Turn
 read_turn raw asked = if is_refused raw then Refuses else read_by (next_cut raw) asked
 
+-- the state after a read by a turn; a read never stalls
 abbrev pub after_read : MemRawView → Turn → MemRawView
 after_read raw Refuses = refused_once raw
 after_read raw (Moves count) = moved raw count
@@ -117,6 +118,7 @@ buffer_after raw before (Breaks count) = before
 abbrev pub write_turn : MemRawView → ℕ → Turn
 write_turn raw asked = if is_refused raw then Refuses else write_by (next_cut raw) asked
 
+-- the state after a write by a turn; one that breaks off leaves the place
 abbrev pub after_write : MemRawView → List ℕ → Turn → MemRawView
 after_write raw piece Refuses = refused_once raw
 after_write raw piece (Moves count) = moved (laid raw (take count piece)) count
@@ -132,6 +134,7 @@ pub record ReadsBy (turn : Turn) (old : MemRawView) (before : List ℕ) (result 
   pub buffer : after ≡ buffer_after old before turn
   pub state : new ≡ after_read old turn
 
+-- a read by its turn
 abbrev pub ReadPlanned : MemRawView → List ℕ → Result (Option ℕ) RawError → List ℕ → MemRawView → Type 0
 ReadPlanned old before result after new = ReadsBy (read_turn old (readable_count old (length before))) old before result after new
 
@@ -146,6 +149,7 @@ GivesOrLacks old expected after (Err Memory) new = new ≡ old
 GivesOrLacks old expected after (Err Fault) new = Gives expected after (Err Fault) new
 GivesOrLacks old expected after (Ok answer) new = Gives expected after (Ok answer) new
 
+-- a write by its turn, or want of memory
 abbrev pub WritePlanned : MemRawView → List ℕ → Result (Option ℕ) RawError → MemRawView → Type 0
 WritePlanned old piece result new =
     let turn = write_turn old (length piece) in
@@ -159,15 +163,18 @@ answer_or_fault raw answer = if is_refused raw then Err Fault else Ok answer
 abbrev pub after_call : MemRawView → Raw → MemRawView
 after_call raw after = if is_refused raw then refused_once raw else called raw after
 
+-- a call that gives an answer and shows this after it, unless it was listed
 abbrev pub CallPlanned : {A : Type 0} → MemRawView → A → Raw → Result A RawError → MemRawView → Type 0
 CallPlanned old answer after result new = Gives (answer_or_fault old answer) (after_call old after) result new
 
+-- a truncation, or want of memory; a listed one leaves the bytes
 abbrev pub TruncatePlanned : MemRawView → ℕ → Result (Unit {0}) RawError → MemRawView → Type 0
 TruncatePlanned old size result new = GivesOrLacks old (answer_or_fault old tt) (after_call old (cut_to old size).shows) result new
 
--- a stream that is closed, listed or not
+-- with the stream closed
 abbrev pub shut : MemRawView → MemRawView
 shut raw = record raw { shows = record raw.shows { closed = true } }
 
+-- a closing: a listed one closes too
 abbrev pub ClosePlanned : MemRawView → Result (Unit {0}) RawError → MemRawView → Type 0
 ClosePlanned old result new = Gives (answer_or_fault old tt) (after_call (shut old) (shut old).shows) result new
