@@ -41,7 +41,7 @@ fn put_in(
 /// The bytes that an opening keeps: none where `w` empties the path, or where it holds nothing.
 fn kept<'a>(entries: &'a [Entry], path: &str, mode: &str) -> Option<&'a [u8]>
     requires { IsRawMode mode.now }
-    ensures none { MatchOption result (opened_bytes mode.now (held_in entries.now path.now) ≡ []) (λ bytes. opened_bytes mode.now (held_in entries.now path.now) ≡ bytes.now) }
+    ensures opened { MatchOption result (opened_bytes mode.now (held_in entries.now path.now) ≡ []) (λ bytes. opened_bytes mode.now (held_in entries.now path.now) ≡ bytes.now) }
     ensures held { MatchOption result ⊤ (λ bytes. held_in entries.now path.now ≡ Some bytes.now) }
 {
     if file_letter(mode) == b'w' {
