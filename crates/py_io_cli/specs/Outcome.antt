@@ -1,5 +1,5 @@
 -- What the program did, by the status that it ends with.
-use Rattle.std.specs.Prelude.{◌≡◌, ◌≢◌, ℕ, ◌⊎◌, IsTrue, List, [], ◌∷◌, ◌++◌, Option, Some, None, codes}
+use Rattle.std.specs.Prelude.{◌≡◌, ◌≢◌, ℕ, ◌⊎◌, IsTrue, List, [], ◌∷◌, ◌++◌, Option, Some, None, Result, Ok, Err, negsuc, codes}
 use Rattle.py_flat.specs.declared.fault.IoFault.{IoFault}
 use Rattle.py_flat.specs.Causes.{Rose}
 use Rattle.py_raw.specs.RawStream.{Raw}
@@ -17,12 +17,15 @@ use Rattle.py_script.specs.Faults.{refused_line}
 use Rattle.py_script.specs.RunWords.{run_words}
 use Rattle.py_io_cli.specs.declared.status.Status.{Status}
 use Rattle.py_io_cli.specs.declared.status.Status.TheVariants as status
+use Rattle.py_open.specs.declared.open_args.OpenArgs.{OpenArgs}
+use Rattle.py_raw.specs.declared.opener.OpenError.{OpenError}
+use Rattle.py_raw.specs.declared.opener.OpenError.TheVariants as open_error
+use Rattle.py_io_cli.specs.Status.{code_of}
 use Rattle.py_io_cli.specs.Outside.{IsOutOfForm, ReadsScript, Prints, PrintsFront}
 
--- what the program works with
+-- what the program changes: what its opener shows, and its output
 pub record Outside : Type 0 where
   pub opener : OpenerView
-  pub source : SourceView
   pub sink : SinkView
 
 -- Over a raw that was opened.
@@ -92,27 +95,46 @@ CallsOutcome path calls _ before after = ⊥
 -- The whole program.
 
 -- the words name a path, and only the source was called
-pub record OnlyReads (words : List (List ℕ)) (before after : Outside) : Type 0 where
+pub record OnlyReads (words : List (List ℕ)) (old new : SourceView) (before after : Outside) : Type 0 where
   pub path : List ℕ
   pub form : run_words words ≡ Some path
-  pub source : SourceKeeps before.source after.source
-  pub opener : after.opener ≡ before.opener
-  pub sink : after.sink ≡ before.sink
+  pub source : SourceKeeps old new
+  pub same : after ≡ before
 
 -- the words name a path, the script was read to its end, and its calls ended so
-pub record RunsScript (words : List (List ℕ)) (ended : Status) (before after : Outside) : Type 0 where
+pub record RunsScript (words : List (List ℕ)) (ended : Status) (old new : SourceView) (before after : Outside) : Type 0 where
   pub path : List ℕ
   pub form : run_words words ≡ Some path
   pub calls : List Call
-  pub source : SourceKeeps before.source after.source
-  pub reads : IsTrue before.source.tells → ReadsScript before.source calls after.source
+  pub source : SourceKeeps old new
+  pub reads : IsTrue old.tells → ReadsScript old calls new
   pub sink : SinkKeeps before.sink after.sink
   pub does : CallsOutcome path calls ended before after
 
 -- what the program did, by its status
-abbrev pub Outcome : Status → List (List ℕ) → Outside → Outside → Type 0
-Outcome status.NoForm words before after = (run_words words ≡ None) × (after ≡ before)
-Outcome status.OutOfForm words before after = OnlyReads words before after × (IsTrue before.source.tells → IsOutOfForm before.source.left)
-Outcome status.SourceFailed words before after = OnlyReads words before after × Rose before.source.faults after.source.faults
-Outcome status.NoMemory words before after = OnlyReads words before after ⊎ RunsScript words status.NoMemory before after
-Outcome ended words before after = RunsScript words ended before after
+abbrev pub Outcome : Status → List (List ℕ) → SourceView → SourceView → Outside → Outside → Type 0
+Outcome status.NoForm words old new before after = (run_words words ≡ None) × (new ≡ old) × (after ≡ before)
+Outcome status.OutOfForm words old new before after = OnlyReads words old new before after × (IsTrue old.tells → IsOutOfForm old.left)
+Outcome status.SourceFailed words old new before after = OnlyReads words old new before after × Rose old.faults new.faults
+Outcome status.NoMemory words old new before after = OnlyReads words old new before after ⊎ RunsScript words status.NoMemory old new before after
+Outcome ended words old new before after = RunsScript words ended old new before after
+
+-- the program ended with a number: that of a status, by which it did this
+pub record Ends (code : ℕ) (words : List (List ℕ)) (old new : SourceView) (before after : Outside) : Type 0 where
+  pub ended : Status
+  pub code_is : code ≡ code_of ended
+  pub outcome : Outcome ended words old new before after
+
+-- the status once a raw was put away: that of the calls, unless all was done and the opener failed or lacked memory
+abbrev pub after_done : Status → Result (Unit {0}) OpenError → Status
+after_done status.Done (Err open_error.Fault) = status.OpenerFailed
+after_done status.Done (Err open_error.Memory) = status.NoMemory
+after_done ended done = ended
+
+-- the arguments that the words stand for
+pub record IsLineFeed (args : OpenArgs) : Type 0 where
+  pub buffering : args.buffering ≡ negsuc 0
+  pub encoding : args.encoding ≡ None
+  pub errors : args.errors ≡ None
+  pub newline : args.newline ≡ Some (10 ∷ [])
+  pub chunk_size : args.chunk_size ≡ 8192

@@ -8,19 +8,42 @@ mod status;
 
 use program::run_program;
 use py_raw::{FileOpener, ReadSource, WriteSink};
+use status::Status;
+use std::env;
+use std::io::ErrorKind;
 use std::process::ExitCode;
+
+/// The words of the command line without the program's own name: `NoForm` where one isn't UTF-8, `NoMemory` where there
+/// is none.
+fn command_words(rt: &HostRuntime) -> Result<Vec<String>, Status> {
+    match env::args(rt) {
+        Ok(args) => {
+            let mut words = Vec::new(rt.alloc());
+            for word in args.skip(1) {
+                if words.push(word).is_err() {
+                    return Err(Status::NoMemory);
+                }
+            }
+            Ok(words)
+        }
+        Err(error) => match error.kind() {
+            ErrorKind::OutOfMemory => Err(Status::NoMemory),
+            _ => Err(Status::NoForm),
+        },
+    }
+}
 
 /// Runs the words of the command line with files of the system, standard input and standard output, and ends with the
 /// status.
 fn main(rt: HostRuntime) -> ExitCode {
-    let alloc = rt.alloc();
-    let mut words = Vec::new(alloc);
-    for word in rt.args().skip(1) {
-        words.push(word);
+    match command_words(&rt) {
+        Ok(words) => {
+            let mut opener = FileOpener::new(&rt);
+            let mut script = ReadSource::new(rt.stdin());
+            let mut out = WriteSink::new(rt.stdout());
+            let code = run_program(rt.alloc(), &words, &mut opener, &mut script, &mut out);
+            ExitCode::from(code)
+        }
+        Err(status) => ExitCode::from(status.code()),
     }
-    let mut opener = FileOpener::new(&rt);
-    let mut script = ReadSource::new(rt.stdin());
-    let mut out = WriteSink::new(rt.stdout());
-    let status = run_program(alloc, &words, &mut opener, &mut script, &mut out);
-    ExitCode::from(status)
 }

@@ -1,10 +1,9 @@
 //! The program: from its words to the lines that it prints and the status that it ends with.
-ghost use Rattle.std.specs.Prelude.{◌≡◌, ◌∷◌, ◌++◌, []};
+ghost use Rattle.std.specs.Prelude.{◌≡◌, IfOk, MatchResult};
 ghost use Rattle.py_raw.specs.Sink.{SinkKeeps};
-ghost use Rattle.py_open.specs.declared.call.Call.TheVariants.{Close};
-ghost use Rattle.py_io_cli.specs.Status.{code_of};
+ghost use Rattle.py_open.specs.Reader.{StandsAtStart};
 ghost use Rattle.py_io_cli.specs.Outside.{texts};
-ghost use Rattle.py_io_cli.specs.Outcome.{closed_calls, RawOutcome, CallsOutcome, Outcome};
+ghost use Rattle.py_io_cli.specs.Outcome.{RawOutcome, CallsOutcome, Ends, after_done, IsLineFeed};
 
 use crate::printing::{print_refused, print_replies};
 use crate::script::read_script;
@@ -26,7 +25,8 @@ pub fn run_program<O: Opener, I: Source, K: Sink>(
     script: &mut I,
     out: &mut K,
 ) -> u8
-    ensures { (ended : Status) × (result ≡ code_of ended) × Outcome ended (texts words.now) (record { opener = O.shows opener.old; source = I.shows script.old; sink = K.shows out.old }) (record { opener = O.shows opener.new; source = I.shows script.new; sink = K.shows out.new }) }
+    ensures ends { Ends result (texts words.now) (I.shows script.old) (I.shows script.new)
+        (record { opener = O.shows opener.old; sink = K.shows out.old }) (record { opener = O.shows opener.new; sink = K.shows out.new }) }
 {
     let Some(path) = run_path(words) else {
         return Status::NoForm.code();
@@ -45,6 +45,9 @@ fn run_calls<O: Opener, K: Sink>(
     opener: &mut O,
     out: &mut K,
 ) -> Status
+    ensures sink { SinkKeeps (K.shows out.old) (K.shows out.new) }
+    ensures outcome { CallsOutcome path.now calls.items result
+        (record { opener = O.shows opener.old; sink = K.shows out.old }) (record { opener = O.shows opener.new; sink = K.shows out.new }) }
 {
     match opener.open_raw(alloc, path, "rb") {
         Ok(raw) => {
@@ -58,6 +61,7 @@ fn run_calls<O: Opener, K: Sink>(
 
 /// The status after a raw was put away: that of the calls, unless all was done and the opener failed.
 fn put_away(status: Status, done: Result<(), OpenError>) -> Status
+    ensures { result ≡ after_done status done }
 {
     match (status, done) {
         (Status::Done, Err(OpenError::Fault)) => Status::OpenerFailed,
@@ -73,6 +77,9 @@ fn run_raw<R: RawStream, K: Sink>(
     calls: Vec<Call>,
     out: &mut K,
 ) -> (Status, R)
+    requires { StandsAtStart (R.shows raw) }
+    ensures sink { SinkKeeps (K.shows out.old) (K.shows out.new) }
+    ensures outcome { RawOutcome (R.shows raw) calls.items result.0 (R.shows result.1) (K.shows out.old) (K.shows out.new) }
 {
     let mut calls = calls;
     if calls.push(Call::Close).is_err() {
@@ -97,6 +104,7 @@ fn run_raw<R: RawStream, K: Sink>(
 
 /// The status of what was printed: that given, or why it couldn't be printed.
 fn status_of(printed: Result<(), Status>, whole: Status) -> Status
+    ensures { MatchResult printed (λ done. result ≡ whole) (λ status. result ≡ status) }
 {
     match printed {
         Ok(()) => whole,
@@ -106,7 +114,7 @@ fn status_of(printed: Result<(), Status>, whole: Status) -> Status
 
 /// The arguments of an opening with the newline argument LF.
 fn line_feed_args(alloc: Global) -> Result<OpenArgs, AllocError>
-    ensures { IfOk result IsLineFeedArgs }
+    ensures { IfOk result IsLineFeed }
 {
     let mut args = OpenArgs::default();
     args.newline = Some(Chars::from_text(alloc, "\n")?);
