@@ -30,11 +30,11 @@ impl<R: RawStream> Model for Reader<R> {
     ghost Value = { ReaderView };
 
     ghost view = { λ r. record {
-        raw = R.shows r.raw;
-        place = r.place;
-        life = r.life;
-        size = vec_len r.buffer;
-        held = slice_range r.buffer.items r.start r.end;
+      raw = R.shows r.raw;
+      place = r.place;
+      life = r.life;
+      size = vec_len r.buffer;
+      held = slice_range r.buffer.items r.start r.end;
     } };
 
     ghost use Rattle.std.specs.Prelude.{◌≤◌};

@@ -73,13 +73,13 @@ impl<R: RawStream> Model for Text<R> {
     ghost Value = { TextView };
 
     ghost view = { λ t. record {
-        reader = t.reader;
-        held = t.held.items;
-        pending = drop t.given t.pending.items;
-        at = t.at;
-        taken = t.taken;
-        dirty = t.dirty;
-        chunk = t.chunk_size;
+      reader = t.reader;
+      held = t.held.items;
+      pending = drop t.given t.pending.items;
+      at = t.at;
+      taken = t.taken;
+      dirty = t.dirty;
+      chunk = t.chunk_size;
     } };
 
     ghost invariant = { λ t. (t.given ≤ vec_len t.pending)
@@ -129,7 +129,13 @@ fn decode_front(bytes: &[u8], characters: &mut Vec<char>) -> Decoding
                     stop: Ok(Some(length)),
                 };
             }
-            Some(Unit::Cut { length: _ }) | None => {
+            Some(Unit::Cut { length: _ }) => {
+                return Decoding {
+                    used,
+                    stop: Ok(None),
+                };
+            }
+            None => {
                 return Decoding {
                     used,
                     stop: Ok(None),
