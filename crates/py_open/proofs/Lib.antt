@@ -2,3 +2,5 @@ mod Planning
 mod Reading
 mod Decoding
 mod Tying
+mod Holding
+mod Gathering

@@ -31,10 +31,15 @@ ahead_decoded cs held left place scalars within =
     (walk_spelling cs from (held ++ left) scalars))
 
 -- bytes that were read come into hand
-ahead_read : (held part left : List ℕ) (place : ℕ) → ahead (held ++ part) (place + len part) left ≡ ahead held place (part ++ left)
+pub ahead_read : (held part left : List ℕ) (place : ℕ) → ahead (held ++ part) (place + len part) left ≡ ahead held place (part ++ left)
 ahead_read held part left place =
     let from : place + len part - len (held ++ part) ≡ place - len held = omega (arith, length-append held part) in
     ap (λ (p : ℕ). walk_at p ((held ++ part) ++ left)) from ∙ ap (walk_at (place - len held)) (append_assoc held part left)
+
+-- the same bytes and the same place
+pub tied_at : (old new : List ℕ) (before after at taken : ℕ) (held pending : List ℕ) → new ≡ old → after ≡ before → TiedTold old before at taken held pending → TiedTold new after at taken held pending
+tied_at old new before after at taken held pending bytes place told =
+    subst (λ (p : ℕ). TiedTold new p at taken held pending) (sym place) (subst (λ (all : List ℕ). TiedTold all before at taken held pending) (sym bytes) told)
 
 -- Decoding.
 

@@ -4,7 +4,7 @@ ghost use Rattle.std.specs.Prelude.{◌≡◌, ◌<◌, ◌≤◌, false, [], le
 ghost use Rattle.py_plain.specs.Utf8.{utf8_unit};
 ghost use Rattle.py_plain.specs.TextStep.{asks_any};
 ghost use Rattle.py_raw.specs.RawStream.{WhereTold};
-ghost use Rattle.py_open.specs.Reader.{KeepsReader, CloseOutcome};
+ghost use Rattle.py_open.specs.Reader.{KeepsReader, MovesForth, CloseOutcome};
 ghost use Rattle.py_open.specs.Text.{IsFresh, DecodedSoFar, StoppedAt, DecodeOutcome, KeepsKnown, ChunkOutcome, stop_at, IsNoCharacter, range_in_hand, enough, size_of, Gathers, GatheredAt, GatherOutcome, GiveOutcome, GiveLastOutcome, OnlyWhereWaits, waited_in, faulted_in, AnswerCauses, AnswerMoves, AnswerStep};
 
 use crate::reader::Reader;
@@ -253,6 +253,7 @@ impl<R: RawStream> Text<R> {
     fn read_chunk(&mut self, alloc: Global) -> Result<Chunk, IoFault>
         requires { self.old.reader.life ≡ Life.Live }
         ensures known { KeepsKnown self.old self.new }
+        ensures place { MovesForth self.old.reader self.new.reader }
         ensures outcome { ChunkOutcome self.old result self.new }
     {
         drop_front(&mut self.pending, self.given);
