@@ -1,19 +1,18 @@
 -- Bytes in hand: their decoding, one character after another, and what stops it.
-use Rattle.std.proofs.Common.{◌≡◌, ℕ, zero, suc, ◌+◌, ◌-◌, ◌*◌, ◌<◌, ◌≤◌, Bool, true, false, cond, List, [], ◌∷◌, ◌++◌, length as len, take, drop, Option, Some, None, Result, Ok, Err, refl, sym, ap, ◌∙◌, subst, arith}
+use Rattle.std.proofs.Common.{◌≡◌, ℕ, zero, suc, ◌+◌, ◌-◌, ◌*◌, Bool, true, false, cond, List, [], ◌∷◌, ◌++◌, length as len, take, drop, Option, Some, None, refl, sym, ap, ◌∙◌, subst, arith}
 use Rattle.std.specs.List.{All}
 use Rattle.std.specs.Char.{IsScalar, encode_utf8}
 use Rattle.std.specs.Str.{encode_utf8_all}
 use Rattle.std.proofs.Math.Seq.{take-add, drop-append_seam}
-use Rattle.std.proofs.lemmas.Bool.{cond_both}
-use Rattle.std.proofs.lemmas.List.{append_assoc, append-nil, length-append, length-drop}
+use Rattle.std.proofs.lemmas.List.{append_assoc, append-nil, length-append}
 use Rattle.std.proofs.lemmas.List.Elements.{All-push, All-head, All-tail}
-use Rattle.std.proofs.lemmas.Str.{encodes-append, length-le-encodes}
+use Rattle.std.proofs.lemmas.Str.{encodes-append}
 use Rattle.py_plain.specs.declared.encoding.Encoding.TheVariants.{Utf8}
 use Rattle.py_plain.specs.declared.handler.Handler.TheVariants.{Strict}
 use Rattle.py_plain.specs.declared.unit.Unit.{Unit as Read}
 use Rattle.py_plain.specs.declared.unit.Unit.TheVariants.{Character, Malformed, Cut}
 use Rattle.py_plain.specs.Utf8.{Lead, Alone, Leads, Never, is_within, lead, sequence, unit_after, utf8_unit}
-use Rattle.py_plain.specs.Units.{Unknown, first_unit}
+use Rattle.py_plain.specs.Units.{Unknown}
 use Rattle.py_plain.specs.Handlers.{treatment}
 use Rattle.py_plain.specs.Items.{Walk, Given, AtRange, item_of, used_behind, onto_walk, walk_from, characters_of, refusal_of}
 use Rattle.py_plain.proofs.UnitLaws.{character_own, one_unit, unit_within}

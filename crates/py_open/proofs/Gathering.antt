@@ -1,21 +1,18 @@
 -- What a text knows when a call stops gathering, and how it comes there.
-use Rattle.std.proofs.Common.{◌≡◌, ◌≢◌, ℕ, ◌+◌, ◌-◌, ◌<◌, ◌≤◌, Bool, true, IsTrue, List, [], ◌∷◌, ◌++◌, length as len, drop, Option, Some, None, Result, Ok, Err, refl, sym, ap, ◌∙◌, subst, arith}
+use Rattle.std.proofs.Common.{◌≡◌, ◌≢◌, ℕ, ◌+◌, ◌-◌, ◌≤◌, List, [], ◌∷◌, ◌++◌, length as len, Option, Some, None, refl, ap, ◌∙◌}
 use Rattle.std.proofs.Math.ListN.{drop_of_length-le}
 use Rattle.std.proofs.lemmas.List.{append-nil}
-use Rattle.py_flat.specs.declared.life.Life.{Life}
-use Rattle.py_flat.specs.declared.life.Life.TheVariants as life
 use Rattle.py_flat.specs.Bytes.{left_at}
-use Rattle.py_flat.specs.Causes.{Rose}
 use Rattle.py_plain.specs.declared.unit.Unit.{Unit as Read}
 use Rattle.py_plain.specs.declared.unit.Unit.TheVariants.{Character, Malformed, Cut}
 use Rattle.py_plain.specs.Utf8.{lead, unit_after, utf8_unit}
 use Rattle.py_plain.specs.Items.{Walk, AtRange, characters_of, refusal_of}
 use Rattle.py_plain.proofs.UnitLaws.{unit_within}
-use Rattle.py_raw.specs.RawStream.{Raw, Keeps, WhereTold}
+use Rattle.py_raw.specs.RawStream.{Raw, WhereTold}
 use Rattle.py_open.specs.declared.text.Wanted.{Wanted}
 use Rattle.py_open.specs.declared.text.Gathered.{Gathered}
-use Rattle.py_open.specs.Reader.{ReaderView, KeepsReader}
-use Rattle.py_open.specs.Text.{TextView, ahead, stop_at, IsNoCharacter, enough, ComesLast, GatheredAt, range_in_hand, KeepsPlace, Gathers}
+use Rattle.py_open.specs.declared.text.Gathered.TheVariants as gathered
+use Rattle.py_open.specs.Text.{TextView, ahead, stop_at, IsNoCharacter, enough, ComesLast, GatheredAt, range_in_hand, IsReady, WaitsFor}
 use Rattle.py_open.proofs.Decoding.{walk_at, walk_refused, walk_cut, malformed_stays}
 
 -- What stopped a decoding.
@@ -67,3 +64,10 @@ cut_refuses text asked short some none is end =
           ∙ (ap (walk_at (place - len text.held)) (append-nil text.held)
           ∙ walk_cut (place - len text.held) text.held (len text.held) (cut_in_hand text.held some none is))),
     )
+
+-- a gathering that the raw didn't stop waits for nothing
+pub ready_waits : (stop : Gathered) (old new : Raw) → IsReady stop → WaitsFor stop old new
+ready_waits (gathered.Enough count) old new ready = tt
+ready_waits gathered.Ends old new ready = tt
+ready_waits (gathered.Refuses start end) old new ready = tt
+ready_waits gathered.Waits old new ready = absurd ready

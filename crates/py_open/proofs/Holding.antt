@@ -1,19 +1,14 @@
 -- What a call of the reader leaves of what is known of a text.
-use Rattle.std.proofs.Common.{◌≡◌, ◌≢◌, ℕ, ◌+◌, ◌-◌, ◌<◌, ◌≤◌, max, Bool, true, false, nat_eq, IsTrue, List, [], ◌∷◌, ◌++◌, length as len, take, drop, Option, Some, None, Result, Ok, Err, Vec, refl, sym, ap, ◌∙◌, subst, arith}
-use Rattle.std.specs.declared.alloc.Global.{Global}
+use Rattle.std.proofs.Common.{◌≡◌, ◌≢◌, ℕ, ◌+◌, ◌≤◌, false, nat_eq, IsTrue, List, [], ◌∷◌, ◌++◌, length as len, drop, Result, Ok, Err, refl, sym, ap, ◌∙◌, subst, arith}
 use Rattle.std.proofs.Math.Seq.{drop-append_seam}
-use Rattle.std.proofs.lemmas.List.{append_assoc, length-append, length-drop, drop-drop}
+use Rattle.std.proofs.lemmas.List.{length-append, length-drop, drop-drop}
 use Rattle.py_flat.specs.declared.fault.IoFault.{IoFault}
 use Rattle.py_flat.specs.declared.fault.IoFault.TheVariants as fault
-use Rattle.py_flat.specs.declared.life.Life.{Life}
 use Rattle.py_flat.specs.declared.life.Life.TheVariants as life
-use Rattle.py_flat.specs.Limits.{greatest_place}
 use Rattle.py_flat.specs.Bytes.{left_at}
-use Rattle.py_flat.specs.Refusals.{life_fault}
 use Rattle.py_flat.specs.BinaryStep.{IsFrontOf}
 use Rattle.py_plain.specs.Items.{Walk, characters_of, refusal_of}
-use Rattle.py_raw.specs.RawStream.{Raw, Keeps, WhereTold}
-use Rattle.py_open.specs.Reader.{ReaderView, KeepsReader, MovesForth, CloseOutcome, CloseFails, GivesNothing, Gives, ReadFails, Read1Outcome}
+use Rattle.py_open.specs.Reader.{ReaderView, KeepsReader, MovesForth, CloseOutcome, Gives, ReadFails}
 use Rattle.py_open.specs.Text.{ahead, TiedTold, IsText}
 use Rattle.py_open.proofs.Tying.{ahead_read, tied_at}
 

@@ -1,21 +1,17 @@
 -- How what is known of a text stays tied to the bytes of its raw.
-use Rattle.std.proofs.Common.{◌≡◌, ℕ, ◌+◌, ◌-◌, ◌<◌, ◌≤◌, max, Bool, true, IsTrue, List, [], ◌∷◌, ◌++◌, length as len, take, drop, Option, Some, None, Result, Ok, Err, refl, sym, ap, ◌∙◌, subst, arith}
+use Rattle.std.proofs.Common.{◌≡◌, ℕ, ◌+◌, ◌-◌, ◌≤◌, Bool, List, ◌++◌, length as len, drop, Option, Ok, refl, sym, ap, ◌∙◌, subst, arith}
 use Rattle.std.specs.List.{All}
 use Rattle.std.specs.Char.{IsScalar}
 use Rattle.std.specs.Str.{encode_utf8_all}
-use Rattle.std.proofs.Math.Seq.{drop-append_seam}
-use Rattle.std.proofs.lemmas.List.{append_assoc, length-append, length-drop, take-append-drop, drop-append-le, drop-drop}
+use Rattle.std.proofs.lemmas.List.{append_assoc, length-append, take-append-drop, drop-append-le}
 use Rattle.std.proofs.lemmas.Str.{length-le-encodes}
 use Rattle.py_flat.specs.declared.life.Life.{Life}
-use Rattle.py_flat.specs.declared.life.Life.TheVariants as life
-use Rattle.py_flat.specs.Limits.{greatest_place}
 use Rattle.py_flat.specs.Bytes.{left_at}
-use Rattle.py_flat.specs.BinaryStep.{IsFrontOf}
-use Rattle.py_plain.specs.Items.{characters_of, refusal_of}
+use Rattle.py_plain.specs.Items.{characters_of}
 use Rattle.py_plain.specs.Utf8.{utf8_unit}
-use Rattle.py_raw.specs.RawStream.{Raw, Keeps, WhereTold}
+use Rattle.py_raw.specs.RawStream.{Raw}
 use Rattle.py_open.specs.Reader.{ReaderView}
-use Rattle.py_open.specs.Text.{TextView, ahead, decoded_from, TiedTold, IsText, KeepsPlace, Decodes, DecodedSoFar, StoppedAt, DecodeOutcome, IsNoCharacter, stop_at}
+use Rattle.py_open.specs.Text.{TextView, ahead, TiedTold, IsText, Decodes, DecodedSoFar, StoppedAt, DecodeOutcome, IsNoCharacter, stop_at}
 use Rattle.py_open.proofs.Decoding.{walk_at, Precedes, walk_spelling}
 
 -- What comes behind the characters that are known.

@@ -5,7 +5,7 @@ ghost use Rattle.py_plain.specs.Utf8.{utf8_unit};
 ghost use Rattle.py_plain.specs.TextStep.{asks_any};
 ghost use Rattle.py_raw.specs.RawStream.{WhereTold};
 ghost use Rattle.py_open.specs.Reader.{KeepsReader, MovesForth, CloseOutcome};
-ghost use Rattle.py_open.specs.Text.{IsFresh, DecodedSoFar, StoppedAt, DecodeOutcome, KeepsKnown, ChunkOutcome, stop_at, IsNoCharacter, range_in_hand, enough, size_of, Gathers, GatheredAt, GatherOutcome, GiveOutcome, GiveLastOutcome, OnlyWhereWaits, waited_in, faulted_in, AnswerCauses, AnswerMoves, AnswerStep};
+ghost use Rattle.py_open.specs.Text.{IsFresh, DecodedSoFar, StoppedAt, DecodeOutcome, KeepsKnown, ChunkOutcome, stop_at, IsNoCharacter, range_in_hand, enough, size_of, Gathers, GatheredAt, IsReady, GatherOutcome, GiveOutcome, GiveLastOutcome, OnlyWhereWaits, waited_in, faulted_in, AnswerCauses, AnswerMoves, AnswerStep};
 
 use crate::reader::Reader;
 use py_flat::{Chars, IoFault, Life};
@@ -293,7 +293,7 @@ impl<R: RawStream> Text<R> {
         requires whole { IsNoCharacter (utf8_unit self.now.held) }
         requires end { WhereTold self.now.reader.raw (length self.now.reader.raw.bytes ≤ self.now.reader.place) }
         ensures stands { GatheredAt self.now wanted result }
-        ensures ready { OnlyWhereWaits result false }
+        ensures ready { IsReady result }
     {
         if self.held.is_empty() {
             Gathered::Ends

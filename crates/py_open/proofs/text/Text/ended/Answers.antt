@@ -1,4 +1,4 @@
-use Rattle.std.proofs.Common.{◌≡◌, ◌≢◌, ℕ, List, [], length, sym, ap, ◌∙◌, subst, arith, vec_len}
+use Rattle.std.proofs.Common.{◌≡◌, ◌≢◌, [], length, sym, ap, ◌∙◌, subst, arith, vec_len}
 use Rattle.py_open.specs.Text.{TextView, GatheredAt, range_in_hand}
 use Rattle.py_open.proofs.Holding.{not_empty}
 use Rattle.py_open.proofs.Gathering.{cut_refuses}

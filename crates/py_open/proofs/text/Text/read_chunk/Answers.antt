@@ -1,7 +1,5 @@
-use Rattle.std.proofs.Common.{◌≡◌, ◌≢◌, ◌++◌, arith, ℕ, List, [], length, drop, sym, ap, subst, ◌∙◌, Option, Ok, Vec}
-use Rattle.std.specs.declared.alloc.Global.{Global}
+use Rattle.std.proofs.Common.{◌≡◌, ◌≢◌, ◌++◌, arith, ℕ, List, [], ap, ◌∙◌}
 use Rattle.std.proofs.lemmas.Slice.{pushed}
-use Rattle.py_open.specs.Reader.{Gives, Read1Outcome}
 use Rattle.py_open.specs.Text.{TextView, IsText}
 use Rattle.py_open.proofs.Holding.{not_empty, text_failed, text_read}
 use Rattle.py_open.proofs.text.Text.read_chunk.Goals as goal
