@@ -4,10 +4,10 @@ use Rattle.py_flat.specs.declared.fault.IoFault.{IoFault}
 use Rattle.py_flat.specs.declared.fault.IoFault.TheVariants as fault
 use Rattle.py_flat.specs.declared.life.Life.{Life}
 use Rattle.py_flat.specs.declared.life.Life.TheVariants as life
-use Rattle.py_flat.specs.Calls.{FileCall, Read, Read1, ReadLine, ReadLines, Peek, ReadInto, ReadInto1, Write, WriteLines, Seek, Tell, Truncate, Flush, Close, Detach, Readable, Writable, Seekable, Closed, OtherKind, FileReply, NotReady, Refused}
+use Rattle.py_flat.specs.Calls.{FileCall, Read, Read1, ReadLine, ReadLines, Peek, ReadInto, ReadInto1, Write, WriteLines, Seek, Tell, Truncate, Flush, Close, Detach, Readable, Writable, Seekable, Closed, OtherKind, OtherGetter, FileReply, NotReady, Refused}
 use Rattle.py_flat.specs.FlatFile.{FlatFile}
 use Rattle.py_flat.specs.Limits.{greatest_place}
-use Rattle.py_flat.specs.Refusals.{or_else, refused_if, is_getter, life_fault, lets_through, life_refusal, lacks, seek_base, moved_by, too_far, target_refusal, seek_refusal, argument_refusal, refusal}
+use Rattle.py_flat.specs.Refusals.{or_else, refused_if, is_getter, is_other_getter, life_fault, lets_through, life_refusal, lacks, seek_base, moved_by, too_far, target_refusal, seek_refusal, argument_refusal, refusal}
 use Rattle.py_flat.specs.ExactStep.{carried_out}
 use Rattle.py_flat.specs.BinaryStep.{asked, transferred, CarriedOut, DetachesIn, Accepted, SettledBy, Settled, BinaryStep}
 use Rattle.py_flat.specs.AllowedStep.{settled, waited_for, raw_faulted, out_of_memory}
@@ -40,6 +40,7 @@ carried_out_answers file Writable = refl
 carried_out_answers file Seekable = refl
 carried_out_answers file Closed = refl
 carried_out_answers file OtherKind = refl
+carried_out_answers file OtherGetter = refl
 
 transferred_answers : (file : FlatFile) (call : FileCall) (part : List ℕ) → says_no (transferred file call part).0 ≡ false
 transferred_answers file (Write bytes) part = refl
@@ -109,7 +110,7 @@ argument_blames_nobody file _ = refl
 
 -- what a call is refused by is its own fault
 pub refusal_blames_nobody : (file : FlatFile) (call : FileCall) → may_blame (refusal file call) ≡ false
-refusal_blames_nobody file call = none_or (is_getter call) _ (or_else_blames_nobody (life_refusal file call) _ (none_or (lets_through file.life file.buffering call) (life_fault file.life) (life_fault_blames_nobody file.life)) (or_else_blames_nobody (refused_if (lacks file call) fault.Unsupported) (argument_refusal file call) (refused_if_blames_nobody (lacks file call) fault.Unsupported refl) (argument_blames_nobody file call)))
+refusal_blames_nobody file call = none_or (is_getter call) _ (or_else_blames_nobody (refused_if (is_other_getter call) fault.Unsupported) _ (refused_if_blames_nobody (is_other_getter call) fault.Unsupported refl) (or_else_blames_nobody (life_refusal file call) _ (none_or (lets_through file.life file.buffering call) (life_fault file.life) (life_fault_blames_nobody file.life)) (or_else_blames_nobody (refused_if (lacks file call) fault.Unsupported) (argument_refusal file call) (refused_if_blames_nobody (lacks file call) fault.Unsupported refl) (argument_blames_nobody file call))))
 
 -- Settled calls.
 

@@ -5,9 +5,9 @@ use Rattle.py_flat.specs.declared.fault.IoFault.TheVariants as fault
 use Rattle.py_flat.specs.declared.life.Life.{Life}
 use Rattle.py_flat.specs.declared.life.Life.TheVariants as life
 use Rattle.py_flat.specs.Bytes.{lay, resized, first_of}
-use Rattle.py_flat.specs.Lines.{Lf, first_line, lines_within, joined}
+use Rattle.py_flat.specs.Lines.{Lf, first_line, lines_of, lines_within, joined}
 use Rattle.py_flat.specs.Calls.{FileCall, Read, Read1, ReadLine, ReadLines, Peek, ReadInto, ReadInto1, Write, WriteLines, Seek, Tell, Truncate, Flush, Close, Detach, FileReply, Bytes, Lines, Count, NotReady, Unwritten, Refused}
-use Rattle.py_flat.specs.FlatFile.{FlatFile, Buffering, Unbuffered, Buffered}
+use Rattle.py_flat.specs.FlatFile.{FlatFile, Buffering, Unbuffered, InMemory}
 use Rattle.py_flat.specs.Refusals.{refusal, is_getter, lacks}
 use Rattle.py_flat.specs.ExactStep.{rest, after_read, after_write, in_life, buffer_full, one_transfer, carried_out}
 use Rattle.py_flat.specs.AllowedStep.{AllowedStep}
@@ -21,13 +21,18 @@ IsFrontOf part whole = (more : List ℕ) × (part ++ more ≡ whole)
 -- what an unbuffered stream moves in one transfer, of some bytes
 abbrev pub if_unbuffered : Buffering → List ℕ → Option (List ℕ)
 if_unbuffered Unbuffered bytes = Some bytes
-if_unbuffered (Buffered size) bytes = None
+if_unbuffered _ bytes = None
+
+-- what a stream over a raw moves in one transfer; one in memory gives all at once
+abbrev pub if_over_raw : Buffering → List ℕ → Option (List ℕ)
+if_over_raw InMemory bytes = None
+if_over_raw _ bytes = Some bytes
 
 -- what a call that makes one transfer asks for: a `read1`, `readinto1` or `peek`; of an unbuffered stream a read of
--- a size, a `readinto` or a write
+-- a size, a `readinto` or a write. Its `writelines` goes on until all is taken
 abbrev pub asked : FlatFile → FileCall → Option (List ℕ)
-asked file (Read1 size) = Some (one_transfer file.buffering size (rest file))
-asked file (ReadInto1 size) = Some (first_of (Some size) (rest file))
+asked file (Read1 size) = if_over_raw file.buffering (one_transfer file.buffering size (rest file))
+asked file (ReadInto1 size) = if_over_raw file.buffering (first_of (Some size) (rest file))
 asked file Peek = Some (buffer_full file.buffering (rest file))
 asked file (Read (Some size)) = if_unbuffered file.buffering (first_of (Some size) (rest file))
 asked file (ReadInto size) = if_unbuffered file.buffering (first_of (Some size) (rest file))
@@ -125,8 +130,9 @@ NotReadyYet file reply after = (reply ≡ NotReady) × (after ≡ file)
 abbrev pub ReadsPart : FlatFile → List ℕ → FileReply → FlatFile → Type 0
 ReadsPart file wanted reply after = NotReadyYet file reply after ⊎ ((part : List ℕ) × (reply ≡ Bytes part) × GivesPart file wanted part after)
 
+-- the same by lines, of which the last may lack its end
 abbrev pub ReadsLinesPart : FlatFile → List ℕ → FileReply → FlatFile → Type 0
-ReadsLinesPart file wanted reply after = NotReadyYet file reply after ⊎ ((parts : List (List ℕ)) × (reply ≡ Lines parts) × GivesPart file wanted (joined parts) after)
+ReadsLinesPart file wanted reply after = NotReadyYet file reply after ⊎ ((part : List ℕ) × (reply ≡ Lines (lines_of part)) × GivesPart file wanted part after)
 
 -- a write that could not take all: the bytes that were taken are laid on
 pub record TakesPart (file : FlatFile) (bytes : List ℕ) (reply : FileReply) (after : FlatFile) : Type 0 where
@@ -141,7 +147,7 @@ HasToWait file reply after = (reply ≡ Refused (fault.WouldBlock 0)) × (after 
 
 abbrev pub WritesPart : FlatFile → Buffering → List ℕ → FileReply → FlatFile → Type 0
 WritesPart file Unbuffered bytes reply after = NotReadyYet file reply after
-WritesPart file (Buffered size) bytes reply after = TakesPart file bytes reply after
+WritesPart file _ bytes reply after = TakesPart file bytes reply after
 
 -- what may come of each call where the raw asked to wait
 abbrev pub WaitedBy : FlatFile → FileCall → FileReply → FlatFile → Type 0
@@ -197,13 +203,17 @@ Faulted file call after = IsTrue (reaches_raw file call) × FaultedBy file call 
 abbrev pub FailsMidway : FlatFile → FileCall → FlatFile → Type 0
 FailsMidway file call after = (count : ℕ) × (0 < count) × (count ≤ length (payload call)) × Fails file life.Failed (lay file.bytes file.place (take count (payload call))) after
 
+-- a read fails for want of memory only after bytes left the raw, so only where it has any to give
+abbrev pub FailsReading : FlatFile → List ℕ → FlatFile → Type 0
+FailsReading file wanted after = (wanted ≢ []) × Fails file life.Failed file.bytes after
+
 -- what want of memory may leave of each call: all as before; a read, after bytes left the raw, and a write, after
 -- the raw took some, fail
 abbrev pub StarvedBy : FlatFile → FileCall → FlatFile → Type 0
-StarvedBy file (Read size) after = (after ≡ file) ⊎ Fails file life.Failed file.bytes after
-StarvedBy file (ReadInto size) after = (after ≡ file) ⊎ Fails file life.Failed file.bytes after
-StarvedBy file (ReadLine limit) after = (after ≡ file) ⊎ Fails file life.Failed file.bytes after
-StarvedBy file (ReadLines hint) after = (after ≡ file) ⊎ Fails file life.Failed file.bytes after
+StarvedBy file (Read size) after = (after ≡ file) ⊎ FailsReading file (first_of size (rest file)) after
+StarvedBy file (ReadInto size) after = (after ≡ file) ⊎ FailsReading file (first_of (Some size) (rest file)) after
+StarvedBy file (ReadLine limit) after = (after ≡ file) ⊎ FailsReading file (first_line Lf limit (rest file)) after
+StarvedBy file (ReadLines hint) after = (after ≡ file) ⊎ FailsReading file (joined (lines_within hint (rest file))) after
 StarvedBy file (Write bytes) after = (after ≡ file) ⊎ FailsMidway file (Write bytes) after
 StarvedBy file (WriteLines lines) after = (after ≡ file) ⊎ FailsMidway file (WriteLines lines) after
 StarvedBy file call after = after ≡ file

@@ -23,8 +23,9 @@ pub data FileCall : Type 0 where
   Writable : FileCall
   Seekable : FileCall
   Closed : FileCall
-  -- a call that streams of this kind don't have
+  -- a call, or a getter, that streams of this kind don't have
   OtherKind : FileCall
+  OtherGetter : FileCall
 
 -- what a call of a stream answers
 pub data FileReply : Type 0 where

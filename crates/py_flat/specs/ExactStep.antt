@@ -1,12 +1,12 @@
 -- The exact step: what an accepted call answers and leaves, where nothing waits, fails or lacks memory.
-use Rattle.std.specs.Prelude.{ℕ, ◌+◌, Bool, true, false, ℤ, List, [], length, Option, Some, None, option_and_then, unwrap_or, if◌then◌else◌}
+use Rattle.std.specs.Prelude.{ℕ, ◌+◌, Bool, true, false, ℤ, List, [], length, take, Option, Some, None, option_and_then, unwrap_or, if◌then◌else◌}
 use Rattle.py_flat.specs.declared.fault.IoFault.{IoFault}
 use Rattle.py_flat.specs.declared.life.Life.{Life}
 use Rattle.py_flat.specs.declared.life.Life.TheVariants as life
 use Rattle.py_flat.specs.Bytes.{left_at, lay, resized, first_of, first_or_all}
 use Rattle.py_flat.specs.Lines.{Lf, first_line, lines_within, joined}
-use Rattle.py_flat.specs.Calls.{FileCall, Read, Read1, ReadLine, ReadLines, Peek, ReadInto, ReadInto1, Write, WriteLines, Seek, Tell, Truncate, Flush, Close, Detach, Readable, Writable, Seekable, Closed, OtherKind, FileReply, Bytes, Lines, Count, Place, Done, Flag, Unwritten, Refused}
-use Rattle.py_flat.specs.FlatFile.{FlatFile, Buffering, Unbuffered, Buffered}
+use Rattle.py_flat.specs.Calls.{FileCall, Read, Read1, ReadLine, ReadLines, Peek, ReadInto, ReadInto1, Write, WriteLines, Seek, Tell, Truncate, Flush, Close, Detach, Readable, Writable, Seekable, Closed, OtherKind, OtherGetter, FileReply, Bytes, Lines, Count, Place, Done, Flag, Unwritten, Refused}
+use Rattle.py_flat.specs.FlatFile.{FlatFile, Buffering, Unbuffered, Buffered, InMemory}
 use Rattle.py_flat.specs.Refusals.{refusal, seek_base, moved_by}
 
 abbrev pub is_closed : Life → Bool
@@ -36,11 +36,17 @@ gives file bytes = (Bytes bytes, after_read file (length bytes))
 abbrev pub buffer_full : Buffering → List ℕ → List ℕ
 buffer_full Unbuffered bytes = bytes
 buffer_full (Buffered size) bytes = first_or_all size bytes
+buffer_full InMemory bytes = bytes
 
 -- what one transfer is asked for
 abbrev pub one_transfer : Buffering → Option ℕ → List ℕ → List ℕ
 one_transfer buffering None bytes = buffer_full buffering bytes
 one_transfer buffering (Some size) bytes = first_of (Some size) bytes
+
+-- the bytes of a truncated file: a stream in memory is only cut
+abbrev pub truncated : Buffering → List ℕ → ℕ → List ℕ
+truncated InMemory bytes size = take size bytes
+truncated _ bytes size = resized bytes size
 
 -- where an accepted seek goes
 abbrev pub seek_target : FlatFile → ℤ → ℤ → ℕ
@@ -50,7 +56,8 @@ seek_target file offset whence = unwrap_or (option_and_then (λ base. moved_by b
 abbrev pub handed_place : FlatFile → Option ℕ
 handed_place file = if file.can.seekable then Some file.place else None
 
--- what an accepted call answers and leaves
+-- what an accepted call answers and leaves. The `detach` of a failed file gives back what the flat file doesn't know:
+-- `HandsBack` of `BinaryStep` says what
 abbrev pub carried_out : FlatFile → FileCall → FileReply × FlatFile
 carried_out file (Read size) = gives file (first_of size (rest file))
 carried_out file (Read1 size) = gives file (one_transfer file.buffering size (rest file))
@@ -63,7 +70,7 @@ carried_out file (Write bytes) = (Count (length bytes), after_write file bytes)
 carried_out file (WriteLines lines) = (Done, after_write file (joined lines))
 carried_out file (Seek offset whence) = (Place (seek_target file offset whence), record file { place = seek_target file offset whence })
 carried_out file Tell = (Place file.place, file)
-carried_out file (Truncate size) = (Place (unwrap_or size file.place), record file { bytes = resized file.bytes (unwrap_or size file.place) })
+carried_out file (Truncate size) = (Place (unwrap_or size file.place), record file { bytes = truncated file.buffering file.bytes (unwrap_or size file.place) })
 carried_out file Flush = (Done, file)
 carried_out file Close = (Done, in_life file life.Closed)
 carried_out file Detach = (Unwritten [] (handed_place file), in_life file life.Detached)
@@ -72,6 +79,7 @@ carried_out file Writable = (Flag file.can.writable, file)
 carried_out file Seekable = (Flag file.can.seekable, file)
 carried_out file Closed = (Flag (is_closed file.life), file)
 carried_out file OtherKind = (Done, file)
+carried_out file OtherGetter = (Done, file)
 
 -- a refusal leaves the file as it was
 abbrev pub answered : FlatFile → FileCall → Option IoFault → FileReply × FlatFile

@@ -2,7 +2,7 @@
 use Rattle.std.specs.Prelude.{ℕ, true, false, List, [], ◌∷◌, length}
 use Rattle.py_flat.specs.declared.life.Life.TheVariants as life
 use Rattle.py_flat.specs.Calls.{FileCall, FileReply}
-use Rattle.py_flat.specs.FlatFile.{Abilities, Buffering, Unbuffered, Buffered, FlatFile}
+use Rattle.py_flat.specs.FlatFile.{Abilities, Buffering, Unbuffered, Buffered, FlatFile, InMemory}
 use Rattle.py_flat.specs.ExactStep.{exact}
 
 -- a stream that can all
@@ -23,7 +23,7 @@ random size bytes = opened can_all (Buffered size) bytes
 
 -- a memory stream
 abbrev pub memory : List ℕ → FlatFile
-memory bytes = opened can_all (Buffered 0) bytes
+memory bytes = opened can_all InMemory bytes
 
 -- an unbuffered stream
 abbrev pub unbuffered : List ℕ → FlatFile

@@ -9,10 +9,12 @@ pub record Abilities : Type 0 where
   pub seekable : Bool
   pub appending : Bool
 
--- how a stream is buffered. Its size is seen only by a `read1` without a size and by `peek`; a memory stream has the size 0
+-- how a stream is buffered. The size is seen only by a `read1` without a size and by `peek`. A stream in memory has no
+-- raw under it: its transfers are whole, and its `truncate` only cuts
 pub data Buffering : Type 0 where
   Unbuffered : Buffering
   Buffered : (size : ℕ) → Buffering
+  InMemory : Buffering
 
 -- a list of bytes, a place counted from its start, what may be done, and the stream's life
 pub record FlatFile : Type 0 where

@@ -7,7 +7,7 @@ use Rattle.py_flat.specs.declared.life.Life.{Life}
 use Rattle.py_flat.specs.declared.life.Life.TheVariants as life
 use Rattle.py_flat.specs.Limits.{greatest_place}
 use Rattle.py_flat.specs.Lines.{joined}
-use Rattle.py_flat.specs.Calls.{FileCall, Read, Read1, ReadLine, ReadLines, Peek, ReadInto, ReadInto1, Write, WriteLines, Seek, Tell, Truncate, Close, Detach, Readable, Writable, Seekable, Closed, OtherKind}
+use Rattle.py_flat.specs.Calls.{FileCall, Read, Read1, ReadLine, ReadLines, Peek, ReadInto, ReadInto1, Write, WriteLines, Seek, Tell, Truncate, Close, Detach, Readable, Writable, Seekable, Closed, OtherKind, OtherGetter}
 use Rattle.py_flat.specs.FlatFile.{FlatFile, Buffering, Unbuffered, Buffered}
 
 -- the first of two refusals
@@ -21,7 +21,12 @@ refused_if refused fault = if refused then Some fault else None
 
 abbrev pub is_unbuffered : Buffering → Bool
 is_unbuffered Unbuffered = true
-is_unbuffered (Buffered size) = false
+is_unbuffered _ = false
+
+-- whether a stream has a buffer that can be looked into, and a raw under it that can be handed back
+abbrev pub is_buffered : Buffering → Bool
+is_buffered (Buffered size) = true
+is_buffered _ = false
 
 -- whether a call only tells a setting or an ability: these are never refused
 abbrev pub is_getter : FileCall → Bool
@@ -30,6 +35,11 @@ is_getter Writable = true
 is_getter Seekable = true
 is_getter Closed = true
 is_getter _ = false
+
+-- a getter that the kind lacks is refused in every life
+abbrev pub is_other_getter : FileCall → Bool
+is_other_getter OtherGetter = true
+is_other_getter _ = false
 
 abbrev pub is_close : FileCall → Bool
 is_close Close = true
@@ -46,10 +56,10 @@ life_fault life.Failed = Some fault.Failed
 life_fault life.Closed = Some fault.Closed
 life_fault life.Detached = Some fault.Detached
 
--- the table of lives: a failed stream that isn't unbuffered may still be detached, a closed one closed again
+-- the table of lives: a failed stream with a buffer may still be detached, a closed one closed again
 abbrev pub lets_through : Life → Buffering → FileCall → Bool
 lets_through life.Live buffering call = true
-lets_through life.Failed buffering call = is_detach call && not (is_unbuffered buffering)
+lets_through life.Failed buffering call = is_detach call && is_buffered buffering
 lets_through life.Closed buffering call = is_close call
 lets_through life.Detached buffering call = false
 
@@ -62,7 +72,7 @@ lacks file (Read size) = not file.can.readable
 lacks file (Read1 size) = not file.can.readable || is_unbuffered file.buffering
 lacks file (ReadLine limit) = not file.can.readable
 lacks file (ReadLines hint) = not file.can.readable
-lacks file Peek = not file.can.readable || is_unbuffered file.buffering
+lacks file Peek = not file.can.readable || not (is_buffered file.buffering)
 lacks file (ReadInto size) = not file.can.readable
 lacks file (ReadInto1 size) = not file.can.readable || is_unbuffered file.buffering
 lacks file (Write bytes) = not file.can.writable
@@ -70,7 +80,7 @@ lacks file (WriteLines lines) = not file.can.writable
 lacks file (Seek offset whence) = not file.can.seekable || file.can.appending
 lacks file Tell = not file.can.seekable
 lacks file (Truncate size) = not file.can.writable || not file.can.seekable || file.can.appending
-lacks file Detach = is_unbuffered file.buffering
+lacks file Detach = not (is_buffered file.buffering)
 lacks file OtherKind = true
 lacks file _ = false
 
@@ -109,4 +119,4 @@ argument_refusal file _ = None
 
 -- what a call is refused by, or None where it is accepted
 abbrev pub refusal : FlatFile → FileCall → Option IoFault
-refusal file call = if is_getter call then None else or_else (life_refusal file call) (or_else (refused_if (lacks file call) fault.Unsupported) (argument_refusal file call))
+refusal file call = if is_getter call then None else or_else (refused_if (is_other_getter call) fault.Unsupported) (or_else (life_refusal file call) (or_else (refused_if (lacks file call) fault.Unsupported) (argument_refusal file call)))

@@ -2,7 +2,7 @@ ghost use Rattle.std.specs.Prelude.{◌≡◌, ◌∷◌, ◌++◌, [], Bool, tr
 ghost use Rattle.py_flat.specs.declared.fault.IoFault.TheVariants as fault;
 ghost use Rattle.py_flat.specs.declared.life.Life.TheVariants as life;
 ghost use Rattle.py_flat.specs.Bytes.{lay};
-ghost use Rattle.py_flat.specs.Calls.{Read, Read1, ReadLine, ReadLines, Peek, ReadInto, ReadInto1, Write, WriteLines, Seek, Tell, Truncate, Flush, Close, Detach, Readable, Writable, Seekable, Closed, OtherKind, Bytes, Lines, Count, Place, Done, Flag, Unwritten, Refused};
+ghost use Rattle.py_flat.specs.Calls.{Read, Read1, ReadLine, ReadLines, Peek, ReadInto, ReadInto1, Write, WriteLines, Seek, Tell, Truncate, Flush, Close, Detach, Readable, Writable, Seekable, Closed, OtherKind, OtherGetter, Bytes, Lines, Count, Place, Done, Flag, Unwritten, Refused};
 ghost use Rattle.py_flat.specs.Examples.{random, memory, unbuffered, reader, writer, appender, pipe, standing, replies_of, file_after};
 ghost use Rattle.py_flat.specs.ExactStep.{in_life};
 ghost use Rattle.py_flat.specs.Lines.{Lf, Cr, CrLf, AnyEnd, first_line, is_ended};
@@ -42,8 +42,10 @@ pub fn lines_end_at_line_feeds_and_limits()
     ensures written_bytes { (file_after (writer 4 []) (WriteLines (codes "a\n" ∷ [] ∷ codes "b" ∷ []) ∷ [])).bytes ≡ codes "a\nb" }
 {}
 
-/// A truncation goes to the place where no size is given, leaves the place, and lengthens by zeros.
+/// A truncation goes to the place where no size is given, leaves the place, and lengthens by zeros; in memory it only
+/// cuts.
 pub fn truncations_cut_and_lengthen()
+    ensures in_memory { replies_of (memory (codes "abc")) (Truncate (Some 9) ∷ Truncate (Some 1) ∷ Read None ∷ []) ≡ Place 9 ∷ Place 1 ∷ Bytes (codes "a") ∷ [] }
     ensures at_the_place { replies_of (standing (random 4 (codes "abcdef")) 2) (Truncate None ∷ []) ≡ Place 2 ∷ [] }
     ensures cut { file_after (standing (random 4 (codes "abcdef")) 2) (Truncate None ∷ []) ≡ standing (random 4 (codes "ab")) 2 }
     ensures place_kept { file_after (standing (random 4 (codes "abcdef")) 5) (Truncate (Some 2) ∷ []) ≡ standing (random 4 (codes "ab")) 5 }
@@ -59,6 +61,7 @@ pub fn lives_refuse_first()
     ensures detached_moves { replies_of (in_life (random 4 (codes "ab")) life.Detached) (Seek (pos 0) (pos 3) ∷ Tell ∷ Truncate None ∷ Flush ∷ Close ∷ Detach ∷ OtherKind ∷ []) ≡ replicate 7 (Refused fault.Detached) }
     ensures detached_getters { replies_of (in_life (random 4 (codes "ab")) life.Detached) (Readable ∷ Writable ∷ Seekable ∷ Closed ∷ []) ≡ Flag true ∷ Flag true ∷ Flag true ∷ Flag false ∷ [] }
     ensures life_before_ability { replies_of (in_life (reader 4 (codes "ab")) life.Closed) (Write (codes "x") ∷ OtherKind ∷ []) ≡ Refused fault.Closed ∷ Refused fault.Closed ∷ [] }
+    ensures other_getters { replies_of (in_life (random 4 (codes "ab")) life.Detached) (OtherGetter ∷ []) ≡ Refused fault.Unsupported ∷ [] }
     ensures after_close { replies_of (random 4 (codes "ab")) (Closed ∷ Close ∷ Closed ∷ Close ∷ Tell ∷ []) ≡ Flag false ∷ Done ∷ Flag true ∷ Done ∷ Refused fault.Closed ∷ [] }
 {}
 

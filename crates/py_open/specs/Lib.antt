@@ -4,3 +4,5 @@ pub mod Plan
 pub mod Reader
 pub mod Text
 pub mod Session
+pub mod Opening
+pub mod Run

@@ -46,20 +46,6 @@ abbrev pub says_fault : FileReply → Bool
 says_fault (Refused fault.RawFault) = true
 says_fault _ = false
 
--- a wait or a short answer comes only where the raw's waits rose in this call, RawFault only where its faults did
-pub record HasCauses (before : SessionView) (reply : FileReply) (after : SessionView) : Type 0 where
-  pub waits : IsTrue (after.short || says_wait reply) → Rose before.raw.waits after.raw.waits
-  pub faults : IsTrue (says_fault reply) → Rose before.raw.faults after.raw.faults
-
--- Refusals.
-
--- a call that the life or the kind refuses answers so, calls no raw and leaves all as it was
-pub record Refuses (before : SessionView) (refused : IoFault) (reply : FileReply) (after : SessionView) : Type 0 where
-  pub says : reply ≡ Refused refused
-  pub file : after.file ≡ before.file
-  pub raw : after.raw ≡ before.raw
-  pub whole : after.short ≡ false
-
 -- Completeness.
 
 -- the replies that an accepted call may have where nothing waits or fails; want of memory is free
@@ -71,14 +57,6 @@ IsAnswerTo (ReadLine limit) (Refused (fault.UnicodeDecodeError start end)) = Uni
 IsAnswerTo Close Done = Unit {0}
 IsAnswerTo call (Refused fault.NoMemory) = Unit {0}
 IsAnswerTo call reply = ⊥
-
--- an accepted call in which no count rose is answered so, and whole
-pub record IsComplete (before : SessionView) (call : Call) (reply : FileReply) (after : SessionView) : Type 0 where
-  pub answer : IsAnswerTo (text_call call) reply
-  pub whole : after.short ≡ false
-
-abbrev pub Completes : SessionView → Call → FileReply → SessionView → Type 0
-Completes before call reply after = session_refusal before.file call ≡ None → rose before.raw.waits after.raw.waits ≡ false → rose before.raw.faults after.raw.faults ≡ false → IsComplete before call reply after
 
 -- Life and place, whether the raw tells or not.
 
@@ -115,28 +93,42 @@ pub record TextMoves (before : TextFile) (call : TextCall) (short : Bool) (reply
   pub life_is : after.life ≡ life_after call reply before.life
   pub place : PlaceMoves call short reply before.place after.place
 
-abbrev pub Moves : SessionFile → Call → Bool → FileReply → SessionFile → Type 0
-Moves (OfText before) call short reply (OfText after) = TextMoves before (text_call call) short reply after
+-- The one clause of every call.
 
--- The one clause of every call of a session.
+-- a call of a text that the life or the kind refuses answers so, calls no raw and leaves all as it was
+pub record RefusesText (before : TextFile) (old : Raw) (refused : IoFault) (reply : FileReply) (after : TextFile) (new : Raw) (short : Bool) : Type 0 where
+  pub says : reply ≡ Refused refused
+  pub file : after ≡ before
+  pub raw : new ≡ old
+  pub whole : short ≡ false
 
--- what the raw can do stays and its counts never fall; refusals; causes; life and place; completeness; and, where the
--- raw tells, the step of the model
-pub record AnswersText (before : TextFile) (old : Raw) (call : TextCall) (reply : FileReply) (after : TextFile) (new : Raw) (short : Bool) : Type 0 where
-  pub keeps : Keeps old new
-  pub refused : (refused : IoFault) → text_refusal before call ≡ Some refused → (reply ≡ Refused refused) × (after ≡ before) × (new ≡ old) × (short ≡ false)
+-- a wait or a short answer comes only where the raw's waits rose in this call, RawFault only where its faults did
+pub record HasCauses (old : Raw) (reply : FileReply) (new : Raw) (short : Bool) : Type 0 where
   pub waits : IsTrue (short || says_wait reply) → Rose old.waits new.waits
   pub faults : IsTrue (says_fault reply) → Rose old.faults new.faults
+
+-- an accepted call in which no count rose is answered so, and whole
+pub record IsComplete (call : TextCall) (reply : FileReply) (short : Bool) : Type 0 where
+  pub answer : IsAnswerTo call reply
+  pub whole : short ≡ false
+
+-- one call of a text: what the raw can do stays and its counts never fall; refusals; causes; life and place;
+-- completeness; and, where the raw tells, the step of the model
+pub record AnswersText (before : TextFile) (old : Raw) (call : TextCall) (reply : FileReply) (after : TextFile) (new : Raw) (short : Bool) : Type 0 where
+  pub keeps : Keeps old new
+  pub refused : (refused : IoFault) → text_refusal before call ≡ Some refused → RefusesText before old refused reply after new short
+  pub causes : HasCauses old reply new short
   pub moves : TextMoves before call short reply after
-  pub complete : text_refusal before call ≡ None → rose old.waits new.waits ≡ false → rose old.faults new.faults ≡ false → IsAnswerTo call reply × (short ≡ false)
+  pub complete : text_refusal before call ≡ None → rose old.waits new.waits ≡ false → rose old.faults new.faults ≡ false → IsComplete call reply short
   pub told : WhereTold old (TextStep before call reply (short || says_wait reply) (says_fault reply) after)
 
--- what the raw can do stays and its counts never fall; refusals; causes; life and place; completeness; and, where the
--- raw tells, the step of the model
-pub record Answers (before : SessionView) (call : Call) (reply : Reply) (after : SessionView) : Type 0 where
-  pub keeps : Keeps before.raw after.raw
-  pub refused : (refused : IoFault) → session_refusal before.file call ≡ Some refused → Refuses before refused (said reply) after
-  pub causes : HasCauses before (said reply) after
-  pub moves : Moves before.file call after.short (said reply) after.file
-  pub complete : Completes before call (said reply) after
-  pub told : WhereTold before.raw (SessionStep before.file call (said reply) (after.short || says_wait (said reply)) (says_fault (said reply)) after.file)
+-- the same of a session's files
+abbrev pub AnswersFile : SessionFile → Raw → TextCall → FileReply → SessionFile → Raw → Bool → Type 0
+AnswersFile (OfText before) old call reply (OfText after) new short = AnswersText before old call reply after new short
+
+abbrev pub AnswersAs : SessionView → TextCall → Reply → SessionView → Type 0
+AnswersAs before call reply after = AnswersFile before.file before.raw call (said reply) after.file after.raw after.short
+
+-- one call of a session
+abbrev pub Answers : SessionView → Call → Reply → SessionView → Type 0
+Answers before call reply after = AnswersAs before (text_call call) reply after

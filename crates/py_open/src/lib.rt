@@ -11,6 +11,8 @@ mod open_refused;
 mod plan;
 mod reader;
 mod reply;
+mod run;
+mod session;
 mod text;
 
 pub use call::Call;
@@ -19,3 +21,5 @@ pub use open_args::OpenArgs;
 pub use open_refused::OpenRefused;
 pub use plan::{DEFAULT_BUFFER_SIZE, OpenPlan, plan_open};
 pub use reply::Reply;
+pub use run::{Run, run_session};
+pub use session::{Detached, Session};

@@ -1,7 +1,9 @@
 ghost use Rattle.std.specs.Prelude.{◌≡◌, ◌<◌, false, []};
+ghost use Rattle.py_plain.specs.TextStep.{Close, OtherKind};
 ghost use Rattle.py_open.specs.Reader.{StandsAtStart};
-ghost use Rattle.py_open.specs.Session.{Answers};
-ghost use Rattle.py_open.specs.Opening.{SessionOutcome, handed_at};
+ghost use Rattle.py_open.specs.Text.{call_of};
+ghost use Rattle.py_open.specs.Session.{Answers, AnswersAs};
+ghost use Rattle.py_open.specs.Opening.{SessionOutcome, life_of, handed_at};
 
 use crate::reader::Reader;
 use crate::text::{Answer, Text, Wanted};
@@ -15,6 +17,7 @@ use std::marker::Model;
 ///
 /// So far it is a text that is read: every call but `Read`, `ReadLine` and `Close` is `Unsupported`.
 pub struct Session<R: RawStream> {
+    alloc: Global,
     text: Text<R>,
     short: bool,
 }
@@ -58,6 +61,7 @@ impl<R: RawStream> Session<R> {
     {
         match Reader::new(alloc, raw, buffer_size) {
             Ok(reader) => Ok(Session {
+                alloc,
                 text: Text::new(alloc, reader, chunk_size),
                 short: false,
             }),
@@ -101,19 +105,23 @@ impl<R: RawStream> Session<R> {
         ensures unwritten { result.unwritten.items ≡ [] }
         ensures place { result.place ≡ handed_at self.file }
     {
-        let Session { text, short: _ } = self;
-        let (raw, unwritten, at) = text.into_parts();
+        let Session {
+            alloc,
+            text,
+            short: _,
+        } = self;
+        let (raw, at) = text.into_raw();
         let place = if raw.seekable() { Some(at) } else { None };
         Detached {
             raw,
-            unwritten,
+            unwritten: Vec::new(alloc),
             place,
         }
     }
 
     fn read(&mut self, alloc: Global, wanted: Wanted) -> Reply
         requires { self.old.short ≡ false }
-        ensures { AnswersText self.old (call_of wanted) result self.new }
+        ensures { AnswersAs self.old (call_of wanted) result self.new }
     {
         match self.text.life() {
             Life::Live => self.answer(alloc, wanted),
@@ -126,7 +134,7 @@ impl<R: RawStream> Session<R> {
     fn answer(&mut self, alloc: Global, wanted: Wanted) -> Reply
         requires short { self.old.short ≡ false }
         requires live { life_of self.old.file ≡ Life.Live }
-        ensures { AnswersText self.old (call_of wanted) result self.new }
+        ensures { AnswersAs self.old (call_of wanted) result self.new }
     {
         match self.text.answer(alloc, wanted) {
             Ok(Answer::Whole(text)) => Reply::Text(text),
@@ -141,7 +149,7 @@ impl<R: RawStream> Session<R> {
 
     fn close(&mut self) -> Reply
         requires { self.old.short ≡ false }
-        ensures { AnswersText self.old Close result self.new }
+        ensures { AnswersAs self.old Close result self.new }
     {
         match self.text.close() {
             Ok(()) => Reply::Done,
@@ -151,7 +159,7 @@ impl<R: RawStream> Session<R> {
 
     fn unsupported(&mut self) -> Reply
         requires { self.old.short ≡ false }
-        ensures { AnswersText self.old OtherKind result self.new }
+        ensures { AnswersAs self.old OtherKind result self.new }
     {
         match self.text.life() {
             Life::Live => Reply::Refused(IoFault::Unsupported),

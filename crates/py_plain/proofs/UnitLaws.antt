@@ -7,7 +7,7 @@ use Rattle.py_plain.specs.declared.unit.Unit.{Unit as Read}
 use Rattle.py_plain.specs.declared.unit.Unit.TheVariants.{Character, Malformed, Cut}
 use Rattle.py_plain.specs.Utf8.{Lead, Alone, Leads, Never, is_within, lead, sequence, unit_after, utf8_unit}
 use Rattle.py_plain.specs.Spelling.{Spells, least, greatest}
-use Rattle.py_plain.specs.UnitLaws.{IsWithin}
+use Rattle.py_plain.specs.UnitLaws.{IsUtf8Long, IsWithin}
 use Rattle.py_plain.proofs.Rows.{is_within-true, lead-ascii, lead-C2, lead-E0, lead-E1, lead-ED, lead-EE, lead-F0, lead-F1, lead-F4}
 use Rattle.py_plain.proofs.Encoded.{upper, tail, continuing, IsSpelled, spelled, FirstFits, sequence-spells, encode-1, encode-2, encode-3, encode-4}
 
@@ -169,29 +169,35 @@ sequence-uses length (suc follow) low high bits (byte ∷ rest) =
     (λ within. Uses-later length follow (len rest) _ (sequence-uses (length + 1) follow 0x80 0xBF (bits * 64 + (byte - 0x80)) rest))
     (λ without. (omega arith, omega arith, omega arith))
 
-uses_of : (follow left : ℕ) (unit : Read) → follow ≤ 3 → Uses 1 follow left unit → IsWithin unit (suc left)
+uses_of : (follow left : ℕ) (unit : Read) → follow ≤ 3 → Uses 1 follow left unit → IsUtf8Long unit (suc left)
 uses_of follow left (Character c n) short uses = (omega (arith, uses.0), omega (arith, uses.0), omega (arith, uses.1))
 uses_of follow left (Malformed n) short uses = (uses.0, omega (arith, uses.1), omega (arith, uses.2))
 uses_of follow left (Cut n) short uses = (uses.0, omega (arith, uses.1), omega (arith, uses.2))
 
-unit_uses : (byte : ℕ) (rest : List ℕ) → IsWithin (unit_after byte (lead byte) rest) (len (byte ∷ rest))
+unit_uses : (byte : ℕ) (rest : List ℕ) → IsUtf8Long (unit_after byte (lead byte) rest) (len (byte ∷ rest))
 unit_uses byte rest =
-    let leads : (follow low high bits : ℕ) → follow ≤ 3 → IsWithin (sequence 1 follow low high bits rest) (suc (len rest)) =
+    let leads : (follow low high bits : ℕ) → follow ≤ 3 → IsUtf8Long (sequence 1 follow low high bits rest) (suc (len rest)) =
     λ follow low high bits short. uses_of follow (len rest) _ short (sequence-uses 1 follow low high bits rest) in
-    by_rows (λ l. IsWithin (unit_after byte l rest) (suc (len rest))) byte
+    by_rows (λ l. IsUtf8Long (unit_after byte l rest) (suc (len rest))) byte
     (λ to. (omega arith, omega arith, omega arith)) (λ from to. leads 1 _ _ _ (omega arith)) (λ from to. leads 2 _ _ _ (omega arith)) (λ from to. leads 2 _ _ _ (omega arith)) (λ from to. leads 2 _ _ _ (omega arith)) (λ from to. leads 2 _ _ _ (omega arith)) (λ from to. leads 3 _ _ _ (omega arith)) (λ from to. leads 3 _ _ _ (omega arith)) (λ from to. leads 3 _ _ _ (omega arith)) (omega arith, omega arith, omega arith)
 
-pub unit_within : (bytes : List ℕ) (unit : Read) → utf8_unit bytes ≡ Some unit → IsWithin unit (len bytes)
+pub unit_within : (bytes : List ℕ) (unit : Read) → utf8_unit bytes ≡ Some unit → IsUtf8Long unit (len bytes)
 unit_within [] unit is = absurd (cc)
 unit_within (byte ∷ rest) unit is =
     let same : unit_after byte (lead byte) rest ≡ unit = cc in
-    subst (λ u. IsWithin u (suc (len rest))) same (unit_uses byte rest)
-
--- the same of the unit, if there is one
-pub unit_within_if : (bytes : List ℕ) → IfSome (utf8_unit bytes) (λ unit. IsWithin unit (len bytes))
-unit_within_if [] = tt
-unit_within_if (byte ∷ rest) = unit_uses byte rest
+    subst (λ u. IsUtf8Long u (suc (len rest))) same (unit_uses byte rest)
 
 pub unit_some : (bytes : List ℕ) → 0 < len bytes → IsSome (utf8_unit bytes)
 unit_some [] more = absurd (omega arith)
 unit_some (byte ∷ rest) more = refl
+
+-- which a unit of any encoding has
+pub within_any : (unit : Read) (left : ℕ) → IsUtf8Long unit left → IsWithin unit left
+within_any (Character c n) left long = (long.0, long.2)
+within_any (Malformed n) left long = (long.0, long.2)
+within_any (Cut n) left long = (long.0, long.2)
+
+-- the same of the unit, if there is one
+pub unit_within_any : (bytes : List ℕ) → IfSome (utf8_unit bytes) (λ unit. IsWithin unit (len bytes))
+unit_within_any [] = tt
+unit_within_any (byte ∷ rest) = within_any (unit_after byte (lead byte) rest) (len (byte ∷ rest)) (unit_uses byte rest)

@@ -7,7 +7,7 @@ ghost use Rattle.py_flat.specs.Calls.{FileReply};
 ghost use Rattle.py_plain.specs.TextFile.{TextFile};
 ghost use Rattle.py_plain.specs.TextStep.{TextCall, TextStep};
 ghost use Rattle.py_plain.specs.PlainSteps.{PlainStep};
-ghost use Rattle.py_plain.specs.UnitLaws.{IsWithin};
+ghost use Rattle.py_plain.specs.UnitLaws.{IsUtf8Long};
 
 /// A unit of UTF-8 is a character exactly where the bytes begin with that character's own bytes, and a range that is
 /// no character has one to three bytes, no more than are left.
@@ -19,7 +19,7 @@ pub fn utf8_units()
     ensures encoded { (c : ℕ) (rest : List ℕ) → IsScalar c
         → utf8_unit (encode_utf8 c ++ rest) ≡ Some (Character c (length (encode_utf8 c))) }
     ensures within { (bytes : List ℕ) (unit : Read) → utf8_unit bytes ≡ Some unit
-        → IsWithin unit (length bytes) }
+        → IsUtf8Long unit (length bytes) }
 {}
 
 /// What a call of the plain text does is what a call of any text may do where its raw neither waits nor fails.

@@ -1,5 +1,16 @@
+pub mod Cuts
+pub mod FileRaw
+pub mod Flags
+pub mod MemRaw
 pub mod RawStream
 pub mod RawMode
 pub mod Source
 pub mod Sink
 pub mod Opener
+pub mod MemSource
+pub mod MemSink
+pub mod ReadSource
+pub mod WriteSink
+pub mod Entries
+pub mod MemOpener
+pub mod FileOpener

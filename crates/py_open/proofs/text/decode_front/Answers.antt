@@ -12,7 +12,7 @@ loop-character-preserved c =
     let unit = rw (c.in-Some-Character.field-0-is, take_rest c.args.bytes.now c.loop-character.used) at (c.in-Some-Character.ensures.unit Unknown false) in
     let within = rw (c.in-Some-Character.field-0-is, take_rest c.args.bytes.now c.loop-character.used) at c.in-Some-Character.ensures.within in
     let pushed : c.push.new.self.items ≡ c.loop-character.characters.items ++ c.in-Some-Character.character ∷ [] = c.push.ensures.items ∙ cond-true _ _ _ c.if-is_err.ensures.negation in (
-      omega (arith, within.2, length-drop c.loop-character.used c.args.bytes.now),
+      omega (arith, within.1, length-drop c.loop-character.used c.args.bytes.now),
       subst (DecodedSoFar c.args.bytes.now c.args.characters.now.items (c.loop-character.used + c.in-Some-Character.length)) (sym pushed)
           (decoded_more c.args.bytes.now c.args.characters.now.items c.loop-character.characters.items c.loop-character.used c.in-Some-Character.character c.in-Some-Character.length c.loop-character.invariant.1 (sym unit)),
     )

@@ -1,0 +1,24 @@
+use Rattle.std.proofs.Common.{◌≡◌, ◌≤◌, min, length, arith, sym, ap, ◌∙◌}
+use Rattle.py_flat.specs.Bytes.{left_at}
+use Rattle.py_raw.specs.MemRaw.{MemRawView, view_of}
+use Rattle.py_raw.proofs.ReadParts.{MovesOf, moves_in_turn, front_given, end_reached}
+use Rattle.py_raw.proofs.mem_raw.calls.MemRawRawStream.readinto.Goals as goal
+
+pub returns-in-Moves-clause-outcome : goal.returns-in-Moves-clause-outcome
+returns-in-Moves-clause-outcome c =
+    let raw = c.args.self.now in
+    let left = left_at raw.bytes.items raw.place in
+    let moves : MovesOf c.min-asked.result c.in-Moves.count = moves_in_turn (view_of raw) _ _ (sym c.read_turn.ensures ∙ c.in-Moves.is) in
+    let asked : c.min-asked.result ≡ min (length c.args.buf.now) (length left) = cc in
+    let within : c.in-Moves.count ≤ length left = omega arith in
+    record {
+      fits = omega arith;
+      told = λ _. record {
+        left = within;
+        given = front_given left c.args.buf.now c.fill_front.new.buf c.in-Moves.count within cc;
+        end = λ none some. end_reached c.args.buf.now raw.bytes.items raw.place (sym asked ∙ moves.none none) some;
+        bytes = ap (λ (view : MemRawView). view.shows.bytes) c.advance.ensures;
+        place = ap (λ (view : MemRawView). view.shows.place) c.advance.ensures;
+        transfers = ap (λ (view : MemRawView). view.shows.transfers) c.advance.ensures;
+      };
+    }

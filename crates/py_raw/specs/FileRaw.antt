@@ -1,0 +1,57 @@
+-- A raw stream over a file, which tells nothing.
+use Rattle.std.specs.Prelude.{◌≡◌, ℕ, ◌<◌, length, Bool, true, false, List, [], take, Option, Some, None, Result, Ok, Err, if◌then◌else◌}
+use Rattle.std.specs.Io.KnownBytes.{Consumes, Appends, Keeps, IsAtEnd}
+use Rattle.std.specs.declared.io.ErrorKind.{ErrorKind}
+use Rattle.std.specs.declared.io.ErrorKind.TheVariants.{WouldBlock, Interrupted}
+use Rattle.std.specs.declared.io.Error.{Error}
+use Rattle.std.specs.IoError.{error_kind}
+use Rattle.py_flat.specs.Causes.{counted}
+use Rattle.py_raw.specs.declared.file_raw.FileRaw.{FileRaw}
+use Rattle.py_raw.specs.declared.raw_error.RawError.{RawError}
+use Rattle.py_raw.specs.declared.raw_error.RawError.TheVariants.{Fault}
+use Rattle.py_raw.specs.RawStream.{Raw}
+
+-- what it can do and its counts; no content, and no memory taken
+abbrev pub shown : {F : Type 0} → FileRaw F → Raw
+shown raw = record {
+  tells = false;
+  bytes = [];
+  place = 0;
+  transfers = 0;
+  faults = raw.faults;
+  waits = raw.waits;
+  closed = raw.closed;
+  readable = raw.readable;
+  writable = raw.writable;
+  seekable = raw.seekable;
+  takes_memory = false;
+}
+
+-- which errors of a transfer ask to wait and try again
+abbrev pub asks_to_wait : ErrorKind → Bool
+asks_to_wait WouldBlock = true
+asks_to_wait Interrupted = true
+asks_to_wait _ = false
+
+-- what the file's answer to a transfer comes to
+abbrev pub transfer_reply : Result ℕ Error → Result (Option ℕ) RawError
+transfer_reply (Ok count) = Ok (Some count)
+transfer_reply (Err error) = if asks_to_wait (error_kind error) then Ok None else Err Fault
+
+-- the stream after such a reply
+abbrev pub after_reply : {F : Type 0} → FileRaw F → Result (Option ℕ) RawError → FileRaw F
+after_reply raw (Ok (Some count)) = raw
+after_reply raw (Ok None) = record raw { waits = counted raw.waits 1 }
+after_reply raw (Err error) = record raw { faults = counted raw.faults 1 }
+
+-- a read takes what it gave from what is known to be left in the file, none only at its end, and nothing without an answer
+abbrev pub TakesFromFile : Option (List ℕ) → Option (List ℕ) → Result (Option ℕ) RawError → List ℕ → Type 0
+TakesFromFile old new (Ok (Some count)) buffer = Consumes old new (take count buffer) × (count ≡ 0 → 0 < length buffer → IsAtEnd new)
+TakesFromFile old new (Ok None) buffer = Keeps old new
+TakesFromFile old new (Err error) buffer = Keeps old new
+
+-- a write puts what it took behind what the file is known to hold, and nothing without an answer
+abbrev pub PutsInFile : Option (List ℕ) → Option (List ℕ) → Result (Option ℕ) RawError → List ℕ → Type 0
+PutsInFile old new (Ok (Some count)) piece = Appends old new (take count piece)
+PutsInFile old new (Ok None) piece = Keeps old new
+PutsInFile old new (Err error) piece = Keeps old new

@@ -1,0 +1,176 @@
+ghost use Rattle.std.specs.Prelude.{◌≡◌, ◌||◌, nat_eq, IsOk, OnOk, IfErr};
+ghost use Rattle.std.specs.Fs.{asks_read, asks_write, asks_append, asks_truncate, asks_create, asks_create_new};
+ghost use Rattle.py_raw.specs.RawMode.{IsRawMode, file_letter, mode_reads, mode_writes, letter_w, letter_x, letter_a};
+
+use crate::raw_mode::{file_letter, mode_reads, mode_writes};
+use crate::{FileRaw, OpenError, Opener};
+use std::alloc::Global;
+use std::fs::{Files, OpenFile, OpenOptions};
+use std::io;
+use std::io::{ErrorKind, Seek};
+
+/// Opens real files by their paths.
+///
+/// It tells nothing of what a path holds. A path that can't be opened is a fault, and so is a directory, which the
+/// system would open to read. A file opened by `a` begins at its end or its start, as the system has it, and each write
+/// of it goes behind the end.
+#[derive(Drop)]
+pub struct FileOpener<'a, R: Files> {
+    files: &'a R,
+    faults: u64,
+    raw_faults: u64,
+    raw_waits: u64,
+}
+
+impl<'a, R: Files> FileOpener<'a, R> {
+    ghost use Rattle.std.specs.Prelude.{false, None};
+    ghost use Rattle.py_raw.specs.FileOpener.{shown_file_opener};
+
+    /// An opener of the files that these give.
+    pub fn new(files: &'a R) -> Self
+        ensures { shown_file_opener result ≡ record { tells = false; holds = λ path. None; faults = 0; raw_faults = 0; raw_waits = 0 } }
+    {
+        FileOpener {
+            files,
+            faults: 0,
+            raw_faults: 0,
+            raw_waits: 0,
+        }
+    }
+}
+
+/// How a raw mode opens a file.
+fn options_for(mode: &str) -> OpenOptions
+    requires { IsRawMode mode.now }
+    ensures reads { asks_read result ≡ mode_reads mode.now }
+    ensures writes { asks_write result || asks_append result ≡ mode_writes mode.now }
+    ensures empties { asks_truncate result ≡ nat_eq (file_letter mode.now) letter_w }
+    ensures appends { asks_append result ≡ nat_eq (file_letter mode.now) letter_a }
+    ensures creates { asks_create result ≡ (nat_eq (file_letter mode.now) letter_w || nat_eq (file_letter mode.now) letter_a) }
+    ensures creates_new { asks_create_new result ≡ nat_eq (file_letter mode.now) letter_x }
+{
+    let letter = file_letter(mode);
+    let mut options = OpenOptions::new();
+    options.read(mode_reads(mode));
+    options.write(letter != b'a' && mode_writes(mode));
+    options.append(letter == b'a');
+    options.truncate(letter == b'w');
+    options.create(letter == b'w' || letter == b'a');
+    options.create_new(letter == b'x');
+    options
+}
+
+/// Opens a file, and asks whether it can seek. A directory is refused, since it opens for reading too.
+fn open_file<R: Files>(files: &R, path: &str, mode: &str) -> io::Result<(R::File, bool)>
+    requires { IsRawMode mode.now }
+{
+    let mut file = options_for(mode).open(files, path)?;
+    if file.metadata()?.is_dir() {
+        return Err(io::Error::from(ErrorKind::IsADirectory));
+    }
+    let seekable = file.stream_position().is_ok();
+    Ok((file, seekable))
+}
+
+impl<R: Files> Opener for FileOpener<'_, R>
+where
+    R::File: Send,
+{
+    ghost use Rattle.py_raw.specs.Opener.{OpenKeeps, OpenOutcome, DoneKeeps, DoneOutcome};
+    ghost use Rattle.py_raw.specs.FileRaw.{shown};
+    ghost use Rattle.py_raw.specs.FileOpener.{shown_file_opener};
+
+    type Raw = FileRaw<R::File>;
+
+    ghost shows = { shown_file_opener };
+
+    /// Opens a file. Whether it can seek is asked of it, since a pipe can't.
+    fn open_raw(
+        &mut self,
+        _alloc: Global,
+        path: &str,
+        mode: &str,
+    ) -> Result<FileRaw<R::File>, OpenError>
+        requires { IsRawMode mode.now }
+        ensures keeps { OpenKeeps (shown_file_opener self.old) (shown_file_opener self.new) }
+        ensures outcome { OpenOutcome shown (shown_file_opener self.old) path.now mode.now result (shown_file_opener self.new) }
+        ensures counts { OnOk result (shown_file_opener self.new ≡ shown_file_opener self.old) }
+        ensures fault { IfErr result (λ error. error ≡ OpenError.Fault) }
+    {
+        match open_file(self.files, path, mode) {
+            Ok((file, seekable)) => {
+                let readable = mode_reads(mode);
+                let writable = mode_writes(mode);
+                Ok(FileRaw::new(file, readable, writable, seekable))
+            }
+            Err(_) => {
+                self.faults = self.faults.saturating_add(1);
+                Err(OpenError::Fault)
+            }
+        }
+    }
+
+    /// Lets the file go, and adds the counts of its stream, which stop at 18446744073709551615. It always answers `Ok`:
+    /// what the system finds wrong as it closes the file can't be seen.
+    fn done(&mut self, _path: &str, raw: FileRaw<R::File>) -> Result<(), OpenError>
+        ensures keeps { DoneKeeps (shown raw) (shown_file_opener self.old) (shown_file_opener self.new) }
+        ensures outcome { DoneOutcome (shown raw) (shown_file_opener self.old) _path.now result (shown_file_opener self.new) }
+        ensures faults { (shown_file_opener self.new).faults ≡ (shown_file_opener self.old).faults }
+        ensures always { IsOk result }
+    {
+        self.raw_faults = self.raw_faults.saturating_add(raw.fault_count());
+        self.raw_waits = self.raw_waits.saturating_add(raw.wait_count());
+        Ok(())
+    }
+}
+
+#[cfg(test)]
+mod tests {
+    use super::*;
+    use crate::each_mode::{EACH_MODE, opens};
+    use std::process::Abort;
+    use std::test::Fail;
+    use std::{env, fs, process};
+
+    fn assert_holds(rt: &(impl Abort + Files + Alloc), path: &str, want: Option<&str>, mode: &str) {
+        match fs::read(rt, path) {
+            Ok(bytes) => {
+                assert!(rt;
+                    Some(bytes.as_slice()) == want.map(|text| text.as_bytes()),
+                    "at {mode}"
+                );
+            }
+            Err(_) => assert!(rt; want.is_none(), "at {mode}"),
+        }
+    }
+
+    #[test]
+    fn each_mode_opens_a_real_file_as_it_should(rt: HostRuntime) -> Result<(), Fail> {
+        let alloc = rt.alloc();
+        let folder = env::temp_dir(&rt)?;
+        let name = format!(in alloc; "py_raw-opener-{}", process::id(rt.process()))?;
+        let path_buf = folder.join(alloc, name.as_str())?;
+        let path = path_buf.as_str();
+        let mut opener = FileOpener::new(&rt);
+        for (mode, missing, existing) in EACH_MODE {
+            let made = opens(&rt, alloc, &mut opener, path, mode);
+            assert_eq!(rt; made, missing.is_some(), "{mode} of a missing path");
+            assert_holds(&rt, path, missing, mode);
+            fs::write(&rt, path, "old")?;
+            let opened = opens(&rt, alloc, &mut opener, path, mode);
+            assert_eq!(rt; opened, existing.is_some(), "{mode} of a file");
+            assert_holds(&rt, path, existing.or(Some("old")), mode);
+            fs::remove_file(&rt, path)?;
+            assert!(rt;
+                !opens(&rt, alloc, &mut opener, folder.as_str(), mode),
+                "{mode} of a folder"
+            );
+        }
+        // `r` of a missing file, `x` of a file, each mode of a folder.
+        assert_eq!(rt;
+            (opener.faults, opener.raw_faults, opener.raw_waits),
+            (12, 0, 0)
+        );
+        Ok(())
+    }
+}

@@ -1,0 +1,111 @@
+ghost use Rattle.std.specs.Prelude.{⊤, ◌≡◌, ◌∷◌, [], codes};
+ghost use Rattle.py_raw.specs.Flags.{can_read, can_write, can_seek};
+
+use bitflags::{Flag, Flags, bitflag_items};
+
+/// How a raw stream was opened and what it can do, as a set.
+#[derive(Clone, Copy, Debug, PartialEq, Eq)]
+pub struct RawFlags(u8);
+
+bitflag_items! {
+    impl RawFlags: u8 {
+        /// The file was made by the opening.
+        const CREATED = 1;
+        /// It can be read from.
+        const READABLE = 2;
+        /// It can be written to.
+        const WRITABLE = 4;
+        /// Every write goes to the end.
+        const APPENDING = 8;
+        /// It can be moved.
+        const SEEKABLE = 16;
+    }
+}
+
+impl Flags for RawFlags {
+    type Bits = u8;
+
+    ghost exact = { ⊤ };
+
+    ghost table = { (codes "CREATED", 1) ∷ (codes "READABLE", 2) ∷ (codes "WRITABLE", 4) ∷ (codes "APPENDING", 8) ∷ (codes "SEEKABLE", 16) ∷ [] };
+
+    ghost set_of = { λ flags. flags.0 };
+
+    fn flags<'a>() -> &'a [Flag<RawFlags>] {
+        RawFlags::FLAGS
+    }
+
+    fn bits(&self) -> u8 {
+        self.0
+    }
+
+    fn from_bits_retain(bits: u8) -> RawFlags {
+        RawFlags(bits)
+    }
+}
+
+impl RawFlags {
+    /// The flags of a stream that can do just these of reading, writing and moving.
+    pub fn able(readable: bool, writable: bool, seekable: bool) -> Self
+        ensures reads { can_read result ≡ readable }
+        ensures writes { can_write result ≡ writable }
+        ensures seeks { can_seek result ≡ seekable }
+    {
+        let reading: u8 = if readable { 2 } else { 0 };
+        let writing: u8 = if writable { 4 } else { 0 };
+        let seeking: u8 = if seekable { 16 } else { 0 };
+        RawFlags(reading | writing | seeking)
+    }
+
+    /// Whether it can be read from.
+    pub fn is_readable(&self) -> bool
+        ensures { result ≡ can_read self.now }
+    {
+        self.contains(RawFlags::READABLE)
+    }
+
+    /// Whether it can be written to.
+    pub fn is_writable(&self) -> bool
+        ensures { result ≡ can_write self.now }
+    {
+        self.contains(RawFlags::WRITABLE)
+    }
+
+    /// Whether it can be moved.
+    pub fn is_seekable(&self) -> bool
+        ensures { result ≡ can_seek self.now }
+    {
+        self.contains(RawFlags::SEEKABLE)
+    }
+}
+
+#[cfg(test)]
+mod tests {
+    use super::*;
+
+    #[test]
+    fn each_name_has_its_bit_and_a_union_contains_its_parts(rt: HostRuntime) {
+        let table = [
+            ("CREATED", 1),
+            ("READABLE", 2),
+            ("WRITABLE", 4),
+            ("APPENDING", 8),
+            ("SEEKABLE", 16),
+        ];
+        let mut all = RawFlags::empty();
+        for (name, bits) in table {
+            let flag = RawFlags::from_name(name).expect(&rt, "a name of the table");
+            assert_eq!(rt; flag.bits(), bits, "at {name}");
+            assert!(rt; !all.contains(flag), "at {name}");
+            all.insert(flag);
+            assert!(rt; all.contains(flag), "at {name}");
+        }
+        assert_eq!(rt; all.bits(), 31);
+        assert_eq!(rt; (RawFlags::READABLE | RawFlags::SEEKABLE).bits(), 18);
+        assert!(rt; RawFlags::from_bits(32).is_none());
+        assert_eq!(rt;
+            RawFlags::able(true, false, true),
+            RawFlags::READABLE | RawFlags::SEEKABLE
+        );
+    }
+}

@@ -1,0 +1,91 @@
+use crate::{Failed, Source};
+use std::io::Read;
+
+/// A source over any reader, as standard input. It tells nothing of what is left.
+#[derive(Drop)]
+pub struct ReadSource<R> {
+    reader: R,
+    failed: u64,
+}
+
+impl<R: Read> ReadSource<R> {
+    ghost use Rattle.std.specs.Prelude.{◌≡◌, false, []};
+    ghost use Rattle.py_raw.specs.ReadSource.{reader_of, shown_read_source};
+
+    /// A source that reads from this reader.
+    pub fn new(reader: R) -> Self
+        ensures shows { shown_read_source result ≡ record { tells = false; left = []; faults = 0 } }
+        ensures reader { reader_of result ≡ reader }
+    {
+        ReadSource { reader, failed: 0 }
+    }
+}
+
+impl<R: Read> Source for ReadSource<R> {
+    ghost use Rattle.std.specs.Io.KnownBytes.{ReadConsumes};
+    ghost use Rattle.py_raw.specs.Source.{SourceKeeps, SourceOutcome};
+    ghost use Rattle.py_raw.specs.ReadSource.{reader_of, shown_read_source};
+
+    ghost shows = { shown_read_source };
+
+    /// Reads once from the reader, and takes any error of it for a fault, an interrupted read too. The count of faults
+    /// stops at 18446744073709551615. Where the reader's bytes are known, those that it gives are the next of them.
+    fn read(&mut self, buf: &mut [u8]) -> Result<usize, Failed>
+        ensures keeps { SourceKeeps (shown_read_source self.old) (shown_read_source self.new) }
+        ensures outcome { SourceOutcome (shown_read_source self.old) buf.old result buf.new (shown_read_source self.new) }
+        ensures bytes { ReadConsumes (R.remaining (reader_of self.old)) (R.remaining (reader_of self.new)) result buf.new }
+    {
+        match self.reader.read(buf) {
+            Ok(count) => Ok(count),
+            Err(_) => {
+                self.failed = self.failed.saturating_add(1);
+                Err(Failed)
+            }
+        }
+    }
+}
+
+#[cfg(test)]
+mod tests {
+    use super::*;
+    use std::alloc::AllocError;
+    use std::io;
+    use std::io::{Cursor, ErrorKind};
+
+    /// A reader whose first read fails, and whose others give one byte.
+    #[derive(Drop)]
+    struct FailsFirst {
+        failed: bool,
+    }
+
+    impl Read for FailsFirst {
+        fn read(&mut self, buf: &mut [u8]) -> io::Result<usize> {
+            if !self.failed {
+                self.failed = true;
+                return Err(io::Error::from(ErrorKind::WouldBlock));
+            }
+            if buf.is_empty() {
+                return Ok(0);
+            }
+            buf[0] = b'x';
+            Ok(1)
+        }
+    }
+
+    #[test]
+    fn reads_what_the_reader_gives_and_fails_where_it_fails(
+        rt: HostRuntime,
+    ) -> Result<(), AllocError> {
+        let mut buf = [0u8; 4];
+        let mut source = ReadSource::new(Cursor::new(Vec::from_slice(rt.alloc(), b"abcdef")?));
+        let pieces: [&[u8]; 3] = [b"abcd", b"ef", b""];
+        for piece in pieces {
+            assert_eq!(rt; source.read(&mut buf), Ok(piece.len()));
+            assert!(rt; &buf[..piece.len()] == piece);
+        }
+        let mut failing = ReadSource::new(FailsFirst { failed: false });
+        assert_eq!(rt; failing.read(&mut buf), Err(Failed));
+        assert_eq!(rt; failing.read(&mut buf), Ok(1));
+        Ok(())
+    }
+}
