@@ -7,6 +7,9 @@ ghost use Rattle.py_raw.specs.RawStream.{WhereTold};
 ghost use Rattle.py_open.specs.Reader.{KeepsReader, MovesForth, CloseOutcome};
 ghost use Rattle.py_open.specs.Text.{IsFresh, DecodedSoFar, StoppedAt, DecodeOutcome, KeepsKnown, ChunkOutcome, stop_at, IsNoCharacter, range_in_hand, enough, size_of, Gathers, GatheredAt, IsReady, GatherOutcome, GiveOutcome, GiveLastOutcome, OnlyWhereWaits, waited_in, faulted_in, AnswerCauses, AnswerMoves, AnswerStep};
 
+#[cfg(test)]
+mod tests;
+
 use crate::reader::Reader;
 use py_flat::{Chars, IoFault, Life};
 use py_plain::{Encoding, Newlines, Unit, first_line, first_unit};
