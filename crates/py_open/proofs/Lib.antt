@@ -1,2 +1,6 @@
 mod Planning
 mod Reading
+mod Decoding
+mod Tying
+mod Holding
+mod Gathering
