@@ -2,3 +2,5 @@ mod Planning
 mod Reading
 mod Spelling
 mod Taking
+mod Enough
+mod Answering

@@ -4,4 +4,4 @@ mod Encoded
 mod UnitLaws
 mod Walks
 mod Translating
-mod Strings
+pub mod Strings
