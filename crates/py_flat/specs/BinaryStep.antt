@@ -7,7 +7,7 @@ use Rattle.py_flat.specs.declared.life.Life.TheVariants as life
 use Rattle.py_flat.specs.Bytes.{lay, resized, first_of}
 use Rattle.py_flat.specs.Lines.{Lf, first_line, lines_of, lines_within, joined}
 use Rattle.py_flat.specs.Calls.{FileCall, Read, Read1, ReadLine, ReadLines, Peek, ReadInto, ReadInto1, Write, WriteLines, Seek, Tell, Truncate, Flush, Close, Detach, FileReply, Bytes, Lines, Count, NotReady, Unwritten, Refused}
-use Rattle.py_flat.specs.FlatFile.{FlatFile, Buffering, Unbuffered, Buffered, InMemory}
+use Rattle.py_flat.specs.FlatFile.{FlatFile, Buffering, Unbuffered, InMemory}
 use Rattle.py_flat.specs.Refusals.{refusal, is_getter, lacks}
 use Rattle.py_flat.specs.ExactStep.{rest, after_read, after_write, in_life, buffer_full, one_transfer, carried_out}
 use Rattle.py_flat.specs.AllowedStep.{AllowedStep}

@@ -1,5 +1,9 @@
 mod Planning
 mod Reading
+mod Decoding
+mod Tying
+mod Holding
+mod Gathering
 mod Spelling
 mod Taking
 mod Enough

@@ -97,7 +97,7 @@ filled old new size room place (Ok (Some count)) before after buffer longest wit
 }
 filled old new size room place (Ok None) before after buffer longest within fits none is front outcome = outcome
 filled old new size room place (Err raw_error.Fault) before after buffer longest within fits none is front outcome = outcome
-filled old new size room place (Err raw_error.Memory) before after buffer longest within fits none is front outcome = outcome
+filled old new size room place (Err raw_error.Memory) before after buffer longest within fits none is front outcome = outcome.0
 
 -- the front of a front
 pub front_of_front : (n : ℕ) (xs whole : List ℕ) → IsFrontOf xs whole → IsFrontOf (take n xs) whole

@@ -60,6 +60,11 @@ pub record KeepsReader (old new : ReaderView) : Type 0 where
   pub raw : Keeps old.raw new.raw
   pub bytes : WhereTold old.raw (new.raw.bytes ≡ old.raw.bytes)
 
+-- the place never falls, and never lies past the greatest
+pub record MovesForth (old new : ReaderView) : Type 0 where
+  pub forth : old.place ≤ new.place
+  pub far : new.place ≤ greatest_place
+
 -- nothing was given: place and life are as before
 pub record GivesNothing (old new : ReaderView) : Type 0 where
   pub place : new.place ≡ old.place

@@ -179,6 +179,11 @@ pub record Gathers (old new : TextView) : Type 0 where
   pub place : KeepsPlace old new
   pub reader : KeepsReader old.reader new.reader
 
+-- it was not the raw that stopped the gathering
+abbrev pub IsReady : Gathered → Type 0
+IsReady gathered.Waits = ⊥
+IsReady _ = Unit {0}
+
 abbrev pub WaitsFor : Gathered → Raw → Raw → Type 0
 WaitsFor gathered.Waits old new = Rose old.waits new.waits
 WaitsFor _ old new = Unit {0}

@@ -2,7 +2,7 @@
 ghost use Rattle.std.specs.Prelude.{◌≡◌, ◌+◌, ◌<◌, ◌≤◌, ◌⊎◌, true, false, [], length, vec_len};
 ghost use Rattle.py_flat.specs.Limits.{greatest_place};
 ghost use Rattle.py_flat.specs.Refusals.{life_fault as fault_of_life};
-ghost use Rattle.py_open.specs.Reader.{StandsAtStart, PlaceOutcome, OpenOutcome, FillOutcome, KeepsReader, Read1Outcome, GivesHeld, CloseOutcome};
+ghost use Rattle.py_open.specs.Reader.{StandsAtStart, PlaceOutcome, OpenOutcome, FillOutcome, KeepsReader, MovesForth, Read1Outcome, GivesHeld, CloseOutcome};
 ghost use Rattle.py_raw.specs.RawStream.{Keeps, StaysOpen};
 
 use crate::OpenRefused;
@@ -30,11 +30,11 @@ impl<R: RawStream> Model for Reader<R> {
     ghost Value = { ReaderView };
 
     ghost view = { λ r. record {
-        raw = R.shows r.raw;
-        place = r.place;
-        life = r.life;
-        size = vec_len r.buffer;
-        held = slice_range r.buffer.items r.start r.end;
+      raw = R.shows r.raw;
+      place = r.place;
+      life = r.life;
+      size = vec_len r.buffer;
+      held = slice_range r.buffer.items r.start r.end;
     } };
 
     ghost use Rattle.std.specs.Prelude.{◌≤◌};
@@ -178,6 +178,7 @@ impl<R: RawStream> Reader<R> {
     /// Some bytes that come next, at most `size`; none at the end, and where none are asked for. `None`: not ready.
     pub fn read1(&mut self, alloc: Global, size: usize) -> Result<Option<Vec<u8>>, IoFault>
         ensures keeps { KeepsReader self.old self.new }
+        ensures place { MovesForth self.old self.new }
         ensures outcome { Read1Outcome self.old size result self.new }
     {
         if let Some(fault) = life_fault(self.life) {
@@ -195,6 +196,7 @@ impl<R: RawStream> Reader<R> {
         requires empty { self.old.held ≡ [] }
         requires asked { 0 < size }
         ensures keeps { KeepsReader self.old self.new }
+        ensures place { MovesForth self.old self.new }
         ensures outcome { Read1Outcome self.old size result self.new }
     {
         self.start = 0;
@@ -232,6 +234,7 @@ impl<R: RawStream> Reader<R> {
     /// Closes the raw. A fault leaves the reader closed too.
     pub fn close(&mut self) -> Result<(), IoFault>
         ensures keeps { KeepsReader self.old self.new }
+        ensures place { MovesForth self.old self.new }
         ensures outcome { CloseOutcome self.old result self.new }
     {
         match self.life {
@@ -245,6 +248,7 @@ impl<R: RawStream> Reader<R> {
     fn close_raw(&mut self) -> Result<(), IoFault>
         requires { self.old.life ≡ Life.Live }
         ensures keeps { KeepsReader self.old self.new }
+        ensures place { MovesForth self.old self.new }
         ensures outcome { CloseOutcome self.old result self.new }
     {
         match self.raw.close() {

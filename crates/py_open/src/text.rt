@@ -4,8 +4,11 @@ ghost use Rattle.std.specs.Prelude.{◌≡◌, ◌<◌, ◌≤◌, false, [], le
 ghost use Rattle.py_plain.specs.Utf8.{utf8_unit};
 ghost use Rattle.py_plain.specs.TextStep.{asks_any};
 ghost use Rattle.py_raw.specs.RawStream.{WhereTold};
-ghost use Rattle.py_open.specs.Reader.{KeepsReader, CloseOutcome};
-ghost use Rattle.py_open.specs.Text.{IsFresh, DecodedSoFar, StoppedAt, DecodeOutcome, KeepsKnown, ChunkOutcome, stop_at, IsNoCharacter, range_in_hand, enough, size_of, asks_all, Gathers, GatheredAt, GatherOutcome, GiveOutcome, GiveLastOutcome, OnlyWhereWaits, waited_in, faulted_in, AnswerCauses, AnswerMoves, AnswerStep};
+ghost use Rattle.py_open.specs.Reader.{KeepsReader, MovesForth, CloseOutcome};
+ghost use Rattle.py_open.specs.Text.{IsFresh, DecodedSoFar, StoppedAt, DecodeOutcome, KeepsKnown, ChunkOutcome, stop_at, IsNoCharacter, range_in_hand, enough, size_of, asks_all, Gathers, GatheredAt, IsReady, GatherOutcome, GiveOutcome, GiveLastOutcome, OnlyWhereWaits, waited_in, faulted_in, AnswerCauses, AnswerMoves, AnswerStep};
+
+#[cfg(test)]
+mod tests;
 
 use crate::reader::Reader;
 use py_flat::{Chars, IoFault, Life};
@@ -73,13 +76,13 @@ impl<R: RawStream> Model for Text<R> {
     ghost Value = { TextView };
 
     ghost view = { λ t. record {
-        reader = t.reader;
-        held = t.held.items;
-        pending = drop t.given t.pending.items;
-        at = t.at;
-        taken = t.taken;
-        dirty = t.dirty;
-        chunk = t.chunk_size;
+      reader = t.reader;
+      held = t.held.items;
+      pending = drop t.given t.pending.items;
+      at = t.at;
+      taken = t.taken;
+      dirty = t.dirty;
+      chunk = t.chunk_size;
     } };
 
     ghost invariant = { λ t. (t.given ≤ vec_len t.pending)
@@ -129,7 +132,13 @@ fn decode_front(bytes: &[u8], characters: &mut Vec<char>) -> Decoding
                     stop: Ok(Some(length)),
                 };
             }
-            Some(Unit::Cut { length: _ }) | None => {
+            Some(Unit::Cut { length: _ }) => {
+                return Decoding {
+                    used,
+                    stop: Ok(None),
+                };
+            }
+            None => {
                 return Decoding {
                     used,
                     stop: Ok(None),
@@ -254,6 +263,7 @@ impl<R: RawStream> Text<R> {
     fn read_chunk(&mut self, alloc: Global) -> Result<Chunk, IoFault>
         requires { self.old.reader.life ≡ Life.Live }
         ensures known { KeepsKnown self.old self.new }
+        ensures place { MovesForth self.old.reader self.new.reader }
         ensures outcome { ChunkOutcome self.old result self.new }
     {
         drop_front(&mut self.pending, self.given);
@@ -293,7 +303,7 @@ impl<R: RawStream> Text<R> {
         requires whole { IsNoCharacter (utf8_unit self.now.held) }
         requires end { WhereTold self.now.reader.raw (length self.now.reader.raw.bytes ≤ self.now.reader.place) }
         ensures stands { GatheredAt self.now wanted result }
-        ensures ready { OnlyWhereWaits result false }
+        ensures ready { IsReady result }
     {
         if self.held.is_empty() {
             Gathered::Ends

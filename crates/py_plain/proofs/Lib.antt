@@ -1,7 +1,7 @@
 mod Rows
 mod Spells
 mod Encoded
-mod UnitLaws
-mod Walks
+pub mod UnitLaws
+pub mod Walks
 mod Translating
 pub mod Strings

@@ -20,7 +20,7 @@ order_stays : (encoding : Encoding) (order : Order) (bytes : List ℕ) (at_start
 order_stays Utf8 order bytes at_start = refl
 
 -- a walk over bytes whose first item is characters goes on behind the bytes of that item
-walk-given : (encoding : Encoding) (treat : Treatment) (order : Order) (place : ℕ) (byte : ℕ) (rest cs : List ℕ) (used : ℕ) → 1 ≤ used → first_item encoding treat true order place (byte ∷ rest) ≡ Given cs used → walk_from encoding treat true order place 0 (byte ∷ rest) ≡ onto_walk place (Given cs used) (walk_from encoding treat true order (place + used) 0 (drop (used - 1) rest))
+pub walk-given : (encoding : Encoding) (treat : Treatment) (order : Order) (place : ℕ) (byte : ℕ) (rest cs : List ℕ) (used : ℕ) → 1 ≤ used → first_item encoding treat true order place (byte ∷ rest) ≡ Given cs used → walk_from encoding treat true order place 0 (byte ∷ rest) ≡ onto_walk place (Given cs used) (walk_from encoding treat true order (place + used) 0 (drop (used - 1) rest))
 walk-given encoding treat order place byte rest cs used some first =
     ap (λ o. onto_walk place (first_item encoding treat true order place (byte ∷ rest)) (walk_from encoding treat true o (place + 1) (used_behind (first_item encoding treat true order place (byte ∷ rest))) rest)) (order_stays encoding order (byte ∷ rest) (nat_eq place 0))
     ∙ ap (λ item. onto_walk place item (walk_from encoding treat true order (place + 1) (used_behind item) rest)) first

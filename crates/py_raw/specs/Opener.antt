@@ -93,9 +93,11 @@ pub record PutsAway (raw : Raw) (old : OpenerView) (path : List ℕ) (new : Open
   pub held : new.holds path ≡ Some raw.bytes
   pub others : OthersHoldTheSame path old new
 
--- an opener that tells puts a raw away at a path that holds something, as one that was opened does, whatever it answers
-abbrev pub PutsAwayHeld : Raw → OpenerView → List ℕ → OpenerView → Type 0
-PutsAwayHeld raw old path new = IsTrue old.tells → IsSome (old.holds path) → PutsAway raw old path new
+-- an opener that tells puts a raw away at a path that holds something, as one that was opened does, whatever it
+-- answers; every other path holds what it held
+pub record PutsAwayHeld (raw : Raw) (old : OpenerView) (path : List ℕ) (new : OpenerView) : Type 0 where
+  pub held : IsSome (old.holds path) → new.holds path ≡ Some raw.bytes
+  pub others : OthersHoldTheSame path old new
 
 pub record DoneFaults (raw : Raw) (old : OpenerView) (path : List ℕ) (new : OpenerView) : Type 0 where
   pub cause : Rose old.faults new.faults
@@ -104,4 +106,4 @@ pub record DoneFaults (raw : Raw) (old : OpenerView) (path : List ℕ) (new : Op
 abbrev pub DoneOutcome : Raw → OpenerView → List ℕ → Result (Unit {0}) OpenError → OpenerView → Type 0
 DoneOutcome raw old path (Ok done) new = IsTrue old.tells → PutsAway raw old path new
 DoneOutcome raw old path (Err Fault) new = DoneFaults raw old path new
-DoneOutcome raw old path (Err Memory) new = PutsAwayHeld raw old path new
+DoneOutcome raw old path (Err Memory) new = IsTrue old.tells → PutsAwayHeld raw old path new

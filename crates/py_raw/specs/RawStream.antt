@@ -56,11 +56,11 @@ pub record AsksToWait (old new : Raw) : Type 0 where
   pub cause : Rose old.waits new.waits
   pub told : WhereTold old (StandsStill 1 old new)
 
--- a fault that leaves the bytes as they were; at most one transfer more is counted
+-- a fault that leaves the bytes as they were; at most so many transfers more are counted
 pub record FailsWithout (most : ℕ) (old new : Raw) : Type 0 where
   pub cause : Rose old.faults new.faults
   pub told : WhereTold old (new.bytes ≡ old.bytes)
-  pub transfers : WhereTold old (new.transfers ≤ counted old.transfers most)
+  pub transfers : WhereTold old ((old.transfers ≤ new.transfers) × (new.transfers ≤ counted old.transfers most))
 
 -- `readinto`
 
@@ -82,7 +82,7 @@ abbrev pub ReadOutcome : Raw → List ℕ → Result (Option ℕ) RawError → L
 ReadOutcome old before (Ok (Some count)) after new = ReadBytes old before count after new
 ReadOutcome old before (Ok None) after new = AsksToWait old new
 ReadOutcome old before (Err Fault) after new = FailsWithout 1 old new
-ReadOutcome old before (Err Memory) after new = LacksMemory old new
+ReadOutcome old before (Err Memory) after new = LacksMemory old new × (after ≡ before)
 
 -- `write`
 
@@ -106,7 +106,7 @@ pub record WritesBytes (old : Raw) (piece : List ℕ) (count : ℕ) (new : Raw) 
 pub record FailsWriting (old : Raw) (piece : List ℕ) (new : Raw) : Type 0 where
   pub cause : Rose old.faults new.faults
   pub told : WhereTold old ((count : ℕ) × (count ≤ length piece) × (new.bytes ≡ lay old.bytes old.place (take count piece)))
-  pub transfers : WhereTold old (new.transfers ≤ counted old.transfers 1)
+  pub transfers : WhereTold old ((old.transfers ≤ new.transfers) × (new.transfers ≤ counted old.transfers 1))
 
 abbrev pub WriteOutcome : Raw → List ℕ → Result (Option ℕ) RawError → Raw → Type 0
 WriteOutcome old piece (Ok (Some count)) new = WritesBytes old piece count new
@@ -156,6 +156,7 @@ pub record Resized (old : Raw) (size : ℕ) (new : Raw) : Type 0 where
 pub record FailsResizing (old : Raw) (size : ℕ) (new : Raw) : Type 0 where
   pub cause : Rose old.faults new.faults
   pub told : WhereTold old ((new.bytes ≡ old.bytes) ⊎ (new.bytes ≡ resized old.bytes size))
+  pub transfers : WhereTold old (new.transfers ≡ old.transfers)
 
 abbrev pub TruncateOutcome : Raw → ℕ → Result (Unit {0}) RawError → Raw → Type 0
 TruncateOutcome old size (Ok done) new = WhereTold old (Resized old size new)
@@ -167,7 +168,7 @@ TruncateOutcome old size (Err Memory) new = LacksMemory old new
 -- closed, with the bytes as they were
 pub record Closes (old new : Raw) : Type 0 where
   pub closed : new.closed ≡ true
-  pub told : WhereTold old (new.bytes ≡ old.bytes)
+  pub told : WhereTold old ((new.bytes ≡ old.bytes) × (new.transfers ≡ old.transfers))
 
 abbrev pub CloseOutcome : Raw → Result (Unit {0}) RawError → Raw → Type 0
 CloseOutcome old (Ok done) new = Closes old new

@@ -72,7 +72,10 @@ fn open_file<R: Files>(files: &R, path: &str, mode: &str) -> io::Result<(R::File
     Ok((file, seekable))
 }
 
-impl<R: Files> Opener for FileOpener<'_, R> {
+impl<R: Files> Opener for FileOpener<'_, R>
+where
+    R::File: Send,
+{
     ghost use Rattle.py_raw.specs.Opener.{OpenKeeps, OpenOutcome, DoneKeeps, DoneOutcome};
     ghost use Rattle.py_raw.specs.FileRaw.{shown};
     ghost use Rattle.py_raw.specs.FileOpener.{shown_file_opener};

@@ -19,7 +19,7 @@ pub enum OpenError {
 /// What opens raw streams by a path and a mode, and takes them back.
 pub trait Opener {
     /// The raw streams that it opens.
-    type Raw: RawStream;
+    type Raw: RawStream + Send;
 
     /// What the opener shows: its own count of faults, the counts of the raws that it took back and, where it tells it,
     /// what each path holds.

@@ -23,6 +23,7 @@ returns-in-Ok g c =
     let least : count ≡ min c.args.size (length held) = c.min-count.ensures ∙ ap (min c.args.size) (sym size) in
     let front : given ≡ take count held = c.in-Ok.ensures.items ∙ (ap (λ (xs : List ℕ). slice_range xs inside.start (inside.start + count)) c.deref.ensures.value ∙ part_front inside.buffer.items inside.start inside.end count (omega arith)) in
     let long : count ≡ length given = sym (ap length front ∙ length-take-le count held (omega arith)) in
-    subst (λ (now : ReaderView). (given ≡ take c.args.size now.held) × (made (g.R.RawStream.shows inside.raw) (inside.place + count) inside.life (vec_len inside.buffer) (slice_range inside.buffer.items (inside.start + count) inside.end) ≡ record now { place = now.place + length given; held = drop c.args.size now.held })) c.self.view_is
-    (front ∙ (ap (λ (n : ℕ). take n held) least ∙ take_min c.args.size held),
-    same_view (g.R.RawStream.shows inside.raw) inside.life (vec_len inside.buffer) _ _ _ _ (ap (λ (n : ℕ). inside.place + n) long) (part_behind inside.buffer.items inside.start inside.end count (omega arith) ∙ (ap (λ (n : ℕ). drop n held) least ∙ drop_min c.args.size held)))
+    subst (λ (now : ReaderView). (given ≡ take c.args.size now.held) × (made (g.R.RawStream.shows inside.raw) (inside.place + count) inside.life (vec_len inside.buffer) (slice_range inside.buffer.items (inside.start + count) inside.end) ≡ record now { place = now.place + length given; held = drop c.args.size now.held })) c.self.view_is (
+      front ∙ (ap (λ (n : ℕ). take n held) least ∙ take_min c.args.size held),
+      same_view (g.R.RawStream.shows inside.raw) inside.life (vec_len inside.buffer) _ _ _ _ (ap (λ (n : ℕ). inside.place + n) long) (part_behind inside.buffer.items inside.start inside.end count (omega arith) ∙ (ap (λ (n : ℕ). drop n held) least ∙ drop_min c.args.size held)),
+    )

@@ -1,0 +1,123 @@
+-- Bytes in hand: their decoding, one character after another, and what stops it.
+use Rattle.std.proofs.Common.{◌≡◌, ℕ, zero, suc, ◌+◌, ◌-◌, ◌*◌, Bool, true, false, cond, List, [], ◌∷◌, ◌++◌, length as len, take, drop, Option, Some, None, refl, sym, ap, ◌∙◌, subst, arith}
+use Rattle.std.specs.List.{All}
+use Rattle.std.specs.Char.{IsScalar, encode_utf8}
+use Rattle.std.specs.Str.{encode_utf8_all}
+use Rattle.std.proofs.Math.Seq.{take-add, drop-append_seam}
+use Rattle.std.proofs.lemmas.List.{append_assoc, append-nil, length-append}
+use Rattle.std.proofs.lemmas.List.Elements.{All-push, All-head, All-tail}
+use Rattle.std.proofs.lemmas.Str.{encodes-append}
+use Rattle.py_plain.specs.declared.encoding.Encoding.TheVariants.{Utf8}
+use Rattle.py_plain.specs.declared.handler.Handler.TheVariants.{Strict}
+use Rattle.py_plain.specs.declared.unit.Unit.{Unit as Read}
+use Rattle.py_plain.specs.declared.unit.Unit.TheVariants.{Character, Malformed, Cut}
+use Rattle.py_plain.specs.Utf8.{Lead, Alone, Leads, Never, is_within, lead, sequence, unit_after, utf8_unit}
+use Rattle.py_plain.specs.Units.{Unknown}
+use Rattle.py_plain.specs.Handlers.{treatment}
+use Rattle.py_plain.specs.Items.{Walk, Given, AtRange, item_of, used_behind, onto_walk, walk_from, characters_of, refusal_of}
+use Rattle.py_plain.proofs.UnitLaws.{character_own, one_unit, unit_within}
+use Rattle.py_plain.proofs.Walks.{walk-given}
+use Rattle.py_open.specs.Text.{stop_at, IsNoCharacter, DecodedSoFar}
+
+-- a front that was decoded, and one character more
+pub decoded_more : (bytes before after : List ℕ) (used c n : ℕ) → DecodedSoFar bytes before used after → utf8_unit (drop used bytes) ≡ Some (Character c n) → DecodedSoFar bytes before (used + n) (after ++ c ∷ [])
+decoded_more bytes before after used c n decoded is =
+    let own = character_own (drop used bytes) c n is in (
+      decoded.0 ++ c ∷ [],
+      All-push IsScalar decoded.0 c decoded.1 own.0,
+      take-add used n bytes
+          ∙ ap (λ (bs : List ℕ). bs ++ take n (drop used bytes)) decoded.2
+          ∙ ap (λ (bs : List ℕ). encode_utf8_all decoded.0 ++ bs) (own.1 ∙ sym (append-nil (encode_utf8 c)))
+          ∙ sym (encodes-append decoded.0 (c ∷ [])),
+      ap (λ (cs : List ℕ). cs ++ c ∷ []) decoded.3 ∙ append_assoc before decoded.0 (c ∷ []),
+    )
+
+-- The decoding of bytes at a place, with nothing behind them.
+
+abbrev pub walk_at : ℕ → List ℕ → Walk
+walk_at place bytes = walk_from Utf8 (treatment Strict Utf8) true Unknown place 0 bytes
+
+-- it begins with the character that the bytes begin with
+walk_character : (place : ℕ) (bytes : List ℕ) (c n : ℕ) → utf8_unit bytes ≡ Some (Character c n) → walk_at place bytes ≡ onto_walk place (Given (c ∷ []) n) (walk_at (place + n) (drop n bytes))
+walk_character place [] c n is = absurd (cc)
+walk_character place (byte ∷ rest) c zero is = absurd (omega (arith, (unit_within (byte ∷ rest) (Character c zero) is).0))
+walk_character place (byte ∷ rest) c (suc n) is =
+    walk-given Utf8 (treatment Strict Utf8) Unknown place byte rest (c ∷ []) (suc n) (omega arith) (ap (item_of (treatment Strict Utf8) true place (byte ∷ rest)) is)
+    ∙ ap (λ (k : ℕ). onto_walk place (Given (c ∷ []) (suc n)) (walk_at (place + suc n) (drop k rest))) (omega arith)
+
+-- the decoding of some bytes by the unit that they begin with
+abbrev begun : ℕ → ℕ → List ℕ → Option Read → Walk
+begun place byte rest unit =
+    let first = item_of (treatment Strict Utf8) true place (byte ∷ rest) unit in
+    onto_walk place first (walk_from Utf8 (treatment Strict Utf8) true Unknown (place + 1) (used_behind first) rest)
+
+-- or ends with the refused range that they begin with
+pub walk_refused : (place : ℕ) (bytes : List ℕ) (n : ℕ) → utf8_unit bytes ≡ Some (Malformed n) → walk_at place bytes ≡ record { items = []; ending = AtRange place (place + n) }
+walk_refused place [] n is = absurd (cc)
+walk_refused place (byte ∷ rest) n is = ap (begun place byte rest) is
+
+pub walk_cut : (place : ℕ) (bytes : List ℕ) (n : ℕ) → utf8_unit bytes ≡ Some (Cut n) → walk_at place bytes ≡ record { items = []; ending = AtRange place (place + n) }
+walk_cut place [] n is = absurd (cc)
+walk_cut place (byte ∷ rest) n is = ap (begun place byte rest) is
+
+-- the characters that some bytes spell come before what comes behind those bytes
+pub record Precedes (characters : List ℕ) (whole behind : Walk) : Type 0 where
+  pub characters_are : characters_of whole.items ≡ characters ++ characters_of behind.items
+  pub refusal_is : refusal_of whole.ending ≡ refusal_of behind.ending
+
+-- one more before them
+precedes_more : (place c n : ℕ) (cs : List ℕ) (whole between behind : Walk) → whole ≡ onto_walk place (Given (c ∷ []) n) between → Precedes cs between behind → Precedes (c ∷ cs) whole behind
+precedes_more place c n cs whole between behind is precedes = record {
+  characters_are = ap (λ (walk : Walk). characters_of walk.items) is ∙ ap (λ (more : List ℕ). c ∷ more) precedes.characters_are;
+  refusal_is = ap (λ (walk : Walk). refusal_of walk.ending) is ∙ precedes.refusal_is;
+}
+
+-- the bytes of one character, whatever stands behind them
+walk_spelled : (place c : ℕ) (rest : List ℕ) → IsScalar c → walk_at place (encode_utf8 c ++ rest) ≡ onto_walk place (Given (c ∷ []) (len (encode_utf8 c))) (walk_at (place + len (encode_utf8 c)) rest)
+walk_spelled place c rest scalar =
+    walk_character place (encode_utf8 c ++ rest) c (len (encode_utf8 c)) (one_unit c rest scalar)
+    ∙ ap (λ (bytes : List ℕ). onto_walk place (Given (c ∷ []) (len (encode_utf8 c))) (walk_at (place + len (encode_utf8 c)) bytes)) (drop-append_seam (encode_utf8 c) rest)
+
+-- the same of many
+pub walk_spelling : (cs : List ℕ) (place : ℕ) (rest : List ℕ) → All IsScalar cs → Precedes cs (walk_at place (encode_utf8_all cs ++ rest)) (walk_at (place + len (encode_utf8_all cs)) rest)
+walk_spelling [] place rest scalars = subst (λ (p : ℕ). Precedes [] (walk_at place rest) (walk_at p rest)) (omega arith) (record { characters_are = refl; refusal_is = refl })
+walk_spelling (c ∷ cs) place rest scalars =
+    let first : List ℕ = encode_utf8 c in
+    let others : List ℕ = encode_utf8_all cs in
+    let far : place + len first + len others ≡ place + len (first ++ others) = omega (arith, length-append first others) in
+    precedes_more place c (len first) cs (walk_at place ((first ++ others) ++ rest)) (walk_at (place + len first) (others ++ rest)) (walk_at (place + len (first ++ others)) rest)
+    (ap (walk_at place) (append_assoc first others rest) ∙ walk_spelled place c (others ++ rest) (All-head IsScalar c cs scalars))
+    (subst (λ (p : ℕ). Precedes cs (walk_at (place + len first) (others ++ rest)) (walk_at p rest)) far (walk_spelling cs (place + len first) rest (All-tail IsScalar c cs scalars)))
+
+-- A refused range at the front of some bytes stays one whatever comes behind them.
+
+-- a choice whose first branch stays refused
+cond_cases : (b : Bool) (first then other refused : Read) → (first ≡ refused → then ≡ refused) → cond b first other ≡ refused → cond b then other ≡ refused
+cond_cases true first then other refused same is = same is
+cond_cases false first then other refused same is = is
+
+sequence_malformed : (length follow low high bits n : ℕ) (rest more : List ℕ) → sequence length follow low high bits rest ≡ Malformed n → sequence length follow low high bits (rest ++ more) ≡ Malformed n
+sequence_malformed length zero low high bits n rest more is = absurd (cc)
+sequence_malformed length (suc follow) low high bits n [] more is = absurd (cc)
+sequence_malformed length (suc follow) low high bits n (byte ∷ rest) more is =
+    cond_cases (is_within low high byte) (sequence (length + 1) follow 0x80 0xBF (bits * 64 + (byte - 0x80)) rest) (sequence (length + 1) follow 0x80 0xBF (bits * 64 + (byte - 0x80)) (rest ++ more)) (Malformed length) (Malformed n)
+    (sequence_malformed (length + 1) follow 0x80 0xBF (bits * 64 + (byte - 0x80)) n rest more) is
+
+unit_malformed : (byte n : ℕ) (at : Lead) (rest more : List ℕ) → unit_after byte at rest ≡ Malformed n → unit_after byte at (rest ++ more) ≡ Malformed n
+unit_malformed byte n Alone rest more is = is
+unit_malformed byte n (Leads follow low high bits) rest more is = sequence_malformed 1 follow low high bits n rest more is
+unit_malformed byte n Never rest more is = is
+
+pub malformed_stays : (bytes more : List ℕ) (n : ℕ) → utf8_unit bytes ≡ Some (Malformed n) → utf8_unit (bytes ++ more) ≡ Some (Malformed n)
+malformed_stays [] more n is = absurd (cc)
+malformed_stays (byte ∷ rest) more n is =
+    let unit : unit_after byte (lead byte) rest ≡ Malformed n = cc in
+    ap (λ (u : Read). Some u) (unit_malformed byte n (lead byte) rest more unit)
+
+-- What stops a decoding.
+
+pub malformed_stops : (unit : Option Read) (n : ℕ) → unit ≡ Some (Malformed n) → IsNoCharacter unit × (Some n ≡ stop_at unit)
+malformed_stops unit n is = subst (λ (u : Option Read). IsNoCharacter u × (Some n ≡ stop_at u)) (sym is) (tt, refl)
+
+pub cut_stops : (unit : Option Read) (n : ℕ) → unit ≡ Some (Cut n) → IsNoCharacter unit × (None ≡ stop_at unit)
+cut_stops unit n is = subst (λ (u : Option Read). IsNoCharacter u × (None ≡ stop_at u)) (sym is) (tt, refl)
