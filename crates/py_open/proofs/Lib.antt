@@ -4,3 +4,7 @@ mod Decoding
 mod Tying
 mod Holding
 mod Gathering
+mod Spelling
+mod Taking
+mod Enough
+mod Answering

@@ -258,9 +258,15 @@ StoppedAt held used (Err none) = Unit {0}
 
 -- What becomes of a text by an answer, whether the raw tells or not.
 
+-- how many characters are asked for at most, if anything bounds them
 abbrev pub size_of : Wanted → Option ℕ
 size_of (wanted.Characters size) = size
 size_of (wanted.Line limit) = limit
+
+-- whether all that is left is asked for
+abbrev pub asks_all : Wanted → Bool
+asks_all (wanted.Characters None) = true
+asks_all _ = false
 
 -- so many characters were taken from where the text stood
 pub record Takes (old : TextView) (count : ℕ) (asks : Bool) (new : TextView) : Type 0 where

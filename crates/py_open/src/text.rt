@@ -5,7 +5,7 @@ ghost use Rattle.py_plain.specs.Utf8.{utf8_unit};
 ghost use Rattle.py_plain.specs.TextStep.{asks_any};
 ghost use Rattle.py_raw.specs.RawStream.{WhereTold};
 ghost use Rattle.py_open.specs.Reader.{KeepsReader, MovesForth, CloseOutcome};
-ghost use Rattle.py_open.specs.Text.{IsFresh, DecodedSoFar, StoppedAt, DecodeOutcome, KeepsKnown, ChunkOutcome, stop_at, IsNoCharacter, range_in_hand, enough, size_of, Gathers, GatheredAt, IsReady, GatherOutcome, GiveOutcome, GiveLastOutcome, OnlyWhereWaits, waited_in, faulted_in, AnswerCauses, AnswerMoves, AnswerStep};
+ghost use Rattle.py_open.specs.Text.{IsFresh, DecodedSoFar, StoppedAt, DecodeOutcome, KeepsKnown, ChunkOutcome, stop_at, IsNoCharacter, range_in_hand, enough, size_of, asks_all, Gathers, GatheredAt, IsReady, GatherOutcome, GiveOutcome, GiveLastOutcome, OnlyWhereWaits, waited_in, faulted_in, AnswerCauses, AnswerMoves, AnswerStep};
 
 #[cfg(test)]
 mod tests;
@@ -194,6 +194,13 @@ impl Wanted {
             Wanted::Characters(size) | Wanted::Line(size) => size != Some(0),
         }
     }
+
+    /// Whether all that is left is asked for.
+    fn asks_all(self) -> bool
+        ensures { result ≡ asks_all self }
+    {
+        matches!(self, Wanted::Characters(None))
+    }
 }
 
 impl<R: RawStream> Text<R> {
@@ -365,17 +372,13 @@ impl<R: RawStream> Text<R> {
         ensures moves { AnswerMoves self.old wanted result self.new }
         ensures told { AnswerStep self.old wanted result self.new }
     {
-        match wanted {
-            Wanted::Characters(None) => {
-                let text = self.give_last(alloc)?;
-                Ok(Answer::Whole(text))
-            }
-            wanted => {
-                let known = self.pending.len() - self.given;
-                let text = self.give(alloc, known, wanted.asks_any())?;
-                Ok(Answer::Whole(text))
-            }
+        let known = self.pending.len() - self.given;
+        if wanted.asks_all() {
+            let text = self.give_last(alloc)?;
+            return Ok(Answer::Whole(text));
         }
+        let text = self.give(alloc, known, wanted.asks_any())?;
+        Ok(Answer::Whole(text))
     }
 
     /// The answer where the raw asked to wait: all known characters, if there are any.
@@ -410,6 +413,8 @@ impl<R: RawStream> Text<R> {
         ensures moves { AnswerMoves self.old wanted result self.new }
         ensures told { AnswerStep self.old wanted result self.new }
     {
+        // What holds of every text is known from here on.
+        let _ = &self.reader;
         match gathered {
             Gathered::Enough(count) => {
                 let text = self.give(alloc, count, wanted.asks_any())?;

@@ -4,4 +4,4 @@ mod Encoded
 pub mod UnitLaws
 pub mod Walks
 mod Translating
-mod Strings
+pub mod Strings

@@ -1,0 +1,16 @@
+use Rattle.std.proofs.Common.{◌≡◌, ◌≢◌, ◌-◌, ℕ, List, [], Bool, true, Ok, length, drop, ap, ◌∙◌, subst, sym, arith}
+use Rattle.std.proofs.lemmas.List.{length-drop}
+use Rattle.py_open.specs.Text.{TextView, GiveOutcome}
+use Rattle.py_open.proofs.Answering.{Stands, tied, step_waits}
+use Rattle.py_open.proofs.text.Text.finish_short.Goals as goal
+
+pub returns-clause-told : goal.returns-clause-told
+returns-clause-told g c = λ tells.
+    let inside = c.self.inside in
+    let view = c.args.self.now in
+    let known = tied view c.requires.live (subst Stands c.self.view_is c.self.invariant.1) tells in
+    let pending : drop inside.given inside.pending.items ≡ view.pending = ap (λ (text : TextView). text.pending) c.self.view_is in
+    let count : c.len.result - inside.given ≡ length view.pending = omega (arith, length-drop inside.given inside.pending.items, ap length pending) in
+    let some : view.pending ≢ [] = λ (none : view.pending ≡ []). omega (arith, ap length none) in
+    let gave = subst (λ (n : ℕ). GiveOutcome view n true (Ok c.in_ok-text.text) c.give.new.self) count c.in_ok-text.ensures in
+    step_waits view c.give.new.self c.args.wanted c.in_ok-text.text known c.requires.stands some gave
