@@ -4,11 +4,12 @@ use Rattle.std.proofs.Math.Seq.{drop-append_seam}
 use Rattle.std.proofs.lemmas.List.{length-append, length-drop, drop-drop}
 use Rattle.py_flat.specs.declared.fault.IoFault.{IoFault}
 use Rattle.py_flat.specs.declared.fault.IoFault.TheVariants as fault
+use Rattle.py_flat.specs.declared.life.Life.{Life}
 use Rattle.py_flat.specs.declared.life.Life.TheVariants as life
 use Rattle.py_flat.specs.Bytes.{left_at}
 use Rattle.py_flat.specs.BinaryStep.{IsFrontOf}
 use Rattle.py_plain.specs.Items.{Walk, characters_of, refusal_of}
-use Rattle.py_open.specs.Reader.{ReaderView, KeepsReader, MovesForth, CloseOutcome, Gives, ReadFails}
+use Rattle.py_open.specs.Reader.{ReaderView, KeepsReader, MovesForth, ClosesRaw, ClosesIn, CloseOutcome, Gives, ReadFails}
 use Rattle.py_open.specs.Text.{ahead, TiedTold, IsText}
 use Rattle.py_open.proofs.Tying.{ahead_read, tied_at}
 
@@ -28,11 +29,20 @@ text_over old new at taken chunk held pending keeps forth still is = record {
 -- Closing.
 
 -- a reader that lives after a close was left as it was
+closed_raw : (old new : ReaderView) (result : Result (Unit {0}) IoFault) → ClosesRaw old result new → new.life ≡ life.Live → new ≡ old
+closed_raw old new (Ok done) outcome live = absurd (cc)
+closed_raw old new (Err fault.RawFault) outcome live = absurd (let closed = outcome.1 in cc)
+closed_raw old new (Err fault.NoMemory) outcome live = outcome
+closed_raw old new (Err other) outcome live = absurd outcome
+
+closed_in : (current : Life) (old new : ReaderView) (result : Result (Unit {0}) IoFault) → ClosesIn current old result new → new.life ≡ life.Live → new ≡ old
+closed_in life.Live old new result outcome live = closed_raw old new result outcome live
+closed_in life.Closed old new result outcome live = outcome.1
+closed_in life.Failed old new result outcome live = outcome.1
+closed_in life.Detached old new result outcome live = outcome.1
+
 pub closed_live : (old new : ReaderView) (result : Result (Unit {0}) IoFault) → CloseOutcome old result new → new.life ≡ life.Live → new ≡ old
-closed_live old new (Ok done) outcome live = absurd (let closed = outcome.0 in cc)
-closed_live old new (Err fault.RawFault) outcome live = absurd (let closed = outcome.1 in cc)
-closed_live old new (Err fault.NoMemory) outcome live = outcome
-closed_live old new (Err other) outcome live = outcome.1
+closed_live old new result outcome live = closed_in old.life old new result outcome live
 
 pub text_closed : (old new : ReaderView) (result : Result (Unit {0}) IoFault) (at taken chunk : ℕ) (held pending : List ℕ) → KeepsReader old new → MovesForth old new → CloseOutcome old result new → IsText old.raw old.place old.life at taken chunk held pending → IsText new.raw new.place new.life at taken chunk held pending
 text_closed old new result at taken chunk held pending keeps forth outcome is =

@@ -1,5 +1,6 @@
 mod Planning
 mod Reading
+mod Running
 mod Decoding
 mod Tying
 mod Holding

@@ -1,7 +1,7 @@
 -- Texts that are compared with a text of one character.
-use Rattle.std.proofs.Common.{◌≡◌, ℕ, List, [], ◌∷◌, Bool, Decides, sym, ap, ◌∙◌, refl, chars, bytes_eq}
+use Rattle.std.proofs.Common.{◌≡◌, ℕ, List, [], ◌∷◌, sym, ap, ◌∙◌, refl, bytes_eq}
 use Rattle.std.specs.Str.{chars as characters, IsUtf8}
-use Rattle.std.proofs.lemmas.Str.{encodes-chars, chars-IsAscii}
+use Rattle.std.proofs.lemmas.Str.{encodes-chars}
 use Rattle.std.proofs.lemmas.Slice.Eq.{bytes_eq-Decides}
 use Rattle.std.proofs.lemmas.Bool.Decides.{same_from_decides}
 use lib.Utf8.{encodes}

@@ -1,5 +1,4 @@
 -- A session's calls and replies as the models see them.
-use Rattle.std.specs.Prelude.{ℕ, Option}
 use Rattle.py_flat.specs.Calls.{FileReply, Bytes, Text, Lines, Count, Place, Done, NotReady, Flag, Name, Unwritten, Refused}
 use Rattle.py_plain.specs.TextStep.{TextCall, Read, ReadLine, Close, OtherKind}
 use Rattle.py_open.specs.declared.call.Call.{Call}

@@ -1,6 +1,5 @@
 -- Opening a session over a raw stream, and handing the raw back.
-use Rattle.std.specs.Prelude.{◌≡◌, ℕ, true, false, Bool, IsFalse, IsTrue, List, [], Option, Some, None, Result, Ok, Err, if◌then◌else◌}
-use Rattle.py_flat.specs.declared.fault.IoFault.{IoFault}
+use Rattle.std.specs.Prelude.{◌≡◌, ℕ, true, false, Bool, IsFalse, List, Option, Some, None, Result, Ok, Err, if◌then◌else◌}
 use Rattle.py_flat.specs.declared.life.Life.{Life}
 use Rattle.py_flat.specs.declared.life.Life.TheVariants as life
 use Rattle.py_plain.specs.declared.encoding.Encoding.TheVariants.{Utf8}

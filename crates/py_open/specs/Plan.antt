@@ -1,9 +1,8 @@
 -- What an opening by a mode and arguments sets up, or why it is refused, before any raw is asked.
-use Rattle.std.specs.Prelude.{ℕ, ◌==◌, Bool, true, false, ◌&&◌, negsuc, is_none, List, [], ◌∷◌, Option, Some, None, Result, Ok, Err, codes, bytes_eq, nat_eq, if◌then◌else◌}
+use Rattle.std.specs.Prelude.{ℕ, Bool, false, ◌&&◌, negsuc, is_none, List, [], ◌∷◌, Option, Some, None, Result, Ok, Err, codes, bytes_eq, nat_eq, if◌then◌else◌}
 use Rattle.std.specs.Ordering.{int_eq}
 use Rattle.py_flat.specs.declared.fault.IoFault.{IoFault}
 use Rattle.py_flat.specs.declared.fault.IoFault.TheVariants.{Unsupported}
-use Rattle.py_open.specs.declared.mode.Mode.{Mode}
 use Rattle.py_open.specs.declared.mode.FileMode.TheVariants.{Read}
 use Rattle.py_open.specs.declared.mode.EncodeMode.TheVariants.{Text}
 use Rattle.py_open.specs.declared.open_args.OpenArgs.{OpenArgs}

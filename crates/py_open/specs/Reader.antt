@@ -1,5 +1,5 @@
 -- The buffered reader under a text: what it is seen as, and what its calls may do.
-use Rattle.std.specs.Prelude.{◌≡◌, ◌≢◌, ℕ, ◌+◌, ◌-◌, ◌<◌, ◌≤◌, true, false, IsTrue, IsFalse, List, [], ◌++◌, length, take, drop, Option, Some, None, Result, Ok, Err, Vec}
+use Rattle.std.specs.Prelude.{◌≡◌, ℕ, ◌+◌, ◌<◌, ◌≤◌, true, false, IsTrue, IsFalse, List, [], ◌++◌, length, take, drop, Option, Some, None, Result, Ok, Err, Vec}
 use Rattle.std.specs.declared.alloc.Global.{Global}
 use Rattle.py_flat.specs.declared.fault.IoFault.{IoFault}
 use Rattle.py_flat.specs.declared.fault.IoFault.TheVariants as fault
@@ -99,15 +99,22 @@ GivesHeld old size (Ok (Some part)) new = (part.items ≡ take size old.held) ×
 GivesHeld old size (Ok None) new = ⊥
 GivesHeld old size (Err refused) new = (refused ≡ fault.NoMemory) × (new ≡ old)
 
--- closing: a closed reader stays so; a fault of the raw leaves it closed; want of memory, and a life that refuses, as it was
-abbrev pub CloseFails : ReaderView → IoFault → ReaderView → Type 0
-CloseFails old fault.RawFault new = Rose old.raw.faults new.raw.faults × (new.life ≡ life.Closed)
-CloseFails old fault.NoMemory new = new ≡ old
-CloseFails old fault new = (life_fault old.life ≡ Some fault) × (new ≡ old)
+-- closing a live reader: closed, after a fault of the raw too; want of memory leaves it as it was
+abbrev pub ClosesRaw : ReaderView → Result (Unit {0}) IoFault → ReaderView → Type 0
+ClosesRaw old (Ok done) new = new.life ≡ life.Closed
+ClosesRaw old (Err fault.RawFault) new = Rose old.raw.faults new.raw.faults × (new.life ≡ life.Closed)
+ClosesRaw old (Err fault.NoMemory) new = new ≡ old
+ClosesRaw old (Err other) new = ⊥
+
+-- by the life: a closed reader stays so, and what a life refuses leaves all as it was
+abbrev pub ClosesIn : Life → ReaderView → Result (Unit {0}) IoFault → ReaderView → Type 0
+ClosesIn life.Live old result new = ClosesRaw old result new
+ClosesIn life.Closed old result new = (result ≡ Ok tt) × (new ≡ old)
+ClosesIn life.Failed old result new = (result ≡ Err fault.Failed) × (new ≡ old)
+ClosesIn life.Detached old result new = (result ≡ Err fault.Detached) × (new ≡ old)
 
 abbrev pub CloseOutcome : ReaderView → Result (Unit {0}) IoFault → ReaderView → Type 0
-CloseOutcome old (Ok done) new = (new.life ≡ life.Closed) × (old.life ≡ life.Closed → new ≡ old)
-CloseOutcome old (Err fault) new = CloseFails old fault new
+CloseOutcome old result new = ClosesIn old.life old result new
 
 -- Opening.
 

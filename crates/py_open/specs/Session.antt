@@ -1,5 +1,5 @@
 -- A session: what it is seen as, and what one call of it may do.
-use Rattle.std.specs.Prelude.{◌≡◌, ◌≢◌, ℕ, ◌≤◌, Bool, true, false, ◌||◌, IsTrue, List, length, Option, Some, None}
+use Rattle.std.specs.Prelude.{◌≡◌, ℕ, ◌≤◌, Bool, true, false, ◌||◌, IsTrue, List, length, Option, Some, None}
 use Rattle.py_flat.specs.declared.fault.IoFault.{IoFault}
 use Rattle.py_flat.specs.declared.fault.IoFault.TheVariants as fault
 use Rattle.py_flat.specs.declared.life.Life.{Life}
@@ -7,7 +7,7 @@ use Rattle.py_flat.specs.declared.life.Life.TheVariants as life
 use Rattle.py_flat.specs.Calls.{FileReply, Text, Done, NotReady, Refused}
 use Rattle.py_flat.specs.Causes.{Rose, rose}
 use Rattle.py_plain.specs.TextFile.{TextPlace, clean_at, TextFile}
-use Rattle.py_plain.specs.TextStep.{TextCall, Read, ReadLine, Close, OtherKind, text_refusal, asks_any, place_taking, TextStep}
+use Rattle.py_plain.specs.TextStep.{TextCall, Read, ReadLine, Close, text_refusal, asks_any, place_taking, TextStep}
 use Rattle.py_raw.specs.RawStream.{Raw, Keeps, WhereTold}
 use Rattle.py_open.specs.declared.call.Call.{Call}
 use Rattle.py_open.specs.declared.reply.Reply.{Reply}

@@ -1,5 +1,5 @@
 -- The text over a buffered reader: what it is seen as, how it is tied to the bytes, and what its calls may do.
-use Rattle.std.specs.Prelude.{◌≡◌, ◌≢◌, ℕ, ◌+◌, ◌-◌, ◌<◌, ◌≤◌, ◌⊎◌, max, nat_le, Bool, true, false, ◌||◌, IsTrue, IfSome, List, [], ◌++◌, length, drop, take, Option, Some, None, Result, Ok, Err, encode_utf8_all, All, if◌then◌else◌}
+use Rattle.std.specs.Prelude.{◌≡◌, ◌≢◌, ℕ, ◌+◌, ◌-◌, ◌<◌, ◌≤◌, max, nat_le, Bool, true, false, ◌||◌, IsTrue, IfSome, List, [], ◌++◌, length, drop, take, Option, Some, None, Result, Ok, Err, encode_utf8_all, All, if◌then◌else◌}
 use Rattle.std.specs.Char.{IsScalar}
 use Rattle.std.specs.declared.alloc.AllocError.{AllocError}
 use Rattle.py_flat.specs.declared.fault.IoFault.{IoFault}
@@ -8,7 +8,7 @@ use Rattle.py_flat.specs.declared.life.Life.{Life}
 use Rattle.py_flat.specs.declared.life.Life.TheVariants as life
 use Rattle.py_flat.specs.Limits.{greatest_place}
 use Rattle.py_flat.specs.Bytes.{left_at}
-use Rattle.py_flat.specs.Lines.{Lf, has_end_after, line_after, is_ended, first_line}
+use Rattle.py_flat.specs.Lines.{Lf, is_ended, first_line}
 use Rattle.py_flat.specs.Causes.{Rose}
 use Rattle.py_plain.specs.declared.encoding.Encoding.TheVariants.{Utf8}
 use Rattle.py_plain.specs.declared.handler.Handler.TheVariants.{Strict}

@@ -2,7 +2,7 @@
 ghost use Rattle.std.specs.Prelude.{◌≡◌, ◌+◌, ◌<◌, ◌≤◌, ◌⊎◌, true, false, [], length, vec_len};
 ghost use Rattle.py_flat.specs.Limits.{greatest_place};
 ghost use Rattle.py_flat.specs.Refusals.{life_fault as fault_of_life};
-ghost use Rattle.py_open.specs.Reader.{StandsAtStart, PlaceOutcome, OpenOutcome, FillOutcome, KeepsReader, MovesForth, Read1Outcome, GivesHeld, CloseOutcome};
+ghost use Rattle.py_open.specs.Reader.{StandsAtStart, PlaceOutcome, OpenOutcome, FillOutcome, KeepsReader, MovesForth, Read1Outcome, GivesHeld, ClosesRaw, CloseOutcome};
 ghost use Rattle.py_raw.specs.RawStream.{Keeps, StaysOpen};
 
 use crate::OpenRefused;
@@ -250,7 +250,7 @@ impl<R: RawStream> Reader<R> {
         requires { self.old.life ≡ Life.Live }
         ensures keeps { KeepsReader self.old self.new }
         ensures place { MovesForth self.old self.new }
-        ensures outcome { CloseOutcome self.old result self.new }
+        ensures outcome { ClosesRaw self.old result self.new }
     {
         match self.raw.close() {
             Ok(()) => {

@@ -69,8 +69,18 @@ fn a_text_is_read_by_a_line_and_then_to_its_end(rt: HostRuntime) -> Result<(), F
 fn waits_cuts_and_refused_ranges_lose_nothing(rt: HostRuntime) -> Result<(), Fail> {
     let alloc = rt.alloc();
     let euro = [0xE2, 0x82, 0xAC];
-    let plan = vec![in alloc; Cut::Take(1), Cut::Wait, Cut::Take(1), Cut::Wait, Cut::Take(1)]?;
-    let calls = [Call::Read(Some(1)), Call::Read(Some(1)), Call::Read(Some(1))];
+    let plan = vec![in alloc;
+        Cut::Take(1),
+        Cut::Wait,
+        Cut::Take(1),
+        Cut::Wait,
+        Cut::Take(1),
+    ]?;
+    let calls = [
+        Call::Read(Some(1)),
+        Call::Read(Some(1)),
+        Call::Read(Some(1)),
+    ];
     let run = small_run(&rt, alloc, raw_of(alloc, &euro, plan)?, (4, 4), &calls);
     let replies = [Reply::NotReady, Reply::NotReady, text(alloc, "€")?];
     assert_eq!(rt; run.replies.as_slice(), replies.as_slice());
@@ -82,7 +92,13 @@ fn waits_cuts_and_refused_ranges_lose_nothing(rt: HostRuntime) -> Result<(), Fai
         Call::Read(Some(1)),
         Call::Read(None),
     ];
-    let run = small_run(&rt, alloc, raw_of(alloc, &bad, Vec::new(alloc))?, (4, 4), &calls);
+    let run = small_run(
+        &rt,
+        alloc,
+        raw_of(alloc, &bad, Vec::new(alloc))?,
+        (4, 4),
+        &calls,
+    );
     let replies = [
         decode_error(2, 3),
         text(alloc, "ab")?,
@@ -162,7 +178,12 @@ fn lives_and_kinds_refuse(rt: HostRuntime) -> Result<(), Fail> {
 
     let flags = RawFlags::able(true, false, true);
     let faults = vec![in alloc; 1]?;
-    let raw = MemRaw::new("abc".as_bytes().to_vec(alloc)?, flags, Vec::new(alloc), faults);
+    let raw = MemRaw::new(
+        "abc".as_bytes().to_vec(alloc)?,
+        flags,
+        Vec::new(alloc),
+        faults,
+    );
     let calls = [Call::Read(None), Call::Read(None), Call::Close];
     let run = small_run(&rt, alloc, raw, (4, 4), &calls);
     let replies = [

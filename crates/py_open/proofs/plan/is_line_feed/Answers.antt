@@ -1,4 +1,4 @@
-use Rattle.std.proofs.Common.{◌≡◌, List, ℕ, [], ◌∷◌, bytes_eq, sym, ap, ◌∙◌}
+use Rattle.std.proofs.Common.{List, ℕ, [], ◌∷◌, bytes_eq, sym, ap, ◌∙◌}
 use Rattle.py_open.specs.Plan.{is_lf}
 use Rattle.py_open.proofs.Planning.{lf_by_bytes}
 use Rattle.py_open.proofs.plan.is_line_feed.Goals as goal

@@ -1,4 +1,4 @@
-use Rattle.std.proofs.Common.{◌≡◌, ℕ, List, [], sym, ap, ◌∙◌, subst, arith, IsTrue, Option, Ok, vec_len}
+use Rattle.std.proofs.Common.{◌≡◌, ℕ, [], ap, ◌∙◌, subst, arith, IsTrue, Option, Ok, vec_len}
 use Rattle.std.specs.List.{slice_range}
 use Rattle.py_open.specs.Reader.{ReaderView, HoldsTold, Fills, FillOutcome}
 use Rattle.py_open.proofs.Reading.{gave, HoldsFront, filled_front}
