@@ -9,3 +9,5 @@ mod Spelling
 mod Taking
 mod Enough
 mod Answering
+mod Runs
+mod Losing
