@@ -153,10 +153,6 @@ exact_last text asked refusal told is last =
     ∙ ap (λ (passing : Bool). answered_text (file_of text) (range_refusal passing refusal) (answer_in asked text.pending) (after_whole (file_of text) asked (answer_in asked text.pending))) is.passes_all
     ∙ ap (λ (cs : List ℕ). answered_text (file_of text) (range_refusal true refusal) cs (after_whole (file_of text) asked cs)) is.answer
 
--- a refused range comes next
-pub step_refuses : (text : TextView) (asked : Wanted) (start end : ℕ) → Tied text → enough asked text.pending ≡ None → ComesLast text (Some (start, end)) → TextStep (file_of text) (call_of asked) (Refused (fault.UnicodeDecodeError start end)) false false (file_of text)
-step_refuses text asked start end told is last = settled (sym (exact_last text asked (Some (start, end)) told (is_short asked text.pending is) last))
-
 -- nothing is left in hand or below
 pub ends_last : (text : TextView) → text.held ≡ [] → length text.reader.raw.bytes ≤ text.reader.place → ComesLast text None
 ends_last text none within =
