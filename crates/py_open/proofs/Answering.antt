@@ -1,16 +1,15 @@
 -- What a text answers is what the model allows.
-use Rattle.std.proofs.Common.{◌≡◌, ◌≢◌, ℕ, ◌+◌, ◌-◌, ◌≤◌, ◌⊎◌, inr, Bool, true, false, ◌||◌, ◌&&◌, not, max, IsTrue, if◌then◌else◌, List, [], ◌++◌, length, take, drop, Option, Some, None, IfSome, Ok, refl, sym, ap, ◌∙◌, subst, arith}
+use Rattle.std.proofs.Common.{◌≡◌, ◌≢◌, ℕ, ◌+◌, ◌-◌, ◌≤◌, inr, Bool, true, false, ◌&&◌, max, IsTrue, List, [], ◌++◌, length, take, drop, Option, Some, None, IfSome, Ok, refl, sym, ap, ◌∙◌, subst, arith}
 use Rattle.std.proofs.lemmas.List.{append-nil, length-take-le, take_all, drop_all}
 use Rattle.py_flat.specs.declared.fault.IoFault.{IoFault}
-use Rattle.py_flat.specs.declared.fault.IoFault.TheVariants as fault
 use Rattle.py_flat.specs.declared.life.Life.{Life}
 use Rattle.py_flat.specs.declared.life.Life.TheVariants as life
 use Rattle.py_flat.specs.Bytes.{left_at, first_of}
 use Rattle.py_flat.specs.Lines.{Lf, first_line}
-use Rattle.py_flat.specs.Calls.{FileReply, Text, NotReady, Refused}
+use Rattle.py_flat.specs.Calls.{FileReply, Text}
 use Rattle.py_flat.specs.Refusals.{or_else}
 use Rattle.py_flat.specs.BinaryStep.{IsFrontOf, is_live}
-use Rattle.py_flat.specs.AllowedStep.{settled, waited_for, raw_faulted, out_of_memory}
+use Rattle.py_flat.specs.AllowedStep.{settled, waited_for}
 use Rattle.py_plain.specs.declared.encoding.Encoding.TheVariants.{Utf8}
 use Rattle.py_plain.specs.declared.handler.Handler.TheVariants.{Strict}
 use Rattle.py_plain.specs.Units.{Unknown}

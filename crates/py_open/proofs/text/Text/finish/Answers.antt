@@ -1,7 +1,5 @@
-use Rattle.std.proofs.Common.{◌≡◌, Bool, Ok, ap, subst, sym, arith}
-use Rattle.py_open.specs.declared.text.Gathered.{Gathered}
-use Rattle.py_open.specs.declared.text.Gathered.TheVariants as gathered
-use Rattle.py_open.specs.Text.{TextView, GatheredAt, GiveOutcome}
+use Rattle.std.proofs.Common.{Bool, Ok, subst}
+use Rattle.py_open.specs.Text.{GatheredAt, GiveOutcome}
 use Rattle.py_open.proofs.Enough.{is_enough}
 use Rattle.py_open.proofs.Answering.{Stands, tied, step_enough, moves_enough}
 use Rattle.py_open.proofs.text.Text.finish.Goals as goal
