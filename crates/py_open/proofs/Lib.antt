@@ -4,7 +4,7 @@ mod Decoding
 mod Tying
 mod Holding
 mod Gathering
-mod Spelling
+mod Results
 mod Taking
 mod Enough
 mod Answering
