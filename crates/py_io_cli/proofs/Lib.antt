@@ -1,0 +1,3 @@
+mod Printed
+mod LineFeed
+mod OverRaw
