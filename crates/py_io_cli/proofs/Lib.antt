@@ -1,3 +1,4 @@
 mod Printed
 mod LineFeed
 mod OverRaw
+mod Opened
