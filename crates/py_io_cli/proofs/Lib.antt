@@ -2,3 +2,4 @@ mod Printed
 mod LineFeed
 mod OverRaw
 mod Opened
+mod Ending

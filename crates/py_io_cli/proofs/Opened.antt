@@ -1,6 +1,5 @@
 -- What comes of a path that was opened, once the raw was put away again.
-use Rattle.std.proofs.Common.{◌≡◌, ℕ, ◌≤◌, true, false, ◌⊎◌, inl, inr, IsTrue, IsFalse, IsSome, List, Option, Some, Result, Ok, Err, codes, refl, sym, ◌∙◌, subst, arith}
-use Rattle.py_flat.specs.Causes.{Rose}
+use Rattle.std.proofs.Common.{◌≡◌, ℕ, true, false, inl, inr, IsTrue, IsSome, List, Option, Result, Ok, Err, codes, refl, sym, ◌∙◌, subst}
 use Rattle.py_raw.specs.declared.opener.OpenError.{OpenError}
 use Rattle.py_raw.specs.declared.opener.OpenError.TheVariants as open_error
 use Rattle.py_raw.specs.RawStream.{Raw}
@@ -9,7 +8,7 @@ use Rattle.py_raw.specs.Opener.{OpenerView, OpenKeeps, Opens, DoneKeeps, DoneOut
 use Rattle.py_open.specs.declared.call.Call.{Call}
 use Rattle.py_io_cli.specs.declared.status.Status.{Status}
 use Rattle.py_io_cli.specs.declared.status.Status.TheVariants as status
-use Rattle.py_io_cli.specs.Outcome.{Outside, RawOutcome, OpensPath, CallsOutcome, after_done}
+use Rattle.py_io_cli.specs.Outcome.{RawOutcome, OpensPath, CallsOutcome, after_done}
 use Rattle.py_io_cli.proofs.Printed.{rose_later}
 
 -- whatever the opener answered, where it tells the path holds the raw's bytes
@@ -34,7 +33,7 @@ opened path calls ended raw back before mid after old new done keeps opens does 
   puts = puts_away path raw back before mid after done keeps opens puts;
 }
 
-pub put_away_outcome : (path : List ℕ) (calls : List Call) (ended : Status) (raw back : Raw) (before mid after : OpenerView) (old new : SinkView) (done : Result (Unit {0}) OpenError) → OpenKeeps before mid → Opens before path (codes "rb") raw mid → RawOutcome raw calls ended back old new → DoneKeeps back mid after → DoneOutcome back mid path done after → CallsOutcome path calls (after_done ended done) (record { opener = before; sink = old }) (record { opener = after; sink = new })
+put_away_outcome : (path : List ℕ) (calls : List Call) (ended : Status) (raw back : Raw) (before mid after : OpenerView) (old new : SinkView) (done : Result (Unit {0}) OpenError) → OpenKeeps before mid → Opens before path (codes "rb") raw mid → RawOutcome raw calls ended back old new → DoneKeeps back mid after → DoneOutcome back mid path done after → CallsOutcome path calls (after_done ended done) (record { opener = before; sink = old }) (record { opener = after; sink = new })
 put_away_outcome path calls status.Done raw back before mid after old new (Ok done) keeps opens does kept puts = opened path calls status.Done raw back before mid after old new (Ok done) keeps opens does kept puts
 put_away_outcome path calls status.Done raw back before mid after old new (Err open_error.Fault) keeps opens does kept puts =
     inr (opened path calls status.Done raw back before mid after old new (Err open_error.Fault) keeps opens does kept puts, rose_later before.faults mid.faults after.faults keeps.faults puts.cause, sym keeps.tells ∙ puts.untold)
@@ -47,3 +46,8 @@ put_away_outcome path calls status.NoForm raw back before mid after old new done
 put_away_outcome path calls status.OutOfForm raw back before mid after old new done keeps opens does kept puts = absurd does
 put_away_outcome path calls status.SourceFailed raw back before mid after old new done keeps opens does kept puts = absurd does
 put_away_outcome path calls status.OpenerFailed raw back before mid after old new done keeps opens does kept puts = absurd does
+
+-- the same of the status that comes of both
+pub ended_outcome : (path : List ℕ) (calls : List Call) (ended last : Status) (raw back : Raw) (before mid after : OpenerView) (old new : SinkView) (done : Result (Unit {0}) OpenError) → last ≡ after_done ended done → OpenKeeps before mid → Opens before path (codes "rb") raw mid → RawOutcome raw calls ended back old new → DoneKeeps back mid after → DoneOutcome back mid path done after → CallsOutcome path calls last (record { opener = before; sink = old }) (record { opener = after; sink = new })
+ended_outcome path calls ended last raw back before mid after old new done is keeps opens does kept puts =
+    subst (λ (as_told : Status). CallsOutcome path calls as_told (record { opener = before; sink = old }) (record { opener = after; sink = new })) (sym is) (put_away_outcome path calls ended raw back before mid after old new done keeps opens does kept puts)

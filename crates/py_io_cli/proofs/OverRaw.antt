@@ -1,8 +1,8 @@
 -- What comes of the calls over a raw, by what was printed.
-use Rattle.std.proofs.Common.{◌≡◌, ℕ, ◌≤◌, ◌⊎◌, inl, inr, true, false, List, ◌∷◌, [], Result, Ok, Err, codes, MatchResult, refl, sym, ◌∙◌, subst, arith}
+use Rattle.std.proofs.Common.{◌≡◌, ℕ, ◌⊎◌, inl, inr, true, false, List, Result, Ok, Err, codes, MatchResult, refl, sym, ◌∙◌, subst, arith}
 use Rattle.py_flat.specs.declared.fault.IoFault.{IoFault}
 use Rattle.py_flat.specs.declared.fault.IoFault.TheVariants as fault
-use Rattle.py_raw.specs.RawStream.{Raw, Keeps}
+use Rattle.py_raw.specs.RawStream.{Raw}
 use Rattle.py_raw.specs.Sink.{SinkView}
 use Rattle.py_raw.specs.Opener.{IsOpened}
 use Rattle.py_open.specs.declared.call.Call.{Call}

@@ -1,4 +1,4 @@
-use Rattle.std.proofs.Common.{List, ℕ, ◌+◌, take, subst, sym, arith}
+use Rattle.std.proofs.Common.{List, ℕ, take, subst, sym, arith}
 use Rattle.std.proofs.lemmas.Result.{err_from_is_err_and}
 use Rattle.py_open.specs.declared.reply.Reply.{Reply}
 use Rattle.py_raw.specs.Sink.{SinkView}
