@@ -9,3 +9,5 @@ mod Results
 mod Taking
 mod Enough
 mod Answering
+mod Runs
+mod Losing

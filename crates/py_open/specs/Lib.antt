@@ -6,3 +6,4 @@ pub mod Text
 pub mod Session
 pub mod Opening
 pub mod Run
+pub mod Laws

@@ -1,4 +1,8 @@
 //! Sessions over raws in memory, compared with worked examples and with the plain slow text.
+ghost use Rattle.std.specs.Prelude.{◌<◌, IfOk};
+ghost use Rattle.py_raw.specs.MemRaw.{shown};
+ghost use Rattle.py_open.specs.Reader.{StandsAtStart};
+
 use crate::run::run_opened;
 use crate::{Call, OpenArgs, OpenRefused, Reply, Run, run_session};
 use py_flat::{Chars, IoFault, Life};
@@ -9,7 +13,9 @@ use std::process::Abort;
 use std::test::Fail;
 
 /// A raw over some bytes that can be read and moved, and follows a plan.
-fn raw_of(alloc: Global, bytes: &[u8], plan: Vec<Cut>) -> Result<MemRaw, AllocError> {
+fn raw_of(alloc: Global, bytes: &[u8], plan: Vec<Cut>) -> Result<MemRaw, AllocError>
+    ensures { IfOk result (λ raw. StandsAtStart (shown raw)) }
+{
     let flags = RawFlags::able(true, false, true);
     let bytes = bytes.to_vec(alloc)?;
     Ok(MemRaw::new(bytes, flags, plan, Vec::new(alloc)))
