@@ -5,7 +5,7 @@ mod Decoding
 mod Tying
 mod Holding
 mod Gathering
-mod Spelling
+mod Results
 mod Taking
 mod Enough
 mod Answering

@@ -1,4 +1,6 @@
 ghost use Rattle.std.specs.Prelude.{◌≡◌, IfOk};
+ghost use Rattle.py_open.specs.Calls.{said};
+ghost use Rattle.py_open.specs.Session.{says_wait, says_fault};
 
 use py_flat::{Chars, Data, IoFault, Lines};
 use std::alloc::{AllocError, Global};
@@ -52,5 +54,22 @@ impl Reply {
             },
             Reply::Refused(fault) => Reply::Refused(*fault),
         })
+    }
+
+    /// Whether this says that the raw asked to wait: `NotReady`, or a write that waited.
+    pub fn says_wait(&self) -> bool
+        ensures { result ≡ says_wait (said self.now) }
+    {
+        matches!(
+            self,
+            Reply::NotReady | Reply::Refused(IoFault::WouldBlock { .. })
+        )
+    }
+
+    /// Whether this says that the raw failed in this call.
+    pub fn says_fault(&self) -> bool
+        ensures { result ≡ says_fault (said self.now) }
+    {
+        matches!(self, Reply::Refused(IoFault::RawFault))
     }
 }

@@ -6,7 +6,7 @@
 
 mod cut;
 #[cfg(test)]
-mod each_mode;
+mod mode_tests;
 mod entries;
 mod file_opener;
 mod file_raw;

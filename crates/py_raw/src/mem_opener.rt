@@ -192,7 +192,7 @@ impl Opener for MemOpener {
 #[cfg(test)]
 mod tests {
     use super::*;
-    use crate::each_mode::{EACH_MODE, opens};
+    use crate::mode_tests::{EACH_MODE, opens};
 
     #[test]
     fn each_mode_opens_and_keeps_what_it_should(rt: HostRuntime) -> Result<(), AllocError> {
