@@ -7,5 +7,6 @@ mod Holding
 mod Gathering
 mod Spelling
 mod Taking
+mod Waiting
 mod Enough
 mod Answering

@@ -74,6 +74,9 @@ impl<R: RawStream> Session<R> {
     ///
     /// A call that the life or the kind refuses is answered by `Refused` and leaves all as it was; a fault of the raw is
     /// `RawFault`, which fails the session (after `Close` it is closed); `NoMemory` leaves place and life as they were.
+    ///
+    /// A wait hides nothing: after a short answer or `NotReady` each character that the bytes taken from the raw so far
+    /// surely give has been answered, and no refused range stands among them.
     pub fn call(&mut self, alloc: Global, call: &Call) -> Reply
         ensures { Answers self.old call.now result self.new }
     {
