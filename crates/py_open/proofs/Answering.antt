@@ -2,11 +2,12 @@
 use Rattle.std.proofs.Common.{◌≡◌, ◌≢◌, ℕ, ◌+◌, ◌-◌, ◌≤◌, inr, Bool, true, false, ◌&&◌, max, IsTrue, List, [], ◌++◌, length, take, drop, Option, Some, None, IfSome, Ok, refl, sym, ap, ◌∙◌, subst, arith}
 use Rattle.std.proofs.lemmas.List.{append-nil, length-take-le, take_all, drop_all}
 use Rattle.py_flat.specs.declared.fault.IoFault.{IoFault}
+use Rattle.py_flat.specs.declared.fault.IoFault.TheVariants as fault
 use Rattle.py_flat.specs.declared.life.Life.{Life}
 use Rattle.py_flat.specs.declared.life.Life.TheVariants as life
 use Rattle.py_flat.specs.Bytes.{left_at, first_of}
 use Rattle.py_flat.specs.Lines.{Lf, first_line}
-use Rattle.py_flat.specs.Calls.{FileReply, Text}
+use Rattle.py_flat.specs.Calls.{FileReply, Text, Refused}
 use Rattle.py_flat.specs.Refusals.{or_else}
 use Rattle.py_flat.specs.BinaryStep.{IsFrontOf, is_live}
 use Rattle.py_flat.specs.AllowedStep.{settled, waited_for}
@@ -20,7 +21,8 @@ use Rattle.py_plain.specs.TextFile.{TextFile, clean_at}
 use Rattle.py_plain.specs.TextStep.{TextStep, asks_any, range_refusal, after_taking, at_the_end, answered_text, text_life_refusal, text_answered, text_carried_out, text_refusal, text_exact, text_read, text_line, text_reaches_raw, TextWaitedBy}
 use Rattle.py_open.specs.declared.text.Wanted.{Wanted}
 use Rattle.py_open.specs.declared.text.Wanted.TheVariants as wanted
-use Rattle.py_open.specs.Text.{TextView, decoded_from, ahead, TiedTold, IsText, ComesLast, call_of, enough, size_of, asks_all, file_of, GiveOutcome, GiveLastOutcome, Takes, TakesWhole}
+use Rattle.py_open.specs.Text.{TextView, decoded_from, ahead, IsText, ComesLast, call_of, enough, size_of, asks_all, file_of, GiveOutcome, GiveLastOutcome, Takes, TakesWhole}
+use Rattle.py_open.proofs.Tying.{TiedTold, tied_by}
 use Rattle.py_open.proofs.Enough.{answer_in, passes, IsEnough, IsShort, is_enough, is_short}
 
 -- What is left of a text.
@@ -42,7 +44,10 @@ abbrev pub Stands : TextView → Type 0
 Stands text = IsText text.reader.raw text.reader.place text.reader.life text.at text.taken text.chunk text.held text.pending
 
 pub tied : (text : TextView) → text.reader.life ≡ life.Live → Stands text → IsTrue text.reader.raw.tells → Tied text
-tied text live is tells = record { live = live; tied = is.told tells live }
+tied text live is tells = record {
+  live = live;
+  tied = tied_by text.reader.raw.bytes text.reader.place text.at text.taken text.held text.pending (is.told tells live);
+}
 
 rest_of : TextView → Rest
 rest_of text = record { characters = text.pending ++ behind text; refusal = stop_of text }
@@ -151,6 +156,10 @@ exact_last text asked refusal told is last =
     ∙ ap (λ (range : Option (ℕ × ℕ)). answered (file_of text) asked (let rest : Rest = record { characters = text.pending; refusal = range } in rest)) last.refusal_is
     ∙ ap (λ (passing : Bool). answered_text (file_of text) (range_refusal passing refusal) (answer_in asked text.pending) (after_whole (file_of text) asked (answer_in asked text.pending))) is.passes_all
     ∙ ap (λ (cs : List ℕ). answered_text (file_of text) (range_refusal true refusal) cs (after_whole (file_of text) asked cs)) is.answer
+
+-- a refused range comes next
+pub step_refuses : (text : TextView) (asked : Wanted) (start end : ℕ) → Tied text → enough asked text.pending ≡ None → ComesLast text (Some (start, end)) → TextStep (file_of text) (call_of asked) (Refused (fault.UnicodeDecodeError start end)) false false (file_of text)
+step_refuses text asked start end told is last = settled (sym (exact_last text asked (Some (start, end)) told (is_short asked text.pending is) last))
 
 -- nothing is left in hand or below
 pub ends_last : (text : TextView) → text.held ≡ [] → length text.reader.raw.bytes ≤ text.reader.place → ComesLast text None

@@ -7,6 +7,7 @@ mod Holding
 mod Gathering
 mod Results
 mod Taking
+mod Waiting
 mod Enough
 mod Answering
 mod Runs

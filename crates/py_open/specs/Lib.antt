@@ -2,6 +2,7 @@ pub mod OpenArgs
 pub mod Calls
 pub mod Plan
 pub mod Reader
+pub mod Waiting
 pub mod Text
 pub mod Session
 pub mod Opening

@@ -12,6 +12,7 @@ use Rattle.py_raw.specs.RawStream.{Raw, Keeps, WhereTold}
 use Rattle.py_open.specs.declared.call.Call.{Call}
 use Rattle.py_open.specs.declared.reply.Reply.{Reply}
 use Rattle.py_open.specs.Calls.{text_call, said}
+use Rattle.py_open.specs.Waiting.{ShowsAll}
 
 -- the flat file of a session, by its kind
 pub data SessionFile : Type 0 where
@@ -122,7 +123,8 @@ pub record IsComplete (call : TextCall) (reply : FileReply) (short : Bool) : Typ
   pub whole : short ≡ false
 
 -- one call of a text: what the raw can do stays and its counts never fall; what the life or the kind refuses; a close
--- of a closed text; causes; life and place; completeness; and, where the raw tells, the step of the model
+-- of a closed text; causes; life and place; completeness; and, where the raw tells, the step of the model, and that a
+-- wait hides nothing
 pub record AnswersText (before : TextFile) (old : Raw) (call : TextCall) (reply : FileReply) (after : TextFile) (new : Raw) (short : Bool) : Type 0 where
   pub keeps : Keeps old new
   pub refused : (refused : IoFault) → text_refusal before call ≡ Some refused → LeavesText before old (Refused refused) reply after new short
@@ -131,6 +133,7 @@ pub record AnswersText (before : TextFile) (old : Raw) (call : TextCall) (reply 
   pub moves : TextMoves before call short reply after
   pub complete : text_refusal before call ≡ None → rose old.waits new.waits ≡ false → rose old.faults new.faults ≡ false → IsComplete call reply short
   pub told : WhereTold old (TextStep before call reply (short || says_wait reply) (says_fault reply) after)
+  pub hides : IsTrue (short || says_wait reply) → WhereTold old (ShowsAll after new)
 
 -- the same of a session's files
 abbrev pub AnswersFile : SessionFile → Raw → TextCall → FileReply → SessionFile → Raw → Bool → Type 0

@@ -92,6 +92,9 @@ impl<R: RawStream> Session<R> {
     ///
     /// The rules are those of Python's `io.TextIOWrapper`; what waits, faults and refused ranges leave is this project's
     /// choice.
+    ///
+    /// A wait hides nothing: after a short answer or `NotReady` each character that the bytes taken from the raw so far
+    /// surely give has been answered, and no refused range stands among them.
     pub fn call(&mut self, alloc: Global, call: &Call) -> Reply
         ensures { Answers self.old call.now result self.new }
     {

@@ -1,7 +1,7 @@
 use Rattle.std.proofs.Common.{Bool, Ok, subst}
 use Rattle.py_open.specs.Text.{GatheredAt, GiveOutcome}
 use Rattle.py_open.proofs.Enough.{is_enough}
-use Rattle.py_open.proofs.Answering.{Stands, tied, step_enough, moves_enough}
+use Rattle.py_open.proofs.Answering.{Stands, tied, step_enough, moves_enough, step_refuses}
 use Rattle.py_open.proofs.text.Text.finish.Goals as goal
 
 pub give-requires : goal.give-requires
@@ -21,3 +21,9 @@ returns-in_ok-text-in-Enough-clause-told g c = λ tells.
     let gave = subst (λ (asks : Bool). GiveOutcome c.args.self.now c.in-Enough.count asks (Ok c.in_ok-text-in-Enough.text) c.give.new.self) c.asks_any.ensures c.in_ok-text-in-Enough.ensures in
     let known = tied c.args.self.now c.requires.live (subst Stands c.self.view_is c.self.invariant.1) tells in
     step_enough c.args.self.now c.give.new.self c.args.wanted c.in-Enough.count c.in_ok-text-in-Enough.text known stands gave
+
+pub returns-in-Refuses-clause-told : goal.returns-in-Refuses-clause-told
+returns-in-Refuses-clause-told g c = λ tells.
+    let stands = subst (GatheredAt c.args.self.now c.args.wanted) c.in-Refuses.is c.requires.stands in
+    let known = tied c.args.self.now c.requires.live (subst Stands c.self.view_is c.self.invariant.1) tells in
+    step_refuses c.args.self.now c.args.wanted c.in-Refuses.start c.in-Refuses.end known stands.0 (stands.1 tells)
