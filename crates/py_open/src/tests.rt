@@ -123,43 +123,133 @@ fn waits_cuts_and_refused_ranges_lose_nothing(rt: HostRuntime) -> Result<(), Fai
     Ok(())
 }
 
-#[test]
-fn every_size_answers_as_the_plain_text(rt: HostRuntime) -> Result<(), Fail> {
-    let alloc = rt.alloc();
-    let texts = [
+/// Good and bad UTF-8, with cut sequences at the end.
+fn texts() -> [&'static [u8]; 5] {
+    [
         "".as_bytes(),
         "a\nbb\nccc".as_bytes(),
         "é\n€\n😀".as_bytes(),
         &[0x61, 0x0A, 0xE2, 0x82],
         &[0xF0, 0x9F, 0x98, 0x80, 0xC0, 0x61],
-    ];
-    let calls = [
-        Call::ReadLine(None),
-        Call::Read(Some(2)),
-        Call::ReadLine(Some(1)),
-        Call::Read(Some(0)),
-        Call::Read(None),
-        Call::Read(None),
-        Call::ReadLine(None),
-    ];
-    for bytes in texts {
+    ]
+}
+
+const MIXED: [Call; 7] = [
+    Call::ReadLine(None),
+    Call::Read(Some(2)),
+    Call::ReadLine(Some(1)),
+    Call::Read(Some(0)),
+    Call::Read(None),
+    Call::Read(None),
+    Call::ReadLine(None),
+];
+
+/// What the plain slow text answers to calls.
+fn plain_replies(alloc: Global, bytes: &[u8], calls: &[Call]) -> Result<Vec<Reply>, AllocError> {
+    let mut plain = PlainText::new(bytes.to_vec(alloc)?, Newlines::Lf);
+    let mut replies = Vec::new(alloc);
+    for call in calls {
+        let answer = match call {
+            Call::Read(size) => plain.read(alloc, *size),
+            Call::ReadLine(limit) => plain.readline(alloc, *limit),
+            _ => Err(IoFault::Unsupported),
+        };
+        replies.push(match answer {
+            Ok(text) => Reply::Text(text),
+            Err(fault) => Reply::Refused(fault),
+        })?;
+    }
+    Ok(replies)
+}
+
+/// Transfers of one byte each, with a wait before one of them.
+fn bytes_and_a_wait(alloc: Global, wait: usize) -> Result<Vec<Cut>, AllocError> {
+    let mut plan = Vec::new(alloc);
+    for transfer in 0..12 {
+        if transfer == wait {
+            plan.push(Cut::Wait)?;
+        }
+        plan.push(Cut::Take(1))?;
+    }
+    Ok(plan)
+}
+
+#[test]
+fn every_size_answers_as_the_plain_text(rt: HostRuntime) -> Result<(), Fail> {
+    let alloc = rt.alloc();
+    for bytes in texts() {
+        let expected = plain_replies(alloc, bytes, &MIXED)?;
         for buffer in 1..4 {
             for chunk in 1..4 {
                 let raw = raw_of(alloc, bytes, Vec::new(alloc))?;
-                let run = small_run(&rt, alloc, raw, (buffer, chunk), &calls);
-                let mut plain = PlainText::new(bytes.to_vec(alloc)?, Newlines::Lf);
-                assert_eq!(rt; run.replies.len(), calls.len());
-                for (call, reply) in calls.iter().zip(&run.replies) {
-                    let answer = match call {
-                        Call::Read(size) => plain.read(alloc, *size),
-                        Call::ReadLine(limit) => plain.readline(alloc, *limit),
-                        _ => Err(IoFault::Unsupported),
-                    };
-                    let expected = match answer {
-                        Ok(text) => Reply::Text(text),
-                        Err(fault) => Reply::Refused(fault),
-                    };
-                    assert_eq!(rt; *reply, expected, "of {bytes:?} by {buffer} and {chunk}");
+                let run = small_run(&rt, alloc, raw, (buffer, chunk), &MIXED);
+                assert_eq!(rt;
+                    run.replies,
+                    expected,
+                    "of {bytes:?} by {buffer} and {chunk}"
+                );
+            }
+        }
+    }
+    Ok(())
+}
+
+#[test]
+fn a_wait_before_any_transfer_loses_nothing(rt: HostRuntime) -> Result<(), Fail> {
+    let alloc = rt.alloc();
+    let mut calls = Vec::new(alloc);
+    for _ in 0..12 {
+        calls.push(Call::Read(Some(1)))?;
+    }
+    for bytes in texts() {
+        let plain = plain_replies(alloc, bytes, &calls)?;
+        for wait in 0..9 {
+            let raw = raw_of(alloc, bytes, bytes_and_a_wait(alloc, wait)?)?;
+            let run = small_run(&rt, alloc, raw, (2, 3), &calls);
+            if wait == 0 {
+                assert_eq!(rt; run.replies.first(), Some(&Reply::NotReady));
+            }
+            let mut expected = plain.iter();
+            for reply in &run.replies {
+                if !reply.says_wait() {
+                    assert_eq!(rt;
+                        Some(reply),
+                        expected.next(),
+                        "of {bytes:?}, waiting at {wait}"
+                    );
+                }
+            }
+        }
+    }
+    Ok(())
+}
+
+#[test]
+fn a_fault_at_any_call_fails_the_session(rt: HostRuntime) -> Result<(), Fail> {
+    let alloc = rt.alloc();
+    for bytes in texts() {
+        let plain = plain_replies(alloc, bytes, &MIXED)?;
+        for fault in 0..12 {
+            let flags = RawFlags::able(true, false, true);
+            let plan = bytes_and_a_wait(alloc, 12)?;
+            let raw = MemRaw::new(bytes.to_vec(alloc)?, flags, plan, vec![in alloc; fault]?);
+            match run_opened(alloc, raw, 2, 3, &MIXED) {
+                Err(refused) => {
+                    assert_eq!(rt; refused.fault, IoFault::RawFault);
+                    assert_eq!(rt; refused.raw.bytes_of(), bytes);
+                }
+                Ok(run) => {
+                    let mut failed = false;
+                    for (reply, expected) in run.replies.iter().zip(&plain) {
+                        if failed {
+                            assert_eq!(rt; *reply, Reply::Refused(IoFault::Failed));
+                        } else if reply.says_fault() {
+                            failed = true;
+                        } else {
+                            assert_eq!(rt; reply, expected, "of {bytes:?}, failing at {fault}");
+                        }
+                    }
+                    assert_eq!(rt; run.session.life() == Life::Failed, failed);
                 }
             }
         }
