@@ -1,6 +1,6 @@
 -- What the program did, by the status that it ends with.
-use Rattle.std.specs.Prelude.{◌≡◌, ◌≢◌, ℕ, ◌⊎◌, IsTrue, List, [], ◌∷◌, ◌++◌, Option, Some, None, Result, Ok, Err, negsuc, codes}
-use Rattle.py_flat.specs.declared.fault.IoFault.{IoFault}
+use Rattle.std.specs.Prelude.{◌≡◌, ℕ, ◌⊎◌, IsTrue, IsFalse, List, [], ◌∷◌, ◌++◌, Some, None, Result, Err, negsuc, codes}
+use Rattle.py_flat.specs.declared.fault.IoFault.TheVariants as fault
 use Rattle.py_flat.specs.Causes.{Rose}
 use Rattle.py_raw.specs.RawStream.{Raw}
 use Rattle.py_raw.specs.Source.{SourceView, SourceKeeps}
@@ -9,7 +9,7 @@ use Rattle.py_raw.specs.Opener.{OpenerView, OpenKeeps, Opens, OpenFaults, HoldsT
 use Rattle.py_open.specs.declared.call.Call.{Call}
 use Rattle.py_open.specs.declared.call.Call.TheVariants.{Close}
 use Rattle.py_open.specs.declared.reply.Reply.{Reply}
-use Rattle.py_open.specs.Reader.{RefusesRaw}
+use Rattle.py_open.specs.Reader.{RefusesRaw, HandsRawBack}
 use Rattle.py_open.specs.Session.{SessionView}
 use Rattle.py_open.specs.Run.{RunsCalls}
 use Rattle.py_script.specs.ReplyLine.{reply_lines}
@@ -43,23 +43,31 @@ pub record RanCalls (raw : Raw) (calls : List Call) (back : Raw) (lines : List �
   pub raw_is : back ≡ session.raw
   pub lines_are : lines ≡ reply_lines replies
 
--- the opening was refused and the raw handed back; `lines` is the refusal's
+-- the session couldn't be opened, since the raw failed to say where it stands; `lines` is the refusal's
 pub record RefusedRaw (raw : Raw) (back : Raw) (lines : List ℕ) : Type 0 where
-  pub refused : IoFault
-  pub why : RefusesRaw raw refused back
-  pub lines_are : lines ≡ refused_line refused
+  pub why : RefusesRaw raw fault.RawFault back
+  pub lines_are : lines ≡ refused_line fault.RawFault
 
 -- what there is to print over a raw
 abbrev pub HasLines : Raw → List Call → Raw → List ℕ → Type 0
 HasLines raw calls back lines = RanCalls raw calls back lines ⊎ RefusedRaw raw back lines
 
+-- a front of what there is to print was printed
+abbrev pub PrintsSome : Raw → List Call → Raw → SinkView → SinkView → Type 0
+PrintsSome raw calls back old new = (lines : List ℕ) × HasLines raw calls back lines × PrintsFront old lines new
+
+-- no call was made, and nothing printed
+pub record MakesNoCall (raw : Raw) (back : Raw) (old new : SinkView) : Type 0 where
+  pub hands : HandsRawBack raw back
+  pub sink : new ≡ old
+
 -- by the status: every reply was printed; or the refusal was; or a front of the one or the other, since the sink failed
--- or there was no memory
+-- or there was no memory, for which no call may have been made
 abbrev pub RawOutcome : Raw → List Call → Status → Raw → SinkView → SinkView → Type 0
 RawOutcome raw calls status.Done back old new = (lines : List ℕ) × RanCalls raw calls back lines × Prints old lines new
 RawOutcome raw calls status.Refused back old new = (lines : List ℕ) × RefusedRaw raw back lines × Prints old lines new
-RawOutcome raw calls status.SinkFailed back old new = (lines : List ℕ) × HasLines raw calls back lines × PrintsFront old lines new × Rose old.faults new.faults
-RawOutcome raw calls status.NoMemory back old new = (lines : List ℕ) × HasLines raw calls back lines × PrintsFront old lines new
+RawOutcome raw calls status.SinkFailed back old new = PrintsSome raw calls back old new × Rose old.faults new.faults
+RawOutcome raw calls status.NoMemory back old new = PrintsSome raw calls back old new ⊎ MakesNoCall raw back old new
 RawOutcome raw calls _ back old new = ⊥
 
 -- the path was opened to be read, the calls ended so, and the raw was put away again, whatever the opener answered
@@ -79,9 +87,9 @@ pub record OpensNothing (before after : Outside) : Type 0 where
   pub holds : IsTrue before.opener.tells → HoldsTheSame before.opener after.opener
   pub sink : after.sink ≡ before.sink
 
--- the path couldn't be opened; or couldn't be put away when all was printed
+-- the path couldn't be opened; or couldn't be put away when all was printed, which no opener that tells answers
 abbrev pub OpenerFails : List ℕ → List Call → Outside → Outside → Type 0
-OpenerFails path calls before after = (OpensNothing before after × OpenFaults before.opener path (codes "rb") after.opener) ⊎ (OpensPath path calls status.Done before after × Rose before.opener.faults after.opener.faults)
+OpenerFails path calls before after = (OpensNothing before after × OpenFaults before.opener path (codes "rb") after.opener) ⊎ (OpensPath path calls status.Done before after × Rose before.opener.faults after.opener.faults × IsFalse before.opener.tells)
 
 -- once the script was read
 abbrev pub CallsOutcome : List ℕ → List Call → Status → Outside → Outside → Type 0

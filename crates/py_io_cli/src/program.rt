@@ -1,7 +1,7 @@
 //! The program: from its words to the lines that it prints and the status that it ends with.
-ghost use Rattle.std.specs.Prelude.{◌≡◌, IfOk, MatchResult};
+ghost use Rattle.std.specs.Prelude.{◌≡◌, codes, IfOk, MatchResult};
 ghost use Rattle.py_raw.specs.Sink.{SinkKeeps};
-ghost use Rattle.py_open.specs.Reader.{StandsAtStart};
+ghost use Rattle.py_raw.specs.Opener.{IsOpened};
 ghost use Rattle.py_io_cli.specs.Outside.{texts};
 ghost use Rattle.py_io_cli.specs.Outcome.{RawOutcome, CallsOutcome, Ends, after_done, IsLineFeed};
 
@@ -77,7 +77,7 @@ fn run_raw<R: RawStream, K: Sink>(
     calls: Vec<Call>,
     out: &mut K,
 ) -> (Status, R)
-    requires { StandsAtStart (R.shows raw) }
+    requires { IsOpened (codes "rb") (R.shows raw) }
     ensures sink { SinkKeeps (K.shows out.old) (K.shows out.new) }
     ensures outcome { RawOutcome (R.shows raw) calls.items result.0 (R.shows result.1) (K.shows out.old) (K.shows out.new) }
 {
@@ -94,11 +94,13 @@ fn run_raw<R: RawStream, K: Sink>(
             let status = status_of(print_replies(alloc, out, &replies), Status::Done);
             (status, session.finish().raw)
         }
-        Err(OpenRefused { raw, fault: IoFault::NoMemory }) => (Status::NoMemory, raw),
-        Err(OpenRefused { raw, fault }) => {
-            let status = status_of(print_refused(alloc, out, fault), Status::Refused);
-            (status, raw)
-        }
+        Err(OpenRefused { raw, fault }) => match fault {
+            IoFault::NoMemory => (Status::NoMemory, raw),
+            fault => {
+                let status = status_of(print_refused(alloc, out, fault), Status::Refused);
+                (status, raw)
+            }
+        },
     }
 }
 

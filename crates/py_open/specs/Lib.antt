@@ -7,3 +7,4 @@ pub mod Text
 pub mod Session
 pub mod Opening
 pub mod Run
+pub mod Laws

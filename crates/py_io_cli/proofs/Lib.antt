@@ -1,0 +1,5 @@
+mod Printed
+mod LineFeed
+mod OverRaw
+mod Opened
+mod Ending

@@ -1,0 +1,12 @@
+use Rattle.std.proofs.Common.{take}
+use Rattle.py_raw.specs.Sink.{SinkKeeps}
+use Rattle.py_script.specs.ReplyLine.{reply_lines}
+use Rattle.py_io_cli.specs.Outside.{Prints}
+use Rattle.py_io_cli.proofs.printing.print_replies.Given as goal
+
+-- the lines of the replies so far are printed
+abbrev pub invariant-loop-reply : goal.invariant-loop-reply
+invariant-loop-reply g l = record {
+  keeps : SinkKeeps (g.K.Sink.shows l.fn.out) (g.K.Sink.shows l.out);
+  printed : Prints (g.K.Sink.shows l.fn.out) (reply_lines (take l.reply-index l.replies)) (g.K.Sink.shows l.out);
+}
