@@ -5,3 +5,4 @@ pub mod UnitLaws
 pub mod Walks
 mod Translating
 pub mod Strings
+mod Joining

@@ -5,6 +5,7 @@ pub mod Spelling
 pub mod Handlers
 pub mod Items
 pub mod Decoding
+pub mod Pieces
 pub mod NewlineRule
 pub mod TextFile
 pub mod Rest

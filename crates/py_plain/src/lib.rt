@@ -11,6 +11,7 @@ mod handler;
 mod laws;
 mod line;
 mod newlines;
+mod pieces;
 mod plain_text;
 #[cfg(test)]
 mod tests;
@@ -23,5 +24,6 @@ pub use handler::Handler;
 pub use laws::{plain_steps, utf8_units};
 pub use line::{Line, first_line};
 pub use newlines::{Newlines, translate};
+pub use pieces::pieces_decode_as_one;
 pub use plain_text::PlainText;
 pub use unit::{Unit, first_unit};

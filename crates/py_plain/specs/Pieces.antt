@@ -1,0 +1,49 @@
+-- Decoding in pieces: each while more may come, what it left unused put before the next, and the last one finally.
+use Rattle.std.specs.Prelude.{◌≡◌, ℕ, ◌+◌, ◌-◌, ◌≤◌, Bool, true, false, List, [], ◌∷◌, ◌++◌, length, take, drop}
+use Rattle.py_plain.specs.declared.encoding.Encoding.TheVariants.{Utf8}
+use Rattle.py_plain.specs.Units.{Order}
+use Rattle.py_plain.specs.Handlers.{Treatment, Replaced}
+use Rattle.py_plain.specs.Items.{Item, Ending, AtEnd, AtRange, AtCut, Walk, walk_from}
+
+-- a treatment that looks at no bytes but those of the refused range, and stands for no more than them
+pub record LooksAtRange (treat : Treatment) : Type 0 where
+  pub same : (place size : ℕ) (rest other : List ℕ) → take size rest ≡ take size other → treat place rest size ≡ treat place other size
+  pub within : (place size : ℕ) (rest characters : List ℕ) (used : ℕ) → treat place rest size ≡ Replaced characters used → used ≤ size
+
+-- the decoding of bytes of UTF-8 that stand at a place
+abbrev pub utf8_walk : Treatment → Bool → Order → ℕ → List ℕ → Walk
+utf8_walk treat last order place bytes = walk_from Utf8 treat last order place 0 bytes
+
+-- some items before a decoding
+abbrev pub items_before : List Item → Walk → Walk
+items_before items walk = record { items = items ++ walk.items; ending = walk.ending }
+
+-- where the decoding of a front goes on: behind it, or at the sequence that its end cuts
+abbrev pub place_behind : ℕ → List ℕ → Ending → ℕ
+place_behind place front AtEnd = place + length front
+place_behind place front (AtCut start) = start
+place_behind place front (AtRange start end) = end
+
+-- the bytes of a front that its decoding left unused
+abbrev pub unused : ℕ → List ℕ → Ending → List ℕ
+unused place front AtEnd = []
+unused place front (AtCut start) = drop (start - place) front
+unused place front (AtRange start end) = []
+
+-- a refused range ends a decoding, whatever comes behind it
+abbrev pub unless_refused : Ending → Walk → Walk
+unless_refused (AtRange start end) walk = record { items = []; ending = AtRange start end }
+unless_refused _ walk = walk
+
+-- the decoding of a front while more may come, and then of what it left and the rest
+abbrev pub in_two : Treatment → Bool → Order → ℕ → (front rest : List ℕ) → Walk
+in_two treat last order place front rest =
+    let first = utf8_walk treat false order place front in
+    items_before first.items (unless_refused first.ending (utf8_walk treat last order (place_behind place front first.ending) (unused place front first.ending ++ rest)))
+
+-- the decoding of any number of pieces behind the bytes that were kept, and of the last one
+abbrev pub in_pieces : Treatment → Order → ℕ → List ℕ → List (List ℕ) → List ℕ → Walk
+in_pieces treat order place kept [] final = utf8_walk treat true order place (kept ++ final)
+in_pieces treat order place kept (piece ∷ pieces) final =
+    let first = utf8_walk treat false order place (kept ++ piece) in
+    items_before first.items (unless_refused first.ending (in_pieces treat order (place_behind place (kept ++ piece) first.ending) (unused place (kept ++ piece) first.ending) pieces final))
