@@ -1,4 +1,3 @@
-use Rattle.std.proofs.Common.{List, ℕ}
 use Rattle.py_raw.specs.Source.{SourceView}
 use Rattle.py_io_cli.specs.Outside.{texts}
 use Rattle.py_io_cli.specs.Outcome.{Outside}
