@@ -16,7 +16,7 @@ use Rattle.py_plain.specs.Units.{Unknown}
 use Rattle.py_plain.specs.Handlers.{treatment}
 use Rattle.py_plain.specs.Items.{Walk, Given, AtRange, item_of, used_behind, onto_walk, walk_from, characters_of, refusal_of}
 use Rattle.py_plain.proofs.UnitLaws.{character_own, one_unit, unit_within}
-use Rattle.py_plain.proofs.Walks.{walk-given}
+use Rattle.py_plain.proofs.Walks.{walk-skip}
 use Rattle.py_open.specs.Text.{stop_at, IsNoCharacter, DecodedSoFar}
 
 -- a front that was decoded, and one character more
@@ -32,33 +32,54 @@ decoded_more bytes before after used c n decoded is =
       ap (λ (cs : List ℕ). cs ++ c ∷ []) decoded.3 ∙ append_assoc before decoded.0 (c ∷ []),
     )
 
--- The decoding of bytes at a place, with nothing behind them.
+-- The decoding of bytes at a place; `last` says that nothing comes behind them.
 
+abbrev pub walk_by : Bool → ℕ → List ℕ → Walk
+walk_by last place bytes = walk_from Utf8 (treatment Strict Utf8) last Unknown place 0 bytes
+
+-- with nothing behind them
 abbrev pub walk_at : ℕ → List ℕ → Walk
-walk_at place bytes = walk_from Utf8 (treatment Strict Utf8) true Unknown place 0 bytes
-
--- it begins with the character that the bytes begin with
-walk_character : (place : ℕ) (bytes : List ℕ) (c n : ℕ) → utf8_unit bytes ≡ Some (Character c n) → walk_at place bytes ≡ onto_walk place (Given (c ∷ []) n) (walk_at (place + n) (drop n bytes))
-walk_character place [] c n is = absurd (cc)
-walk_character place (byte ∷ rest) c zero is = absurd (omega (arith, (unit_within (byte ∷ rest) (Character c zero) is).0))
-walk_character place (byte ∷ rest) c (suc n) is =
-    walk-given Utf8 (treatment Strict Utf8) Unknown place byte rest (c ∷ []) (suc n) (omega arith) (ap (item_of (treatment Strict Utf8) true place (byte ∷ rest)) is)
-    ∙ ap (λ (k : ℕ). onto_walk place (Given (c ∷ []) (suc n)) (walk_at (place + suc n) (drop k rest))) (omega arith)
+walk_at place bytes = walk_by true place bytes
 
 -- the decoding of some bytes by the unit that they begin with
-abbrev begun : ℕ → ℕ → List ℕ → Option Read → Walk
-begun place byte rest unit =
-    let first = item_of (treatment Strict Utf8) true place (byte ∷ rest) unit in
-    onto_walk place first (walk_from Utf8 (treatment Strict Utf8) true Unknown (place + 1) (used_behind first) rest)
+abbrev begun : Bool → ℕ → ℕ → List ℕ → Option Read → Walk
+begun last place byte rest unit =
+    let first = item_of (treatment Strict Utf8) last place (byte ∷ rest) unit in
+    onto_walk place first (walk_from Utf8 (treatment Strict Utf8) last Unknown (place + 1) (used_behind first) rest)
+
+-- it begins with the character that the bytes begin with
+walk_character : (last : Bool) (place : ℕ) (bytes : List ℕ) (c n : ℕ) → utf8_unit bytes ≡ Some (Character c n) → walk_by last place bytes ≡ onto_walk place (Given (c ∷ []) n) (walk_by last (place + n) (drop n bytes))
+walk_character last place [] c n is = absurd (cc)
+walk_character last place (byte ∷ rest) c zero is = absurd (omega (arith, (unit_within (byte ∷ rest) (Character c zero) is).0))
+walk_character last place (byte ∷ rest) c (suc n) is =
+    let behind : suc n - 1 ≡ n = omega arith in
+    let far : place + 1 + n ≡ place + suc n = omega arith in
+    ap (begun last place byte rest) is
+    ∙ ap (λ (k : ℕ). onto_walk place (Given (c ∷ []) (suc n)) (walk_from Utf8 (treatment Strict Utf8) last Unknown (place + 1) k rest)) behind
+    ∙ ap (onto_walk place (Given (c ∷ []) (suc n))) (walk-skip Utf8 (treatment Strict Utf8) last Unknown (place + 1) n rest ∙ ap (λ (p : ℕ). walk_by last p (drop n rest)) far)
 
 -- or ends with the refused range that they begin with
 pub walk_refused : (place : ℕ) (bytes : List ℕ) (n : ℕ) → utf8_unit bytes ≡ Some (Malformed n) → walk_at place bytes ≡ record { items = []; ending = AtRange place (place + n) }
 walk_refused place [] n is = absurd (cc)
-walk_refused place (byte ∷ rest) n is = ap (begun place byte rest) is
+walk_refused place (byte ∷ rest) n is = ap (begun true place byte rest) is
 
 pub walk_cut : (place : ℕ) (bytes : List ℕ) (n : ℕ) → utf8_unit bytes ≡ Some (Cut n) → walk_at place bytes ≡ record { items = []; ending = AtRange place (place + n) }
 walk_cut place [] n is = absurd (cc)
-walk_cut place (byte ∷ rest) n is = ap (begun place byte rest) is
+walk_cut place (byte ∷ rest) n is = ap (begun true place byte rest) is
+
+-- while more may come, bytes that begin with neither a character nor a refused range give nothing yet
+pub record GivesNone (walk : Walk) : Type 0 where
+  pub characters : characters_of walk.items ≡ []
+  pub refusal : refusal_of walk.ending ≡ None
+
+given_none : (place byte : ℕ) (rest : List ℕ) (unit : Read) → IsNoCharacter (Some unit) → stop_at (Some unit) ≡ None → GivesNone (begun false place byte rest (Some unit))
+given_none place byte rest (Character c n) never none = absurd never
+given_none place byte rest (Malformed n) whole none = absurd (cc)
+given_none place byte rest (Cut n) whole none = record { characters = refl; refusal = refl }
+
+pub walk_unfinished : (place : ℕ) (bytes : List ℕ) → IsNoCharacter (utf8_unit bytes) → stop_at (utf8_unit bytes) ≡ None → GivesNone (walk_by false place bytes)
+walk_unfinished place [] whole none = record { characters = refl; refusal = refl }
+walk_unfinished place (byte ∷ rest) whole none = given_none place byte rest (unit_after byte (lead byte) rest) whole none
 
 -- the characters that some bytes spell come before what comes behind those bytes
 pub record Precedes (characters : List ℕ) (whole behind : Walk) : Type 0 where
@@ -73,21 +94,21 @@ precedes_more place c n cs whole between behind is precedes = record {
 }
 
 -- the bytes of one character, whatever stands behind them
-walk_spelled : (place c : ℕ) (rest : List ℕ) → IsScalar c → walk_at place (encode_utf8 c ++ rest) ≡ onto_walk place (Given (c ∷ []) (len (encode_utf8 c))) (walk_at (place + len (encode_utf8 c)) rest)
-walk_spelled place c rest scalar =
-    walk_character place (encode_utf8 c ++ rest) c (len (encode_utf8 c)) (one_unit c rest scalar)
-    ∙ ap (λ (bytes : List ℕ). onto_walk place (Given (c ∷ []) (len (encode_utf8 c))) (walk_at (place + len (encode_utf8 c)) bytes)) (drop-append_seam (encode_utf8 c) rest)
+walk_spelled : (last : Bool) (place c : ℕ) (rest : List ℕ) → IsScalar c → walk_by last place (encode_utf8 c ++ rest) ≡ onto_walk place (Given (c ∷ []) (len (encode_utf8 c))) (walk_by last (place + len (encode_utf8 c)) rest)
+walk_spelled last place c rest scalar =
+    walk_character last place (encode_utf8 c ++ rest) c (len (encode_utf8 c)) (one_unit c rest scalar)
+    ∙ ap (λ (bytes : List ℕ). onto_walk place (Given (c ∷ []) (len (encode_utf8 c))) (walk_by last (place + len (encode_utf8 c)) bytes)) (drop-append_seam (encode_utf8 c) rest)
 
 -- the same of many
-pub walk_spelling : (cs : List ℕ) (place : ℕ) (rest : List ℕ) → All IsScalar cs → Precedes cs (walk_at place (encode_utf8_all cs ++ rest)) (walk_at (place + len (encode_utf8_all cs)) rest)
-walk_spelling [] place rest scalars = subst (λ (p : ℕ). Precedes [] (walk_at place rest) (walk_at p rest)) (omega arith) (record { characters_are = refl; refusal_is = refl })
-walk_spelling (c ∷ cs) place rest scalars =
+pub walk_spelling : (last : Bool) (cs : List ℕ) (place : ℕ) (rest : List ℕ) → All IsScalar cs → Precedes cs (walk_by last place (encode_utf8_all cs ++ rest)) (walk_by last (place + len (encode_utf8_all cs)) rest)
+walk_spelling last [] place rest scalars = subst (λ (p : ℕ). Precedes [] (walk_by last place rest) (walk_by last p rest)) (omega arith) (record { characters_are = refl; refusal_is = refl })
+walk_spelling last (c ∷ cs) place rest scalars =
     let first : List ℕ = encode_utf8 c in
     let others : List ℕ = encode_utf8_all cs in
     let far : place + len first + len others ≡ place + len (first ++ others) = omega (arith, length-append first others) in
-    precedes_more place c (len first) cs (walk_at place ((first ++ others) ++ rest)) (walk_at (place + len first) (others ++ rest)) (walk_at (place + len (first ++ others)) rest)
-    (ap (walk_at place) (append_assoc first others rest) ∙ walk_spelled place c (others ++ rest) (All-head IsScalar c cs scalars))
-    (subst (λ (p : ℕ). Precedes cs (walk_at (place + len first) (others ++ rest)) (walk_at p rest)) far (walk_spelling cs (place + len first) rest (All-tail IsScalar c cs scalars)))
+    precedes_more place c (len first) cs (walk_by last place ((first ++ others) ++ rest)) (walk_by last (place + len first) (others ++ rest)) (walk_by last (place + len (first ++ others)) rest)
+    (ap (walk_by last place) (append_assoc first others rest) ∙ walk_spelled last place c (others ++ rest) (All-head IsScalar c cs scalars))
+    (subst (λ (p : ℕ). Precedes cs (walk_by last (place + len first) (others ++ rest)) (walk_by last p rest)) far (walk_spelling last cs (place + len first) rest (All-tail IsScalar c cs scalars)))
 
 -- A refused range at the front of some bytes stays one whatever comes behind them.
 

@@ -1,17 +1,17 @@
 -- What a call of the reader leaves of what is known of a text.
-use Rattle.std.proofs.Common.{◌≡◌, ◌≢◌, ℕ, ◌+◌, ◌≤◌, false, nat_eq, IsTrue, List, [], ◌∷◌, ◌++◌, length as len, drop, Result, Ok, Err, refl, sym, ap, ◌∙◌, subst, arith}
+use Rattle.std.proofs.Common.{◌≡◌, ◌≢◌, ℕ, ◌+◌, false, nat_eq, IsTrue, List, [], ◌++◌, length as len, drop, Result, Ok, Err, sym, ap, ◌∙◌, subst, arith}
 use Rattle.std.proofs.Math.Seq.{drop-append_seam}
-use Rattle.std.proofs.lemmas.List.{length-append, length-drop, drop-drop}
+use Rattle.std.proofs.lemmas.List.{append_assoc, length-append, drop-drop}
+use Rattle.std.specs.Str.{encode_utf8_all}
 use Rattle.py_flat.specs.declared.fault.IoFault.{IoFault}
 use Rattle.py_flat.specs.declared.fault.IoFault.TheVariants as fault
 use Rattle.py_flat.specs.declared.life.Life.{Life}
 use Rattle.py_flat.specs.declared.life.Life.TheVariants as life
 use Rattle.py_flat.specs.Bytes.{left_at}
 use Rattle.py_flat.specs.BinaryStep.{IsFrontOf}
-use Rattle.py_plain.specs.Items.{Walk, characters_of, refusal_of}
 use Rattle.py_open.specs.Reader.{ReaderView, KeepsReader, MovesForth, ClosesRaw, ClosesIn, CloseOutcome, Gives, ReadFails}
-use Rattle.py_open.specs.Text.{ahead, TiedTold, IsText}
-use Rattle.py_open.proofs.Tying.{ahead_read, tied_at}
+use Rattle.py_open.specs.Text.{KnowsTold, IsText}
+use Rattle.py_open.proofs.Tying.{known_at}
 
 -- where the old raw tells, the new one does
 tells_still : (old new : ReaderView) → KeepsReader old new → IsTrue new.raw.tells → IsTrue old.raw.tells
@@ -23,7 +23,7 @@ text_over old new at taken chunk held pending keeps forth still is = record {
   asks = is.asks;
   counted = omega (arith, is.counted, forth.forth);
   far = forth.far;
-  told = λ tells live. let before = tells_still old new keeps tells in tied_at old.raw.bytes new.raw.bytes old.place new.place at taken held pending (keeps.bytes before) (still live).1 (is.told before (still live).0);
+  told = λ tells live. let before = tells_still old new keeps tells in known_at old.raw.bytes new.raw.bytes old.place new.place at taken held pending (keeps.bytes before) (still live).1 (is.told before (still live).0);
 }
 
 -- Closing.
@@ -67,20 +67,17 @@ left_behind bytes part place front =
     let rest : left_at bytes (place + len part) ≡ more = sym (drop-drop (len part) place bytes) ∙ (ap (drop (len part)) (sym front.1) ∙ drop-append_seam part more) in
     sym front.1 ∙ ap (λ (behind : List ℕ). part ++ behind) (sym rest)
 
--- a part of what is left lies inside the bytes
-part_inside : (bytes part : List ℕ) (place : ℕ) → part ≢ [] → IsFrontOf part (left_at bytes place) → place + len part ≤ len bytes
-part_inside bytes [] place some front = absurd (some refl)
-part_inside bytes (byte ∷ part) place some front = omega (arith, ap len front.1, length-append (byte ∷ part) front.0, length-drop place bytes)
-
--- the tie, with a part come into hand
-tied_read : (bytes part : List ℕ) (place at taken : ℕ) (held pending : List ℕ) → part ≢ [] → IsFrontOf part (left_at bytes place) → TiedTold bytes place at taken held pending → TiedTold bytes (place + len part) at taken (held ++ part) pending
-tied_read bytes part place at taken held pending some front told =
+-- a part come into hand
+known_read : (bytes part : List ℕ) (place at taken : ℕ) (held pending : List ℕ) → IsFrontOf part (left_at bytes place) → KnowsTold bytes place at taken held pending → KnowsTold bytes (place + len part) at taken (held ++ part) pending
+known_read bytes part place at taken held pending front told =
     let behind : List ℕ = left_at bytes (place + len part) in
-    let same : ahead held place (left_at bytes place) ≡ ahead (held ++ part) (place + len part) behind = ap (ahead held place) (left_behind bytes part place front) ∙ sym (ahead_read held part behind place) in
     record {
-      characters = told.characters ∙ ap (λ (walk : Walk). pending ++ characters_of walk.items) same;
-      refusal = told.refusal ∙ ap (λ (walk : Walk). refusal_of walk.ending) same;
-      within = omega (arith, part_inside bytes part place some front);
+      decoded = told.decoded;
+      scalars = told.scalars;
+      bytes_are = told.bytes_are ∙ ap (λ (xs : List ℕ). encode_utf8_all told.decoded ++ xs) (ap (λ (xs : List ℕ). held ++ xs) (left_behind bytes part place front) ∙ sym (append_assoc held part behind));
+      place_is = omega (arith, told.place_is, length-append held part);
+      within = told.within;
+      untaken = told.untaken;
     }
 
 -- a text that a part was given to
@@ -91,8 +88,8 @@ text_read old new size part at taken chunk held pending before some keeps forth 
   far = forth.far;
   told = λ tells live.
       let told = tells_still old new keeps tells in
-      tied_at old.raw.bytes new.raw.bytes (old.place + len part) new.place at taken (held ++ part) pending (keeps.bytes told) gives.place
-      (tied_read old.raw.bytes part old.place at taken held pending some (gives.told told).front (is.told told before));
+      known_at old.raw.bytes new.raw.bytes (old.place + len part) new.place at taken (held ++ part) pending (keeps.bytes told) gives.place
+      (known_read old.raw.bytes part old.place at taken held pending (gives.told told).front (is.told told before));
 }
 
 -- a part whose length isn't 0 is not empty

@@ -5,7 +5,10 @@ mod Decoding
 mod Tying
 mod Holding
 mod Gathering
-mod Spelling
+mod Results
 mod Taking
+mod Waiting
 mod Enough
 mod Answering
+mod Runs
+mod Losing

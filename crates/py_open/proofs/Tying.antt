@@ -1,52 +1,71 @@
 -- How what is known of a text stays tied to the bytes of its raw.
-use Rattle.std.proofs.Common.{◌≡◌, ℕ, ◌+◌, ◌-◌, ◌≤◌, Bool, List, ◌++◌, length as len, drop, Option, Ok, refl, sym, ap, ◌∙◌, subst, arith}
+use Rattle.std.proofs.Common.{◌≡◌, ℕ, ◌+◌, ◌-◌, ◌≤◌, max, Bool, true, List, ◌++◌, length as len, drop, Option, Ok, refl, sym, ap, ◌∙◌, subst, arith}
 use Rattle.std.specs.List.{All}
 use Rattle.std.specs.Char.{IsScalar}
 use Rattle.std.specs.Str.{encode_utf8_all}
-use Rattle.std.proofs.lemmas.List.{append_assoc, length-append, take-append-drop, drop-append-le}
-use Rattle.std.proofs.lemmas.Str.{length-le-encodes}
+use Rattle.std.proofs.lemmas.List.{append_assoc, length-append, length-drop, take-append-drop, drop-append-le}
+use Rattle.std.proofs.lemmas.List.Elements.{All-append}
+use Rattle.std.proofs.lemmas.Str.{encodes-append, length-le-encodes}
 use Rattle.py_flat.specs.declared.life.Life.{Life}
 use Rattle.py_flat.specs.Bytes.{left_at}
-use Rattle.py_plain.specs.Items.{characters_of}
+use Rattle.py_plain.specs.Items.{characters_of, refusal_of}
 use Rattle.py_plain.specs.Utf8.{utf8_unit}
 use Rattle.py_raw.specs.RawStream.{Raw}
 use Rattle.py_open.specs.Reader.{ReaderView}
-use Rattle.py_open.specs.Text.{TextView, ahead, TiedTold, IsText, Decodes, DecodedSoFar, StoppedAt, DecodeOutcome, IsNoCharacter, stop_at}
+use Rattle.py_open.specs.Text.{TextView, decoded_from, ahead, KnowsTold, IsText, Decodes, DecodedSoFar, StoppedAt, DecodeOutcome, IsNoCharacter, stop_at}
 use Rattle.py_open.proofs.Decoding.{walk_at, Precedes, walk_spelling}
 
--- What comes behind the characters that are known.
-
--- bytes in hand that spell characters
-ahead_decoded : (cs held left : List ℕ) (place : ℕ) → All IsScalar cs → len (encode_utf8_all cs ++ held) ≤ place → Precedes cs (ahead (encode_utf8_all cs ++ held) place left) (ahead held place left)
-ahead_decoded cs held left place scalars within =
-    let bytes : List ℕ = encode_utf8_all cs in
-    let from : ℕ = place - len (bytes ++ held) in
-    let far : from + len bytes ≡ place - len held = omega (arith, length-append bytes held) in
-    subst (λ (all : List ℕ). Precedes cs (walk_at from all) (walk_at (place - len held) (held ++ left))) (sym (append_assoc bytes held left))
-    (subst (λ (p : ℕ). Precedes cs (walk_at from (bytes ++ (held ++ left))) (walk_at p (held ++ left))) far
-    (walk_spelling cs from (held ++ left) scalars))
-
--- bytes that were read come into hand
-pub ahead_read : (held part left : List ℕ) (place : ℕ) → ahead (held ++ part) (place + len part) left ≡ ahead held place (part ++ left)
-ahead_read held part left place =
-    let from : place + len part - len (held ++ part) ≡ place - len held = omega (arith, length-append held part) in
-    ap (λ (p : ℕ). walk_at p ((held ++ part) ++ left)) from ∙ ap (walk_at (place - len held)) (append_assoc held part left)
+-- What is known.
 
 -- the same bytes and the same place
-pub tied_at : (old new : List ℕ) (before after at taken : ℕ) (held pending : List ℕ) → new ≡ old → after ≡ before → TiedTold old before at taken held pending → TiedTold new after at taken held pending
-tied_at old new before after at taken held pending bytes place told =
-    subst (λ (p : ℕ). TiedTold new p at taken held pending) (sym place) (subst (λ (all : List ℕ). TiedTold all before at taken held pending) (sym bytes) told)
+pub known_at : (old new : List ℕ) (before after at taken : ℕ) (held pending : List ℕ) → new ≡ old → after ≡ before → KnowsTold old before at taken held pending → KnowsTold new after at taken held pending
+known_at old new before after at taken held pending bytes place told =
+    subst (λ (p : ℕ). KnowsTold new p at taken held pending) (sym place) (subst (λ (all : List ℕ). KnowsTold all before at taken held pending) (sym bytes) told)
+
+-- The tie.
+
+-- told: from the text place on there are the characters that are known, then what comes behind them
+pub record TiedTold (bytes : List ℕ) (place at taken : ℕ) (held pending : List ℕ) : Type 0 where
+  pub characters : drop taken (characters_of (decoded_from bytes at).items) ≡ pending ++ characters_of (ahead held place (left_at bytes place)).items
+  pub refusal : refusal_of (decoded_from bytes at).ending ≡ refusal_of (ahead held place (left_at bytes place)).ending
+  -- no byte past the end was read
+  pub within : place ≤ max at (len bytes)
+
+-- what was decoded comes before what comes behind it
+pub decoded_before : (bytes : List ℕ) (place at taken : ℕ) (held pending : List ℕ) → (told : KnowsTold bytes place at taken held pending) → Precedes told.decoded (decoded_from bytes at) (ahead held place (left_at bytes place))
+decoded_before bytes place at taken held pending told =
+    let behind : List ℕ = held ++ left_at bytes place in
+    let far : at + len (encode_utf8_all told.decoded) ≡ place - len held = omega (arith, told.place_is) in
+    subst (λ (all : List ℕ). Precedes told.decoded (walk_at at all) (walk_at (place - len held) behind)) (sym told.bytes_are)
+    (subst (λ (p : ℕ). Precedes told.decoded (walk_at at (encode_utf8_all told.decoded ++ behind)) (walk_at p behind)) far
+    (walk_spelling true told.decoded at behind told.scalars))
+
+pub tied_by : (bytes : List ℕ) (place at taken : ℕ) (held pending : List ℕ) → KnowsTold bytes place at taken held pending → TiedTold bytes place at taken held pending
+tied_by bytes place at taken held pending told =
+    let before = decoded_before bytes place at taken held pending told in
+    let more : List ℕ = characters_of (ahead held place (left_at bytes place)).items in
+    let bytes_size : len (left_at bytes at) ≡ len (encode_utf8_all told.decoded) + (len held + len (left_at bytes place)) = ap len told.bytes_are ∙ simp length-append in
+    record {
+      characters = ap (drop taken) before.characters_are ∙ (drop-append-le taken told.decoded more told.within ∙ ap (λ (cs : List ℕ). cs ++ more) told.untaken);
+      refusal = before.refusal_is;
+      within = omega (arith, bytes_size, told.place_is, length-drop at bytes, length-drop place bytes);
+    }
 
 -- Decoding.
 
-tied_decoded : (bytes : List ℕ) (place at taken : ℕ) (cs held pending : List ℕ) → All IsScalar cs → len (encode_utf8_all cs ++ held) ≤ place → TiedTold bytes place at taken (encode_utf8_all cs ++ held) pending → TiedTold bytes place at taken held (pending ++ cs)
-tied_decoded bytes place at taken cs held pending scalars within told =
+known_decoded : (bytes : List ℕ) (place at taken : ℕ) (cs held pending : List ℕ) → All IsScalar cs → KnowsTold bytes place at taken (encode_utf8_all cs ++ held) pending → KnowsTold bytes place at taken held (pending ++ cs)
+known_decoded bytes place at taken cs held pending scalars told =
+    let before : List ℕ = encode_utf8_all told.decoded in
+    let new : List ℕ = encode_utf8_all cs in
     let left : List ℕ = left_at bytes place in
-    let precedes = ahead_decoded cs held left place scalars within in
+    let all : encode_utf8_all (told.decoded ++ cs) ≡ before ++ new = encodes-append told.decoded cs in
     record {
-      characters = told.characters ∙ ap (λ (more : List ℕ). pending ++ more) precedes.characters_are ∙ sym (append_assoc pending cs (characters_of (ahead held place left).items));
-      refusal = told.refusal ∙ precedes.refusal_is;
-      within = told.within;
+      decoded = told.decoded ++ cs;
+      scalars = All-append IsScalar told.decoded cs told.scalars scalars;
+      bytes_are = told.bytes_are ∙ (ap (λ (xs : List ℕ). before ++ xs) (append_assoc new held left) ∙ (sym (append_assoc before new (held ++ left)) ∙ ap (λ (xs : List ℕ). xs ++ (held ++ left)) (sym all)));
+      place_is = omega (arith, told.place_is, length-append new held, ap len all, length-append before new);
+      within = omega (arith, told.within, length-append told.decoded cs);
+      untaken = drop-append-le taken told.decoded cs told.within ∙ ap (λ (xs : List ℕ). xs ++ cs) told.untaken;
     }
 
 text_decoded : (raw : Raw) (place : ℕ) (current : Life) (at taken chunk : ℕ) (cs held pending : List ℕ) → All IsScalar cs → IsText raw place current at taken chunk (encode_utf8_all cs ++ held) pending → IsText raw place current at taken chunk held (pending ++ cs)
@@ -56,7 +75,7 @@ text_decoded raw place current at taken chunk cs held pending scalars is =
       asks = is.asks;
       counted = omega (arith, is.counted, size, length-append pending cs, length-le-encodes cs);
       far = is.far;
-      told = λ tells live. tied_decoded raw.bytes place at taken cs held pending scalars (omega (arith, is.counted)) (is.told tells live);
+      told = λ tells live. known_decoded raw.bytes place at taken cs held pending scalars (is.told tells live);
     }
 
 -- the bytes that spell what was decoded, and those behind them

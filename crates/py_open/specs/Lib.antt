@@ -2,7 +2,9 @@ pub mod OpenArgs
 pub mod Calls
 pub mod Plan
 pub mod Reader
+pub mod Waiting
 pub mod Text
 pub mod Session
 pub mod Opening
 pub mod Run
+pub mod Laws

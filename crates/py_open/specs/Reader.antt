@@ -88,9 +88,16 @@ ReadFails old fault.RawFault new = Rose old.raw.faults new.raw.faults × (new.li
 ReadFails old fault.NoMemory new = GivesNothing old new
 ReadFails old fault new = (life_fault old.life ≡ Some fault) × (new ≡ old)
 
+-- the raw asked to wait: nothing was given, and nothing is held back, so that a raw that tells stands at the place
+pub record WaitsEmpty (old new : ReaderView) : Type 0 where
+  pub cause : Rose old.raw.waits new.raw.waits
+  pub nothing : GivesNothing old new
+  pub empty : new.held ≡ []
+  pub told : WhereTold old.raw (new.raw.place ≡ new.place)
+
 abbrev pub Read1Outcome : ReaderView → ℕ → Result (Option (Vec ℕ Global)) IoFault → ReaderView → Type 0
 Read1Outcome old size (Ok (Some part)) new = Gives old size part.items new
-Read1Outcome old size (Ok None) new = Rose old.raw.waits new.raw.waits × GivesNothing old new
+Read1Outcome old size (Ok None) new = WaitsEmpty old new
 Read1Outcome old size (Err fault) new = ReadFails old fault new
 
 -- what the buffer holds is given: the raw isn't called

@@ -12,6 +12,7 @@ use Rattle.py_raw.specs.RawStream.{Raw, Keeps, WhereTold}
 use Rattle.py_open.specs.declared.call.Call.{Call}
 use Rattle.py_open.specs.declared.reply.Reply.{Reply}
 use Rattle.py_open.specs.Calls.{text_call, said}
+use Rattle.py_open.specs.Waiting.{ShowsAll}
 
 -- the flat file of a session, by its kind
 pub data SessionFile : Type 0 where
@@ -95,9 +96,18 @@ pub record TextMoves (before : TextFile) (call : TextCall) (short : Bool) (reply
 
 -- The one clause of every call.
 
--- a call of a text that the life or the kind refuses answers so, calls no raw and leaves all as it was
-pub record RefusesText (before : TextFile) (old : Raw) (refused : IoFault) (reply : FileReply) (after : TextFile) (new : Raw) (short : Bool) : Type 0 where
-  pub says : reply ≡ Refused refused
+abbrev pub is_closed : Life → Bool
+is_closed life.Closed = true
+is_closed _ = false
+
+-- whether a call closes a text that is closed: Python's `close` of a closed stream does nothing
+abbrev pub closes_again : TextFile → TextCall → Bool
+closes_again file Close = is_closed file.life
+closes_again file call = false
+
+-- a call of a text that calls no raw and leaves all as it was, with this answer
+pub record LeavesText (before : TextFile) (old : Raw) (expected reply : FileReply) (after : TextFile) (new : Raw) (short : Bool) : Type 0 where
+  pub says : reply ≡ expected
   pub file : after ≡ before
   pub raw : new ≡ old
   pub whole : short ≡ false
@@ -112,15 +122,18 @@ pub record IsComplete (call : TextCall) (reply : FileReply) (short : Bool) : Typ
   pub answer : IsAnswerTo call reply
   pub whole : short ≡ false
 
--- one call of a text: what the raw can do stays and its counts never fall; refusals; causes; life and place;
--- completeness; and, where the raw tells, the step of the model
+-- one call of a text: what the raw can do stays and its counts never fall; what the life or the kind refuses; a close
+-- of a closed text; causes; life and place; completeness; and, where the raw tells, the step of the model, and that a
+-- wait hides nothing
 pub record AnswersText (before : TextFile) (old : Raw) (call : TextCall) (reply : FileReply) (after : TextFile) (new : Raw) (short : Bool) : Type 0 where
   pub keeps : Keeps old new
-  pub refused : (refused : IoFault) → text_refusal before call ≡ Some refused → RefusesText before old refused reply after new short
+  pub refused : (refused : IoFault) → text_refusal before call ≡ Some refused → LeavesText before old (Refused refused) reply after new short
+  pub again : closes_again before call ≡ true → LeavesText before old Done reply after new short
   pub causes : HasCauses old reply new short
   pub moves : TextMoves before call short reply after
   pub complete : text_refusal before call ≡ None → rose old.waits new.waits ≡ false → rose old.faults new.faults ≡ false → IsComplete call reply short
   pub told : WhereTold old (TextStep before call reply (short || says_wait reply) (says_fault reply) after)
+  pub hides : IsTrue (short || says_wait reply) → WhereTold old (ShowsAll after new)
 
 -- the same of a session's files
 abbrev pub AnswersFile : SessionFile → Raw → TextCall → FileReply → SessionFile → Raw → Bool → Type 0

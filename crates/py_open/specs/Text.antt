@@ -1,5 +1,5 @@
 -- The text over a buffered reader: what it is seen as, how it is tied to the bytes, and what its calls may do.
-use Rattle.std.specs.Prelude.{◌≡◌, ◌≢◌, ℕ, ◌+◌, ◌-◌, ◌<◌, ◌≤◌, max, nat_le, Bool, true, false, ◌||◌, IsTrue, IfSome, List, [], ◌++◌, length, drop, take, Option, Some, None, Result, Ok, Err, encode_utf8_all, All, if◌then◌else◌}
+use Rattle.std.specs.Prelude.{◌≡◌, ◌≢◌, ℕ, ◌+◌, ◌-◌, ◌<◌, ◌≤◌, nat_le, Bool, true, false, ◌||◌, IsTrue, IfSome, List, [], ◌++◌, length, drop, take, Option, Some, None, Result, Ok, Err, encode_utf8_all, All, if◌then◌else◌}
 use Rattle.std.specs.Char.{IsScalar}
 use Rattle.std.specs.declared.alloc.AllocError.{AllocError}
 use Rattle.py_flat.specs.declared.fault.IoFault.{IoFault}
@@ -33,6 +33,7 @@ use Rattle.py_open.specs.declared.text.Gathered.TheVariants as gathered
 use Rattle.py_open.specs.declared.text.Answer.{Answer}
 use Rattle.py_open.specs.declared.text.Answer.TheVariants as answer
 use Rattle.py_open.specs.Reader.{ReaderView, KeepsReader}
+use Rattle.py_open.specs.Waiting.{ShowsAll}
 
 -- the reader below; the bytes in hand that aren't decoded yet; the characters that aren't taken yet; the text place:
 -- its byte, the characters taken since, and whether it is dirty; and how many bytes are asked for at once
@@ -55,19 +56,22 @@ decoded_from bytes place = plain Utf8 (treatment Strict Utf8) Unknown bytes plac
 abbrev pub ahead : List ℕ → ℕ → List ℕ → Walk
 ahead held place left = walk_from Utf8 (treatment Strict Utf8) true Unknown (place - length held) 0 (held ++ left)
 
--- told: from the text place on there are the characters that are known, then what comes behind them
-pub record TiedTold (bytes : List ℕ) (place at taken : ℕ) (held pending : List ℕ) : Type 0 where
-  pub characters : drop taken (characters_of (decoded_from bytes at).items) ≡ pending ++ characters_of (ahead held place (left_at bytes place)).items
-  pub refusal : refusal_of (decoded_from bytes at).ending ≡ refusal_of (ahead held place (left_at bytes place)).ending
-  -- no byte past the end was read
-  pub within : place ≤ max at (length bytes)
+-- told: from the text place on there are the bytes of the characters that were decoded since, then those in hand, then
+-- those that the reader still has; of the characters some are taken, and the others are known
+pub record KnowsTold (bytes : List ℕ) (place at taken : ℕ) (held pending : List ℕ) : Type 0 where
+  pub decoded : List ℕ
+  pub scalars : All IsScalar decoded
+  pub bytes_are : left_at bytes at ≡ encode_utf8_all decoded ++ (held ++ left_at bytes place)
+  pub place_is : place ≡ at + length (encode_utf8_all decoded) + length held
+  pub within : taken ≤ length decoded
+  pub untaken : drop taken decoded ≡ pending
 
 -- what holds of every text: each character and each byte in hand was read since the text place
 pub record IsText (raw : Raw) (place : ℕ) (current : Life) (at taken chunk : ℕ) (held pending : List ℕ) : Type 0 where
   pub asks : 0 < chunk
   pub counted : at + taken + length pending + length held ≤ place
   pub far : place ≤ greatest_place
-  pub told : WhereTold raw (current ≡ life.Live → TiedTold raw.bytes place at taken held pending)
+  pub told : WhereTold raw (current ≡ life.Live → KnowsTold raw.bytes place at taken held pending)
 
 -- Parts of a call.
 
@@ -139,7 +143,7 @@ pub record KeepsKnown (old new : TextView) : Type 0 where
 abbrev pub ChunkOutcome : TextView → Result Chunk IoFault → TextView → Type 0
 ChunkOutcome old (Ok chunk.More) new = Brings old new × (new.reader.life ≡ life.Live)
 ChunkOutcome old (Ok chunk.End) new = BringsNothing old new × WhereTold old.reader.raw (length old.reader.raw.bytes ≤ old.reader.place)
-ChunkOutcome old (Ok chunk.Waits) new = BringsNothing old new × Rose old.reader.raw.waits new.reader.raw.waits
+ChunkOutcome old (Ok chunk.Waits) new = BringsNothing old new × Rose old.reader.raw.waits new.reader.raw.waits × WhereTold old.reader.raw (new.reader.raw.place ≡ new.reader.place)
 ChunkOutcome old (Err fault.RawFault) new = (new.held ≡ old.held) × (new.reader.life ≡ life.Failed) × Rose old.reader.raw.faults new.reader.raw.faults
 ChunkOutcome old (Err fault.NoMemory) new = BringsNothing old new
 ChunkOutcome old (Err other) new = ⊥
@@ -163,12 +167,13 @@ pub record ComesLast (text : TextView) (refusal : Option (ℕ × ℕ)) : Type 0 
   pub refusal_is : refusal_of (ahead text.held text.reader.place (left_at text.reader.raw.bytes text.reader.place)).ending ≡ refusal
 
 -- what is known of a text when a call stops gathering: its known characters are enough; or they aren't, and no byte
--- is left in hand or below, or a refused range comes behind them, or the raw asked to wait
+-- is left in hand or below, or a refused range comes behind them, or the raw asked to wait with nothing in hand but a
+-- sequence that is cut, and nothing held below
 abbrev pub GatheredAt : TextView → Wanted → Gathered → Type 0
 GatheredAt text asked (gathered.Enough count) = enough asked text.pending ≡ Some count
 GatheredAt text asked gathered.Ends = (enough asked text.pending ≡ None) × (text.held ≡ []) × WhereTold text.reader.raw (length text.reader.raw.bytes ≤ text.reader.place)
 GatheredAt text asked (gathered.Refuses start end) = (enough asked text.pending ≡ None) × WhereTold text.reader.raw (ComesLast text (Some (start, end)))
-GatheredAt text asked gathered.Waits = enough asked text.pending ≡ None
+GatheredAt text asked gathered.Waits = (enough asked text.pending ≡ None) × IsNoCharacter (utf8_unit text.held) × (stop_at (utf8_unit text.held) ≡ None) × WhereTold text.reader.raw (text.reader.raw.place ≡ text.reader.place)
 
 -- the refused range of so many bytes at the front of those in hand
 abbrev pub range_in_hand : TextView → ℕ → Gathered
@@ -316,3 +321,14 @@ pub record AnswerCauses (old : ReaderView) (result : Result Answer IoFault) (new
 -- told: the answer is a step of the model
 abbrev pub AnswerStep : TextView → Wanted → Result Answer IoFault → TextView → Type 0
 AnswerStep old asked result new = WhereTold old.reader.raw (TextStep (file_of old) (call_of asked) (reply_of result) (waited_in result) (faulted_in result) (file_of new))
+
+-- A wait hides nothing.
+
+-- told: the reader holds nothing back, and all that the bytes taken from the raw surely give is answered
+pub record HidesNothing (text : TextView) : Type 0 where
+  pub empty : text.reader.raw.place ≡ text.reader.place
+  pub shows : ShowsAll (file_of text) text.reader.raw
+
+-- told of an answer that says that the raw asked to wait
+abbrev pub AnswerHides : TextView → Result Answer IoFault → TextView → Type 0
+AnswerHides old result new = IsTrue (waited_in result) → WhereTold old.reader.raw (HidesNothing new)

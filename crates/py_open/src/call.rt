@@ -1,19 +1,23 @@
+//! The calls that are made on a session.
 ghost use Rattle.std.specs.Prelude.{◌≡◌, IfOk};
 
 use py_flat::{Chars, Data, Lines};
 use std::alloc::{AllocError, Global};
 
-/// A call of a session. Sizes, limits and places are bytes of a binary session and characters of a text one; `None`
-/// stands for a size that isn't given.
+/// A call of a session, by the methods of Python's `io` streams.
+///
+/// Sizes, limits, hints and counts are bytes of a binary session and characters of a text one; `None` stands for one
+/// that isn't given. Places, offsets and the size of a truncation are bytes from the start of the stream. `Session::call`
+/// says which calls a session has so far; the others it refuses.
 #[derive(Debug, PartialEq, Eq, Drop)]
 pub enum Call {
-    /// Reads so many, or all.
+    /// Reads so many, or all that are left.
     Read(Option<usize>),
     /// Reads by one transfer, at most so many bytes.
     Read1(Option<usize>),
-    /// Reads a line with its end, at most so many.
+    /// Reads a line with its end, at most so many of it.
     ReadLine(Option<usize>),
-    /// Reads lines until their total is above the hint.
+    /// Reads lines until their total is above the hint, or all.
     ReadLines(Option<usize>),
     /// Shows some bytes that come next.
     Peek,
@@ -35,15 +39,15 @@ pub enum Call {
     Tell,
     /// Cuts or lengthens the file to a size, or to the place.
     Truncate(Option<u64>),
-    /// Passes on what is owed.
+    /// Passes on to the raw what was written and not passed on yet.
     Flush,
     /// Closes the session.
     Close,
     /// Hands the lower stream back.
     Detach,
-    /// Asks for a text's chunk size.
+    /// Asks for a text's chunk size, in bytes.
     ChunkSize,
-    /// Sets a text's chunk size.
+    /// Sets a text's chunk size, in bytes.
     SetChunkSize(usize),
     /// Asks whether the session reads.
     Readable,
@@ -60,7 +64,7 @@ pub enum Call {
 }
 
 impl Call {
-    /// A copy of the same call, or `Err` for want of memory.
+    /// A copy of the same call, or `AllocError` for want of memory; this one stays as it is.
     pub fn try_clone(&self, alloc: Global) -> Result<Self, AllocError>
         ensures { IfOk result (λ call. call ≡ self.now) }
     {

@@ -5,6 +5,7 @@
 #![tactic(auto)]
 
 mod call;
+mod laws;
 mod mode;
 mod open_args;
 mod open_refused;
@@ -18,6 +19,10 @@ mod tests;
 mod text;
 
 pub use call::Call;
+pub use laws::{
+    a_closed_session_stays_closed, a_run_answers_each_call, a_smooth_run_is_exact,
+    a_wait_loses_nothing, counts_never_fall, settled_only_blames_itself,
+};
 pub use mode::{EncodeMode, FileMode, Mode};
 pub use open_args::OpenArgs;
 pub use open_refused::OpenRefused;

@@ -1,3 +1,5 @@
+//! The mode of an opening, taken apart.
+
 /// What is done with the file of a path.
 #[derive(Clone, Copy, Debug, PartialEq, Eq)]
 pub enum FileMode {

@@ -1,8 +1,10 @@
+//! The arguments of an opening.
 ghost use Rattle.py_open.specs.OpenArgs.{IsDefault};
 
 use py_flat::Chars;
 
-/// The arguments of an opening beside path and mode, as Python's `open` takes them.
+/// The arguments of an opening beside path and mode, as Python's `open` takes them, and the chunk size of its texts.
+/// `plan_open` says which of them are opened so far.
 #[derive(Debug, Drop)]
 pub struct OpenArgs {
     /// The buffer's size in bytes; 0 is unbuffered, 1 or a negative number means 8192.
@@ -18,7 +20,7 @@ pub struct OpenArgs {
 }
 
 impl Default for OpenArgs {
-    /// A buffer of the default size, no names, no newline argument, chunks of 8192 bytes.
+    /// Python's defaults: `buffering` -1, no names, no newline argument, and chunks of 8192 bytes.
     fn default() -> Self
         ensures { IsDefault result }
     {

@@ -1,10 +1,12 @@
+//! What a mode and arguments set up, decided before any raw stream is asked.
 ghost use Rattle.std.specs.Prelude.{◌≡◌, ◌&&◌};
 ghost use Rattle.py_open.specs.Plan.{plan_of, is_lf, are_default_names, are_default_sizes};
 
 use crate::{EncodeMode, FileMode, Mode, OpenArgs};
 use py_flat::{Chars, IoFault};
 
-/// The size of a buffer where none is given, and of the first chunk of a text, in bytes.
+/// The size of a buffer where none is given, and how many bytes a text asks its buffer for at once: Python's
+/// `io.DEFAULT_BUFFER_SIZE` before 3.14 and the chunk size of its texts.
 pub const DEFAULT_BUFFER_SIZE: usize = 8192;
 
 /// What an opening by a mode and arguments sets up.
@@ -36,10 +38,11 @@ fn are_default(args: &OpenArgs) -> bool
         && args.chunk_size == DEFAULT_BUFFER_SIZE
 }
 
-/// What an opening by a mode and arguments sets up, before any raw is asked.
+/// What an opening by a mode and arguments sets up, before any raw is asked: a text that is read through a buffer of 8192
+/// bytes.
 ///
 /// So far it is `Unsupported` for all but mode `r` with the newline argument LF and every other argument at its
-/// default; nothing is opened that it refuses.
+/// default (`OpenArgs::default`), though Python's `open` takes more. The arguments stay with the caller.
 pub fn plan_open(mode: &str, args: &OpenArgs) -> Result<OpenPlan, IoFault>
     ensures { result ≡ plan_of mode.now args.now }
 {

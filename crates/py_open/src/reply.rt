@@ -1,24 +1,27 @@
+//! The replies of a session.
 ghost use Rattle.std.specs.Prelude.{◌≡◌, IfOk};
+ghost use Rattle.py_open.specs.Calls.{said};
+ghost use Rattle.py_open.specs.Session.{says_wait, says_fault};
 
 use py_flat::{Chars, Data, IoFault, Lines};
 use std::alloc::{AllocError, Global};
 
-/// What a session answers to a call.
+/// What a session answers to a call. `Session::call` says which replies come of which call.
 #[derive(Debug, PartialEq, Eq, Drop)]
 pub enum Reply {
-    /// Bytes that were read.
+    /// Bytes that were read; none at the end, and where none were asked for.
     Bytes(Data),
-    /// Characters that were read.
+    /// Characters that were read; none at the end, and where none were asked for.
     Text(Chars),
-    /// Lines that were read.
+    /// Lines that were read, each with its end but for the last, which may lack one.
     Lines(Lines),
     /// How many bytes or characters were written; of `ChunkSize` the size.
     Count(u64),
-    /// A place, or the size of a truncated file, in bytes.
+    /// A place from the start of the stream, or the size of a truncated file, in bytes.
     Place(u64),
-    /// Done.
+    /// The call was carried out, and has nothing else to say.
     Done,
-    /// The raw asked to wait before anything was read.
+    /// The raw asked to wait before there was anything to answer: nothing was taken, and the call may be made again.
     NotReady,
     /// Yes or no.
     Flag(bool),
@@ -32,7 +35,7 @@ pub enum Reply {
 }
 
 impl Reply {
-    /// A copy of the same reply, or `Err` for want of memory.
+    /// A copy of the same reply, or `AllocError` for want of memory; this one stays as it is.
     pub fn try_clone(&self, alloc: Global) -> Result<Self, AllocError>
         ensures { IfOk result (λ reply. reply ≡ self.now) }
     {
@@ -52,5 +55,22 @@ impl Reply {
             },
             Reply::Refused(fault) => Reply::Refused(*fault),
         })
+    }
+
+    /// Whether this says that the raw asked to wait: `NotReady`, or a write that waited.
+    pub fn says_wait(&self) -> bool
+        ensures { result ≡ says_wait (said self.now) }
+    {
+        matches!(
+            self,
+            Reply::NotReady | Reply::Refused(IoFault::WouldBlock { .. })
+        )
+    }
+
+    /// Whether this says that the raw failed in this call.
+    pub fn says_fault(&self) -> bool
+        ensures { result ≡ says_fault (said self.now) }
+    {
+        matches!(self, Reply::Refused(IoFault::RawFault))
     }
 }

@@ -1,3 +1,4 @@
+//! Runs: a session that is opened, and a list of calls that are made on it in order.
 ghost use Rattle.std.specs.Prelude.{◌≡◌, ◌<◌, MatchResult};
 ghost use Rattle.py_open.specs.Reader.{StandsAtStart};
 ghost use Rattle.py_open.specs.Run.{IsRun, OpenedOutcome, RunOutcome};
@@ -10,7 +11,7 @@ use std::alloc::Global;
 /// A session after a list of calls, and their replies in order.
 #[derive(Drop)]
 pub struct Run<R: RawStream> {
-    /// The session.
+    /// The session, as the last call left it.
     pub session: Session<R>,
     /// One reply for each call.
     pub replies: Vec<Reply>,

@@ -1,3 +1,4 @@
+//! Sessions: each call is refused by life or kind, or answered by the text below.
 ghost use Rattle.std.specs.Prelude.{◌≡◌, ◌<◌, false, []};
 ghost use Rattle.py_plain.specs.TextStep.{Close, OtherKind};
 ghost use Rattle.py_open.specs.Reader.{StandsAtStart};
@@ -15,7 +16,9 @@ use std::marker::Model;
 
 /// A stream that was opened, and on which calls are made one by one.
 ///
-/// So far it is a text that is read: every call but `Read`, `ReadLine` and `Close` is `Unsupported`.
+/// So far it is a text that is read, in UTF-8 with the handler strict, in lines that end at LF; it is seen as its flat
+/// file, the raw under it, and whether its last answer was short. A session that is let go lets its raw go; `finish`
+/// hands it back.
 #[derive(Drop)]
 pub struct Session<R: RawStream> {
     alloc: Global,
@@ -72,8 +75,26 @@ impl<R: RawStream> Session<R> {
 
     /// Makes one call.
     ///
-    /// A call that the life or the kind refuses is answered by `Refused` and leaves all as it was; a fault of the raw is
-    /// `RawFault`, which fails the session (after `Close` it is closed); `NoMemory` leaves place and life as they were.
+    /// `Read` answers the next characters, as many as asked for, or all that are left; `ReadLine` those up to and with
+    /// the next LF, at most its limit; fewer come only at the end. Where the raw asked to wait, what came by then is
+    /// answered and `short` says so, or it is `NotReady` with nothing taken. `Close` closes the raw and is `Done`, and so
+    /// is another `Close` after it.
+    ///
+    /// Else it is `Refused`:
+    ///
+    /// - `Failed` after an earlier fault, `Closed` after a `Close`, and `Unsupported` to any call but these three, in this
+    ///   order: no raw is called, and all stays as it was.
+    /// - `UnicodeDecodeError`, with byte places from the start of the stream, where a range that is no UTF-8 stands before
+    ///   the end of the answer: place and life stay, and a shorter read gives the characters before it.
+    /// - `RawFault` where the raw failed: the session is failed from then on and its place isn't told; after `Close` it is
+    ///   closed.
+    /// - `NoMemory`: place and life stay, and the call may be made again.
+    ///
+    /// The rules are those of Python's `io.TextIOWrapper`; what waits, faults and refused ranges leave is this project's
+    /// choice.
+    ///
+    /// A wait hides nothing: after a short answer or `NotReady` each character that the bytes taken from the raw so far
+    /// surely give has been answered, and no refused range stands among them.
     pub fn call(&mut self, alloc: Global, call: &Call) -> Reply
         ensures { Answers self.old call.now result self.new }
     {
@@ -86,21 +107,23 @@ impl<R: RawStream> Session<R> {
         }
     }
 
-    /// Whether the last answer was short, since the raw asked to wait.
+    /// Whether the last answer was short: characters, but not all that was asked for, since the raw asked to wait. It is
+    /// false before the first call.
     pub fn short(&self) -> bool
         ensures { result ≡ self.now.short }
     {
         self.short
     }
 
-    /// What became of the session.
+    /// What became of the session: live from its opening on, failed by a fault of the raw, or closed by `Close`.
     pub fn life(&self) -> Life
         ensures { result ≡ life_of self.now.file }
     {
         self.text.life()
     }
 
-    /// Hands the raw back, in every life, with nothing unwritten. It takes no memory.
+    /// Hands the raw back, in every life, with nothing unwritten, and with the byte of the text place where it can seek.
+    /// What was read and not taken is let go. It takes no memory.
     pub fn finish(self) -> Detached<R>
         ensures raw { R.shows result.raw ≡ self.raw }
         ensures unwritten { result.unwritten.items ≡ [] }

@@ -1,4 +1,8 @@
 //! Sessions over raws in memory, compared with worked examples and with the plain slow text.
+ghost use Rattle.std.specs.Prelude.{◌≡◌, ◌<◌, true, IfOk};
+ghost use Rattle.py_raw.specs.MemRaw.{shown};
+ghost use Rattle.py_open.specs.Reader.{StandsAtStart};
+
 use crate::run::run_opened;
 use crate::{Call, OpenArgs, OpenRefused, Reply, Run, run_session};
 use py_flat::{Chars, IoFault, Life};
@@ -9,7 +13,9 @@ use std::process::Abort;
 use std::test::Fail;
 
 /// A raw over some bytes that can be read and moved, and follows a plan.
-fn raw_of(alloc: Global, bytes: &[u8], plan: Vec<Cut>) -> Result<MemRaw, AllocError> {
+fn raw_of(alloc: Global, bytes: &[u8], plan: Vec<Cut>) -> Result<MemRaw, AllocError>
+    ensures { IfOk result (λ raw. StandsAtStart (shown raw)) }
+{
     let flags = RawFlags::able(true, false, true);
     let bytes = bytes.to_vec(alloc)?;
     Ok(MemRaw::new(bytes, flags, plan, Vec::new(alloc)))
@@ -48,6 +54,13 @@ fn small_run(
     }
 }
 
+/// Whether a session may go to another thread, which its type decides.
+fn may_be_sent<T: Send>(_: &T) -> bool
+    ensures { result ≡ true }
+{
+    true
+}
+
 #[test]
 fn a_text_is_read_by_a_line_and_then_to_its_end(rt: HostRuntime) -> Result<(), Fail> {
     let alloc = rt.alloc();
@@ -59,6 +72,7 @@ fn a_text_is_read_by_a_line_and_then_to_its_end(rt: HostRuntime) -> Result<(), F
     let replies = [text(alloc, "é\n")?, text(alloc, "x")?, Reply::Done];
     assert_eq!(rt; run.replies.as_slice(), replies.as_slice());
     assert_eq!(rt; run.session.life(), Life::Closed);
+    assert!(rt; may_be_sent(&run.session));
     let handed = run.session.finish();
     assert_eq!(rt; handed.raw.bytes_of(), [0xC3, 0xA9, 0x0A, 0x78].as_slice());
     assert_eq!(rt; handed.unwritten.len(), 0);

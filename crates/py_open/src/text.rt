@@ -5,7 +5,7 @@ ghost use Rattle.py_plain.specs.Utf8.{utf8_unit};
 ghost use Rattle.py_plain.specs.TextStep.{asks_any};
 ghost use Rattle.py_raw.specs.RawStream.{WhereTold};
 ghost use Rattle.py_open.specs.Reader.{KeepsReader, MovesForth, CloseOutcome};
-ghost use Rattle.py_open.specs.Text.{IsFresh, DecodedSoFar, StoppedAt, DecodeOutcome, KeepsKnown, ChunkOutcome, stop_at, IsNoCharacter, range_in_hand, enough, size_of, asks_all, Gathers, GatheredAt, IsReady, GatherOutcome, GiveOutcome, GiveLastOutcome, OnlyWhereWaits, waited_in, faulted_in, AnswerCauses, AnswerMoves, AnswerStep};
+ghost use Rattle.py_open.specs.Text.{IsFresh, DecodedSoFar, StoppedAt, DecodeOutcome, KeepsKnown, ChunkOutcome, stop_at, IsNoCharacter, range_in_hand, enough, size_of, asks_all, Gathers, GatheredAt, IsReady, GatherOutcome, GiveOutcome, GiveLastOutcome, OnlyWhereWaits, waited_in, faulted_in, AnswerCauses, AnswerMoves, AnswerStep, AnswerHides};
 
 #[cfg(test)]
 mod tests;
@@ -389,6 +389,7 @@ impl<R: RawStream> Text<R> {
         ensures faults { faulted_in result ≡ false }
         ensures moves { AnswerMoves self.old wanted result self.new }
         ensures told { AnswerStep self.old wanted result self.new }
+        ensures hides { AnswerHides self.old result self.new }
     {
         let known = self.pending.len() - self.given;
         if known == 0 {
@@ -412,6 +413,7 @@ impl<R: RawStream> Text<R> {
         ensures faults { faulted_in result ≡ false }
         ensures moves { AnswerMoves self.old wanted result self.new }
         ensures told { AnswerStep self.old wanted result self.new }
+        ensures hides { AnswerHides self.old result self.new }
     {
         // What holds of every text is known from here on.
         let _ = &self.reader;
@@ -426,13 +428,14 @@ impl<R: RawStream> Text<R> {
         }
     }
 
-    /// The characters that were asked for, as far as they come.
+    /// The characters that were asked for, as far as they come. Where the raw asked to wait, all that came are given.
     pub fn answer(&mut self, alloc: Global, wanted: Wanted) -> Result<Answer, IoFault>
         requires { self.old.reader.life ≡ Life.Live }
         ensures keeps { KeepsReader self.old.reader self.new.reader }
         ensures causes { AnswerCauses self.old.reader result self.new.reader }
         ensures moves { AnswerMoves self.old wanted result self.new }
         ensures told { AnswerStep self.old wanted result self.new }
+        ensures hides { AnswerHides self.old result self.new }
     {
         let gathered = self.gather(alloc, wanted)?;
         self.finish(alloc, wanted, gathered)

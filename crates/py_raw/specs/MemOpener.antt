@@ -1,9 +1,10 @@
 -- What an opener in memory shows, and what it makes of an opening.
-use Rattle.std.specs.Prelude.{◌≡◌, ℕ, true, false, List, Some}
+use Rattle.std.specs.Prelude.{◌≡◌, ℕ, true, false, List, [], Some}
 use Rattle.py_raw.specs.RawStream.{Raw}
 use Rattle.py_raw.specs.RawMode.{mode_reads, mode_writes}
 use Rattle.py_raw.specs.Opener.{OpenerView, OthersHoldTheSame}
 use Rattle.py_raw.specs.Entries.{held_in}
+use Rattle.py_raw.specs.declared.cut.Cut.{Cut}
 use Rattle.py_raw.specs.declared.mem_opener.MemOpener.{MemOpener}
 
 -- it tells what each path holds
@@ -39,3 +40,15 @@ opened_raw mode bytes = record {
   seekable = true;
   takes_memory = mode_writes mode;
 }
+
+-- what the next stream that is opened follows: the plan of its transfers, and the numbers of its calls that fail
+pub record NextPlan : Type 0 where
+  pub plan : List Cut
+  pub refused : List ℕ
+
+abbrev pub next_plan : MemOpener → NextPlan
+next_plan opener = record { plan = opener.plan.items; refused = opener.refused.items }
+
+-- all that a call asks is moved, and none fails
+abbrev pub no_plan : NextPlan
+no_plan = record { plan = []; refused = [] }

@@ -127,7 +127,7 @@ where
 #[cfg(test)]
 mod tests {
     use super::*;
-    use crate::each_mode::{EACH_MODE, opens};
+    use crate::mode_tests::{EACH_MODE, opens};
     use std::process::Abort;
     use std::test::Fail;
     use std::{env, fs, process};

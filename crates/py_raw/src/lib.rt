@@ -5,8 +5,6 @@
 #![tactic(auto)]
 
 mod cut;
-#[cfg(test)]
-mod each_mode;
 mod entries;
 mod file_opener;
 mod file_raw;
@@ -15,6 +13,8 @@ mod mem_opener;
 mod mem_raw;
 mod mem_sink;
 mod mem_source;
+#[cfg(test)]
+mod mode_tests;
 mod opener;
 mod raw_error;
 mod raw_flags;

@@ -5,8 +5,9 @@ ghost use Rattle.py_raw.specs.Entries.{held_in, HoldsNow};
 
 use crate::entries::{Entry, append, bytes_at, place_of, replace_at};
 use crate::raw_mode::{file_letter, misses, mode_flags};
-use crate::{MemRaw, OpenError, Opener};
+use crate::{Cut, MemRaw, OpenError, Opener};
 use std::alloc::{AllocError, Global};
+use std::mem;
 
 /// Paths with bytes in memory, which opens raw streams of them: what a test opens its files by.
 #[derive(Drop)]
@@ -16,6 +17,8 @@ pub struct MemOpener {
     faults: u64,
     raw_faults: u64,
     raw_waits: u64,
+    plan: Vec<Cut>,
+    refused: Vec<u64>,
 }
 
 /// Gives a path bytes, in its entry or in a new one. After an error every path holds what it held.
@@ -75,11 +78,12 @@ impl MemOpener {
     ghost use Rattle.std.specs.Prelude.{true};
     ghost use Rattle.py_raw.specs.RawStream.{Raw};
     ghost use Rattle.py_raw.specs.Opener.{HoldsTheSame, OpenKeeps, OpenOutcome, DoneKeeps, DoneOutcome};
-    ghost use Rattle.py_raw.specs.MemOpener.{shown_opener, opened_raw, Puts};
+    ghost use Rattle.py_raw.specs.MemOpener.{shown_opener, opened_raw, next_plan, no_plan, Puts};
 
     /// An opener none of whose paths holds anything.
     pub fn new(alloc: Global) -> Self
-        ensures { shown_opener result ≡ record { tells = true; holds = λ path. None; faults = 0; raw_faults = 0; raw_waits = 0 } }
+        ensures plan { next_plan result ≡ no_plan }
+        ensures shows { shown_opener result ≡ record { tells = true; holds = λ path. None; faults = 0; raw_faults = 0; raw_waits = 0 } }
     {
         MemOpener {
             alloc,
@@ -87,7 +91,20 @@ impl MemOpener {
             faults: 0,
             raw_faults: 0,
             raw_waits: 0,
+            plan: Vec::new(alloc),
+            refused: Vec::new(alloc),
         }
+    }
+
+    /// Gives the next stream that is opened, at whatever path, a plan of its transfers and the numbers of its calls that
+    /// fail, as `MemRaw::new` takes them. An opening that is refused leaves them to the next; the streams after that one
+    /// move all that a call asks. It takes no memory.
+    pub fn plan_next(&mut self, plan: Vec<Cut>, faults: Vec<u64>)
+        ensures plan { next_plan self.new ≡ record { plan = plan.items; refused = faults.items } }
+        ensures shows { shown_opener self.new ≡ shown_opener self.old }
+    {
+        self.plan = plan;
+        self.refused = faults;
     }
 
     /// Gives a path bytes, in place of those that it held. After an error every path holds what it held.
@@ -95,6 +112,7 @@ impl MemOpener {
         ensures ok { OnOk result (Puts (shown_opener self.old) path.now bytes.items (shown_opener self.new)) }
         ensures err { OnErr result (HoldsTheSame (shown_opener self.old) (shown_opener self.new)) }
         ensures complete { IsSome ((shown_opener self.old).holds path.now) → IsOk result }
+        ensures plan { next_plan self.new ≡ next_plan self.old }
     {
         put_in(&mut self.entries, alloc, path, bytes)
     }
@@ -112,6 +130,7 @@ impl MemOpener {
         ensures keeps { OpenKeeps (shown_opener self.old) (shown_opener self.new) }
         ensures outcome { OpenOutcome (λ bytes. opened_raw mode.now bytes.items) (shown_opener self.old) path.now mode.now result (shown_opener self.new) }
         ensures faults { OnOk result ((shown_opener self.new).faults ≡ (shown_opener self.old).faults) }
+        ensures plan { next_plan self.new ≡ next_plan self.old }
     {
         // Asked before anything wants memory, so that a fault comes exactly here.
         if misses(mode, bytes_at(&self.entries, path).is_some()) {
@@ -137,6 +156,7 @@ impl MemOpener {
         ensures same { OnErr result (HoldsTheSame (shown_opener self.old) (shown_opener self.new)) }
         ensures faults { (shown_opener self.new).faults ≡ (shown_opener self.old).faults }
         ensures complete { IsSome ((shown_opener self.old).holds path.now) → IsOk result }
+        ensures plan { next_plan self.new ≡ next_plan self.old }
     {
         self.raw_faults = self.raw_faults.saturating_add(faults);
         self.raw_waits = self.raw_waits.saturating_add(waits);
@@ -150,25 +170,30 @@ impl MemOpener {
 impl Opener for MemOpener {
     ghost use Rattle.py_raw.specs.Opener.{HoldsTheSame, OpenKeeps, OpenOutcome, DoneKeeps, DoneOutcome};
     ghost use Rattle.py_raw.specs.MemRaw.{shown, view_of};
-    ghost use Rattle.py_raw.specs.MemOpener.{shown_opener, opened_raw};
+    ghost use Rattle.py_raw.specs.MemOpener.{shown_opener, opened_raw, next_plan, no_plan};
 
     type Raw = MemRaw;
 
     ghost shows = { shown_opener };
 
     /// Opens a path by a mode. `Fault` comes exactly where `x` finds the path or `r` misses it, before anything wants
-    /// memory. The stream holds a copy of the bytes, can seek, and moves all that a call asks.
+    /// memory. The stream holds a copy of the bytes, can seek, and follows the plan that `plan_next` gave it: without one
+    /// it moves all that a call asks.
     fn open_raw(&mut self, alloc: Global, path: &str, mode: &str) -> Result<MemRaw, OpenError>
         requires { IsRawMode mode.now }
         ensures keeps { OpenKeeps (shown_opener self.old) (shown_opener self.new) }
         ensures outcome { OpenOutcome shown (shown_opener self.old) path.now mode.now result (shown_opener self.new) }
         ensures faults { OnOk result ((shown_opener self.new).faults ≡ (shown_opener self.old).faults) }
-        ensures opened { IfOk result (λ raw. view_of raw ≡ record { shows = opened_raw mode.now (opened_bytes mode.now ((shown_opener self.old).holds path.now)); plan = []; refused = []; calls = 0 }) }
+        ensures opened { IfOk result (λ raw. view_of raw ≡ record { shows = opened_raw mode.now (opened_bytes mode.now ((shown_opener self.old).holds path.now)); plan = (next_plan self.old).plan; refused = (next_plan self.old).refused; calls = 0 }) }
+        ensures planned { OnOk result (next_plan self.new ≡ no_plan) }
+        ensures unplanned { OnErr result (next_plan self.new ≡ next_plan self.old) }
     {
         match self.open_bytes(alloc, path, mode) {
             Ok(bytes) => {
                 let flags = mode_flags(mode);
-                Ok(MemRaw::new(bytes, flags, Vec::new(alloc), Vec::new(alloc)))
+                let plan = mem::replace(&mut self.plan, Vec::new(alloc));
+                let refused = mem::replace(&mut self.refused, Vec::new(alloc));
+                Ok(MemRaw::new(bytes, flags, plan, refused))
             }
             Err(error) => Err(error),
         }
@@ -182,6 +207,7 @@ impl Opener for MemOpener {
         ensures same { OnErr result (HoldsTheSame (shown_opener self.old) (shown_opener self.new)) }
         ensures faults { (shown_opener self.new).faults ≡ (shown_opener self.old).faults }
         ensures complete { IsSome ((shown_opener self.old).holds path.now) → IsOk result }
+        ensures plan { next_plan self.new ≡ next_plan self.old }
     {
         let faults = raw.fault_count();
         let waits = raw.wait_count();
@@ -192,7 +218,8 @@ impl Opener for MemOpener {
 #[cfg(test)]
 mod tests {
     use super::*;
-    use crate::each_mode::{EACH_MODE, opens};
+    use crate::mode_tests::{EACH_MODE, opens};
+    use crate::{RawError, RawStream, is_raw_mode};
 
     #[test]
     fn each_mode_opens_and_keeps_what_it_should(rt: HostRuntime) -> Result<(), AllocError> {
@@ -218,6 +245,32 @@ mod tests {
                 now == Some(existing.unwrap_or("old").as_bytes()),
                 "{mode} of a path that holds some"
             );
+        }
+        Ok(())
+    }
+
+    #[test]
+    fn the_next_stream_waits_and_fails_by_its_plan(rt: HostRuntime) -> Result<(), AllocError> {
+        let alloc = rt.alloc();
+        let mode = "rb";
+        assert!(rt; is_raw_mode(mode));
+        let mut opener = MemOpener::new(alloc);
+        opener.put(alloc, "held", Vec::from_slice(alloc, b"abc")?)?;
+        let plan = Vec::from_slice(alloc, &[Cut::Take(1), Cut::Wait])?;
+        opener.plan_next(plan, Vec::from_slice(alloc, &[2])?);
+        let table: [&[Result<Option<usize>, RawError>]; 2] = [
+            &[Ok(Some(1)), Ok(None), Err(RawError::Fault), Ok(Some(2))],
+            &[Ok(Some(3))],
+        ];
+        for answers in table {
+            let mut raw = opener.open_raw(alloc, "held", mode).expect(&rt, "opened");
+            for answer in answers {
+                let mut buf = [0; 9];
+                assert!(rt; !raw.closed() && raw.readable());
+                assert_eq!(rt; raw.readinto(&mut buf), *answer);
+            }
+            assert_eq!(rt; opener.done("held", raw), Ok(()));
+            assert_eq!(rt; (opener.raw_waits, opener.raw_faults), (1, 1));
         }
         Ok(())
     }

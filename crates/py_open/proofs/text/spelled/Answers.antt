@@ -4,7 +4,7 @@ use Rattle.std.specs.Str.{encode_utf8_all}
 use Rattle.std.proofs.lemmas.List.{take_all}
 use Rattle.std.proofs.lemmas.Str.{chars_from_encodes, IsUtf8-string_bytes}
 use Rattle.py_plain.proofs.Strings.{encodes_more}
-use Rattle.py_open.proofs.Spelling.{where_ok}
+use Rattle.py_open.proofs.Results.{where_ok}
 use Rattle.py_open.proofs.text.spelled.Goals as goal
 
 pub loop-character-preserved : goal.loop-character-preserved

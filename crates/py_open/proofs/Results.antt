@@ -1,4 +1,4 @@
--- Calls that may fail for want of memory.
+-- What calls that may fail leave.
 use Rattle.std.proofs.Common.{◌≡◌, false, if◌then◌else◌, List, ℕ, Result, Ok, Err, refl}
 use Rattle.std.specs.Result.{is_ok, is_err}
 

@@ -1,0 +1,63 @@
+//! Laws of the definitions that the contracts cite: what any run of a session, and any step of a text, has to be.
+//!
+//! No function here does anything; what each ensures is a law.
+ghost use Rattle.std.specs.Prelude.{◌≡◌, ◌≢◌, ℕ, ◌≤◌, IsTrue, Bool, List, [], length};
+ghost use Rattle.py_flat.specs.declared.fault.IoFault.{IoFault};
+ghost use Rattle.py_flat.specs.declared.fault.IoFault.TheVariants as fault;
+ghost use Rattle.py_flat.specs.declared.life.Life.TheVariants as life;
+ghost use Rattle.py_flat.specs.Calls.{FileReply, Text, NotReady, Refused};
+ghost use Rattle.py_plain.specs.TextFile.{TextFile};
+ghost use Rattle.py_plain.specs.TextStep.{TextCall, TextSettled, TextStep};
+ghost use Rattle.py_raw.specs.RawStream.{Keeps};
+ghost use Rattle.py_open.specs.declared.call.Call.{Call};
+ghost use Rattle.py_open.specs.declared.reply.Reply.{Reply};
+ghost use Rattle.py_open.specs.Session.{SessionView};
+ghost use Rattle.py_open.specs.Opening.{life_of};
+ghost use Rattle.py_open.specs.Run.{IsRun, IsSmooth, NoneLacksMemory, all_said};
+ghost use Rattle.py_open.specs.Laws.{IsExact, KeepsSettings, StaysClosed, LosesNothing};
+
+/// A run over a raw that tells, in which no count of the raw rose and no call lacked memory, is the model's: each reply is
+/// the exact answer of the file there, and the file behind them is the exact one.
+///
+/// Two such runs of the same calls from the same file are alike, whatever pieces their raws moved.
+pub fn a_smooth_run_is_exact()
+    ensures { (before : SessionView) (calls : List Call) (replies : List Reply) (after : SessionView) → IsRun before calls replies after → IsTrue before.raw.tells → IsSmooth before.raw after.raw → NoneLacksMemory (all_said replies) → IsExact before calls replies after }
+{}
+
+/// A run has one reply for each call.
+pub fn a_run_answers_each_call()
+    ensures { (before : SessionView) (calls : List Call) (replies : List Reply) (after : SessionView) → IsRun before calls replies after → length replies ≡ length calls }
+{}
+
+/// Over a run neither the faults nor the waits that the raw counts fall, so a count that rose stays risen; and what the
+/// raw and the file can do, with the file's settings, stays.
+pub fn counts_never_fall()
+    ensures faults { (before : SessionView) (calls : List Call) (replies : List Reply) (after : SessionView) → IsRun before calls replies after → before.raw.faults ≤ after.raw.faults }
+    ensures waits { (before : SessionView) (calls : List Call) (replies : List Reply) (after : SessionView) → IsRun before calls replies after → before.raw.waits ≤ after.raw.waits }
+    ensures raw { (before : SessionView) (calls : List Call) (replies : List Reply) (after : SessionView) → IsRun before calls replies after → Keeps before.raw after.raw }
+    ensures file { (before : SessionView) (calls : List Call) (replies : List Reply) (after : SessionView) → IsRun before calls replies after → KeepsSettings before.file after.file }
+{}
+
+/// A run from a closed session answers `Done` to each further `Close` and `Closed` to every other call, and leaves the
+/// file and the raw as they were, whether the raw tells or not (Python's documentation of `close`).
+pub fn a_closed_session_stays_closed()
+    ensures { (before : SessionView) (calls : List Call) (replies : List Reply) (after : SessionView) → IsRun before calls replies after → life_of before.file ≡ life.Closed → StaysClosed before calls replies after }
+{}
+
+/// A settled reply of a text blames neither the raw nor memory: it is not `NotReady`, `RawFault`, `NoMemory` or
+/// `WouldBlock`.
+pub fn settled_only_blames_itself()
+    ensures ready { (before : TextFile) (call : TextCall) (reply : FileReply) (after : TextFile) → TextSettled before call reply after → reply ≢ NotReady }
+    ensures no_raw_fault { (before : TextFile) (call : TextCall) (reply : FileReply) (after : TextFile) → TextSettled before call reply after → reply ≢ Refused fault.RawFault }
+    ensures no_want_of_memory { (before : TextFile) (call : TextCall) (reply : FileReply) (after : TextFile) → TextSettled before call reply after → reply ≢ Refused fault.NoMemory }
+    ensures no_wait { (before : TextFile) (call : TextCall) (reply : FileReply) (after : TextFile) (taken : ℕ) → TextSettled before call reply after → reply ≢ Refused (fault.WouldBlock taken) }
+{}
+
+/// No character is lost by any answer of a text, whole or short: what was left before is the answer and then what is left
+/// after it, up to the same refused range. An answer that isn't ready, and a refusal that is no fault of the raw, leave the
+/// text as it was.
+pub fn a_wait_loses_nothing()
+    ensures answered { (before : TextFile) (call : TextCall) (answer : List ℕ) (waited faulted : Bool) (after : TextFile) → TextStep before call (Text answer) waited faulted after → LosesNothing before answer after }
+    ensures not_ready { (before : TextFile) (call : TextCall) (waited faulted : Bool) (after : TextFile) → TextStep before call NotReady waited faulted after → after ≡ before }
+    ensures refused { (before : TextFile) (call : TextCall) (why : IoFault) (waited faulted : Bool) (after : TextFile) → why ≢ fault.RawFault → TextStep before call (Refused why) waited faulted after → after ≡ before }
+{}
