@@ -2,4 +2,5 @@ mod Printed
 mod LineFeed
 mod OverRaw
 mod Opened
+mod Keeping
 mod Ending

@@ -71,6 +71,6 @@ starved raw back calls refused sink why is = inr (record { hands = (subst (λ (b
 pub refused_printed : (raw back : Raw) (calls : List Call) (refused : IoFault) (old new : SinkView) (printed : Result (Unit {0}) Status) (ended : Status) → IsOpened (codes "rb") raw → RefusesRaw raw refused back → (refused ≡ fault.NoMemory → ⊥) → PrintOutcome old (refused_line refused) printed new → MatchResult printed (λ done. ended ≡ status.Refused) (λ stop. ended ≡ stop) → RawOutcome raw calls ended back old new
 refused_printed raw back calls refused old new printed ended opened why not_memory prints ends =
     elim (refused_by raw back refused opened why) [
-      inl is ↦ absurd (not_memory is)
-    | inr is ↦ refusal_printed raw calls back (refused_line fault.RawFault) old new printed ended (record { why = subst (λ (by : IoFault). RefusesRaw raw by back) is why; lines_are = refl }) (subst (λ (by : IoFault). PrintOutcome old (refused_line by) printed new) is prints) ends
+      | inl is ↦ absurd (not_memory is)
+      | inr is ↦ refusal_printed raw calls back (refused_line fault.RawFault) old new printed ended (record { why = subst (λ (by : IoFault). RefusesRaw raw by back) is why; lines_are = refl }) (subst (λ (by : IoFault). PrintOutcome old (refused_line by) printed new) is prints) ends
     ]

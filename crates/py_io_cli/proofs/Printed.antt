@@ -30,7 +30,7 @@ front_behind : (old mid new : SinkView) (before line whole : List ℕ) → SinkK
 front_behind old mid new before line whole keeps printed (rest, joins) stops told =
     let part = stops (subst IsTrue (sym keeps.tells) told) in
     let joined : (before ++ part.0) ++ (part.1.0 ++ rest) ≡ whole =
-        sym (append_assoc (before ++ part.0) part.1.0 rest) ∙ ap (λ bytes. bytes ++ rest) (append_assoc before part.0 part.1.0 ∙ ap (λ bytes. before ++ bytes) part.1.1) ∙ joins in
+    sym (append_assoc (before ++ part.0) part.1.0 rest) ∙ ap (λ bytes. bytes ++ rest) (append_assoc before part.0 part.1.0 ∙ ap (λ bytes. before ++ bytes) part.1.1) ∙ joins in
     (before ++ part.0, (part.1.0 ++ rest, joined), part.2 ∙ ap (λ bytes. bytes ++ part.0) (printed told) ∙ append_assoc old.written before part.0)
 
 -- and so with the outcome of a line that wasn't printed
@@ -61,8 +61,9 @@ lines_more replies i reply within is =
 
 -- they are a front of the lines of all
 pub lines_front : (replies : List Reply) (i : ℕ) (reply : Reply) → i < length replies → reply ≡ get_or replies i reply → IsFrontOf (reply_lines (take i replies) ++ reply_line reply) (reply_lines replies)
-lines_front replies i reply within is =
-    (reply_lines (drop (i + 1) replies),
-     ap (λ bytes. bytes ++ reply_lines (drop (i + 1) replies)) (sym (lines_more replies i reply within is))
-     ∙ sym (lines_joined (take (i + 1) replies) (drop (i + 1) replies))
-     ∙ ap reply_lines (take-append-drop (i + 1) replies))
+lines_front replies i reply within is = (
+  reply_lines (drop (i + 1) replies),
+  ap (λ bytes. bytes ++ reply_lines (drop (i + 1) replies)) (sym (lines_more replies i reply within is))
+      ∙ sym (lines_joined (take (i + 1) replies) (drop (i + 1) replies))
+      ∙ ap reply_lines (take-append-drop (i + 1) replies),
+)

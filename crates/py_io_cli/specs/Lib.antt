@@ -1,3 +1,4 @@
 pub mod Status
 pub mod Outside
 pub mod Outcome
+pub mod Meaning

@@ -5,6 +5,8 @@ mod printing;
 mod program;
 mod script;
 mod status;
+#[cfg(test)]
+mod tests;
 
 use program::run_program;
 use py_raw::{FileOpener, ReadSource, WriteSink};

@@ -1,9 +1,12 @@
 //! The program: from its words to the lines that it prints and the status that it ends with.
-ghost use Rattle.std.specs.Prelude.{◌≡◌, codes, IfOk, MatchResult};
+ghost use Rattle.std.specs.Prelude.{◌≡◌, ◌≢◌, ◌≤◌, ◌⊎◌, ◌↔◌, ℕ, IsTrue, List, codes, IfOk, MatchResult};
+ghost use Rattle.py_flat.specs.Causes.{Rose};
 ghost use Rattle.py_raw.specs.Sink.{SinkKeeps};
-ghost use Rattle.py_raw.specs.Opener.{IsOpened};
-ghost use Rattle.py_io_cli.specs.Outside.{texts};
-ghost use Rattle.py_io_cli.specs.Outcome.{RawOutcome, CallsOutcome, Ends, after_done, IsLineFeed};
+ghost use Rattle.py_raw.specs.Opener.{HoldsTheSame, OthersHoldTheSame, IsOpened};
+ghost use Rattle.py_script.specs.RunWords.{run_words};
+ghost use Rattle.py_io_cli.specs.Outside.{texts, IsOutOfForm};
+ghost use Rattle.py_io_cli.specs.Outcome.{RawOutcome, CallsOutcome, Outcome, Ends, after_done, IsLineFeed};
+ghost use Rattle.py_io_cli.specs.Meaning.{TellsForm, TellsNoForm, IsSmooth, PrintsReplies};
 
 use crate::printing::{print_refused, print_replies};
 use crate::script::read_script;
@@ -18,6 +21,21 @@ use std::alloc::{AllocError, Global};
 ///
 /// `words` are those of the command line without the program's own name. It answers the status that the program ends
 /// with (docs/PROGRAM.md); the first stop that applies decides. A raw that was opened is always put away again.
+///
+/// `ends` says all that was read, opened, printed and put away, by the status. The other clauses follow from it:
+///
+/// - `statuses`: it is 0 or one of 2 to 8;
+/// - `no_form`: 2 exactly for words of no form;
+/// - `source`, `refused`, `sink`, `opener`: 5, 4, 6 and 8 come only where a count of faults rose, of the source, of the
+///   raw, of the sink, or of the opener;
+/// - `complete`: where no count rose and the script is in form it is 0, or 7 for want of memory;
+/// - `out_of_form`, `form`: 3 comes only of a script out of form, and such a script ends with 3 unless the source failed
+///   or memory was wanting first;
+/// - `missing`, `found`: 8 comes of an opener that tells only where the path holds nothing, and such a path ends with 8
+///   unless the source failed or memory was wanting;
+/// - `others`, `kept`: of an opener that tells every other path holds what it held, and with 2, 3, 4, 5 and 8 the path of
+///   the words too;
+/// - `printed`: with 0 the calls are those of the whole script, and what was printed is the lines of a run of them.
 pub fn run_program<O: Opener, I: Source, K: Sink>(
     alloc: Global,
     words: &[String],
@@ -27,13 +45,50 @@ pub fn run_program<O: Opener, I: Source, K: Sink>(
 ) -> u8
     ensures ends { Ends result (texts words.now) (I.shows script.old) (I.shows script.new)
         (record { opener = O.shows opener.old; sink = K.shows out.old }) (record { opener = O.shows opener.new; sink = K.shows out.new }) }
+    ensures statuses { (result ≤ 8) × (result ≢ 1) }
+    ensures no_form { (result ≡ 2) ↔ (run_words (texts words.now) ≡ None) }
+    ensures source { result ≡ 5 → Rose (I.shows script.old).faults (I.shows script.new).faults }
+    ensures refused { result ≡ 4 → Rose (O.shows opener.old).raw_faults (O.shows opener.new).raw_faults }
+    ensures sink { result ≡ 6 → Rose (K.shows out.old).faults (K.shows out.new).faults }
+    ensures opener { result ≡ 8 → Rose (O.shows opener.old).faults (O.shows opener.new).faults }
+    ensures complete { run_words (texts words.now) ≢ None → TellsForm (I.shows script.old) → IsSmooth (I.shows script.old) (I.shows script.new)
+        (record { opener = O.shows opener.old; sink = K.shows out.old }) (record { opener = O.shows opener.new; sink = K.shows out.new })
+        → (result ≡ 0) ⊎ (result ≡ 7) }
+    ensures out_of_form { result ≡ 3 → IsTrue (I.shows script.old).tells → IsOutOfForm (I.shows script.old).left }
+    ensures form { run_words (texts words.now) ≢ None → TellsNoForm (I.shows script.old)
+        → (result ≡ 3) ⊎ ((result ≡ 5) ⊎ (result ≡ 7)) }
+    ensures missing { (path : List ℕ) → run_words (texts words.now) ≡ Some path → result ≡ 8 → IsTrue (O.shows opener.old).tells
+        → (O.shows opener.old).holds path ≡ None }
+    ensures found { (path : List ℕ) → run_words (texts words.now) ≡ Some path → TellsForm (I.shows script.old)
+        → IsTrue (O.shows opener.old).tells → (O.shows opener.old).holds path ≡ None
+        → (result ≡ 8) ⊎ ((result ≡ 5) ⊎ (result ≡ 7)) }
+    ensures others { (path : List ℕ) → run_words (texts words.now) ≡ Some path → IsTrue (O.shows opener.old).tells
+        → OthersHoldTheSame path (O.shows opener.old) (O.shows opener.new) }
+    ensures kept { result ≢ 0 → result ≢ 6 → result ≢ 7 → IsTrue (O.shows opener.old).tells
+        → HoldsTheSame (O.shows opener.old) (O.shows opener.new) }
+    ensures printed { result ≡ 0 → IsTrue (I.shows script.old).tells → PrintsReplies (I.shows script.old) (I.shows script.new)
+        (record { opener = O.shows opener.old; sink = K.shows out.old }) (record { opener = O.shows opener.new; sink = K.shows out.new }) }
+{
+    run_to_status(alloc, words, opener, script, out).code()
+}
+
+/// The same, by the status.
+fn run_to_status<O: Opener, I: Source, K: Sink>(
+    alloc: Global,
+    words: &[String],
+    opener: &mut O,
+    script: &mut I,
+    out: &mut K,
+) -> Status
+    ensures { Outcome result (texts words.now) (I.shows script.old) (I.shows script.new)
+        (record { opener = O.shows opener.old; sink = K.shows out.old }) (record { opener = O.shows opener.new; sink = K.shows out.new }) }
 {
     let Some(path) = run_path(words) else {
-        return Status::NoForm.code();
+        return Status::NoForm;
     };
     match read_script(alloc, script) {
-        Ok(calls) => run_calls(alloc, path, calls, opener, out).code(),
-        Err(status) => status.code(),
+        Ok(calls) => run_calls(alloc, path, calls, opener, out),
+        Err(status) => status,
     }
 }
 

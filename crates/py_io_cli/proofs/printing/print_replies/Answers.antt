@@ -14,7 +14,7 @@ returns-in_err-print_reply-clause-outcome g c =
     let reply : Reply = c.reply-item.result in
     let left = err_from_is_err_and c.from_residual.result c.from_residual.ensures.1 in
     rw (left.1, left.2) (stops_behind (g.K.Sink.shows c.args.out.now) (g.K.Sink.shows c.loop-reply.out) (g.K.Sink.shows c.print_reply.new.out) (reply_lines (take at replies)) (reply_line reply) (reply_lines replies) c.in_err-print_reply.field-0.0
-        c.loop-reply.invariant.keeps c.loop-reply.invariant.printed (lines_front replies at reply (omega arith) c.reply-item.is) c.in_err-print_reply.ensures.outcome)
+    c.loop-reply.invariant.keeps c.loop-reply.invariant.printed (lines_front replies at reply (omega arith) c.reply-item.is) c.in_err-print_reply.ensures.outcome)
 
 pub loop-reply-preserved : goal.loop-reply-preserved
 loop-reply-preserved g c =

@@ -27,8 +27,8 @@ returns-in-Ok-run_session-clause-outcome g c =
     let calls_are : c.deref.result.now ≡ closed_calls c.args.calls.items = calls_closed c.args.calls.items c.push.new.self.items c.deref.result.now (is_ok c.push.result) c.if-is_err.ensures.negation c.push.ensures.items c.deref.ensures.value in
     let ran : RunsCalls raw 8192 c.deref.result.now session replies = subst (λ (chunk : ℕ). RunsCalls raw chunk c.deref.result.now session replies) c.in-Ok.ensures.chunk_size c.in-Ok-run_session.ensures.2 in
     replies_printed raw c.args.calls.items session (g.R.RawStream.shows c.finish.result.raw) replies old new c.print_replies.result c.status_of-status.result
-        (subst (λ (calls : List Call). RunsCalls raw 8192 calls session replies) calls_are ran) c.finish.ensures.raw
-        (subst (λ (printed : List Reply). PrintOutcome old (reply_lines printed) c.print_replies.result new) c.deref-in-Ok-run_session.ensures.value c.print_replies.ensures.outcome) c.status_of-status.ensures
+    (subst (λ (calls : List Call). RunsCalls raw 8192 calls session replies) calls_are ran) c.finish.ensures.raw
+    (subst (λ (printed : List Reply). PrintOutcome old (reply_lines printed) c.print_replies.result new) c.deref-in-Ok-run_session.ensures.value c.print_replies.ensures.outcome) c.status_of-status.ensures
 
 pub returns-clause-outcome : goal.returns-clause-outcome
 returns-clause-outcome g c =
@@ -36,4 +36,4 @@ returns-clause-outcome g c =
     let back : Raw = g.R.RawStream.shows c.in-Err-run_session.field-0.raw in
     let refused : IoFault = c.in-Err-run_session.field-0.fault in
     refused_printed raw back c.args.calls.items refused (g.K.Sink.shows c.args.out.now) (g.K.Sink.shows c.print_refused.new.out) c.print_refused.result c.status_of-status-in_default.result
-        c.requires (planned_refusal raw c.in-Ok.args refused back c.in-Ok.ensures c.in-Err-run_session.ensures) c.in_default.not-NoMemory c.print_refused.ensures.outcome c.status_of-status-in_default.ensures
+    c.requires (planned_refusal raw c.in-Ok.args refused back c.in-Ok.ensures c.in-Err-run_session.ensures) c.in_default.not-NoMemory c.print_refused.ensures.outcome c.status_of-status-in_default.ensures

@@ -1,0 +1,127 @@
+//! Whole runs of the program over files, scripts and an output in memory.
+use crate::program::run_program;
+use py_raw::{MemOpener, MemSink, MemSource};
+use std::alloc::{AllocError, Global};
+use std::process::Abort;
+use std::test::Fail;
+
+/// The words of a run of the path `f`.
+const WORDS: [&str; 4] = ["run", "f", "r", "newline=0a"];
+
+/// The file of the worked example: an e with an acute accent and LF, then an x.
+const FILE: [u8; 4] = [0xC3, 0xA9, 0x0A, 0x78];
+
+/// The script of the worked example.
+const SCRIPT: &[u8] = b"readline\nread\n";
+
+/// An opener whose path `f` holds these bytes, or nothing.
+fn opener_of(alloc: Global, held: Option<&[u8]>) -> Result<MemOpener, AllocError> {
+    let mut opener = MemOpener::new(alloc);
+    if let Some(bytes) = held {
+        opener.put(alloc, "f", bytes.to_vec(alloc)?)?;
+    }
+    Ok(opener)
+}
+
+/// Words as the program gets them.
+fn words_of(alloc: Global, words: &[&str]) -> Result<Vec<String>, AllocError> {
+    let mut texts = Vec::new(alloc);
+    for word in words {
+        texts.push(String::from_str(alloc, word)?)?;
+    }
+    Ok(texts)
+}
+
+/// Tests the status of a run and what it printed.
+fn check_run(
+    rt: &impl Abort,
+    alloc: Global,
+    words: &[&str],
+    held: Option<&[u8]>,
+    outside: (MemSource, MemSink),
+    want: (u8, &str),
+) -> Result<(), AllocError> {
+    let words = words_of(alloc, words)?;
+    let mut opener = opener_of(alloc, held)?;
+    let (mut source, mut sink) = outside;
+    let status = run_program(alloc, &words, &mut opener, &mut source, &mut sink);
+    assert_eq!(rt; status, want.0);
+    assert!(rt; sink.written() == want.1.as_bytes());
+    assert!(rt; opener.bytes_at("f") == held);
+    Ok(())
+}
+
+/// A script whose reads all succeed, and an output that takes all.
+fn sound(alloc: Global, script: Vec<u8>) -> Result<(MemSource, MemSink), AllocError> {
+    let source = MemSource::new(script, Vec::new(alloc));
+    let sink = MemSink::with_room(alloc, 100, Vec::new(alloc))?;
+    Ok((source, sink))
+}
+
+#[test]
+fn scripts_run_and_end_with_their_status(rt: HostRuntime) -> Result<(), Fail> {
+    let alloc = rt.alloc();
+    let whole = "text c3a90a\ntext 78\nok\n";
+    let long_mode = ["run", "f", "rr", "newline=0a"];
+    let cases: [(&[&str], Option<&[u8]>, &[u8], u8, &str); 6] = [
+        (&WORDS, Some(&FILE), SCRIPT, 0, whole),
+        (
+            &WORDS,
+            Some(b""),
+            b"read\nreadline",
+            0,
+            "text -\ntext -\nok\n",
+        ),
+        (&WORDS[..2], Some(&FILE), SCRIPT, 2, ""),
+        (&long_mode, Some(&FILE), SCRIPT, 2, ""),
+        (&WORDS, Some(&FILE), b"red\n", 3, ""),
+        (&WORDS, None, SCRIPT, 8, ""),
+    ];
+    for (words, held, script, status, printed) in cases {
+        let outside = sound(alloc, script.to_vec(alloc)?)?;
+        check_run(&rt, alloc, words, held, outside, (status, printed))?;
+    }
+    Ok(())
+}
+
+#[test]
+fn a_script_has_at_most_a_mebibyte(rt: HostRuntime) -> Result<(), Fail> {
+    let alloc = rt.alloc();
+    for (size, status, printed) in [(1_048_576, 0, "ok\n"), (1_048_577, 3, "")] {
+        let outside = sound(alloc, vec![in alloc; b'#'; size]?)?;
+        let want = (status, printed);
+        check_run(&rt, alloc, &WORDS, Some(&FILE), outside, want)?;
+    }
+    Ok(())
+}
+
+#[test]
+fn a_script_that_fails_at_any_read_is_not_run(rt: HostRuntime) -> Result<(), Fail> {
+    let alloc = rt.alloc();
+    for read in [0, 1] {
+        let faults = vec![in alloc; read]?;
+        let source = MemSource::new(SCRIPT.to_vec(alloc)?, faults);
+        let sink = MemSink::with_room(alloc, 100, Vec::new(alloc))?;
+        let outside = (source, sink);
+        check_run(&rt, alloc, &WORDS, Some(&FILE), outside, (5, ""))?;
+    }
+    Ok(())
+}
+
+#[test]
+fn an_output_that_fails_has_a_front_of_the_lines(rt: HostRuntime) -> Result<(), Fail> {
+    let alloc = rt.alloc();
+    let cases = [
+        (100, 0, ""),
+        (100, 1, "text c3a90a\n"),
+        (100, 2, "text c3a90a\ntext 78\n"),
+        (14, 9, "text c3a90a\nte"),
+    ];
+    for (room, write, printed) in cases {
+        let source = MemSource::new(SCRIPT.to_vec(alloc)?, Vec::new(alloc));
+        let sink = MemSink::with_room(alloc, room, vec![in alloc; write]?)?;
+        let outside = (source, sink);
+        check_run(&rt, alloc, &WORDS, Some(&FILE), outside, (6, printed))?;
+    }
+    Ok(())
+}
