@@ -1,6 +1,6 @@
 //! Whole runs of the program over files, scripts and an output in memory.
 use crate::program::run_program;
-use py_raw::{MemOpener, MemSink, MemSource};
+use py_raw::{Cut, MemOpener, MemSink, MemSource};
 use std::alloc::{AllocError, Global};
 use std::process::Abort;
 use std::test::Fail;
@@ -122,6 +122,60 @@ fn an_output_that_fails_has_a_front_of_the_lines(rt: HostRuntime) -> Result<(), 
         let sink = MemSink::with_room(alloc, room, vec![in alloc; write]?)?;
         let outside = (source, sink);
         check_run(&rt, alloc, &WORDS, Some(&FILE), outside, (6, printed))?;
+    }
+    Ok(())
+}
+
+#[test]
+fn waits_faults_and_refused_ranges_are_replies(rt: HostRuntime) -> Result<(), Fail> {
+    let alloc = rt.alloc();
+    let euro: &[u8] = &[0xE2, 0x82, 0xAC];
+    let bytewise = [
+        Cut::Take(1),
+        Cut::Wait,
+        Cut::Take(1),
+        Cut::Wait,
+        Cut::Take(1),
+    ];
+    let cases: [(&[u8], &[Cut], &[u64], &[u8], u8, &str); 4] = [
+        (
+            euro,
+            &bytewise,
+            &[],
+            b"read 1\nread 1\nread 1",
+            0,
+            "notready\nnotready\ntext e282ac\nok\n",
+        ),
+        (
+            &[0x61, 0x62, 0xFF, 0x63],
+            &[],
+            &[],
+            b"read 2\nread 1\nread 1",
+            0,
+            "text 6162\nerr UnicodeDecodeError 2 3\nerr UnicodeDecodeError 2 3\nok\n",
+        ),
+        (
+            euro,
+            &[],
+            &[1],
+            b"read\nread",
+            0,
+            "err RawFault\nerr Failed\nerr Failed\n",
+        ),
+        (euro, &[], &[0], b"read", 4, "refused RawFault\n"),
+    ];
+    for (held, plan, faults, script, status, printed) in cases {
+        let words = words_of(alloc, &WORDS)?;
+        let mut opener = opener_of(alloc, Some(held))?;
+        opener.plan_next(
+            Vec::from_slice(alloc, plan)?,
+            Vec::from_slice(alloc, faults)?,
+        );
+        let (mut source, mut sink) = sound(alloc, script.to_vec(alloc)?)?;
+        let ended = run_program(alloc, &words, &mut opener, &mut source, &mut sink);
+        assert_eq!(rt; ended, status);
+        assert_eq!(rt; sink.written(), printed.as_bytes());
+        assert!(rt; opener.bytes_at("f") == Some(held));
     }
     Ok(())
 }
