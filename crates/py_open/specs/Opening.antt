@@ -9,7 +9,7 @@ use Rattle.py_plain.specs.Units.{Unknown}
 use Rattle.py_plain.specs.TextFile.{clean_at, TextFile}
 use Rattle.py_raw.specs.RawStream.{Raw, Keeps, StaysOpen, WhereTold}
 use Rattle.py_open.specs.declared.open_refused.OpenRefused.{OpenRefused}
-use Rattle.py_open.specs.Reader.{RefusesRaw}
+use Rattle.py_open.specs.Reader.{Untouched, RefusesRaw}
 use Rattle.py_open.specs.Session.{SessionFile, OfText, SessionView}
 
 -- the flat file of a text that is opened to be read, in UTF-8, strict, with the newline rule Lf: these bytes, clean at a place
@@ -33,6 +33,7 @@ pub record OpensText (raw : Raw) (chunk : ℕ) (session : SessionView) : Type 0 
   pub reads : raw.readable ≡ true
   pub keeps : Keeps raw session.raw
   pub stays : StaysOpen raw session.raw
+  pub untouched : Untouched raw session.raw
   pub place : ℕ
   pub file : session.file ≡ OfText (text_opened session.raw.bytes place raw.seekable chunk)
   pub start : IsFalse raw.seekable → place ≡ 0

@@ -132,11 +132,16 @@ CloseOutcome old result new = ClosesIn old.life old result new
 abbrev pub StandsAtStart : Raw → Type 0
 StandsAtStart raw = IsFalse raw.seekable → WhereTold raw (raw.place ≡ 0)
 
+-- nothing was read or written: where the raw tells, it counted no transfer
+abbrev pub Untouched : Raw → Raw → Type 0
+Untouched old new = WhereTold old (new.transfers ≤ old.transfers)
+
 -- where a raw stands: told, that place, and no place of one that can't seek but 0
 pub record PlaceOf (old : Raw) (place : ℕ) (new : Raw) : Type 0 where
   pub within : place ≤ greatest_place
   pub start : IsFalse old.seekable → place ≡ 0
   pub told : WhereTold old ((new.bytes ≡ old.bytes) × (new.place ≡ old.place) × (IsTrue old.seekable → place ≡ old.place))
+  pub untouched : Untouched old new
 
 abbrev pub PlaceOutcome : Raw → Result ℕ RawError → Raw → Type 0
 PlaceOutcome old (Ok place) new = PlaceOf old place new
@@ -153,16 +158,18 @@ pub record OpensReader (raw : Raw) (size : ℕ) (reader : ReaderView) : Type 0 w
   pub reads : raw.readable ≡ true
   pub keeps : Keeps raw reader.raw
   pub stays : StaysOpen raw reader.raw
+  pub untouched : Untouched raw reader.raw
   pub life : reader.life ≡ life.Live
   pub size_is : reader.size ≡ size
   pub start : IsFalse raw.seekable → reader.place ≡ 0
   pub told : WhereTold raw (BeginsTold raw reader)
 
--- the raw that is handed back: what it can do, its counts, and its bytes; it isn't closed
+-- the raw that is handed back: what it can do, its counts, and its bytes; it wasn't closed, and nothing was read from it
 pub record HandsRawBack (old new : Raw) : Type 0 where
   pub keeps : Keeps old new
   pub stays : StaysOpen old new
   pub bytes : WhereTold old (new.bytes ≡ old.bytes)
+  pub untouched : Untouched old new
 
 -- why a raw isn't opened: closed; not to be read from; a fault of its own; want of memory
 abbrev pub RefusesRaw : Raw → IoFault → Raw → Type 0
