@@ -15,7 +15,8 @@ use Rattle.py_raw.specs.RawStream.{Raw, Keeps}
 use Rattle.py_open.specs.declared.call.Call.{Call}
 use Rattle.py_open.specs.declared.reply.Reply.{Reply}
 use Rattle.py_open.specs.Calls.{text_call, said}
-use Rattle.py_open.specs.Session.{SessionFile, OfText, SessionView, is_closed, AnswersText, AnswersFile, Answers}
+use Rattle.py_open.specs.Reader.{is_closed, ClosedWith}
+use Rattle.py_open.specs.Session.{SessionFile, OfText, SessionView, AnswersText, AnswersFile, Answers}
 use Rattle.py_open.specs.Opening.{life_of}
 use Rattle.py_open.specs.Run.{IsRun, IsSmooth, NoneLacksMemory, all_said, session_exact, exact_replies, exact_after}
 use Rattle.py_open.specs.Laws.{IsExact, KeepsSettings, closed_reply, closed_replies, StaysClosed}
@@ -65,6 +66,15 @@ run_keeps_settings before [] [] after run = subst (λ (view : SessionView). Keep
 run_keeps_settings before (call ∷ calls) (reply ∷ replies) after run = settings_on before.file run.0.file after.file (step_keeps before call reply run.0 run.1).1 (run_keeps_settings run.0 calls replies after run.2)
 run_keeps_settings before [] (reply ∷ replies) after run = absurd run
 run_keeps_settings before (call ∷ calls) [] after run = absurd run
+
+file_step_shuts : (before : SessionFile) (old : Raw) (call : TextCall) (reply : FileReply) (after : SessionFile) (new : Raw) (short : Bool) → AnswersFile before old call reply after new short → ClosedWith (life_of before) old → ClosedWith (life_of after) new
+file_step_shuts (OfText before) old call reply (OfText after) new short step shut = step.shut shut
+
+pub run_shuts : (before : SessionView) (calls : List Call) (replies : List Reply) (after : SessionView) → IsRun before calls replies after → ClosedWith (life_of before.file) before.raw → ClosedWith (life_of after.file) after.raw
+run_shuts before [] [] after run shut = subst (λ (view : SessionView). ClosedWith (life_of view.file) view.raw) (sym run) shut
+run_shuts before (call ∷ calls) (reply ∷ replies) after run shut = run_shuts run.0 calls replies after run.2 (file_step_shuts before.file before.raw (text_call call) (said reply) run.0.file run.0.raw run.0.short run.1 shut)
+run_shuts before [] (reply ∷ replies) after run shut = absurd run
+run_shuts before (call ∷ calls) [] after run shut = absurd run
 
 -- Runs in which no count rose.
 

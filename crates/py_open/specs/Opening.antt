@@ -7,9 +7,9 @@ use Rattle.py_plain.specs.declared.handler.Handler.TheVariants.{Strict}
 use Rattle.py_plain.specs.declared.newlines.Newlines.TheVariants as newlines
 use Rattle.py_plain.specs.Units.{Unknown}
 use Rattle.py_plain.specs.TextFile.{clean_at, TextFile}
-use Rattle.py_raw.specs.RawStream.{Raw, Keeps, WhereTold}
+use Rattle.py_raw.specs.RawStream.{Raw, Keeps, StaysOpen, WhereTold}
 use Rattle.py_open.specs.declared.open_refused.OpenRefused.{OpenRefused}
-use Rattle.py_open.specs.Reader.{RefusesRaw}
+use Rattle.py_open.specs.Reader.{Untouched, RefusesRaw}
 use Rattle.py_open.specs.Session.{SessionFile, OfText, SessionView}
 
 -- the flat file of a text that is opened to be read, in UTF-8, strict, with the newline rule Lf: these bytes, clean at a place
@@ -26,12 +26,14 @@ text_opened bytes place seekable chunk = record {
 abbrev pub OpensTold : Raw → ℕ → SessionView → Type 0
 OpensTold raw place session = (session.raw.bytes ≡ raw.bytes) × (place ≡ raw.place)
 
--- an open session: the raw was open and can be read from, and nothing was read; it begins where the raw stood, at 0
+-- an open session: the raw was open, stays so and can be read from, and nothing was read; it begins where the raw stood, at 0
 -- where it can't seek
 pub record OpensText (raw : Raw) (chunk : ℕ) (session : SessionView) : Type 0 where
   pub was_open : raw.closed ≡ false
   pub reads : raw.readable ≡ true
   pub keeps : Keeps raw session.raw
+  pub stays : StaysOpen raw session.raw
+  pub untouched : Untouched raw session.raw
   pub place : ℕ
   pub file : session.file ≡ OfText (text_opened session.raw.bytes place raw.seekable chunk)
   pub start : IsFalse raw.seekable → place ≡ 0

@@ -1,5 +1,5 @@
 -- The buffered reader under a text: what it is seen as, and what its calls may do.
-use Rattle.std.specs.Prelude.{◌≡◌, ℕ, ◌+◌, ◌<◌, ◌≤◌, true, false, IsTrue, IsFalse, List, [], ◌++◌, length, take, drop, Option, Some, None, Result, Ok, Err, Vec}
+use Rattle.std.specs.Prelude.{◌≡◌, ℕ, ◌+◌, ◌<◌, ◌≤◌, Bool, true, false, IsTrue, IsFalse, List, [], ◌++◌, length, take, drop, Option, Some, None, Result, Ok, Err, Vec}
 use Rattle.std.specs.declared.alloc.Global.{Global}
 use Rattle.py_flat.specs.declared.fault.IoFault.{IoFault}
 use Rattle.py_flat.specs.declared.fault.IoFault.TheVariants as fault
@@ -13,7 +13,7 @@ use Rattle.py_flat.specs.BinaryStep.{IsFrontOf}
 use Rattle.py_open.specs.declared.open_refused.OpenRefused.{OpenRefused}
 use Rattle.py_raw.specs.declared.raw_error.RawError.{RawError}
 use Rattle.py_raw.specs.declared.raw_error.RawError.TheVariants as raw_error
-use Rattle.py_raw.specs.RawStream.{Raw, Keeps, WhereTold, AsksToWait, FailsWithout, LacksMemory}
+use Rattle.py_raw.specs.RawStream.{Raw, Keeps, StaysOpen, WhereTold, AsksToWait, FailsWithout, LacksMemory}
 
 -- the raw, the place of the next byte, the life, the buffer's size, and the bytes that it holds from there on
 pub record ReaderView : Type 0 where
@@ -54,11 +54,21 @@ FillOutcome old size place (Ok None) buffer new = AsksToWait old new
 FillOutcome old size place (Err raw_error.Fault) buffer new = FailsWithout 1 old new
 FillOutcome old size place (Err raw_error.Memory) buffer new = LacksMemory old new
 
--- what every call keeps: the buffer's size; of the raw what it can do, its counts, and its bytes
+abbrev pub is_closed : Life → Bool
+is_closed life.Closed = true
+is_closed _ = false
+
+-- a raw is closed where what stands on it is, and only there
+abbrev pub ClosedWith : Life → Raw → Type 0
+ClosedWith current raw = raw.closed ≡ is_closed current
+
+-- what every call keeps: the buffer's size; of the raw what it can do, its counts, and its bytes; and that it is closed
+-- with the reader
 pub record KeepsReader (old new : ReaderView) : Type 0 where
   pub size : new.size ≡ old.size
   pub raw : Keeps old.raw new.raw
   pub bytes : WhereTold old.raw (new.raw.bytes ≡ old.raw.bytes)
+  pub shut : ClosedWith old.life old.raw → ClosedWith new.life new.raw
 
 -- the place never falls, and never lies past the greatest
 pub record MovesForth (old new : ReaderView) : Type 0 where
@@ -129,11 +139,16 @@ CloseOutcome old result new = ClosesIn old.life old result new
 abbrev pub StandsAtStart : Raw → Type 0
 StandsAtStart raw = IsFalse raw.seekable → WhereTold raw (raw.place ≡ 0)
 
+-- nothing was read or written: where the raw tells, it counted no transfer
+abbrev pub Untouched : Raw → Raw → Type 0
+Untouched old new = WhereTold old (new.transfers ≤ old.transfers)
+
 -- where a raw stands: told, that place, and no place of one that can't seek but 0
 pub record PlaceOf (old : Raw) (place : ℕ) (new : Raw) : Type 0 where
   pub within : place ≤ greatest_place
   pub start : IsFalse old.seekable → place ≡ 0
   pub told : WhereTold old ((new.bytes ≡ old.bytes) × (new.place ≡ old.place) × (IsTrue old.seekable → place ≡ old.place))
+  pub untouched : Untouched old new
 
 abbrev pub PlaceOutcome : Raw → Result ℕ RawError → Raw → Type 0
 PlaceOutcome old (Ok place) new = PlaceOf old place new
@@ -149,15 +164,19 @@ pub record OpensReader (raw : Raw) (size : ℕ) (reader : ReaderView) : Type 0 w
   pub opened : raw.closed ≡ false
   pub reads : raw.readable ≡ true
   pub keeps : Keeps raw reader.raw
+  pub stays : StaysOpen raw reader.raw
+  pub untouched : Untouched raw reader.raw
   pub life : reader.life ≡ life.Live
   pub size_is : reader.size ≡ size
   pub start : IsFalse raw.seekable → reader.place ≡ 0
   pub told : WhereTold raw (BeginsTold raw reader)
 
--- the raw that is handed back: what it can do, its counts, and its bytes
+-- the raw that is handed back: what it can do, its counts, and its bytes; it wasn't closed, and nothing was read from it
 pub record HandsRawBack (old new : Raw) : Type 0 where
   pub keeps : Keeps old new
+  pub stays : StaysOpen old new
   pub bytes : WhereTold old (new.bytes ≡ old.bytes)
+  pub untouched : Untouched old new
 
 -- why a raw isn't opened: closed; not to be read from; a fault of its own; want of memory
 abbrev pub RefusesRaw : Raw → IoFault → Raw → Type 0

@@ -12,6 +12,7 @@ use Rattle.py_raw.specs.RawStream.{Raw, Keeps, WhereTold}
 use Rattle.py_open.specs.declared.call.Call.{Call}
 use Rattle.py_open.specs.declared.reply.Reply.{Reply}
 use Rattle.py_open.specs.Calls.{text_call, said}
+use Rattle.py_open.specs.Reader.{is_closed, ClosedWith}
 use Rattle.py_open.specs.Waiting.{ShowsAll}
 
 -- the flat file of a session, by its kind
@@ -96,10 +97,6 @@ pub record TextMoves (before : TextFile) (call : TextCall) (short : Bool) (reply
 
 -- The one clause of every call.
 
-abbrev pub is_closed : Life → Bool
-is_closed life.Closed = true
-is_closed _ = false
-
 -- whether a call closes a text that is closed: Python's `close` of a closed stream does nothing
 abbrev pub closes_again : TextFile → TextCall → Bool
 closes_again file Close = is_closed file.life
@@ -123,12 +120,13 @@ pub record IsComplete (call : TextCall) (reply : FileReply) (short : Bool) : Typ
   pub whole : short ≡ false
 
 -- one call of a text: what the raw can do stays and its counts never fall; what the life or the kind refuses; a close
--- of a closed text; causes; life and place; completeness; and, where the raw tells, the step of the model, and that a
--- wait hides nothing
+-- of a closed text; that the raw is closed with the text; causes; life and place; completeness; and, where the raw
+-- tells, the step of the model, and that a wait hides nothing
 pub record AnswersText (before : TextFile) (old : Raw) (call : TextCall) (reply : FileReply) (after : TextFile) (new : Raw) (short : Bool) : Type 0 where
   pub keeps : Keeps old new
   pub refused : (refused : IoFault) → text_refusal before call ≡ Some refused → LeavesText before old (Refused refused) reply after new short
   pub again : closes_again before call ≡ true → LeavesText before old Done reply after new short
+  pub shut : ClosedWith before.life old → ClosedWith after.life new
   pub causes : HasCauses old reply new short
   pub moves : TextMoves before call short reply after
   pub complete : text_refusal before call ≡ None → rose old.waits new.waits ≡ false → rose old.faults new.faults ≡ false → IsComplete call reply short

@@ -11,6 +11,7 @@ ghost use Rattle.py_plain.specs.TextStep.{TextCall, TextSettled, TextStep};
 ghost use Rattle.py_raw.specs.RawStream.{Keeps};
 ghost use Rattle.py_open.specs.declared.call.Call.{Call};
 ghost use Rattle.py_open.specs.declared.reply.Reply.{Reply};
+ghost use Rattle.py_open.specs.Reader.{ClosedWith};
 ghost use Rattle.py_open.specs.Session.{SessionView};
 ghost use Rattle.py_open.specs.Opening.{life_of};
 ghost use Rattle.py_open.specs.Run.{IsRun, IsSmooth, NoneLacksMemory, all_said};
@@ -36,6 +37,12 @@ pub fn counts_never_fall()
     ensures waits { (before : SessionView) (calls : List Call) (replies : List Reply) (after : SessionView) → IsRun before calls replies after → before.raw.waits ≤ after.raw.waits }
     ensures raw { (before : SessionView) (calls : List Call) (replies : List Reply) (after : SessionView) → IsRun before calls replies after → Keeps before.raw after.raw }
     ensures file { (before : SessionView) (calls : List Call) (replies : List Reply) (after : SessionView) → IsRun before calls replies after → KeepsSettings before.file after.file }
+{}
+
+/// A raw that is closed just where its session is stays so over a run: only a `Close` closes it, and each that closes the
+/// session does, after a fault too.
+pub fn a_raw_is_closed_with_its_session()
+    ensures { (before : SessionView) (calls : List Call) (replies : List Reply) (after : SessionView) → IsRun before calls replies after → ClosedWith (life_of before.file) before.raw → ClosedWith (life_of after.file) after.raw }
 {}
 
 /// A run from a closed session answers `Done` to each further `Close` and `Closed` to every other call, and leaves the

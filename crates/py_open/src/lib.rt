@@ -20,8 +20,8 @@ mod text;
 
 pub use call::Call;
 pub use laws::{
-    a_closed_session_stays_closed, a_run_answers_each_call, a_smooth_run_is_exact,
-    a_wait_loses_nothing, counts_never_fall, settled_only_blames_itself,
+    a_closed_session_stays_closed, a_raw_is_closed_with_its_session, a_run_answers_each_call,
+    a_smooth_run_is_exact, a_wait_loses_nothing, counts_never_fall, settled_only_blames_itself,
 };
 pub use mode::{EncodeMode, FileMode, Mode};
 pub use open_args::OpenArgs;

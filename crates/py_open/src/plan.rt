@@ -5,8 +5,8 @@ ghost use Rattle.py_open.specs.Plan.{plan_of, is_lf, are_default_names, are_defa
 use crate::{EncodeMode, FileMode, Mode, OpenArgs};
 use py_flat::{Chars, IoFault};
 
-/// The size of a buffer where none is given, and how many bytes a text asks its buffer for at once: Python's
-/// `io.DEFAULT_BUFFER_SIZE` before 3.14 and the chunk size of its texts.
+/// The size of a buffer where none is given, and how many bytes a text asks its buffer for at once: Python 3.11's
+/// `io.DEFAULT_BUFFER_SIZE` and the chunk size of its texts.
 pub const DEFAULT_BUFFER_SIZE: usize = 8192;
 
 /// What an opening by a mode and arguments sets up.

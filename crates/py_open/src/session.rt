@@ -122,7 +122,8 @@ impl<R: RawStream> Session<R> {
         self.text.life()
     }
 
-    /// Hands the raw back, in every life, with nothing unwritten, and with the byte of the text place where it can seek.
+    /// Hands the raw back, in every life, with nothing unwritten, and with the byte of the text place where it can seek. The
+    /// raw is closed where `Close` closed the session, and else stands wherever its last transfer left it.
     /// What was read and not taken is let go. It takes no memory.
     pub fn finish(self) -> Detached<R>
         ensures raw { R.shows result.raw ≡ self.raw }

@@ -322,3 +322,36 @@ fn a_refused_opening_hands_the_raw_back(rt: HostRuntime) -> Result<(), Fail> {
     }
     Ok(())
 }
+
+#[test]
+fn a_wait_behind_some_characters_makes_the_answer_short(rt: HostRuntime) -> Result<(), Fail> {
+    let alloc = rt.alloc();
+    let plan = vec![in alloc; Cut::Take(1), Cut::Wait]?;
+    let raw = raw_of(alloc, "ab".as_bytes(), plan)?;
+    let run = small_run(&rt, alloc, raw, (4, 4), &[Call::Read(None)]);
+    assert_eq!(rt; run.replies.as_slice(), [text(alloc, "a")?].as_slice());
+    assert!(rt; run.session.short());
+    let mut session = run.session;
+    assert_eq!(rt; session.call(alloc, &Call::Read(None)), text(alloc, "b")?);
+    assert!(rt; !session.short());
+    Ok(())
+}
+
+#[test]
+fn copies_are_equal(rt: HostRuntime) -> Result<(), Fail> {
+    let alloc = rt.alloc();
+    let calls = [
+        Call::Read(None),
+        Call::ReadLine(Some(3)),
+        Call::WriteText(Chars::from_text(alloc, "é")?),
+        Call::Close,
+    ];
+    for call in &calls {
+        assert_eq!(rt; call.try_clone(alloc)?, *call);
+    }
+    let replies = [text(alloc, "é")?, decode_error(2, 3), Reply::NotReady];
+    for reply in &replies {
+        assert_eq!(rt; reply.try_clone(alloc)?, *reply);
+    }
+    Ok(())
+}

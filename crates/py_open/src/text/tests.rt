@@ -1,3 +1,4 @@
+//! The text over raws in memory: cut characters, refused ranges, waits and a close.
 ghost use Rattle.std.specs.Prelude.{◌<◌};
 
 use super::{Answer, Text, Wanted};
