@@ -14,8 +14,8 @@ kept_by status.OutOfForm words old new before after did done sink memory tells =
 kept_by status.SourceFailed words old new before after did done sink memory tells = λ path. ap (λ (outside : Outside). outside.opener.holds path) did.0.same
 kept_by status.OpenerFailed words old new before after did done sink memory tells =
     elim did.does [
-      inl (nothing, faults) ↦ nothing.holds tells
-    | inr (opens, rises, untold) ↦ let both : true ≡ false = sym tells ∙ untold in cc
+      | inl (nothing, faults) ↦ nothing.holds tells
+      | inr (opens, rises, untold) ↦ let both : true ≡ false = sym tells ∙ untold in cc
     ]
 kept_by status.Refused words old new before after did done sink memory tells =
     let opened = did.does in

@@ -14,8 +14,8 @@ same_or_other false other path is = inr (λ same. let both : true ≡ false = sy
 all_hold : (path : List ℕ) (old new : OpenerView) → new.holds path ≡ old.holds path → OthersHoldTheSame path old new → HoldsTheSame old new
 all_hold path old new here others other =
     elim (same_or_other (bytes_eq other path) other path refl) [
-      inl same ↦ ap new.holds same ∙ here ∙ ap old.holds (sym same)
-    | inr differs ↦ others other differs
+      | inl same ↦ ap new.holds same ∙ here ∙ ap old.holds (sym same)
+      | inr differs ↦ others other differs
     ]
 
 -- what is found is held

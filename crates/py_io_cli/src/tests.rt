@@ -1,6 +1,6 @@
 //! Whole runs of the program over files, scripts and an output in memory.
 use crate::program::run_program;
-use py_raw::{MemOpener, MemSink, MemSource};
+use py_raw::{Cut, MemOpener, MemSink, MemSource};
 use std::alloc::{AllocError, Global};
 use std::process::Abort;
 use std::test::Fail;
@@ -32,7 +32,15 @@ fn words_of(alloc: Global, words: &[&str]) -> Result<Vec<String>, AllocError> {
     Ok(texts)
 }
 
-/// Tests the status of a run and what it printed.
+/// A script whose reads all succeed, and an output that takes all.
+fn sound(alloc: Global, script: Vec<u8>) -> Result<(MemSource, MemSink), AllocError> {
+    let source = MemSource::new(script, Vec::new(alloc));
+    let sink = MemSink::with_room(alloc, 100, Vec::new(alloc))?;
+    Ok((source, sink))
+}
+
+/// Tests the status of a run over a path that holds these bytes, or nothing, what it printed, and that the path holds
+/// them still.
 fn check_run(
     rt: &impl Abort,
     alloc: Global,
@@ -41,8 +49,21 @@ fn check_run(
     outside: (MemSource, MemSink),
     want: (u8, &str),
 ) -> Result<(), AllocError> {
+    let opener = opener_of(alloc, held)?;
+    check_with(rt, alloc, words, (opener, held), outside, want)
+}
+
+/// The same over an opener of a test's own.
+fn check_with(
+    rt: &impl Abort,
+    alloc: Global,
+    words: &[&str],
+    opener: (MemOpener, Option<&[u8]>),
+    outside: (MemSource, MemSink),
+    want: (u8, &str),
+) -> Result<(), AllocError> {
     let words = words_of(alloc, words)?;
-    let mut opener = opener_of(alloc, held)?;
+    let (mut opener, held) = opener;
     let (mut source, mut sink) = outside;
     let status = run_program(alloc, &words, &mut opener, &mut source, &mut sink);
     assert_eq!(rt; status, want.0);
@@ -51,19 +72,12 @@ fn check_run(
     Ok(())
 }
 
-/// A script whose reads all succeed, and an output that takes all.
-fn sound(alloc: Global, script: Vec<u8>) -> Result<(MemSource, MemSink), AllocError> {
-    let source = MemSource::new(script, Vec::new(alloc));
-    let sink = MemSink::with_room(alloc, 100, Vec::new(alloc))?;
-    Ok((source, sink))
-}
-
 #[test]
 fn scripts_run_and_end_with_their_status(rt: HostRuntime) -> Result<(), Fail> {
     let alloc = rt.alloc();
     let whole = "text c3a90a\ntext 78\nok\n";
     let long_mode = ["run", "f", "rr", "newline=0a"];
-    let cases: [(&[&str], Option<&[u8]>, &[u8], u8, &str); 6] = [
+    let cases: [(&[&str], Option<&[u8]>, &[u8], u8, &str); 7] = [
         (&WORDS, Some(&FILE), SCRIPT, 0, whole),
         (
             &WORDS,
@@ -71,6 +85,13 @@ fn scripts_run_and_end_with_their_status(rt: HostRuntime) -> Result<(), Fail> {
             b"read\nreadline",
             0,
             "text -\ntext -\nok\n",
+        ),
+        (
+            &WORDS,
+            Some(b"a\xFF"),
+            b"read\nread 1\n",
+            0,
+            "err UnicodeDecodeError 1 2\ntext 61\nok\n",
         ),
         (&WORDS[..2], Some(&FILE), SCRIPT, 2, ""),
         (&long_mode, Some(&FILE), SCRIPT, 2, ""),
@@ -123,5 +144,32 @@ fn an_output_that_fails_has_a_front_of_the_lines(rt: HostRuntime) -> Result<(), 
         let outside = (source, sink);
         check_run(&rt, alloc, &WORDS, Some(&FILE), outside, (6, printed))?;
     }
+    Ok(())
+}
+
+#[test]
+fn a_file_that_waits_or_fails_is_told_in_the_lines(rt: HostRuntime) -> Result<(), Fail> {
+    let alloc = rt.alloc();
+    let waits = "notready\ntext c3a90a78\nok\n";
+    let fails = "err RawFault\nerr Failed\nerr Failed\n";
+    for (cut, printed) in [(Cut::Wait, waits), (Cut::Break(0), fails)] {
+        let mut opener = opener_of(alloc, Some(&FILE))?;
+        opener.plan_next(vec![in alloc; cut]?, Vec::new(alloc));
+        let outside = sound(alloc, b"read\nread\n".to_vec(alloc)?)?;
+        let opener = (opener, Some(FILE.as_slice()));
+        check_with(&rt, alloc, &WORDS, opener, outside, (0, printed))?;
+    }
+    Ok(())
+}
+
+#[test]
+fn a_file_that_cannot_say_where_it_stands_is_refused(rt: HostRuntime) -> Result<(), Fail> {
+    let alloc = rt.alloc();
+    let mut opener = opener_of(alloc, Some(&FILE))?;
+    opener.plan_next(Vec::new(alloc), vec![in alloc; 0]?);
+    let outside = sound(alloc, SCRIPT.to_vec(alloc)?)?;
+    let opener = (opener, Some(FILE.as_slice()));
+    let want = (4, "refused RawFault\n");
+    check_with(&rt, alloc, &WORDS, opener, outside, want)?;
     Ok(())
 }
