@@ -32,7 +32,15 @@ fn words_of(alloc: Global, words: &[&str]) -> Result<Vec<String>, AllocError> {
     Ok(texts)
 }
 
-/// Tests the status of a run and what it printed.
+/// A script whose reads all succeed, and an output that takes all.
+fn sound(alloc: Global, script: Vec<u8>) -> Result<(MemSource, MemSink), AllocError> {
+    let source = MemSource::new(script, Vec::new(alloc));
+    let sink = MemSink::with_room(alloc, 100, Vec::new(alloc))?;
+    Ok((source, sink))
+}
+
+/// Tests the status of a run over a path that holds these bytes, or nothing, what it printed, and that the path holds
+/// them still.
 fn check_run(
     rt: &impl Abort,
     alloc: Global,
@@ -41,8 +49,21 @@ fn check_run(
     outside: (MemSource, MemSink),
     want: (u8, &str),
 ) -> Result<(), AllocError> {
+    let opener = opener_of(alloc, held)?;
+    check_with(rt, alloc, words, (opener, held), outside, want)
+}
+
+/// The same over an opener of a test's own.
+fn check_with(
+    rt: &impl Abort,
+    alloc: Global,
+    words: &[&str],
+    opener: (MemOpener, Option<&[u8]>),
+    outside: (MemSource, MemSink),
+    want: (u8, &str),
+) -> Result<(), AllocError> {
     let words = words_of(alloc, words)?;
-    let mut opener = opener_of(alloc, held)?;
+    let (mut opener, held) = opener;
     let (mut source, mut sink) = outside;
     let status = run_program(alloc, &words, &mut opener, &mut source, &mut sink);
     assert_eq!(rt; status, want.0);
@@ -51,19 +72,12 @@ fn check_run(
     Ok(())
 }
 
-/// A script whose reads all succeed, and an output that takes all.
-fn sound(alloc: Global, script: Vec<u8>) -> Result<(MemSource, MemSink), AllocError> {
-    let source = MemSource::new(script, Vec::new(alloc));
-    let sink = MemSink::with_room(alloc, 100, Vec::new(alloc))?;
-    Ok((source, sink))
-}
-
 #[test]
 fn scripts_run_and_end_with_their_status(rt: HostRuntime) -> Result<(), Fail> {
     let alloc = rt.alloc();
     let whole = "text c3a90a\ntext 78\nok\n";
     let long_mode = ["run", "f", "rr", "newline=0a"];
-    let cases: [(&[&str], Option<&[u8]>, &[u8], u8, &str); 6] = [
+    let cases: [(&[&str], Option<&[u8]>, &[u8], u8, &str); 7] = [
         (&WORDS, Some(&FILE), SCRIPT, 0, whole),
         (
             &WORDS,
@@ -71,6 +85,13 @@ fn scripts_run_and_end_with_their_status(rt: HostRuntime) -> Result<(), Fail> {
             b"read\nreadline",
             0,
             "text -\ntext -\nok\n",
+        ),
+        (
+            &WORDS,
+            Some(b"a\xFF"),
+            b"read\nread 1\n",
+            0,
+            "err UnicodeDecodeError 1 2\ntext 61\nok\n",
         ),
         (&WORDS[..2], Some(&FILE), SCRIPT, 2, ""),
         (&long_mode, Some(&FILE), SCRIPT, 2, ""),
@@ -165,17 +186,14 @@ fn waits_faults_and_refused_ranges_are_replies(rt: HostRuntime) -> Result<(), Fa
         (euro, &[], &[0], b"read", 4, "refused RawFault\n"),
     ];
     for (held, plan, faults, script, status, printed) in cases {
-        let words = words_of(alloc, &WORDS)?;
         let mut opener = opener_of(alloc, Some(held))?;
         opener.plan_next(
             Vec::from_slice(alloc, plan)?,
             Vec::from_slice(alloc, faults)?,
         );
-        let (mut source, mut sink) = sound(alloc, script.to_vec(alloc)?)?;
-        let ended = run_program(alloc, &words, &mut opener, &mut source, &mut sink);
-        assert_eq!(rt; ended, status);
-        assert_eq!(rt; sink.written(), printed.as_bytes());
-        assert!(rt; opener.bytes_at("f") == Some(held));
+        let outside = sound(alloc, script.to_vec(alloc)?)?;
+        let want = (status, printed);
+        check_with(&rt, alloc, &WORDS, (opener, Some(held)), outside, want)?;
     }
     Ok(())
 }
