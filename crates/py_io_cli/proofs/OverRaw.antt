@@ -21,7 +21,9 @@ use Rattle.py_io_cli.specs.Outcome.{closed_calls, RanCalls, RefusedRaw, RawOutco
 pub same_back : (raw : Raw) → HandsRawBack raw raw
 same_back raw = record {
   keeps = record { tells = refl; readable = refl; writable = refl; seekable = refl; takes_memory = refl; faults = omega arith; waits = omega arith };
+  stays = refl;
   bytes = λ told. refl;
+  untouched = λ told. omega arith;
 }
 
 -- there was no memory to begin with
