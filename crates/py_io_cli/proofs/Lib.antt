@@ -4,3 +4,4 @@ mod OverRaw
 mod Opened
 mod Keeping
 mod Ending
+mod Exact

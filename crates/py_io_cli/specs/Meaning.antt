@@ -1,11 +1,17 @@
 -- What the clauses of the program speak of beside its outcome.
-use Rattle.std.specs.Prelude.{◌≡◌, ℕ, false, IsTrue, List}
+use Rattle.std.specs.Prelude.{◌≡◌, ℕ, true, false, IsTrue, List, Some}
 use Rattle.py_flat.specs.Causes.{rose}
 use Rattle.py_raw.specs.RawStream.{Raw}
 use Rattle.py_raw.specs.Source.{SourceView}
 use Rattle.py_open.specs.declared.call.Call.{Call}
+use Rattle.py_open.specs.declared.reply.Reply.{Reply}
+use Rattle.py_open.specs.Session.{OfText}
+use Rattle.py_open.specs.Opening.{text_opened}
+use Rattle.py_open.specs.Run.{NoneLacksMemory, exact_replies, all_said}
+use Rattle.py_script.specs.Script.{script_calls}
+use Rattle.py_script.specs.ReplyLine.{reply_lines}
 use Rattle.py_io_cli.specs.Outside.{IsOutOfForm, ReadsScript, Prints}
-use Rattle.py_io_cli.specs.Outcome.{Outside, RanCalls}
+use Rattle.py_io_cli.specs.Outcome.{Outside, closed_calls, RanCalls}
 
 -- the source tells that its script is in form
 pub record TellsForm (source : SourceView) : Type 0 where
@@ -18,7 +24,7 @@ pub record TellsNoForm (source : SourceView) : Type 0 where
   pub out_of_form : IsOutOfForm source.left
 
 -- no count of faults rose, of the source, the sink, the opener or its raws
-pub record IsSmooth (old new : SourceView) (before after : Outside) : Type 0 where
+pub record NothingFails (old new : SourceView) (before after : Outside) : Type 0 where
   pub source : rose old.faults new.faults ≡ false
   pub sink : rose before.sink.faults after.sink.faults ≡ false
   pub opener : rose before.opener.faults after.opener.faults ≡ false
@@ -33,3 +39,17 @@ pub record PrintsReplies (old new : SourceView) (before after : Outside) : Type 
   pub lines : List ℕ
   pub ran : RanCalls raw calls back lines
   pub prints : Prints before.sink lines after.sink
+
+-- no fault and no wait of a raw was added
+pub record RawsAreReady (before after : Outside) : Type 0 where
+  pub faults : rose before.opener.raw_faults after.opener.raw_faults ≡ false
+  pub waits : rose before.opener.raw_waits after.opener.raw_waits ≡ false
+
+-- what was printed is the lines of replies to the script's calls and a Close; unless one is for want of memory, they say
+-- what the model answers on a text of these bytes, begun at place 0
+pub record PrintsExactly (bytes : List ℕ) (old : SourceView) (before after : Outside) : Type 0 where
+  pub calls : List Call
+  pub form : script_calls old.left ≡ Some calls
+  pub replies : List Reply
+  pub prints : Prints before.sink (reply_lines replies) after.sink
+  pub says : NoneLacksMemory (all_said replies) → all_said replies ≡ exact_replies (OfText (text_opened bytes 0 true 8192)) (closed_calls calls)

@@ -1,6 +1,7 @@
 //! A program that opens a file and runs a script of calls on it, printing each reply (docs/PROGRAM.md).
 #![tactic(auto)]
 
+mod laws;
 mod printing;
 mod program;
 mod script;

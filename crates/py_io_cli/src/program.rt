@@ -6,7 +6,7 @@ ghost use Rattle.py_raw.specs.Opener.{HoldsTheSame, OthersHoldTheSame, IsOpened}
 ghost use Rattle.py_script.specs.RunWords.{run_words};
 ghost use Rattle.py_io_cli.specs.Outside.{texts, IsOutOfForm};
 ghost use Rattle.py_io_cli.specs.Outcome.{RawOutcome, CallsOutcome, Outcome, Ends, after_done, IsLineFeed};
-ghost use Rattle.py_io_cli.specs.Meaning.{TellsForm, TellsNoForm, IsSmooth, PrintsReplies};
+ghost use Rattle.py_io_cli.specs.Meaning.{TellsForm, TellsNoForm, NothingFails, PrintsReplies};
 
 use crate::printing::{print_refused, print_replies};
 use crate::script::read_script;
@@ -51,7 +51,7 @@ pub fn run_program<O: Opener, I: Source, K: Sink>(
     ensures refused { result ≡ 4 → Rose (O.shows opener.old).raw_faults (O.shows opener.new).raw_faults }
     ensures sink { result ≡ 6 → Rose (K.shows out.old).faults (K.shows out.new).faults }
     ensures opener { result ≡ 8 → Rose (O.shows opener.old).faults (O.shows opener.new).faults }
-    ensures complete { run_words (texts words.now) ≢ None → TellsForm (I.shows script.old) → IsSmooth (I.shows script.old) (I.shows script.new)
+    ensures complete { run_words (texts words.now) ≢ None → TellsForm (I.shows script.old) → NothingFails (I.shows script.old) (I.shows script.new)
         (record { opener = O.shows opener.old; sink = K.shows out.old }) (record { opener = O.shows opener.new; sink = K.shows out.new })
         → (result ≡ 0) ⊎ (result ≡ 7) }
     ensures out_of_form { result ≡ 3 → IsTrue (I.shows script.old).tells → IsOutOfForm (I.shows script.old).left }

@@ -1,0 +1,5 @@
+use Rattle.py_io_cli.proofs.Exact.{prints_exactly}
+use Rattle.py_io_cli.proofs.laws.a_smooth_run_prints_the_exact_replies.Goals as goal
+
+pub returns : goal.returns
+returns c = prints_exactly c.a_smooth_run_is_exact.ensures
