@@ -107,8 +107,8 @@ impl<R: RawStream> Session<R> {
         }
     }
 
-    /// Whether the last answer was short: characters, but not all that was asked for, since the raw asked to wait. It is
-    /// false before the first call.
+    /// Whether the last answer was short: the characters that came before the raw asked to wait. It is false before the
+    /// first call.
     pub fn short(&self) -> bool
         ensures { result ≡ self.now.short }
     {
