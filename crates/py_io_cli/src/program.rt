@@ -8,6 +8,7 @@ ghost use Rattle.py_io_cli.specs.Outside.{texts, IsOutOfForm};
 ghost use Rattle.py_io_cli.specs.Outcome.{RawOutcome, CallsOutcome, Outcome, Ends, after_done, IsLineFeed};
 ghost use Rattle.py_io_cli.specs.Meaning.{TellsForm, TellsNoForm, NothingFails, PrintsReplies};
 
+use crate::laws::a_smooth_run_prints_the_exact_replies;
 use crate::printing::{print_refused, print_replies};
 use crate::script::read_script;
 use crate::status::Status;
@@ -69,6 +70,7 @@ pub fn run_program<O: Opener, I: Source, K: Sink>(
     ensures printed { result ≡ 0 → IsTrue (I.shows script.old).tells → PrintsReplies (I.shows script.old) (I.shows script.new)
         (record { opener = O.shows opener.old; sink = K.shows out.old }) (record { opener = O.shows opener.new; sink = K.shows out.new }) }
 {
+    a_smooth_run_prints_the_exact_replies();
     run_to_status(alloc, words, opener, script, out).code()
 }
 
