@@ -121,12 +121,13 @@ pub record IsComplete (call : TextCall) (reply : FileReply) (short : Bool) : Typ
 
 -- one call of a text: what the raw can do stays and its counts never fall; what the life or the kind refuses; a close
 -- of a closed text; that the raw is closed with the text; causes; life and place; completeness; and, where the raw
--- tells, the step of the model, and that a wait hides nothing
+-- tells, that its bytes stay, the step of the model, and that a wait hides nothing
 pub record AnswersText (before : TextFile) (old : Raw) (call : TextCall) (reply : FileReply) (after : TextFile) (new : Raw) (short : Bool) : Type 0 where
   pub keeps : Keeps old new
   pub refused : (refused : IoFault) → text_refusal before call ≡ Some refused → LeavesText before old (Refused refused) reply after new short
   pub again : closes_again before call ≡ true → LeavesText before old Done reply after new short
   pub shut : ClosedWith before.life old → ClosedWith after.life new
+  pub bytes : WhereTold old (new.bytes ≡ old.bytes)
   pub causes : HasCauses old reply new short
   pub moves : TextMoves before call short reply after
   pub complete : text_refusal before call ≡ None → rose old.waits new.waits ≡ false → rose old.faults new.faults ≡ false → IsComplete call reply short

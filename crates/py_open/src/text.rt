@@ -97,6 +97,9 @@ fn drop_front<T: Copy>(items: &mut Vec<T>, count: usize)
     ensures items { items.new.items ≡ drop count items.old.items }
     ensures capacity { vec_capacity items.new ≡ vec_capacity items.old }
 {
+    if count == 0 {
+        return;
+    }
     let rest = items.len() - count;
     items.copy_within(count.., 0);
     items.truncate(rest);
