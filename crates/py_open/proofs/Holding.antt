@@ -32,7 +32,7 @@ text_over old new at taken chunk held pending keeps forth still is = record {
 closed_raw : (old new : ReaderView) (result : Result (Unit {0}) IoFault) → ClosesRaw old result new → new.life ≡ life.Live → new ≡ old
 closed_raw old new (Ok done) outcome live = absurd (cc)
 closed_raw old new (Err fault.RawFault) outcome live = absurd (let closed = outcome.1 in cc)
-closed_raw old new (Err fault.NoMemory) outcome live = outcome
+closed_raw old new (Err fault.NoMemory) outcome live = outcome.1
 closed_raw old new (Err other) outcome live = absurd outcome
 
 closed_in : (current : Life) (old new : ReaderView) (result : Result (Unit {0}) IoFault) → ClosesIn current old result new → new.life ≡ life.Live → new ≡ old

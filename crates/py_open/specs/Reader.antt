@@ -116,11 +116,12 @@ GivesHeld old size (Ok (Some part)) new = (part.items ≡ take size old.held) ×
 GivesHeld old size (Ok None) new = ⊥
 GivesHeld old size (Err refused) new = (refused ≡ fault.NoMemory) × (new ≡ old)
 
--- closing a live reader: closed, after a fault of the raw too; want of memory leaves it as it was
+-- closing a live reader: closed, after a fault of the raw too; want of memory comes of a raw that takes some, and leaves
+-- it as it was
 abbrev pub ClosesRaw : ReaderView → Result (Unit {0}) IoFault → ReaderView → Type 0
 ClosesRaw old (Ok done) new = new.life ≡ life.Closed
 ClosesRaw old (Err fault.RawFault) new = Rose old.raw.faults new.raw.faults × (new.life ≡ life.Closed)
-ClosesRaw old (Err fault.NoMemory) new = new ≡ old
+ClosesRaw old (Err fault.NoMemory) new = IsTrue old.raw.takes_memory × (new ≡ old)
 ClosesRaw old (Err other) new = ⊥
 
 -- by the life: a closed reader stays so, and what a life refuses leaves all as it was

@@ -114,6 +114,11 @@ pub record HasCauses (old : Raw) (reply : FileReply) (new : Raw) (short : Bool) 
   pub waits : IsTrue (short || says_wait reply) → Rose old.waits new.waits
   pub faults : IsTrue (says_fault reply) → Rose old.faults new.faults
 
+-- a close wants no memory but its raw's
+abbrev pub WantsMemory : TextCall → FileReply → Raw → Type 0
+WantsMemory Close (Refused fault.NoMemory) raw = IsTrue raw.takes_memory
+WantsMemory call reply raw = Unit {0}
+
 -- an accepted call in which no count rose is answered so, and whole
 pub record IsComplete (call : TextCall) (reply : FileReply) (short : Bool) : Type 0 where
   pub answer : IsAnswerTo call reply
@@ -129,6 +134,7 @@ pub record AnswersText (before : TextFile) (old : Raw) (call : TextCall) (reply 
   pub shut : ClosedWith before.life old → ClosedWith after.life new
   pub bytes : WhereTold old (new.bytes ≡ old.bytes)
   pub causes : HasCauses old reply new short
+  pub wants : WantsMemory call reply old
   pub moves : TextMoves before call short reply after
   pub complete : text_refusal before call ≡ None → rose old.waits new.waits ≡ false → rose old.faults new.faults ≡ false → IsComplete call reply short
   pub told : WhereTold old (TextStep before call reply (short || says_wait reply) (says_fault reply) after)
