@@ -119,6 +119,13 @@ abbrev pub WantsMemory : TextCall → FileReply → Raw → Type 0
 WantsMemory Close (Refused fault.NoMemory) raw = IsTrue raw.takes_memory
 WantsMemory call reply raw = Unit {0}
 
+-- the replies that an accepted call may have at all
+abbrev pub IsReplyTo : TextCall → FileReply → Type 0
+IsReplyTo Close NotReady = ⊥
+IsReplyTo call (Refused fault.RawFault) = Unit {0}
+IsReplyTo call NotReady = Unit {0}
+IsReplyTo call reply = IsAnswerTo call reply
+
 -- an accepted call in which no count rose is answered so, and whole
 pub record IsComplete (call : TextCall) (reply : FileReply) (short : Bool) : Type 0 where
   pub answer : IsAnswerTo call reply
@@ -136,6 +143,7 @@ pub record AnswersText (before : TextFile) (old : Raw) (call : TextCall) (reply 
   pub causes : HasCauses old reply new short
   pub wants : WantsMemory call reply old
   pub moves : TextMoves before call short reply after
+  pub answer : text_refusal before call ≡ None → IsReplyTo call reply
   pub complete : text_refusal before call ≡ None → rose old.waits new.waits ≡ false → rose old.faults new.faults ≡ false → IsComplete call reply short
   pub told : WhereTold old (TextStep before call reply (short || says_wait reply) (says_fault reply) after)
   pub hides : IsTrue (short || says_wait reply) → WhereTold old (ShowsAll after new)
