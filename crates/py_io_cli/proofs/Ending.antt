@@ -1,29 +1,35 @@
--- What follows from how the program ended, a status at a time: where every path holds what it held.
-use Rattle.std.proofs.Common.{◌≡◌, ◌≢◌, ℕ, inl, inr, true, false, IsTrue, List, refl, sym, ◌∙◌, ap}
+-- What follows from how the program ended, a status at a time: every path holds what it held.
+use Rattle.std.proofs.Common.{◌≡◌, ℕ, inl, inr, IsTrue, List, ap}
 use Rattle.py_raw.specs.Source.{SourceView}
 use Rattle.py_raw.specs.Opener.{HoldsTheSame}
+use Rattle.py_open.specs.declared.call.Call.{Call}
 use Rattle.py_io_cli.specs.declared.status.Status.{Status}
 use Rattle.py_io_cli.specs.declared.status.Status.TheVariants as status
-use Rattle.py_io_cli.specs.Status.{code_of}
-use Rattle.py_io_cli.specs.Outcome.{Outside, Outcome, Ends}
-use Rattle.py_io_cli.proofs.Keeping.{raw_keeps}
+use Rattle.py_io_cli.specs.Outcome.{Outside, OpenerFails, LacksMemory, Outcome, Ends}
+use Rattle.py_io_cli.proofs.Keeping.{RunsKeepBytes, path_keeps}
 
-kept_by : (ended : Status) (words : List (List ℕ)) (old new : SourceView) (before after : Outside) → Outcome ended words old new before after → ended ≢ status.Done → ended ≢ status.SinkFailed → ended ≢ status.NoMemory → IsTrue before.opener.tells → HoldsTheSame before.opener after.opener
-kept_by status.NoForm words old new before after did done sink memory tells = λ path. ap (λ (outside : Outside). outside.opener.holds path) did.2
-kept_by status.OutOfForm words old new before after did done sink memory tells = λ path. ap (λ (outside : Outside). outside.opener.holds path) did.0.same
-kept_by status.SourceFailed words old new before after did done sink memory tells = λ path. ap (λ (outside : Outside). outside.opener.holds path) did.0.same
-kept_by status.OpenerFailed words old new before after did done sink memory tells =
-    elim did.does [
-      | inl (nothing, faults) ↦ nothing.holds tells
-      | inr (opens, rises, untold) ↦ let both : true ≡ false = sym tells ∙ untold in cc
-    ]
-kept_by status.Refused words old new before after did done sink memory tells =
-    let opened = did.does in
-    raw_keeps did.path opened.raw opened.back before.opener opened.mid after.opener (opened.opens.told tells) opened.does.1.why.3 (opened.puts tells)
-kept_by status.Done words old new before after did done sink memory tells = absurd (done refl)
-kept_by status.SinkFailed words old new before after did done sink memory tells = absurd (sink refl)
-kept_by status.NoMemory words old new before after did done sink memory tells = absurd (memory refl)
+same_keeps : (before after : Outside) → after ≡ before → HoldsTheSame before.opener after.opener
+same_keeps before after same = λ path. ap (λ (outside : Outside). outside.opener.holds path) same
 
-pub paths_kept : (code : ℕ) (words : List (List ℕ)) (old new : SourceView) (before after : Outside) → Ends code words old new before after → code ≢ 0 → code ≢ 6 → code ≢ 7 → IsTrue before.opener.tells → HoldsTheSame before.opener after.opener
-paths_kept code words old new before after ends done sink memory =
-    kept_by ends.ended words old new before after ends.outcome (λ is. done (ends.code_is ∙ ap code_of is)) (λ is. sink (ends.code_is ∙ ap code_of is)) (λ is. memory (ends.code_is ∙ ap code_of is))
+opener_keeps : RunsKeepBytes → (path : List ℕ) (calls : List Call) (before after : Outside) → OpenerFails path calls before after → IsTrue before.opener.tells → HoldsTheSame before.opener after.opener
+opener_keeps law path calls before after (inl refused) tells = refused.0.holds tells
+opener_keeps law path calls before after (inr opened) tells = path_keeps law path calls status.Done before after opened.0 tells
+
+memory_keeps : RunsKeepBytes → (path : List ℕ) (calls : List Call) (before after : Outside) → LacksMemory path calls before after → IsTrue before.opener.tells → HoldsTheSame before.opener after.opener
+memory_keeps law path calls before after (inl opened) tells = path_keeps law path calls status.NoMemory before after opened tells
+memory_keeps law path calls before after (inr (inl opened)) tells = path_keeps law path calls status.Done before after opened tells
+memory_keeps law path calls before after (inr (inr none)) tells = none.0.holds tells
+
+kept_by : RunsKeepBytes → (ended : Status) (words : List (List ℕ)) (old new : SourceView) (before after : Outside) → Outcome ended words old new before after → IsTrue before.opener.tells → HoldsTheSame before.opener after.opener
+kept_by law status.NoForm words old new before after did tells = same_keeps before after did.2
+kept_by law status.OutOfForm words old new before after did tells = same_keeps before after did.0.same
+kept_by law status.SourceFailed words old new before after did tells = same_keeps before after did.0.same
+kept_by law status.OpenerFailed words old new before after did tells = opener_keeps law did.path did.calls before after did.does tells
+kept_by law status.Refused words old new before after did tells = path_keeps law did.path did.calls status.Refused before after did.does tells
+kept_by law status.Done words old new before after did tells = path_keeps law did.path did.calls status.Done before after did.does tells
+kept_by law status.SinkFailed words old new before after did tells = path_keeps law did.path did.calls status.SinkFailed before after did.does tells
+kept_by law status.NoMemory words old new before after (inl read) tells = same_keeps before after read.same
+kept_by law status.NoMemory words old new before after (inr did) tells = memory_keeps law did.path did.calls before after did.does tells
+
+pub paths_kept : RunsKeepBytes → (code : ℕ) (words : List (List ℕ)) (old new : SourceView) (before after : Outside) → Ends code words old new before after → IsTrue before.opener.tells → HoldsTheSame before.opener after.opener
+paths_kept law code words old new before after ends tells = kept_by law ends.ended words old new before after ends.outcome tells

@@ -30,11 +30,11 @@ smooth_raw opened back session faults mid_faults after_faults waits mid_waits af
     })
 
 -- the file that was opened
-file_opened : (raw : Raw) (session : SessionView) (bytes : List ℕ) → OpensText raw 8192 session → raw.tells ≡ true → raw.seekable ≡ true → raw.place ≡ 0 → raw.bytes ≡ bytes → session.file ≡ OfText (text_opened bytes 0 true 8192)
+file_opened : (raw : Raw) (session : SessionView) (bytes : List ℕ) → OpensText raw 8192 8192 session → raw.tells ≡ true → raw.seekable ≡ true → raw.place ≡ 0 → raw.bytes ≡ bytes → session.file ≡ OfText (text_opened bytes 0 true 8192)
 file_opened raw session bytes opens tells seeks place are =
     opens.file
     ∙ ap (λ (all : List ℕ). OfText (text_opened all opens.place raw.seekable 8192)) ((opens.told tells).0 ∙ are)
-    ∙ ap (λ (at : ℕ). OfText (text_opened bytes at raw.seekable 8192)) ((opens.told tells).1 ∙ place)
+    ∙ ap (λ (at : ℕ). OfText (text_opened bytes at raw.seekable 8192)) ((opens.told tells).2 ∙ place)
     ∙ ap (λ (can : Bool). OfText (text_opened bytes 0 can 8192)) seeks
 
 -- with 0 all was done
@@ -50,7 +50,7 @@ all_done status.OpenerFailed words old new before after is did = absurd (omega a
 
 -- the replies over a raw that was opened, by the law of smooth runs
 exact_over : ((before : SessionView) (calls : List Call) (replies : List Reply) (after : SessionView) → IsRun before calls replies after → IsTrue before.raw.tells → IsSmooth before.raw after.raw → NoneLacksMemory (all_said replies) → IsExact before calls replies after) →
-    (raw : Raw) (session : SessionView) (calls : List Call) (replies : List Reply) (bytes : List ℕ) → (run : RunsCalls raw 8192 calls session replies) → IsSmooth run.opened.raw session.raw → raw.tells ≡ true → raw.seekable ≡ true → raw.place ≡ 0 → raw.bytes ≡ bytes → NoneLacksMemory (all_said replies) → all_said replies ≡ exact_replies (OfText (text_opened bytes 0 true 8192)) calls
+    (raw : Raw) (session : SessionView) (calls : List Call) (replies : List Reply) (bytes : List ℕ) → (run : RunsCalls raw 8192 8192 calls session replies) → IsSmooth run.opened.raw session.raw → raw.tells ≡ true → raw.seekable ≡ true → raw.place ≡ 0 → raw.bytes ≡ bytes → NoneLacksMemory (all_said replies) → all_said replies ≡ exact_replies (OfText (text_opened bytes 0 true 8192)) calls
 exact_over law raw session calls replies bytes run smooth tells seeks place are memory =
     (law run.opened calls replies session run.run (run.opens.keeps.tells ∙ tells) smooth memory).says
     ∙ ap (λ (file : SessionFile). exact_replies file calls) (file_opened raw run.opened bytes run.opens tells seeks place are)

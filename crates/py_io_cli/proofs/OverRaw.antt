@@ -28,7 +28,7 @@ same_back raw = record {
 
 -- there was no memory to begin with
 pub lacks_memory : (raw : Raw) (calls : List Call) (sink : SinkView) → RawOutcome raw calls status.NoMemory raw sink sink
-lacks_memory raw calls sink = inr (record { hands = same_back raw; sink = refl })
+lacks_memory raw calls sink = inr (record { hands = same_back raw; place = λ told. refl; sink = refl })
 
 -- all was printed of a run, or a front
 run_printed : (raw : Raw) (calls : List Call) (back : Raw) (lines : List ℕ) (old new : SinkView) (printed : Result (Unit {0}) Status) (ended : Status) → RanCalls raw calls back lines → PrintOutcome old lines printed new → MatchResult printed (λ done. ended ≡ status.Done) (λ stop. ended ≡ stop) → RawOutcome raw calls ended back old new
@@ -42,7 +42,7 @@ run_printed raw calls back lines old new (Err status.Refused) ended ran prints i
 run_printed raw calls back lines old new (Err status.SourceFailed) ended ran prints is = absurd prints
 run_printed raw calls back lines old new (Err status.OpenerFailed) ended ran prints is = absurd prints
 
-pub replies_printed : (raw : Raw) (calls : List Call) (session : SessionView) (back : Raw) (replies : List Reply) (old new : SinkView) (printed : Result (Unit {0}) Status) (ended : Status) → RunsCalls raw 8192 (closed_calls calls) session replies → back ≡ session.raw → PrintOutcome old (reply_lines replies) printed new → MatchResult printed (λ done. ended ≡ status.Done) (λ stop. ended ≡ stop) → RawOutcome raw calls ended back old new
+pub replies_printed : (raw : Raw) (calls : List Call) (session : SessionView) (back : Raw) (replies : List Reply) (old new : SinkView) (printed : Result (Unit {0}) Status) (ended : Status) → RunsCalls raw 8192 8192 (closed_calls calls) session replies → back ≡ session.raw → PrintOutcome old (reply_lines replies) printed new → MatchResult printed (λ done. ended ≡ status.Done) (λ stop. ended ≡ stop) → RawOutcome raw calls ended back old new
 replies_printed raw calls session back replies old new printed ended run is prints ends =
     run_printed raw calls back (reply_lines replies) old new printed ended (record { session = session; replies = replies; run = run; raw_is = is; lines_are = refl }) prints ends
 
@@ -68,7 +68,9 @@ refused_by raw back _ opened why = absurd why
 
 -- refused for want of memory, with nothing printed
 pub starved : (raw back : Raw) (calls : List Call) (refused : IoFault) (sink : SinkView) → RefusesRaw raw refused back → refused ≡ fault.NoMemory → RawOutcome raw calls status.NoMemory back sink sink
-starved raw back calls refused sink why is = inr (record { hands = (subst (λ (by : IoFault). RefusesRaw raw by back) is why).2; sink = refl })
+starved raw back calls refused sink why is =
+    let lacked : RefusesRaw raw fault.NoMemory back = subst (λ (by : IoFault). RefusesRaw raw by back) is why in
+    inr (record { hands = lacked.2; place = lacked.3; sink = refl })
 
 pub refused_printed : (raw back : Raw) (calls : List Call) (refused : IoFault) (old new : SinkView) (printed : Result (Unit {0}) Status) (ended : Status) → IsOpened (codes "rb") raw → RefusesRaw raw refused back → (refused ≡ fault.NoMemory → ⊥) → PrintOutcome old (refused_line refused) printed new → MatchResult printed (λ done. ended ≡ status.Refused) (λ stop. ended ≡ stop) → RawOutcome raw calls ended back old new
 refused_printed raw back calls refused old new printed ended opened why not_memory prints ends =

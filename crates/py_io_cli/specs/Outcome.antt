@@ -5,11 +5,11 @@ use Rattle.py_flat.specs.Causes.{Rose}
 use Rattle.py_raw.specs.RawStream.{Raw}
 use Rattle.py_raw.specs.Source.{SourceView, SourceKeeps}
 use Rattle.py_raw.specs.Sink.{SinkView, SinkKeeps}
-use Rattle.py_raw.specs.Opener.{OpenerView, OpenKeeps, Opens, OpenFaults, HoldsTheSame, DoneKeeps, PutsAway}
+use Rattle.py_raw.specs.Opener.{OpenerView, OpenKeeps, Opens, OpenFaults, OpenLacksMemory, HoldsTheSame, DoneKeeps, PutsAway}
 use Rattle.py_open.specs.declared.call.Call.{Call}
 use Rattle.py_open.specs.declared.call.Call.TheVariants.{Close}
 use Rattle.py_open.specs.declared.reply.Reply.{Reply}
-use Rattle.py_open.specs.Reader.{RefusesRaw, HandsRawBack}
+use Rattle.py_open.specs.Reader.{RefusesRaw, HandsRawBack, StandsWhereItStood}
 use Rattle.py_open.specs.Session.{SessionView}
 use Rattle.py_open.specs.Run.{RunsCalls}
 use Rattle.py_script.specs.ReplyLine.{reply_lines}
@@ -34,12 +34,12 @@ pub record Outside : Type 0 where
 abbrev pub closed_calls : List Call → List Call
 closed_calls calls = calls ++ Close ∷ []
 
--- the calls were made by a session over the raw with chunks of 8192 bytes, whose raw is `back`; `lines` are those of
+-- the calls were made by a session over the raw, with a buffer and chunks of 8192 bytes, whose raw is `back`; `lines` are those of
 -- the replies
 pub record RanCalls (raw : Raw) (calls : List Call) (back : Raw) (lines : List ℕ) : Type 0 where
   pub session : SessionView
   pub replies : List Reply
-  pub run : RunsCalls raw 8192 (closed_calls calls) session replies
+  pub run : RunsCalls raw 8192 8192 (closed_calls calls) session replies
   pub raw_is : back ≡ session.raw
   pub lines_are : lines ≡ reply_lines replies
 
@@ -59,6 +59,7 @@ PrintsSome raw calls back old new = (lines : List ℕ) × HasLines raw calls bac
 -- no call was made, and nothing printed
 pub record MakesNoCall (raw : Raw) (back : Raw) (old new : SinkView) : Type 0 where
   pub hands : HandsRawBack raw back
+  pub place : StandsWhereItStood raw back
   pub sink : new ≡ old
 
 -- by the status: every reply was printed; or the refusal was; or a front of the one or the other, since the sink failed
@@ -91,12 +92,16 @@ pub record OpensNothing (before after : Outside) : Type 0 where
 abbrev pub OpenerFails : List ℕ → List Call → Outside → Outside → Type 0
 OpenerFails path calls before after = (OpensNothing before after × OpenFaults before.opener path (codes "rb") after.opener) ⊎ (OpensPath path calls status.Done before after × Rose before.opener.faults after.opener.faults × IsFalse before.opener.tells)
 
+-- there was no memory: over the raw; or to put it away when all was printed; or the opener had none
+abbrev pub LacksMemory : List ℕ → List Call → Outside → Outside → Type 0
+LacksMemory path calls before after = OpensPath path calls status.NoMemory before after ⊎ (OpensPath path calls status.Done before after ⊎ (OpensNothing before after × OpenLacksMemory before.opener path (codes "rb") after.opener))
+
 -- once the script was read
 abbrev pub CallsOutcome : List ℕ → List Call → Status → Outside → Outside → Type 0
 CallsOutcome path calls status.Done before after = OpensPath path calls status.Done before after
 CallsOutcome path calls status.Refused before after = OpensPath path calls status.Refused before after
 CallsOutcome path calls status.SinkFailed before after = OpensPath path calls status.SinkFailed before after
-CallsOutcome path calls status.NoMemory before after = OpensPath path calls status.NoMemory before after ⊎ (OpensPath path calls status.Done before after ⊎ OpensNothing before after)
+CallsOutcome path calls status.NoMemory before after = LacksMemory path calls before after
 CallsOutcome path calls status.OpenerFailed before after = OpenerFails path calls before after
 CallsOutcome path calls _ before after = ⊥
 

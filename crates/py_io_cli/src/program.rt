@@ -2,7 +2,7 @@
 ghost use Rattle.std.specs.Prelude.{◌≡◌, ◌≢◌, ◌≤◌, ◌⊎◌, ◌↔◌, ℕ, IsTrue, List, codes, IfOk, MatchResult};
 ghost use Rattle.py_flat.specs.Causes.{Rose};
 ghost use Rattle.py_raw.specs.Sink.{SinkKeeps};
-ghost use Rattle.py_raw.specs.Opener.{HoldsTheSame, OthersHoldTheSame, IsOpened};
+ghost use Rattle.py_raw.specs.Opener.{HoldsTheSame, IsOpened};
 ghost use Rattle.py_script.specs.RunWords.{run_words};
 ghost use Rattle.py_io_cli.specs.Outside.{texts, IsOutOfForm};
 ghost use Rattle.py_io_cli.specs.Outcome.{RawOutcome, CallsOutcome, Outcome, Ends, after_done, IsLineFeed};
@@ -13,7 +13,9 @@ use crate::printing::{print_refused, print_replies};
 use crate::script::read_script;
 use crate::status::Status;
 use py_flat::{Chars, IoFault};
-use py_open::{Call, OpenArgs, OpenRefused, Run, run_session};
+use py_open::{
+    Call, OpenArgs, OpenRefused, Run, a_run_keeps_the_bytes_and_the_settings, run_session,
+};
 use py_raw::{OpenError, Opener, RawStream, Sink, Source};
 use py_script::run_path;
 use std::alloc::{AllocError, Global};
@@ -34,8 +36,7 @@ use std::alloc::{AllocError, Global};
 ///   or memory was wanting first;
 /// - `missing`, `found`: 8 comes of an opener that tells only where the path holds nothing, and such a path ends with 8
 ///   unless the source failed or memory was wanting;
-/// - `others`, `kept`: of an opener that tells every other path holds what it held, and with 2, 3, 4, 5 and 8 the path of
-///   the words too;
+/// - `kept`: of an opener that tells every path holds what it held, the path of the words too, whatever the status is;
 /// - `printed`: with 0 the calls are those of the whole script, and what was printed is the lines of a run of them.
 pub fn run_program<O: Opener, I: Source, K: Sink>(
     alloc: Global,
@@ -63,14 +64,12 @@ pub fn run_program<O: Opener, I: Source, K: Sink>(
     ensures found { (path : List ℕ) → run_words (texts words.now) ≡ Some path → TellsForm (I.shows script.old)
         → IsTrue (O.shows opener.old).tells → (O.shows opener.old).holds path ≡ None
         → (result ≡ 8) ⊎ ((result ≡ 5) ⊎ (result ≡ 7)) }
-    ensures others { (path : List ℕ) → run_words (texts words.now) ≡ Some path → IsTrue (O.shows opener.old).tells
-        → OthersHoldTheSame path (O.shows opener.old) (O.shows opener.new) }
-    ensures kept { result ≢ 0 → result ≢ 6 → result ≢ 7 → IsTrue (O.shows opener.old).tells
-        → HoldsTheSame (O.shows opener.old) (O.shows opener.new) }
+    ensures kept { IsTrue (O.shows opener.old).tells → HoldsTheSame (O.shows opener.old) (O.shows opener.new) }
     ensures printed { result ≡ 0 → IsTrue (I.shows script.old).tells → PrintsReplies (I.shows script.old) (I.shows script.new)
         (record { opener = O.shows opener.old; sink = K.shows out.old }) (record { opener = O.shows opener.new; sink = K.shows out.new }) }
 {
     a_smooth_run_prints_the_exact_replies();
+    a_run_keeps_the_bytes_and_the_settings();
     run_to_status(alloc, words, opener, script, out).code()
 }
 

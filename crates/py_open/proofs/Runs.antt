@@ -1,5 +1,5 @@
 -- What holds of whole runs, from what holds of each call.
-use Rattle.std.proofs.Common.{◌≡◌, ◌≢◌, ℕ, suc, ◌+◌, ◌≤◌, min, nat_le, Bool, true, false, IsTrue, List, [], ◌∷◌, length, Some, refl, sym, ap, subst, ◌∙◌, arith}
+use Rattle.std.proofs.Common.{◌≡◌, ◌≢◌, ℕ, suc, ◌+◌, ◌≤◌, min, nat_le, Bool, true, false, IsTrue, List, [], ◌∷◌, ◌++◌, length, Some, refl, sym, ap, subst, ◌∙◌, arith}
 use Rattle.std.proofs.lemmas.Bool.{leb-false, le-leb, lt-leb}
 use Rattle.py_flat.specs.declared.fault.IoFault.TheVariants as fault
 use Rattle.py_flat.specs.declared.life.Life.{Life}
@@ -16,10 +16,10 @@ use Rattle.py_open.specs.declared.call.Call.{Call}
 use Rattle.py_open.specs.declared.reply.Reply.{Reply}
 use Rattle.py_open.specs.Calls.{text_call, said}
 use Rattle.py_open.specs.Reader.{is_closed, ClosedWith}
-use Rattle.py_open.specs.Session.{SessionFile, OfText, SessionView, AnswersText, AnswersFile, Answers}
+use Rattle.py_open.specs.Session.{SessionFile, OfText, SessionView, SessionStep, says_fault, AnswersText, AnswersFile, Answers}
 use Rattle.py_open.specs.Opening.{life_of}
-use Rattle.py_open.specs.Run.{IsRun, IsSmooth, NoneLacksMemory, all_said, session_exact, exact_replies, exact_after}
-use Rattle.py_open.specs.Laws.{IsExact, KeepsSettings, closed_reply, closed_replies, StaysClosed}
+use Rattle.py_open.specs.Run.{Entry, IsRun, IsHistory, IsCalm, calls_of, IsSmooth, NoneLacksMemory, all_said, session_exact, exact_replies, exact_after}
+use Rattle.py_open.specs.Laws.{IsExact, IsExactHistory, HasHistory, RunsInTwo, KeepsSettings, closed_reply, closed_replies, StaysClosed}
 
 pub one_reply_each : (before : SessionView) (calls : List Call) (replies : List Reply) (after : SessionView) → IsRun before calls replies after → length replies ≡ length calls
 one_reply_each before [] [] after run = refl
@@ -47,7 +47,7 @@ file_step_keeps : (before : SessionFile) (old : Raw) (call : TextCall) (reply : 
 file_step_keeps (OfText before) old call reply (OfText after) new short step = (step.keeps, (step.moves.can, step.moves.settings))
 
 step_keeps : (before : SessionView) (call : Call) (reply : Reply) (after : SessionView) → Answers before call reply after → Keeps before.raw after.raw × KeepsSettings before.file after.file
-step_keeps before call reply after step = file_step_keeps before.file before.raw (text_call call) (said reply) after.file after.raw after.short step
+step_keeps before call reply after step = file_step_keeps before.file before.raw (text_call call) (said reply) after.file after.raw after.short step.answers
 
 pub run_keeps_raw : (before : SessionView) (calls : List Call) (replies : List Reply) (after : SessionView) → IsRun before calls replies after → Keeps before.raw after.raw
 run_keeps_raw before [] [] after run = subst (λ (view : SessionView). Keeps before.raw view.raw) (sym run) (keeps_self before.raw)
@@ -67,12 +67,29 @@ run_keeps_settings before (call ∷ calls) (reply ∷ replies) after run = setti
 run_keeps_settings before [] (reply ∷ replies) after run = absurd run
 run_keeps_settings before (call ∷ calls) [] after run = absurd run
 
+pub run_keeps_buffer : (before : SessionView) (calls : List Call) (replies : List Reply) (after : SessionView) → IsRun before calls replies after → after.buffer ≡ before.buffer
+run_keeps_buffer before [] [] after run = ap (λ (view : SessionView). view.buffer) run
+run_keeps_buffer before (call ∷ calls) (reply ∷ replies) after run = run_keeps_buffer run.0 calls replies after run.2 ∙ run.1.buffer
+run_keeps_buffer before [] (reply ∷ replies) after run = absurd run
+run_keeps_buffer before (call ∷ calls) [] after run = absurd run
+
+file_step_keeps_bytes : (before : SessionFile) (old : Raw) (call : TextCall) (reply : FileReply) (after : SessionFile) (new : Raw) (short : Bool) → AnswersFile before old call reply after new short → IsTrue old.tells → new.bytes ≡ old.bytes
+file_step_keeps_bytes (OfText before) old call reply (OfText after) new short step tells = step.bytes tells
+
+pub run_keeps_bytes : (before : SessionView) (calls : List Call) (replies : List Reply) (after : SessionView) → IsRun before calls replies after → IsTrue before.raw.tells → after.raw.bytes ≡ before.raw.bytes
+run_keeps_bytes before [] [] after run tells = ap (λ (view : SessionView). view.raw.bytes) run
+run_keeps_bytes before (call ∷ calls) (reply ∷ replies) after run tells =
+    run_keeps_bytes run.0 calls replies after run.2 ((step_keeps before call reply run.0 run.1).0.tells ∙ tells)
+    ∙ file_step_keeps_bytes before.file before.raw (text_call call) (said reply) run.0.file run.0.raw run.0.short run.1.answers tells
+run_keeps_bytes before [] (reply ∷ replies) after run tells = absurd run
+run_keeps_bytes before (call ∷ calls) [] after run tells = absurd run
+
 file_step_shuts : (before : SessionFile) (old : Raw) (call : TextCall) (reply : FileReply) (after : SessionFile) (new : Raw) (short : Bool) → AnswersFile before old call reply after new short → ClosedWith (life_of before) old → ClosedWith (life_of after) new
 file_step_shuts (OfText before) old call reply (OfText after) new short step shut = step.shut shut
 
 pub run_shuts : (before : SessionView) (calls : List Call) (replies : List Reply) (after : SessionView) → IsRun before calls replies after → ClosedWith (life_of before.file) before.raw → ClosedWith (life_of after.file) after.raw
 run_shuts before [] [] after run shut = subst (λ (view : SessionView). ClosedWith (life_of view.file) view.raw) (sym run) shut
-run_shuts before (call ∷ calls) (reply ∷ replies) after run shut = run_shuts run.0 calls replies after run.2 (file_step_shuts before.file before.raw (text_call call) (said reply) run.0.file run.0.raw run.0.short run.1 shut)
+run_shuts before (call ∷ calls) (reply ∷ replies) after run shut = run_shuts run.0 calls replies after run.2 (file_step_shuts before.file before.raw (text_call call) (said reply) run.0.file run.0.raw run.0.short run.1.answers shut)
 run_shuts before [] (reply ∷ replies) after run shut = absurd run
 run_shuts before (call ∷ calls) [] after run shut = absurd run
 
@@ -130,7 +147,7 @@ smooth_is_exact before (call ∷ calls) (reply ∷ replies) after run tells smoo
     let mid : SessionView = run.0 in
     let here = (step_keeps before call reply mid run.1).0 in
     let on = run_keeps_raw mid calls replies after run.2 in
-    let exact : (said reply, mid.file) ≡ session_exact before.file call = file_step_exact before.file before.raw call (said reply) mid.file mid.raw mid.short run.1 tells (smooth_up_to before.raw mid.raw after.raw on smooth) had.0 in
+    let exact : (said reply, mid.file) ≡ session_exact before.file call = file_step_exact before.file before.raw call (said reply) mid.file mid.raw mid.short run.1.answers tells (smooth_up_to before.raw mid.raw after.raw on smooth) had.0 in
     let rest = smooth_is_exact mid calls replies after run.2 (here.tells ∙ tells) (smooth_from before.raw mid.raw after.raw here smooth) had.1 in
     record {
       says = ap (λ (more : List FileReply). said reply ∷ more) rest.says ∙ ap (λ (p : FileReply × SessionFile). p.0 ∷ exact_replies p.1 calls) exact;
@@ -138,6 +155,48 @@ smooth_is_exact before (call ∷ calls) (reply ∷ replies) after run tells smoo
     }
 smooth_is_exact before [] (reply ∷ replies) after run tells smooth had = absurd run
 smooth_is_exact before (call ∷ calls) [] after run tells smooth had = absurd run
+
+-- Runs in parts, and as histories.
+
+pub split_run : (before : SessionView) (calls more : List Call) (replies others : List Reply) (after : SessionView) → length replies ≡ length calls → IsRun before (calls ++ more) (replies ++ others) after → RunsInTwo before calls more replies others after
+split_run before [] more [] others after same run = record { mid = before; first = refl; second = run }
+split_run before (call ∷ calls) more (reply ∷ replies) others after same run =
+    let rest = split_run run.0 calls more replies others after (cc) run.2 in
+    record { mid = rest.mid; first = (run.0, run.1, rest.first); second = rest.second }
+split_run before [] more (reply ∷ replies) others after same run = absurd (cc)
+split_run before (call ∷ calls) more [] others after same run = absurd (cc)
+
+file_step_told : (before : SessionFile) (old : Raw) (call : Call) (reply : FileReply) (after : SessionFile) (new : Raw) (short : Bool) → AnswersFile before old (text_call call) reply after new short → IsTrue old.tells → SessionStep before call reply short (says_fault reply) after
+file_step_told (OfText before) old call reply (OfText after) new short step tells = step.told tells
+
+pub history_of : (before : SessionView) (calls : List Call) (replies : List Reply) (after : SessionView) → IsRun before calls replies after → IsTrue before.raw.tells → HasHistory before calls replies after
+history_of before [] [] after run tells = record { entries = []; calls_are = refl; replies_are = refl; steps = ap (λ (view : SessionView). view.file) run }
+history_of before (call ∷ calls) (reply ∷ replies) after run tells =
+    let mid : SessionView = run.0 in
+    let rest = history_of mid calls replies after run.2 ((step_keeps before call reply mid run.1).0.tells ∙ tells) in
+    let entry : Entry = record { call = call; reply = reply; waited = mid.short; faulted = says_fault (said reply) } in
+    record {
+      entries = entry ∷ rest.entries;
+      calls_are = ap (λ (more : List Call). call ∷ more) rest.calls_are;
+      replies_are = ap (λ (more : List Reply). reply ∷ more) rest.replies_are;
+      steps = (mid.file, file_step_told before.file before.raw call (said reply) mid.file mid.raw mid.short run.1.answers tells, rest.steps);
+    }
+history_of before [] (reply ∷ replies) after run tells = absurd run
+history_of before (call ∷ calls) [] after run tells = absurd run
+
+calm_step : (before : SessionFile) (call : Call) (reply : FileReply) (waited faulted : Bool) (after : SessionFile) → waited ≡ false → faulted ≡ false → reply ≢ Refused fault.NoMemory → SessionStep before call reply waited faulted after → (reply, after) ≡ session_exact before call
+calm_step (OfText before) call reply waited faulted (OfText after) no_wait no_fault had step =
+    ap (λ (p : FileReply × TextFile). let q : FileReply × SessionFile = (p.0, OfText p.1) in q) (settled_alone before (text_call call) reply waited faulted after no_wait no_fault had step)
+
+pub calm_is_exact : (before : SessionFile) (entries : List Entry) (after : SessionFile) → IsHistory before entries after → IsCalm entries → IsExactHistory before entries after
+calm_is_exact before [] after steps calm = record { says = refl; leaves = steps }
+calm_is_exact before (entry ∷ entries) after steps calm =
+    let exact = calm_step before entry.call (said entry.reply) entry.waited entry.faulted steps.0 calm.0 calm.1 calm.2 steps.1 in
+    let rest = calm_is_exact steps.0 entries after steps.2 calm.3 in
+    record {
+      says = ap (λ (more : List FileReply). said entry.reply ∷ more) rest.says ∙ ap (λ (p : FileReply × SessionFile). p.0 ∷ exact_replies p.1 (calls_of entries)) exact;
+      leaves = rest.leaves ∙ ap (λ (p : FileReply × SessionFile). exact_after p.1 (calls_of entries)) exact;
+    }
 
 -- Closed sessions.
 
@@ -166,7 +225,7 @@ pub closed_stays : (before : SessionView) (calls : List Call) (replies : List Re
 closed_stays before [] [] after run closed = record { says = refl; file = ap (λ (view : SessionView). view.file) run; raw = ap (λ (view : SessionView). view.raw) run }
 closed_stays before (call ∷ calls) (reply ∷ replies) after run closed =
     let mid : SessionView = run.0 in
-    let here = closed_file_step before.file before.raw (text_call call) (said reply) mid.file mid.raw mid.short closed run.1 in
+    let here = closed_file_step before.file before.raw (text_call call) (said reply) mid.file mid.raw mid.short closed run.1.answers in
     let rest = closed_stays mid calls replies after run.2 (ap life_of here.1 ∙ closed) in
     record {
       says = ap (λ (more : List FileReply). said reply ∷ more) rest.says ∙ ap (λ (first : FileReply). first ∷ closed_replies calls) here.0;

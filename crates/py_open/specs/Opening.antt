@@ -22,13 +22,13 @@ text_opened bytes place seekable chunk = record {
   life = life.Live;
 }
 
--- told: the raw's bytes, and its place
+-- told: the raw's bytes, and its place, where it still stands
 abbrev pub OpensTold : Raw → ℕ → SessionView → Type 0
-OpensTold raw place session = (session.raw.bytes ≡ raw.bytes) × (place ≡ raw.place)
+OpensTold raw place session = (session.raw.bytes ≡ raw.bytes) × (session.raw.place ≡ raw.place) × (place ≡ raw.place)
 
 -- an open session: the raw was open, stays so and can be read from, and nothing was read; it begins where the raw stood, at 0
--- where it can't seek
-pub record OpensText (raw : Raw) (chunk : ℕ) (session : SessionView) : Type 0 where
+-- where it can't seek, with a buffer and chunks of these sizes
+pub record OpensText (raw : Raw) (buffer chunk : ℕ) (session : SessionView) : Type 0 where
   pub was_open : raw.closed ≡ false
   pub reads : raw.readable ≡ true
   pub keeps : Keeps raw session.raw
@@ -37,12 +37,13 @@ pub record OpensText (raw : Raw) (chunk : ℕ) (session : SessionView) : Type 0 
   pub place : ℕ
   pub file : session.file ≡ OfText (text_opened session.raw.bytes place raw.seekable chunk)
   pub start : IsFalse raw.seekable → place ≡ 0
+  pub buffer_is : session.buffer ≡ buffer
   pub told : WhereTold raw (OpensTold raw place session)
   pub whole : session.short ≡ false
 
-abbrev pub SessionOutcome : {R : Type 0} → (R → Raw) → R → ℕ → Result SessionView (OpenRefused R) → Type 0
-SessionOutcome shows raw chunk (Ok session) = OpensText (shows raw) chunk session
-SessionOutcome shows raw chunk (Err refused) = RefusesRaw (shows raw) refused.fault (shows refused.raw)
+abbrev pub SessionOutcome : {R : Type 0} → (R → Raw) → R → ℕ → ℕ → Result SessionView (OpenRefused R) → Type 0
+SessionOutcome shows raw buffer chunk (Ok session) = OpensText (shows raw) buffer chunk session
+SessionOutcome shows raw buffer chunk (Err refused) = RefusesRaw (shows raw) refused.fault (shows refused.raw)
 
 abbrev pub life_of : SessionFile → Life
 life_of (OfText file) = file.life

@@ -158,7 +158,7 @@ PlaceOutcome old (Err raw_error.Memory) new = LacksMemory old new
 
 -- told: the reader begins where the raw stood
 abbrev pub BeginsTold : Raw → ReaderView → Type 0
-BeginsTold raw reader = (reader.raw.bytes ≡ raw.bytes) × (reader.place ≡ raw.place)
+BeginsTold raw reader = (reader.raw.bytes ≡ raw.bytes) × (reader.raw.place ≡ raw.place) × (reader.place ≡ raw.place)
 
 -- an open reader: the raw can be read from; nothing was read
 pub record OpensReader (raw : Raw) (size : ℕ) (reader : ReaderView) : Type 0 where
@@ -179,12 +179,16 @@ pub record HandsRawBack (old new : Raw) : Type 0 where
   pub bytes : WhereTold old (new.bytes ≡ old.bytes)
   pub untouched : Untouched old new
 
--- why a raw isn't opened: closed; not to be read from; a fault of its own; want of memory
+-- told: it stands where it stood
+abbrev pub StandsWhereItStood : Raw → Raw → Type 0
+StandsWhereItStood old new = WhereTold old (new.place ≡ old.place)
+
+-- why a raw isn't opened: closed; not to be read from; a fault of its own, which may have moved it; want of memory
 abbrev pub RefusesRaw : Raw → IoFault → Raw → Type 0
 RefusesRaw raw fault.Closed back = (raw.closed ≡ true) × (back ≡ raw)
 RefusesRaw raw fault.Unsupported back = (raw.closed ≡ false) × (raw.readable ≡ false) × (back ≡ raw)
 RefusesRaw raw fault.RawFault back = (raw.closed ≡ false) × (raw.readable ≡ true) × Rose raw.faults back.faults × HandsRawBack raw back
-RefusesRaw raw fault.NoMemory back = (raw.closed ≡ false) × (raw.readable ≡ true) × HandsRawBack raw back
+RefusesRaw raw fault.NoMemory back = (raw.closed ≡ false) × (raw.readable ≡ true) × HandsRawBack raw back × StandsWhereItStood raw back
 RefusesRaw raw fault back = ⊥
 
 abbrev pub OpenOutcome : {R : Type 0} → (R → Raw) → R → ℕ → Result ReaderView (OpenRefused R) → Type 0

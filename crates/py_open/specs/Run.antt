@@ -1,5 +1,5 @@
 -- Runs: what a list of calls may be answered, one call after another, and which opening they begin from.
-use Rattle.std.specs.Prelude.{◌≡◌, ◌≢◌, ℕ, false, List, [], ◌∷◌, Result, Ok, Err}
+use Rattle.std.specs.Prelude.{◌≡◌, ◌≢◌, ℕ, Bool, false, List, [], ◌∷◌, unwrap_or, Result, Ok, Err}
 use Rattle.py_flat.specs.declared.fault.IoFault.{IoFault}
 use Rattle.py_flat.specs.declared.fault.IoFault.TheVariants as fault
 use Rattle.py_flat.specs.Calls.{FileReply, Refused}
@@ -14,7 +14,7 @@ use Rattle.py_open.specs.declared.run.Run.{Run}
 use Rattle.py_open.specs.declared.open_refused.OpenRefused.{OpenRefused}
 use Rattle.py_open.specs.Calls.{text_call, said}
 use Rattle.py_open.specs.Reader.{RefusesRaw}
-use Rattle.py_open.specs.Session.{SessionFile, OfText, SessionView, Answers}
+use Rattle.py_open.specs.Session.{SessionFile, OfText, SessionView, SessionStep, Answers}
 use Rattle.py_open.specs.Opening.{OpensText}
 use Rattle.py_open.specs.Plan.{plan_of}
 
@@ -25,6 +25,31 @@ IsRun before [] [] after = after ≡ before
 IsRun before (call ∷ calls) (reply ∷ replies) after = (mid : SessionView) × Answers before call reply mid × IsRun mid calls replies after
 IsRun before [] (reply ∷ replies) after = ⊥
 IsRun before (call ∷ calls) [] after = ⊥
+
+-- a call that was made, its reply, and whether the raw's waits and its faults rose in it
+pub record Entry : Type 0 where
+  pub call : Call
+  pub reply : Reply
+  pub waited : Bool
+  pub faulted : Bool
+
+abbrev pub calls_of : List Entry → List Call
+calls_of [] = []
+calls_of (entry ∷ entries) = entry.call ∷ calls_of entries
+
+abbrev pub replies_of : List Entry → List Reply
+replies_of [] = []
+replies_of (entry ∷ entries) = entry.reply ∷ replies_of entries
+
+-- the same of flat files alone: there is a file between any two entries, and each entry is a step from one to the next
+abbrev pub IsHistory : SessionFile → List Entry → SessionFile → Type 0
+IsHistory before [] after = after ≡ before
+IsHistory before (entry ∷ entries) after = (mid : SessionFile) × SessionStep before entry.call (said entry.reply) entry.waited entry.faulted mid × IsHistory mid entries after
+
+-- no entry waited, faulted or lacked memory
+abbrev pub IsCalm : List Entry → Type 0
+IsCalm [] = Unit {0}
+IsCalm (entry ∷ entries) = (entry.waited ≡ false) × (entry.faulted ≡ false) × (said entry.reply ≢ Refused fault.NoMemory) × IsCalm entries
 
 -- what a call answers and leaves where nothing waits, fails or lacks memory
 abbrev pub session_exact : SessionFile → Call → FileReply × SessionFile
@@ -63,16 +88,16 @@ RefusesPlanned raw (Err planned) refused back = (refused ≡ planned) × (back �
 RefusesPlanned raw (Ok plan) refused back = RefusesRaw raw refused back
 
 -- the session opens over the raw, and the replies are a run from there to the session
-pub record RunsCalls (raw : Raw) (chunk : ℕ) (calls : List Call) (session : SessionView) (replies : List Reply) : Type 0 where
+pub record RunsCalls (raw : Raw) (buffer chunk : ℕ) (calls : List Call) (session : SessionView) (replies : List Reply) : Type 0 where
   pub opened : SessionView
-  pub opens : OpensText raw chunk opened
+  pub opens : OpensText raw buffer chunk opened
   pub run : IsRun opened calls replies session
 
-abbrev pub OpenedOutcome : {R : Type 0} → (R → Raw) → R → ℕ → List Call → Result (Run R) (OpenRefused R) → Type 0
-OpenedOutcome shows raw chunk calls (Ok run) = RunsCalls (shows raw) chunk calls run.session run.replies.items
-OpenedOutcome shows raw chunk calls (Err refused) = RefusesRaw (shows raw) refused.fault (shows refused.raw)
+abbrev pub OpenedOutcome : {R : Type 0} → (R → Raw) → R → ℕ → ℕ → List Call → Result (Run R) (OpenRefused R) → Type 0
+OpenedOutcome shows raw buffer chunk calls (Ok run) = RunsCalls (shows raw) buffer chunk calls run.session run.replies.items
+OpenedOutcome shows raw buffer chunk calls (Err refused) = RefusesRaw (shows raw) refused.fault (shows refused.raw)
 
--- a run comes only of a plan that is accepted
+-- a run comes only of a plan that is accepted, through a buffer of the size that it gives
 abbrev pub RunOutcome : {R : Type 0} → (R → Raw) → R → List ℕ → OpenArgs → List Call → Result (Run R) (OpenRefused R) → Type 0
-RunOutcome shows raw mode args calls (Ok run) = (plan : OpenPlan) × (plan_of mode args ≡ Ok plan) × RunsCalls (shows raw) args.chunk_size calls run.session run.replies.items
+RunOutcome shows raw mode args calls (Ok run) = (plan : OpenPlan) × (plan_of mode args ≡ Ok plan) × RunsCalls (shows raw) (unwrap_or plan.buffer_size 1) args.chunk_size calls run.session run.replies.items
 RunOutcome shows raw mode args calls (Err refused) = RefusesPlanned (shows raw) (plan_of mode args) refused.fault (shows refused.raw)

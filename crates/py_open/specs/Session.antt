@@ -1,5 +1,5 @@
 -- A session: what it is seen as, and what one call of it may do.
-use Rattle.std.specs.Prelude.{◌≡◌, ℕ, ◌≤◌, Bool, true, false, ◌||◌, IsTrue, List, length, Option, Some, None}
+use Rattle.std.specs.Prelude.{◌≡◌, ◌≢◌, ℕ, ◌≤◌, Bool, true, false, IsTrue, List, [], length, Option, Some, None}
 use Rattle.py_flat.specs.declared.fault.IoFault.{IoFault}
 use Rattle.py_flat.specs.declared.fault.IoFault.TheVariants as fault
 use Rattle.py_flat.specs.declared.life.Life.{Life}
@@ -19,10 +19,12 @@ use Rattle.py_open.specs.Waiting.{ShowsAll}
 pub data SessionFile : Type 0 where
   OfText : (file : TextFile) → SessionFile
 
--- the flat file; the raw under it, with its counts; and whether the last answer was short, since the raw asked to wait
+-- the flat file; the raw under it, with its counts; the buffer's size in bytes; and whether the last answer was short,
+-- since the raw asked to wait
 pub record SessionView : Type 0 where
   pub file : SessionFile
   pub raw : Raw
+  pub buffer : ℕ
   pub short : Bool
 
 -- What the model says of a call.
@@ -109,10 +111,17 @@ pub record LeavesText (before : TextFile) (old : Raw) (expected reply : FileRepl
   pub raw : new ≡ old
   pub whole : short ≡ false
 
--- a wait or a short answer comes only where the raw's waits rose in this call, RawFault only where its faults did
+-- a short answer comes only where the raw's waits rose in this call, RawFault only where its faults did
 pub record HasCauses (old : Raw) (reply : FileReply) (new : Raw) (short : Bool) : Type 0 where
-  pub waits : IsTrue (short || says_wait reply) → Rose old.waits new.waits
+  pub waits : IsTrue short → Rose old.waits new.waits
   pub faults : IsTrue (says_fault reply) → Rose old.faults new.faults
+
+-- what is short: some characters, never none; and each reply that says by itself that the raw asked to wait, always
+abbrev pub IsShort : FileReply → Bool → Type 0
+IsShort (Text characters) true = characters ≢ []
+IsShort NotReady short = short ≡ true
+IsShort (Refused (fault.WouldBlock taken)) short = short ≡ true
+IsShort reply short = short ≡ false
 
 -- a close wants no memory but its raw's
 abbrev pub WantsMemory : TextCall → FileReply → Raw → Type 0
@@ -132,8 +141,8 @@ pub record IsComplete (call : TextCall) (reply : FileReply) (short : Bool) : Typ
   pub whole : short ≡ false
 
 -- one call of a text: what the raw can do stays and its counts never fall; what the life or the kind refuses; a close
--- of a closed text; that the raw is closed with the text; causes; life and place; completeness; and, where the raw
--- tells, that its bytes stay, the step of the model, and that a wait hides nothing
+-- of a closed text; that the raw is closed with the text; causes; what is short; life and place; completeness; and,
+-- where the raw tells, that its bytes stay, the step of the model, and that a wait hides nothing
 pub record AnswersText (before : TextFile) (old : Raw) (call : TextCall) (reply : FileReply) (after : TextFile) (new : Raw) (short : Bool) : Type 0 where
   pub keeps : Keeps old new
   pub refused : (refused : IoFault) → text_refusal before call ≡ Some refused → LeavesText before old (Refused refused) reply after new short
@@ -141,19 +150,22 @@ pub record AnswersText (before : TextFile) (old : Raw) (call : TextCall) (reply 
   pub shut : ClosedWith before.life old → ClosedWith after.life new
   pub bytes : WhereTold old (new.bytes ≡ old.bytes)
   pub causes : HasCauses old reply new short
+  pub shorts : IsShort reply short
   pub wants : WantsMemory call reply old
   pub moves : TextMoves before call short reply after
   pub answer : text_refusal before call ≡ None → IsReplyTo call reply
   pub complete : text_refusal before call ≡ None → rose old.waits new.waits ≡ false → rose old.faults new.faults ≡ false → IsComplete call reply short
-  pub told : WhereTold old (TextStep before call reply (short || says_wait reply) (says_fault reply) after)
-  pub hides : IsTrue (short || says_wait reply) → WhereTold old (ShowsAll after new)
+  pub told : WhereTold old (TextStep before call reply short (says_fault reply) after)
+  pub hides : IsTrue short → WhereTold old (ShowsAll after new)
 
 -- the same of a session's files
 abbrev pub AnswersFile : SessionFile → Raw → TextCall → FileReply → SessionFile → Raw → Bool → Type 0
 AnswersFile (OfText before) old call reply (OfText after) new short = AnswersText before old call reply after new short
 
-abbrev pub AnswersAs : SessionView → TextCall → Reply → SessionView → Type 0
-AnswersAs before call reply after = AnswersFile before.file before.raw call (said reply) after.file after.raw after.short
+-- and the buffer's size stays
+pub record AnswersAs (before : SessionView) (call : TextCall) (reply : Reply) (after : SessionView) : Type 0 where
+  pub answers : AnswersFile before.file before.raw call (said reply) after.file after.raw after.short
+  pub buffer : after.buffer ≡ before.buffer
 
 -- one call of a session
 abbrev pub Answers : SessionView → Call → Reply → SessionView → Type 0

@@ -1,7 +1,7 @@
 //! Laws of the definitions that the contracts cite: what any run of a session, and any step of a text, has to be.
 //!
 //! No function here does anything; what each ensures is a law.
-ghost use Rattle.std.specs.Prelude.{◌≡◌, ◌≢◌, ℕ, ◌≤◌, IsTrue, Bool, List, [], length};
+ghost use Rattle.std.specs.Prelude.{◌≡◌, ◌≢◌, ℕ, ◌≤◌, IsTrue, Bool, List, [], ◌++◌, length};
 ghost use Rattle.py_flat.specs.declared.fault.IoFault.{IoFault};
 ghost use Rattle.py_flat.specs.declared.fault.IoFault.TheVariants as fault;
 ghost use Rattle.py_flat.specs.declared.life.Life.TheVariants as life;
@@ -12,10 +12,10 @@ ghost use Rattle.py_raw.specs.RawStream.{Keeps};
 ghost use Rattle.py_open.specs.declared.call.Call.{Call};
 ghost use Rattle.py_open.specs.declared.reply.Reply.{Reply};
 ghost use Rattle.py_open.specs.Reader.{ClosedWith};
-ghost use Rattle.py_open.specs.Session.{SessionView};
+ghost use Rattle.py_open.specs.Session.{SessionFile, SessionView};
 ghost use Rattle.py_open.specs.Opening.{life_of};
-ghost use Rattle.py_open.specs.Run.{IsRun, IsSmooth, NoneLacksMemory, all_said};
-ghost use Rattle.py_open.specs.Laws.{IsExact, KeepsSettings, StaysClosed, LosesNothing};
+ghost use Rattle.py_open.specs.Run.{Entry, IsRun, IsHistory, IsCalm, IsSmooth, NoneLacksMemory, all_said};
+ghost use Rattle.py_open.specs.Laws.{IsExact, IsExactHistory, HasHistory, RunsInTwo, KeepsSettings, StaysClosed, LosesNothing};
 
 /// A run over a raw that tells, in which no count of the raw rose and no call lacked memory, is the model's: each reply is
 /// the exact answer of the file there, and the file behind them is the exact one.
@@ -25,18 +25,42 @@ pub fn a_smooth_run_is_exact()
     ensures { (before : SessionView) (calls : List Call) (replies : List Reply) (after : SessionView) → IsRun before calls replies after → IsTrue before.raw.tells → IsSmooth before.raw after.raw → NoneLacksMemory (all_said replies) → IsExact before calls replies after }
 {}
 
+/// A run may be looked at in two parts, anywhere: there is a session between them, to which the first leads and from which
+/// the second goes on. So what holds of a run up to its first wait, fault or want of memory holds whatever comes after.
+pub fn a_run_splits_anywhere()
+    ensures { (before : SessionView) (calls more : List Call) (replies others : List Reply) (after : SessionView) → length replies ≡ length calls → IsRun before (calls ++ more) (replies ++ others) after → RunsInTwo before calls more replies others after }
+{}
+
+/// A run over a raw that tells is a history of its flat files: the same calls and replies, each a step of the model, with
+/// the marks of the waits and faults that rose in it.
+pub fn a_run_is_a_history()
+    ensures { (before : SessionView) (calls : List Call) (replies : List Reply) (after : SessionView) → IsRun before calls replies after → IsTrue before.raw.tells → HasHistory before calls replies after }
+{}
+
+/// A history in which no entry waited, faulted or lacked memory is the model's: each reply is the exact one. This needs no
+/// counts, only the marks of its entries.
+pub fn a_calm_history_is_exact()
+    ensures { (before : SessionFile) (entries : List Entry) (after : SessionFile) → IsHistory before entries after → IsCalm entries → IsExactHistory before entries after }
+{}
+
 /// A run has one reply for each call.
 pub fn a_run_answers_each_call()
     ensures { (before : SessionView) (calls : List Call) (replies : List Reply) (after : SessionView) → IsRun before calls replies after → length replies ≡ length calls }
 {}
 
-/// Over a run neither the faults nor the waits that the raw counts fall, so a count that rose stays risen; and what the
-/// raw and the file can do, with the file's settings, stays.
+/// Over a run neither the faults nor the waits that the raw counts fall, so a count that rose stays risen.
 pub fn counts_never_fall()
     ensures faults { (before : SessionView) (calls : List Call) (replies : List Reply) (after : SessionView) → IsRun before calls replies after → before.raw.faults ≤ after.raw.faults }
     ensures waits { (before : SessionView) (calls : List Call) (replies : List Reply) (after : SessionView) → IsRun before calls replies after → before.raw.waits ≤ after.raw.waits }
+{}
+
+/// Over a run what the raw and the file can do stays, and so do the file's settings, the buffer's size and, where the raw
+/// tells them, its bytes: a text that is read writes nothing.
+pub fn a_run_keeps_the_bytes_and_the_settings()
     ensures raw { (before : SessionView) (calls : List Call) (replies : List Reply) (after : SessionView) → IsRun before calls replies after → Keeps before.raw after.raw }
     ensures file { (before : SessionView) (calls : List Call) (replies : List Reply) (after : SessionView) → IsRun before calls replies after → KeepsSettings before.file after.file }
+    ensures buffer { (before : SessionView) (calls : List Call) (replies : List Reply) (after : SessionView) → IsRun before calls replies after → after.buffer ≡ before.buffer }
+    ensures bytes { (before : SessionView) (calls : List Call) (replies : List Reply) (after : SessionView) → IsRun before calls replies after → IsTrue before.raw.tells → after.raw.bytes ≡ before.raw.bytes }
 {}
 
 /// A raw that is closed just where its session is stays so over a run: only a `Close` closes it, and each that closes the

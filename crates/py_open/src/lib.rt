@@ -20,13 +20,16 @@ mod text;
 
 pub use call::Call;
 pub use laws::{
-    a_closed_session_stays_closed, a_raw_is_closed_with_its_session, a_run_answers_each_call,
-    a_smooth_run_is_exact, a_wait_loses_nothing, counts_never_fall, settled_only_blames_itself,
+    a_calm_history_is_exact, a_closed_session_stays_closed, a_raw_is_closed_with_its_session,
+    a_run_answers_each_call, a_run_is_a_history, a_run_keeps_the_bytes_and_the_settings,
+    a_run_splits_anywhere, a_smooth_run_is_exact, a_wait_loses_nothing, counts_never_fall,
+    settled_only_blames_itself,
 };
 pub use mode::{EncodeMode, FileMode, Mode};
 pub use open_args::OpenArgs;
 pub use open_refused::OpenRefused;
 pub use plan::{DEFAULT_BUFFER_SIZE, OpenPlan, plan_open};
+pub use py_flat::ParseModeError;
 pub use reply::Reply;
 pub use run::{Run, run_session};
 pub use session::{Detached, Session};

@@ -120,7 +120,7 @@ impl<R: RawStream> Reader<R> {
     /// where it stands; one that can't stands at place 0.
     ///
     /// Refused, the raw is handed back: `Closed`, then `Unsupported` where it can't be read from, then `NoMemory`, and
-    /// `RawFault` where it fails to say where it stands.
+    /// `RawFault` where it fails to say where it stands. One that tells still stands where it stood, but after `RawFault`.
     pub fn new(alloc: Global, raw: R, buffer_size: usize) -> Result<Self, OpenRefused<R>>
         requires size { 0 < buffer_size }
         requires start { StandsAtStart (R.shows raw) }

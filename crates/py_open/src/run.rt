@@ -24,8 +24,8 @@ pub struct Run<R: RawStream> {
 /// buffer and chunks are.
 ///
 /// Refused, the raw is handed back with nothing read: by the plan (`plan_open`), then `Closed`, `Unsupported` where it
-/// can't be read from, `NoMemory`, and `RawFault` where it fails to say where it stands. Space for the replies is taken
-/// before the first call.
+/// can't be read from, `NoMemory`, and `RawFault` where it fails to say where it stands; one that tells still stands where
+/// it stood, but after `RawFault`. Space for the replies is taken before the first call.
 pub fn run_session<R: RawStream>(
     alloc: Global,
     raw: R,
@@ -56,7 +56,7 @@ pub(crate) fn run_opened<R: RawStream>(
     requires buffer { 0 < buffer_size }
     requires chunk { 0 < chunk_size }
     requires start { StandsAtStart (R.shows raw) }
-    ensures { OpenedOutcome R.shows raw chunk_size calls.now result }
+    ensures { OpenedOutcome R.shows raw buffer_size chunk_size calls.now result }
 {
     match Session::open(alloc, raw, buffer_size, chunk_size) {
         Ok(session) => answer_all(alloc, session, calls),

@@ -1,5 +1,5 @@
 //! Sessions: each call is refused by life or kind, or answered by the text below.
-ghost use Rattle.std.specs.Prelude.{◌≡◌, ◌<◌, false, []};
+ghost use Rattle.std.specs.Prelude.{◌≡◌, ◌<◌, true, false, []};
 ghost use Rattle.py_plain.specs.TextStep.{Close, OtherKind};
 ghost use Rattle.py_open.specs.Reader.{StandsAtStart};
 ghost use Rattle.py_open.specs.Text.{call_of};
@@ -17,7 +17,7 @@ use std::marker::Model;
 /// A stream that was opened, and on which calls are made one by one.
 ///
 /// So far it is a text that is read, in UTF-8 with the handler strict, in lines that end at LF; it is seen as its flat
-/// file, the raw under it, and whether its last answer was short. A session that is let go lets its raw go; `finish`
+/// file, the raw under it, its buffer's size, and whether its last answer was short. A session that is let go lets its raw go; `finish`
 /// hands it back.
 #[derive(Drop)]
 pub struct Session<R: RawStream> {
@@ -32,7 +32,7 @@ impl<R: RawStream> Model for Session<R> {
 
     ghost Value = { SessionView };
 
-    ghost view = { λ s. record { file = OfText (file_of s.text); raw = s.text.reader.raw; short = s.short } };
+    ghost view = { λ s. record { file = OfText (file_of s.text); raw = s.text.reader.raw; buffer = s.text.reader.size; short = s.short } };
 }
 
 /// A raw stream that a session hands back.
@@ -51,7 +51,8 @@ impl<R: RawStream> Session<R> {
     /// A text session over a raw that is read from where it stands, with a buffer and chunks of these sizes in bytes.
     ///
     /// Refused, the raw is handed back with nothing read: `Closed`, then `Unsupported` where it can't be read from,
-    /// `NoMemory`, and `RawFault` where it fails to say where it stands.
+    /// `NoMemory`, and `RawFault` where it fails to say where it stands. One that tells still stands where it stood, but
+    /// after `RawFault`.
     pub(crate) fn open(
         alloc: Global,
         raw: R,
@@ -61,7 +62,7 @@ impl<R: RawStream> Session<R> {
         requires buffer { 0 < buffer_size }
         requires chunk { 0 < chunk_size }
         requires start { StandsAtStart (R.shows raw) }
-        ensures { SessionOutcome R.shows raw chunk_size result }
+        ensures { SessionOutcome R.shows raw buffer_size chunk_size result }
     {
         match Reader::new(alloc, raw, buffer_size) {
             Ok(reader) => Ok(Session {
@@ -77,7 +78,7 @@ impl<R: RawStream> Session<R> {
     ///
     /// `Read` answers the next characters, as many as asked for, or all that are left; `ReadLine` those up to and with
     /// the next LF, at most its limit; fewer come only at the end. Where the raw asked to wait, what came by then is
-    /// answered and `short` says so, or it is `NotReady` with nothing taken. `Close` closes the raw and is `Done`, and so
+    /// answered, never nothing, or it is `NotReady` with nothing taken; `short` says so. `Close` closes the raw and is `Done`, and so
     /// is another `Close` after it.
     ///
     /// Else it is `Refused`:
@@ -107,8 +108,8 @@ impl<R: RawStream> Session<R> {
         }
     }
 
-    /// Whether the last answer was short: the characters that came before the raw asked to wait. It is false before the
-    /// first call.
+    /// Whether the raw asked to wait before the last call was answered in full: its answer is the characters that came by
+    /// then, or `NotReady`. It is false before the first call, and after a call that the wait didn't cut short.
     pub fn short(&self) -> bool
         ensures { result ≡ self.now.short }
     {
@@ -163,13 +164,19 @@ impl<R: RawStream> Session<R> {
     {
         match self.text.answer(alloc, wanted) {
             Ok(Answer::Whole(text)) => Reply::Text(text),
-            Ok(Answer::Short(text)) => {
-                self.short = true;
-                Reply::Text(text)
-            }
-            Ok(Answer::NotReady) => Reply::NotReady,
+            Ok(Answer::Short(text)) => self.cut_short(Reply::Text(text)),
+            Ok(Answer::NotReady) => self.cut_short(Reply::NotReady),
             Err(fault) => Reply::Refused(fault),
         }
+    }
+
+    /// Remembers that a wait cut this reply short.
+    fn cut_short(&mut self, reply: Reply) -> Reply
+        ensures reply { result ≡ reply }
+        ensures short { self.new ≡ record self.old { short = true } }
+    {
+        self.short = true;
+        reply
     }
 
     fn close(&mut self) -> Reply

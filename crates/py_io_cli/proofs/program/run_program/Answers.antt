@@ -10,4 +10,4 @@ returns-clause-kept g c =
     let new : SourceView = g.I.Source.shows c.run_to_status.new.script in
     let before : Outside = record { opener = g.O.Opener.shows c.args.opener.now; sink = g.K.Sink.shows c.args.out.now } in
     let after : Outside = record { opener = g.O.Opener.shows c.run_to_status.new.opener; sink = g.K.Sink.shows c.run_to_status.new.out } in
-    paths_kept c.code.result (texts c.args.words.now) old new before after (record { ended = c.run_to_status.result; code_is = c.code.ensures; outcome = c.run_to_status.ensures })
+    paths_kept c.a_run_keeps_the_bytes_and_the_settings.ensures.bytes c.code.result (texts c.args.words.now) old new before after (record { ended = c.run_to_status.result; code_is = c.code.ensures; outcome = c.run_to_status.ensures })
