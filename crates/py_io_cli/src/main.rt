@@ -4,6 +4,8 @@
 mod laws;
 mod printing;
 mod program;
+#[cfg(test)]
+mod raw_tests;
 mod script;
 mod status;
 #[cfg(test)]

@@ -31,7 +31,7 @@ use std::alloc::{AllocError, Global};
 /// - `no_form`: 2 exactly for words of no form;
 /// - `source`, `refused`, `sink`, `opener`: 5, 4, 6 and 8 come only where a count of faults rose, of the source, of the
 ///   raw, of the sink, or of the opener;
-/// - `complete`: where no count rose and the script is in form it is 0, or 7 for want of memory;
+/// - `complete`: where no count rose it is 0, or 3 for a script out of form, or 7 for want of memory;
 /// - `out_of_form`, `form`: 3 comes only of a script out of form, and such a script ends with 3 unless the source failed
 ///   or memory was wanting first;
 /// - `missing`, `found`: 8 comes of an opener that tells only where the path holds nothing, and such a path ends with 8
@@ -53,9 +53,9 @@ pub fn run_program<O: Opener, I: Source, K: Sink>(
     ensures refused { result ≡ 4 → Rose (O.shows opener.old).raw_faults (O.shows opener.new).raw_faults }
     ensures sink { result ≡ 6 → Rose (K.shows out.old).faults (K.shows out.new).faults }
     ensures opener { result ≡ 8 → Rose (O.shows opener.old).faults (O.shows opener.new).faults }
-    ensures complete { run_words (texts words.now) ≢ None → TellsForm (I.shows script.old) → NothingFails (I.shows script.old) (I.shows script.new)
+    ensures complete { run_words (texts words.now) ≢ None → NothingFails (I.shows script.old) (I.shows script.new)
         (record { opener = O.shows opener.old; sink = K.shows out.old }) (record { opener = O.shows opener.new; sink = K.shows out.new })
-        → (result ≡ 0) ⊎ (result ≡ 7) }
+        → (result ≡ 0) ⊎ ((result ≡ 3) ⊎ (result ≡ 7)) }
     ensures out_of_form { result ≡ 3 → IsTrue (I.shows script.old).tells → IsOutOfForm (I.shows script.old).left }
     ensures form { run_words (texts words.now) ≢ None → TellsNoForm (I.shows script.old)
         → (result ≡ 3) ⊎ ((result ≡ 5) ⊎ (result ≡ 7)) }

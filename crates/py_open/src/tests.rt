@@ -324,16 +324,21 @@ fn a_refused_opening_hands_the_raw_back(rt: HostRuntime) -> Result<(), Fail> {
 }
 
 #[test]
-fn a_wait_behind_some_characters_makes_the_answer_short(rt: HostRuntime) -> Result<(), Fail> {
+fn a_wait_makes_the_answer_short(rt: HostRuntime) -> Result<(), Fail> {
     let alloc = rt.alloc();
-    let plan = vec![in alloc; Cut::Take(1), Cut::Wait]?;
-    let raw = raw_of(alloc, "ab".as_bytes(), plan)?;
-    let run = small_run(&rt, alloc, raw, (4, 4), &[Call::Read(None)]);
-    assert_eq!(rt; run.replies.as_slice(), [text(alloc, "a")?].as_slice());
-    assert!(rt; run.session.short());
-    let mut session = run.session;
-    assert_eq!(rt; session.call(alloc, &Call::Read(None)), text(alloc, "b")?);
-    assert!(rt; !session.short());
+    let cases = [
+        (vec![in alloc; Cut::Take(1), Cut::Wait]?, text(alloc, "a")?, "b"),
+        (vec![in alloc; Cut::Wait]?, Reply::NotReady, "ab"),
+    ];
+    for (plan, short, rest) in cases {
+        let raw = raw_of(alloc, "ab".as_bytes(), plan)?;
+        let run = small_run(&rt, alloc, raw, (4, 4), &[Call::Read(None)]);
+        assert_eq!(rt; run.replies.as_slice(), [short].as_slice());
+        assert!(rt; run.session.short());
+        let mut session = run.session;
+        assert_eq!(rt; session.call(alloc, &Call::Read(None)), text(alloc, rest)?);
+        assert!(rt; !session.short());
+    }
     Ok(())
 }
 
