@@ -187,10 +187,12 @@ fn waits_faults_and_refused_ranges_are_replies(rt: HostRuntime) -> Result<(), Fa
     ];
     for (held, plan, faults, script, status, printed) in cases {
         let mut opener = opener_of(alloc, Some(held))?;
-        opener.plan_next(
+        opener.with_plan(
+            alloc,
+            "f",
             Vec::from_slice(alloc, plan)?,
             Vec::from_slice(alloc, faults)?,
-        );
+        )?;
         let outside = sound(alloc, script.to_vec(alloc)?)?;
         let want = (status, printed);
         check_with(&rt, alloc, &WORDS, (opener, Some(held)), outside, want)?;

@@ -1,5 +1,5 @@
 -- A raw stream over a file, which tells nothing.
-use Rattle.std.specs.Prelude.{◌≡◌, ℕ, ◌<◌, length, Bool, true, false, List, [], take, Option, Some, None, Result, Ok, Err, if◌then◌else◌}
+use Rattle.std.specs.Prelude.{◌≡◌, ℕ, ◌<◌, length, Bool, true, false, not, ◌&&◌, nat_eq, List, [], take, Option, Some, None, Result, Ok, Err, if◌then◌else◌}
 use Rattle.std.specs.Io.KnownBytes.{Consumes, Appends, Keeps, IsAtEnd}
 use Rattle.std.specs.declared.io.ErrorKind.{ErrorKind}
 use Rattle.std.specs.declared.io.ErrorKind.TheVariants.{WouldBlock, Interrupted}
@@ -38,11 +38,37 @@ abbrev pub transfer_reply : Result ℕ Error → Result (Option ℕ) RawError
 transfer_reply (Ok count) = Ok (Some count)
 transfer_reply (Err error) = if asks_to_wait (error_kind error) then Ok None else Err Fault
 
--- the stream after such a reply
-abbrev pub after_reply : {F : Type 0} → FileRaw F → Result (Option ℕ) RawError → FileRaw F
-after_reply raw (Ok (Some count)) = raw
-after_reply raw (Ok None) = record raw { waits = counted raw.waits 1 }
-after_reply raw (Err error) = record raw { faults = counted raw.faults 1 }
+-- What a call leaves the stream at. It counts exactly what it answers: a fault for each fault, a wait for each wait, and
+-- nothing else.
+
+-- a fault more, and nothing else
+abbrev pub one_fault : Raw → Raw
+one_fault raw = record raw { faults = counted raw.faults 1 }
+
+-- a wait more, and nothing else
+abbrev pub one_wait : Raw → Raw
+one_wait raw = record raw { waits = counted raw.waits 1 }
+
+-- after a call that can't ask to wait
+abbrev pub after_call : {A : Type 0} → Raw → Result A RawError → Raw
+after_call raw (Ok answer) = raw
+after_call raw (Err error) = one_fault raw
+
+-- after a transfer
+abbrev pub after_transfer : Raw → Result (Option ℕ) RawError → Raw
+after_transfer raw (Ok (Some count)) = raw
+after_transfer raw (Ok None) = one_wait raw
+after_transfer raw (Err error) = one_fault raw
+
+-- after a write: to take nothing of a piece that isn't empty is a fault too
+abbrev pub after_write : Raw → List ℕ → Result (Option ℕ) RawError → Raw
+after_write raw piece (Ok (Some count)) = if nat_eq count 0 && not (nat_eq (length piece) 0) then one_fault raw else raw
+after_write raw piece (Ok None) = one_wait raw
+after_write raw piece (Err error) = one_fault raw
+
+-- a stream that is closed, and as it was in all else
+abbrev pub shut : Raw → Raw
+shut raw = record raw { closed = true }
 
 -- a read takes what it gave from what is known to be left in the file, none only at its end, and nothing without an answer
 abbrev pub TakesFromFile : Option (List ℕ) → Option (List ℕ) → Result (Option ℕ) RawError → List ℕ → Type 0

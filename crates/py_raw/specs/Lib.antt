@@ -12,5 +12,6 @@ pub mod MemSink
 pub mod ReadSource
 pub mod WriteSink
 pub mod Entries
+pub mod Plans
 pub mod MemOpener
 pub mod FileOpener

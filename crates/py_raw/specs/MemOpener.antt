@@ -1,17 +1,24 @@
 -- What an opener in memory shows, and what it makes of an opening.
-use Rattle.std.specs.Prelude.{◌≡◌, ℕ, true, false, List, [], Some}
+use Rattle.std.specs.Prelude.{◌≡◌, ◌≢◌, ℕ, true, false, List, Option, Some, option_map, Vec}
+use Rattle.std.specs.declared.alloc.Global.{Global}
 use Rattle.py_raw.specs.RawStream.{Raw}
+use Rattle.py_raw.specs.MemRaw.{MemRawView}
 use Rattle.py_raw.specs.RawMode.{mode_reads, mode_writes}
 use Rattle.py_raw.specs.Opener.{OpenerView, OthersHoldTheSame}
 use Rattle.py_raw.specs.Entries.{held_in}
-use Rattle.py_raw.specs.declared.cut.Cut.{Cut}
+use Rattle.py_raw.specs.Plans.{PlanView, plan_in}
+use Rattle.py_raw.specs.declared.entries.Entry.{Entry}
 use Rattle.py_raw.specs.declared.mem_opener.MemOpener.{MemOpener}
+
+-- what a path holds, as bytes
+abbrev pub bytes_in : List (Entry (Vec ℕ Global)) → List ℕ → Option (List ℕ)
+bytes_in entries path = option_map (λ bytes. bytes.items) (held_in entries path)
 
 -- it tells what each path holds
 abbrev pub shown_opener : MemOpener → OpenerView
 shown_opener opener = record {
   tells = true;
-  holds = held_in opener.entries.items;
+  holds = bytes_in opener.entries.items;
   faults = opener.faults;
   raw_faults = opener.raw_faults;
   raw_waits = opener.raw_waits;
@@ -41,14 +48,19 @@ opened_raw mode bytes = record {
   takes_memory = mode_writes mode;
 }
 
--- what the next stream that is opened follows: the plan of its transfers, and the numbers of its calls that fail
-pub record NextPlan : Type 0 where
-  pub plan : List Cut
-  pub refused : List ℕ
+-- such a stream with the plan that it follows; none of its calls was made
+abbrev pub opened_view : List ℕ → List ℕ → PlanView → MemRawView
+opened_view mode bytes plan = record { shows = opened_raw mode bytes; plan = plan.plan; refused = plan.refused; calls = 0 }
 
-abbrev pub next_plan : MemOpener → NextPlan
-next_plan opener = record { plan = opener.plan.items; refused = opener.refused.items }
+-- what each stream that is opened at a path follows
+abbrev pub plan_at : MemOpener → List ℕ → PlanView
+plan_at opener path = plan_in opener.plans.items path
 
--- all that a call asks is moved, and none fails
-abbrev pub no_plan : NextPlan
-no_plan = record { plan = []; refused = [] }
+-- a path has this plan now, every other the plan that it had
+pub record SetsPlan (old : MemOpener) (path : List ℕ) (plan : PlanView) (new : MemOpener) : Type 0 where
+  pub given : plan_at new path ≡ plan
+  pub others : (other : List ℕ) → other ≢ path → plan_at new other ≡ plan_at old other
+
+-- every path has the plan that it had
+abbrev pub KeepsPlans : MemOpener → MemOpener → Type 0
+KeepsPlans old new = (path : List ℕ) → plan_at new path ≡ plan_at old path

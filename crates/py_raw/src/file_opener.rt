@@ -76,6 +76,8 @@ impl<R: Files> Opener for FileOpener<'_, R>
 where
     R::File: Send,
 {
+    ghost use Rattle.std.specs.Prelude.{OnErr};
+    ghost use Rattle.py_flat.specs.Causes.{counted};
     ghost use Rattle.py_raw.specs.Opener.{OpenKeeps, OpenOutcome, DoneKeeps, DoneOutcome};
     ghost use Rattle.py_raw.specs.FileRaw.{shown};
     ghost use Rattle.py_raw.specs.FileOpener.{shown_file_opener};
@@ -95,6 +97,7 @@ where
         ensures keeps { OpenKeeps (shown_file_opener self.old) (shown_file_opener self.new) }
         ensures outcome { OpenOutcome shown (shown_file_opener self.old) path.now mode.now result (shown_file_opener self.new) }
         ensures counts { OnOk result (shown_file_opener self.new ≡ shown_file_opener self.old) }
+        ensures one_fault { OnErr result (shown_file_opener self.new ≡ record (shown_file_opener self.old) { faults = counted (shown_file_opener self.old).faults 1 }) }
         ensures fault { IfErr result (λ error. error ≡ OpenError.Fault) }
     {
         match open_file(self.files, path, mode) {

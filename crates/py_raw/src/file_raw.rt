@@ -1,7 +1,7 @@
 ghost use Rattle.std.proofs.Common.{rules};
 ghost use Rattle.std.specs.Prelude.{◌≡◌, ◌≤◌, false, true, [], Some, IfSome, IfOk, OnOk};
-ghost use Rattle.py_raw.specs.FileRaw.{shown, asks_to_wait, transfer_reply, after_reply, TakesFromFile, PutsInFile};
-ghost use Rattle.py_raw.specs.RawStream.{Keeps, StaysOpen, WriteFits, ReadOutcome, WriteOutcome, SeekOutcome, TellOutcome};
+ghost use Rattle.py_raw.specs.FileRaw.{shown, asks_to_wait, transfer_reply, after_call, after_transfer, after_write, shut, TakesFromFile, PutsInFile};
+ghost use Rattle.py_raw.specs.RawStream.{Keeps, StaysOpen, WriteFits, ReadOutcome, WriteOutcome, SeekOutcome, TellOutcome, EndOutcome, TruncateOutcome, CloseOutcome};
 ghost use Rattle.py_flat.specs.Limits.{greatest_place};
 ghost use Rattle.py_flat.specs.Causes.{counted};
 
@@ -21,8 +21,9 @@ const GREATEST_PLACE: u64 = 9223372036854775807;
 ///
 /// It tells no content: what a file holds is the system's. An answer that a call would block or was interrupted asks to
 /// wait; every other error is a fault, and so is an answer that can't be true, as a place past 9223372036854775807 or a
-/// seek that ends elsewhere. The file is let go with the stream, when the stream is dropped: that can't report a fault,
-/// so none of the system's at its own closing is seen.
+/// seek that ends elsewhere, and a write that takes nothing of a piece that isn't empty. Each wait and each fault is
+/// counted once, and nothing else is. The file is let go with the stream, when the stream is dropped: that can't report
+/// a fault, so none of the system's at its own closing is seen.
 #[derive(Debug, Drop)]
 pub struct FileRaw<F = File> {
     file: F,
@@ -92,7 +93,8 @@ impl<F> FileRaw<F> {
     fn take_answer(&mut self, answer: io::Result<usize>) -> Result<Option<usize>, RawError>
         ensures answer { result ≡ transfer_reply answer }
         ensures keeps { Keeps (shown self.old) (shown self.new) }
-        ensures after { self.new ≡ after_reply self.old result }
+        ensures after { shown self.new ≡ after_transfer (shown self.old) result }
+        ensures file { self.new.file ≡ self.old.file }
     {
         match answer {
             Ok(count) => Ok(Some(count)),
@@ -117,6 +119,7 @@ impl<F: Read + Write + Seek + OpenFile + Drop> RawStream for FileRaw<F> {
         ensures open { StaysOpen (shown self.old) (shown self.new) }
         ensures outcome { ReadOutcome (shown self.old) buf.old result buf.new (shown self.new) }
         ensures file { TakesFromFile (F.remaining self.old.file) (F.remaining self.new.file) result buf.new }
+        ensures counts { shown self.new ≡ after_transfer (shown self.old) result }
     {
         let answer = self.file.read(buf);
         self.take_answer(answer)
@@ -130,6 +133,7 @@ impl<F: Read + Write + Seek + OpenFile + Drop> RawStream for FileRaw<F> {
         ensures open { StaysOpen (shown self.old) (shown self.new) }
         ensures outcome { WriteOutcome (shown self.old) piece.now result (shown self.new) }
         ensures file { PutsInFile (F.contents self.old.file) (F.contents self.new.file) result piece.now }
+        ensures counts { shown self.new ≡ after_write (shown self.old) piece.now result }
     {
         match self.file.write(piece) {
             Ok(0) if !piece.is_empty() => {
@@ -148,6 +152,7 @@ impl<F: Read + Write + Seek + OpenFile + Drop> RawStream for FileRaw<F> {
         ensures open { StaysOpen (shown self.old) (shown self.new) }
         ensures outcome { SeekOutcome (shown self.old) place result (shown self.new) }
         ensures file { OnOk result (IfSome (F.stream_position self.old.file) (λ stood. F.stream_position self.new.file ≡ Some place)) }
+        ensures counts { shown self.new ≡ after_call (shown self.old) result }
     {
         match self.file.seek(SeekFrom::Start(place)) {
             Ok(stands) if stands == place => Ok(()),
@@ -162,6 +167,7 @@ impl<F: Read + Write + Seek + OpenFile + Drop> RawStream for FileRaw<F> {
         ensures open { StaysOpen (shown self.old) (shown self.new) }
         ensures outcome { TellOutcome (shown self.old) result (shown self.new) }
         ensures file { IfOk result (λ answer. IfSome (F.stream_position self.old.file) (λ stands. answer ≡ stands)) }
+        ensures counts { shown self.new ≡ after_call (shown self.old) result }
     {
         match self.file.stream_position() {
             Ok(place) if place <= GREATEST_PLACE => Ok(place),
@@ -169,21 +175,41 @@ impl<F: Read + Write + Seek + OpenFile + Drop> RawStream for FileRaw<F> {
         }
     }
 
-    fn end(&mut self) -> Result<u64, RawError> {
+    fn end(&mut self) -> Result<u64, RawError>
+        requires open { (shown self.old).closed ≡ false }
+        requires can { (shown self.old).seekable ≡ true }
+        ensures keeps { Keeps (shown self.old) (shown self.new) }
+        ensures open { StaysOpen (shown self.old) (shown self.new) }
+        ensures outcome { EndOutcome (shown self.old) result (shown self.new) }
+        ensures counts { shown self.new ≡ after_call (shown self.old) result }
+    {
         match self.file.metadata() {
             Ok(file) if file.len() <= GREATEST_PLACE => Ok(file.len()),
             _ => Err(self.fault()),
         }
     }
 
-    fn truncate(&mut self, size: u64) -> Result<(), RawError> {
+    fn truncate(&mut self, size: u64) -> Result<(), RawError>
+        requires open { (shown self.old).closed ≡ false }
+        requires can { (shown self.old).writable ≡ true }
+        requires within { size ≤ greatest_place }
+        ensures keeps { Keeps (shown self.old) (shown self.new) }
+        ensures open { StaysOpen (shown self.old) (shown self.new) }
+        ensures outcome { TruncateOutcome (shown self.old) size result (shown self.new) }
+        ensures counts { shown self.new ≡ after_call (shown self.old) result }
+    {
         match self.file.set_len(size) {
             Ok(()) => Ok(()),
             Err(_) => Err(self.fault()),
         }
     }
 
-    fn close(&mut self) -> Result<(), RawError> {
+    fn close(&mut self) -> Result<(), RawError>
+        requires { (shown self.old).closed ≡ false }
+        ensures keeps { Keeps (shown self.old) (shown self.new) }
+        ensures outcome { CloseOutcome (shown self.old) result (shown self.new) }
+        ensures counts { shown self.new ≡ after_call (shut (shown self.old)) result }
+    {
         self.closed = true;
         Ok(())
     }

@@ -1,54 +1,60 @@
-ghost use Rattle.std.specs.Prelude.{◌≡◌, ⊤, [], Some, MatchOption, IsSome, IsOk, IfOk, OnOk, OnErr};
+ghost use Rattle.std.specs.Prelude.{◌≡◌, ⊤, [], Some, MatchOption, IsSome, IsOk, IfOk, IfErr, OnOk, OnErr};
 ghost use Rattle.py_raw.specs.RawMode.{IsRawMode};
 ghost use Rattle.py_raw.specs.Opener.{opened_bytes};
-ghost use Rattle.py_raw.specs.Entries.{held_in, HoldsNow};
+ghost use Rattle.py_raw.specs.Entries.{HoldsNow};
+ghost use Rattle.py_raw.specs.Plans.{plan_in};
+ghost use Rattle.py_raw.specs.MemRaw.{view_of};
+ghost use Rattle.py_raw.specs.MemOpener.{bytes_in, opened_view};
 
+mod plan;
 #[cfg(test)]
 mod tests;
 
-use crate::entries::{Entry, append, bytes_at, place_of, replace_at};
+use crate::entries::{Entry, held_at, put_in};
 use crate::raw_mode::{file_letter, misses, mode_flags};
 use crate::{Cut, MemRaw, OpenError, Opener};
+use plan::{Plan, plan_of};
 use std::alloc::{AllocError, Global};
-use std::mem;
 
 /// Paths with bytes in memory, which opens raw streams of them: what a test opens its files by.
+///
+/// A path may have a plan, which every stream that is opened at it follows.
 #[derive(Drop)]
 pub struct MemOpener {
     alloc: Global,
-    entries: Vec<Entry>,
+    entries: Vec<Entry<Vec<u8>>>,
+    plans: Vec<Entry<Plan>>,
     faults: u64,
     raw_faults: u64,
     raw_waits: u64,
-    plan: Vec<Cut>,
-    refused: Vec<u64>,
+}
+
+/// The bytes that a path holds.
+fn bytes_at<'a>(entries: &'a [Entry<Vec<u8>>], path: &str) -> Option<&'a [u8]>
+    ensures { MatchOption result (bytes_in entries.now path.now ≡ None) (λ bytes. bytes_in entries.now path.now ≡ Some bytes.now) }
+{
+    Some(held_at(entries, path)?.as_slice())
 }
 
 /// Gives a path bytes, in its entry or in a new one. After an error every path holds what it held.
-fn put_in(
-    entries: &mut Vec<Entry>,
+fn put_bytes(
+    entries: &mut Vec<Entry<Vec<u8>>>,
     alloc: Global,
     path: &str,
     bytes: Vec<u8>,
 ) -> Result<(), AllocError>
-    ensures ok { OnOk result (HoldsNow entries.old.items path.now bytes.items entries.new.items) }
+    ensures ok { OnOk result (HoldsNow (bytes_in entries.old.items) path.now bytes.items (bytes_in entries.new.items)) }
     ensures err { OnErr result (entries.new.items ≡ entries.old.items) }
-    ensures complete { IsSome (held_in entries.old.items path.now) → IsOk result }
+    ensures complete { IsSome (bytes_in entries.old.items path.now) → IsOk result }
 {
-    match place_of(entries, path) {
-        Some(place) => {
-            replace_at(entries, place, bytes);
-            Ok(())
-        }
-        None => append(entries, alloc, path, bytes),
-    }
+    put_in(entries, alloc, path, bytes)
 }
 
 /// The bytes that an opening keeps: none where `w` empties the path, or where it holds nothing.
-fn kept<'a>(entries: &'a [Entry], path: &str, mode: &str) -> Option<&'a [u8]>
+fn kept<'a>(entries: &'a [Entry<Vec<u8>>], path: &str, mode: &str) -> Option<&'a [u8]>
     requires { IsRawMode mode.now }
-    ensures opened { MatchOption result (opened_bytes mode.now (held_in entries.now path.now) ≡ []) (λ bytes. opened_bytes mode.now (held_in entries.now path.now) ≡ bytes.now) }
-    ensures held { MatchOption result ⊤ (λ bytes. held_in entries.now path.now ≡ Some bytes.now) }
+    ensures opened { MatchOption result (opened_bytes mode.now (bytes_in entries.now path.now) ≡ []) (λ bytes. opened_bytes mode.now (bytes_in entries.now path.now) ≡ bytes.now) }
+    ensures held { MatchOption result ⊤ (λ bytes. bytes_in entries.now path.now ≡ Some bytes.now) }
 {
     if file_letter(mode) == b'w' {
         return None;
@@ -58,56 +64,88 @@ fn kept<'a>(entries: &'a [Entry], path: &str, mode: &str) -> Option<&'a [u8]>
 
 /// Gives the path that a mode opens its bytes, and answers a copy of them. After an error every path holds what it held.
 fn open_in(
-    entries: &mut Vec<Entry>,
+    entries: &mut Vec<Entry<Vec<u8>>>,
     alloc: Global,
     path: &str,
     mode: &str,
 ) -> Result<Vec<u8>, AllocError>
     requires { IsRawMode mode.now }
-    ensures bytes { IfOk result (λ bytes. bytes.items ≡ opened_bytes mode.now (held_in entries.old.items path.now)) }
-    ensures held { OnOk result (HoldsNow entries.old.items path.now (opened_bytes mode.now (held_in entries.old.items path.now)) entries.new.items) }
+    ensures bytes { IfOk result (λ bytes. bytes.items ≡ opened_bytes mode.now (bytes_in entries.old.items path.now)) }
+    ensures held { OnOk result (HoldsNow (bytes_in entries.old.items) path.now (opened_bytes mode.now (bytes_in entries.old.items path.now)) (bytes_in entries.new.items)) }
     ensures err { OnErr result (entries.new.items ≡ entries.old.items) }
 {
     match kept(entries, path, mode) {
         Some(bytes) => Vec::from_slice(alloc, bytes),
         None => {
-            put_in(entries, alloc, path, Vec::new(alloc))?;
+            put_bytes(entries, alloc, path, Vec::new(alloc))?;
             Ok(Vec::new(alloc))
         }
     }
 }
 
-impl MemOpener {
-    ghost use Rattle.std.specs.Prelude.{true};
-    ghost use Rattle.py_raw.specs.RawStream.{Raw};
-    ghost use Rattle.py_raw.specs.Opener.{HoldsTheSame, OpenKeeps, OpenOutcome, DoneKeeps, DoneOutcome};
-    ghost use Rattle.py_raw.specs.MemOpener.{shown_opener, opened_raw, next_plan, no_plan, Puts};
+/// Opens a stream of a path that a mode can open, which follows a copy of the path's plan. After an error every path
+/// holds what it held.
+fn open_stream(
+    entries: &mut Vec<Entry<Vec<u8>>>,
+    plans: &[Entry<Plan>],
+    alloc: Global,
+    path: &str,
+    mode: &str,
+) -> Result<MemRaw, AllocError>
+    requires { IsRawMode mode.now }
+    ensures opened { IfOk result (λ raw. view_of raw ≡ opened_view mode.now (opened_bytes mode.now (bytes_in entries.old.items path.now)) (plan_in plans.now path.now)) }
+    ensures held { OnOk result (HoldsNow (bytes_in entries.old.items) path.now (opened_bytes mode.now (bytes_in entries.old.items path.now)) (bytes_in entries.new.items)) }
+    ensures err { OnErr result (entries.new.items ≡ entries.old.items) }
+{
+    // Copied first, so that an opening that lacks the memory for it leaves the path.
+    let Plan { cuts, refused } = plan_of(plans, alloc, path)?;
+    let bytes = open_in(entries, alloc, path, mode)?;
+    Ok(MemRaw::new(bytes, mode_flags(mode), cuts, refused))
+}
 
-    /// An opener none of whose paths holds anything.
+impl MemOpener {
+    ghost use Rattle.std.specs.Prelude.{ℕ, List, true};
+    ghost use Rattle.py_raw.specs.RawStream.{Raw};
+    ghost use Rattle.py_raw.specs.Opener.{HoldsTheSame, DoneKeeps, DoneOutcome};
+    ghost use Rattle.py_raw.specs.Plans.{no_plan};
+    ghost use Rattle.py_raw.specs.MemOpener.{shown_opener, plan_at, SetsPlan, KeepsPlans, Puts};
+
+    /// An opener none of whose paths holds anything or has a plan.
     pub fn new(alloc: Global) -> Self
-        ensures plan { next_plan result ≡ no_plan }
+        ensures plans { (path : List ℕ) → plan_at result path ≡ no_plan }
         ensures shows { shown_opener result ≡ record { tells = true; holds = λ path. None; faults = 0; raw_faults = 0; raw_waits = 0 } }
     {
         MemOpener {
             alloc,
             entries: Vec::new(alloc),
+            plans: Vec::new(alloc),
             faults: 0,
             raw_faults: 0,
             raw_waits: 0,
-            plan: Vec::new(alloc),
-            refused: Vec::new(alloc),
         }
     }
 
-    /// Gives the next stream that is opened, at whatever path, a plan of its transfers and the numbers of its calls that
-    /// fail, as `MemRaw::new` takes them. An opening that is refused leaves them to the next; the streams after that one
-    /// move all that a call asks. It takes no memory.
-    pub fn plan_next(&mut self, plan: Vec<Cut>, faults: Vec<u64>)
-        ensures plan { next_plan self.new ≡ record { plan = plan.items; refused = faults.items } }
+    /// Gives a path a plan, in place of the one that it had: every stream that is opened at the path from now on follows a
+    /// copy of it. `plan` is what its transfers come to, and `faults` are the numbers of its calls that fail, as
+    /// `MemRaw::new` takes them. The streams of a path without a plan move all that a call asks.
+    ///
+    /// The path need not hold anything, and holds what it held. After an error every path has the plan that it had.
+    pub fn with_plan(
+        &mut self,
+        alloc: Global,
+        path: &str,
+        plan: Vec<Cut>,
+        faults: Vec<u64>,
+    ) -> Result<(), AllocError>
+        ensures ok { OnOk result (SetsPlan self.old path.now (record { plan = plan.items; refused = faults.items }) self.new) }
+        ensures err { OnErr result (KeepsPlans self.old self.new) }
         ensures shows { shown_opener self.new ≡ shown_opener self.old }
     {
-        self.plan = plan;
-        self.refused = faults;
+        let given = Plan {
+            cuts: plan,
+            refused: faults,
+        };
+        put_in(&mut self.plans, alloc, path, given)
     }
 
     /// Gives a path bytes, in place of those that it held. After an error every path holds what it held.
@@ -115,9 +153,9 @@ impl MemOpener {
         ensures ok { OnOk result (Puts (shown_opener self.old) path.now bytes.items (shown_opener self.new)) }
         ensures err { OnErr result (HoldsTheSame (shown_opener self.old) (shown_opener self.new)) }
         ensures complete { IsSome ((shown_opener self.old).holds path.now) → IsOk result }
-        ensures plan { next_plan self.new ≡ next_plan self.old }
+        ensures plans { KeepsPlans self.old self.new }
     {
-        put_in(&mut self.entries, alloc, path, bytes)
+        put_bytes(&mut self.entries, alloc, path, bytes)
     }
 
     /// The bytes that a path holds, where it holds some.
@@ -125,25 +163,6 @@ impl MemOpener {
         ensures { MatchOption result ((shown_opener self.now).holds path.now ≡ None) (λ bytes. (shown_opener self.now).holds path.now ≡ Some bytes.now) }
     {
         bytes_at(&self.entries, path)
-    }
-
-    /// Opens a path by a mode, and answers the bytes of the stream.
-    fn open_bytes(&mut self, alloc: Global, path: &str, mode: &str) -> Result<Vec<u8>, OpenError>
-        requires { IsRawMode mode.now }
-        ensures keeps { OpenKeeps (shown_opener self.old) (shown_opener self.new) }
-        ensures outcome { OpenOutcome (λ bytes. opened_raw mode.now bytes.items) (shown_opener self.old) path.now mode.now result (shown_opener self.new) }
-        ensures faults { OnOk result ((shown_opener self.new).faults ≡ (shown_opener self.old).faults) }
-        ensures plan { next_plan self.new ≡ next_plan self.old }
-    {
-        // Asked before anything wants memory, so that a fault comes exactly here.
-        if misses(mode, bytes_at(&self.entries, path).is_some()) {
-            self.faults = self.faults.saturating_add(1);
-            return Err(OpenError::Fault);
-        }
-        match open_in(&mut self.entries, alloc, path, mode) {
-            Ok(bytes) => Ok(bytes),
-            Err(_) => Err(OpenError::Memory),
-        }
     }
 
     /// Takes back the bytes of a stream of that path, and adds its counts.
@@ -159,11 +178,11 @@ impl MemOpener {
         ensures same { OnErr result (HoldsTheSame (shown_opener self.old) (shown_opener self.new)) }
         ensures faults { (shown_opener self.new).faults ≡ (shown_opener self.old).faults }
         ensures complete { IsSome ((shown_opener self.old).holds path.now) → IsOk result }
-        ensures plan { next_plan self.new ≡ next_plan self.old }
+        ensures plans { KeepsPlans self.old self.new }
     {
         self.raw_faults = self.raw_faults.saturating_add(faults);
         self.raw_waits = self.raw_waits.saturating_add(waits);
-        match put_in(&mut self.entries, self.alloc, path, bytes) {
+        match put_bytes(&mut self.entries, self.alloc, path, bytes) {
             Ok(()) => Ok(()),
             Err(_) => Err(OpenError::Memory),
         }
@@ -171,34 +190,35 @@ impl MemOpener {
 }
 
 impl Opener for MemOpener {
+    ghost use Rattle.py_flat.specs.Causes.{counted};
     ghost use Rattle.py_raw.specs.Opener.{HoldsTheSame, OpenKeeps, OpenOutcome, DoneKeeps, DoneOutcome};
-    ghost use Rattle.py_raw.specs.MemRaw.{shown, view_of};
-    ghost use Rattle.py_raw.specs.MemOpener.{shown_opener, opened_raw, next_plan, no_plan};
+    ghost use Rattle.py_raw.specs.MemRaw.{shown};
+    ghost use Rattle.py_raw.specs.MemOpener.{shown_opener, plan_at, KeepsPlans};
 
     type Raw = MemRaw;
 
     ghost shows = { shown_opener };
 
     /// Opens a path by a mode. `Fault` comes exactly where `x` finds the path or `r` misses it, before anything wants
-    /// memory. The stream holds a copy of the bytes, can seek, and follows the plan that `plan_next` gave it: without one
-    /// it moves all that a call asks.
+    /// memory, and is counted once. The stream holds a copy of the bytes, can seek, and follows a copy of the path's plan:
+    /// where it has none it moves all that a call asks. Each path keeps its plan.
     fn open_raw(&mut self, alloc: Global, path: &str, mode: &str) -> Result<MemRaw, OpenError>
         requires { IsRawMode mode.now }
         ensures keeps { OpenKeeps (shown_opener self.old) (shown_opener self.new) }
         ensures outcome { OpenOutcome shown (shown_opener self.old) path.now mode.now result (shown_opener self.new) }
         ensures faults { OnOk result ((shown_opener self.new).faults ≡ (shown_opener self.old).faults) }
-        ensures opened { IfOk result (λ raw. view_of raw ≡ record { shows = opened_raw mode.now (opened_bytes mode.now ((shown_opener self.old).holds path.now)); plan = (next_plan self.old).plan; refused = (next_plan self.old).refused; calls = 0 }) }
-        ensures planned { OnOk result (next_plan self.new ≡ no_plan) }
-        ensures unplanned { OnErr result (next_plan self.new ≡ next_plan self.old) }
+        ensures one_fault { IfErr result (λ error. error ≡ OpenError.Fault → (shown_opener self.new).faults ≡ counted (shown_opener self.old).faults 1) }
+        ensures opened { IfOk result (λ raw. view_of raw ≡ opened_view mode.now (opened_bytes mode.now ((shown_opener self.old).holds path.now)) (plan_at self.old path.now)) }
+        ensures plans { KeepsPlans self.old self.new }
     {
-        match self.open_bytes(alloc, path, mode) {
-            Ok(bytes) => {
-                let flags = mode_flags(mode);
-                let plan = mem::replace(&mut self.plan, Vec::new(alloc));
-                let refused = mem::replace(&mut self.refused, Vec::new(alloc));
-                Ok(MemRaw::new(bytes, flags, plan, refused))
-            }
-            Err(error) => Err(error),
+        // Asked before anything wants memory, so that a fault comes exactly here.
+        if misses(mode, self.bytes_at(path).is_some()) {
+            self.faults = self.faults.saturating_add(1);
+            return Err(OpenError::Fault);
+        }
+        match open_stream(&mut self.entries, &self.plans, alloc, path, mode) {
+            Ok(raw) => Ok(raw),
+            Err(_) => Err(OpenError::Memory),
         }
     }
 
@@ -210,7 +230,7 @@ impl Opener for MemOpener {
         ensures same { OnErr result (HoldsTheSame (shown_opener self.old) (shown_opener self.new)) }
         ensures faults { (shown_opener self.new).faults ≡ (shown_opener self.old).faults }
         ensures complete { IsSome ((shown_opener self.old).holds path.now) → IsOk result }
-        ensures plan { next_plan self.new ≡ next_plan self.old }
+        ensures plans { KeepsPlans self.old self.new }
     {
         let faults = raw.fault_count();
         let waits = raw.wait_count();

@@ -54,7 +54,7 @@ impl MemSink {
 }
 
 impl Sink for MemSink {
-    ghost use Rattle.std.specs.Prelude.{◌+◌, ◌-◌, ◌++◌, ◌↔◌, length, take, IsOk, IsErr};
+    ghost use Rattle.std.specs.Prelude.{◌+◌, ◌-◌, ◌++◌, ◌↔◌, length, take, IsOk, IsErr, OnOk, OnErr};
     ghost use Rattle.py_flat.specs.Causes.{counted};
     ghost use Rattle.py_raw.specs.Sink.{SinkKeeps, SinkOutcome};
     ghost use Rattle.py_raw.specs.MemSink.{shown_sink, written_in, room_of, failing_writes, writes_made, NextWriteFails, HasRoomFor};
@@ -74,6 +74,8 @@ impl Sink for MemSink {
         ensures room { room_of self.new ≡ room_of self.old }
         ensures failing { failing_writes self.new ≡ failing_writes self.old }
         ensures made { writes_made self.new ≡ counted (writes_made self.old) 1 }
+        ensures quiet { OnOk result ((shown_sink self.new).faults ≡ (shown_sink self.old).faults) }
+        ensures one_fault { OnErr result ((shown_sink self.new).faults ≡ counted (shown_sink self.old).faults 1) }
     {
         let fails = self.faults.contains(&self.writes);
         self.writes = self.writes.saturating_add(1);

@@ -44,7 +44,7 @@ fn copy_front(from: &[u8], to: &mut [u8]) -> usize
 }
 
 impl Source for MemSource {
-    ghost use Rattle.std.specs.Prelude.{◌↔◌, IsErr, IfOk};
+    ghost use Rattle.std.specs.Prelude.{◌↔◌, IsErr, IfOk, OnOk, OnErr};
     ghost use Rattle.py_flat.specs.Causes.{counted};
     ghost use Rattle.py_raw.specs.Source.{SourceKeeps, SourceOutcome};
     ghost use Rattle.py_raw.specs.MemSource.{shown_source, left_in, failing_reads, reads_made, NextReadFails};
@@ -60,6 +60,8 @@ impl Source for MemSource {
         ensures count { IfOk result (λ count. count ≡ min (length (left_in self.old)) (length buf.old)) }
         ensures failing { failing_reads self.new ≡ failing_reads self.old }
         ensures made { reads_made self.new ≡ counted (reads_made self.old) 1 }
+        ensures quiet { OnOk result ((shown_source self.new).faults ≡ (shown_source self.old).faults) }
+        ensures one_fault { OnErr result ((shown_source self.new).faults ≡ counted (shown_source self.old).faults 1) }
     {
         let fails = self.faults.contains(&self.reads);
         self.reads = self.reads.saturating_add(1);

@@ -22,7 +22,9 @@ impl<R: Read> ReadSource<R> {
 }
 
 impl<R: Read> Source for ReadSource<R> {
+    ghost use Rattle.std.specs.Prelude.{◌≡◌, OnOk, OnErr};
     ghost use Rattle.std.specs.Io.KnownBytes.{ReadConsumes};
+    ghost use Rattle.py_flat.specs.Causes.{counted};
     ghost use Rattle.py_raw.specs.Source.{SourceKeeps, SourceOutcome};
     ghost use Rattle.py_raw.specs.ReadSource.{reader_of, shown_read_source};
 
@@ -34,6 +36,8 @@ impl<R: Read> Source for ReadSource<R> {
         ensures keeps { SourceKeeps (shown_read_source self.old) (shown_read_source self.new) }
         ensures outcome { SourceOutcome (shown_read_source self.old) buf.old result buf.new (shown_read_source self.new) }
         ensures bytes { ReadConsumes (R.remaining (reader_of self.old)) (R.remaining (reader_of self.new)) result buf.new }
+        ensures quiet { OnOk result ((shown_read_source self.new).faults ≡ (shown_read_source self.old).faults) }
+        ensures one_fault { OnErr result ((shown_read_source self.new).faults ≡ counted (shown_read_source self.old).faults 1) }
     {
         match self.reader.read(buf) {
             Ok(count) => Ok(count),

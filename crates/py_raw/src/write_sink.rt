@@ -34,6 +34,8 @@ fn write_through<W: Write>(writer: &mut W, piece: &[u8]) -> io::Result<()>
 }
 
 impl<W: Write> Sink for WriteSink<W> {
+    ghost use Rattle.std.specs.Prelude.{◌≡◌, OnErr};
+    ghost use Rattle.py_flat.specs.Causes.{counted};
     ghost use Rattle.py_raw.specs.Sink.{SinkKeeps, SinkOutcome};
     ghost use Rattle.py_raw.specs.WriteSink.{writer_of, shown_write_sink};
 
@@ -45,6 +47,8 @@ impl<W: Write> Sink for WriteSink<W> {
         ensures keeps { SinkKeeps (shown_write_sink self.old) (shown_write_sink self.new) }
         ensures outcome { SinkOutcome (shown_write_sink self.old) piece.now result (shown_write_sink self.new) }
         ensures bytes { OnOk result (Appends (W.contents (writer_of self.old)) (W.contents (writer_of self.new)) piece.now) }
+        ensures quiet { OnOk result ((shown_write_sink self.new).faults ≡ (shown_write_sink self.old).faults) }
+        ensures one_fault { OnErr result ((shown_write_sink self.new).faults ≡ counted (shown_write_sink self.old).faults 1) }
     {
         match write_through(&mut self.writer, piece) {
             Ok(()) => Ok(()),

@@ -1,4 +1,4 @@
-//! An opener in memory: each mode, and a plan of its next stream.
+//! An opener in memory: each mode, and the plan of a path.
 use super::*;
 use crate::mode_tests::{EACH_MODE, opens};
 use crate::{RawError, RawStream, is_raw_mode};
@@ -32,27 +32,39 @@ fn each_mode_opens_and_keeps_what_it_should(rt: HostRuntime) -> Result<(), Alloc
 }
 
 #[test]
-fn the_next_stream_waits_and_fails_by_its_plan(rt: HostRuntime) -> Result<(), AllocError> {
+fn every_stream_of_a_path_follows_its_plan(rt: HostRuntime) -> Result<(), AllocError> {
+    type Given<'a> = (&'a [Cut], &'a [u64]);
+    type Answers<'a> = &'a [Result<Option<usize>, RawError>];
     let alloc = rt.alloc();
     let mode = "rb";
     assert!(rt; is_raw_mode(mode));
-    let mut opener = MemOpener::new(alloc);
-    opener.put(alloc, "held", Vec::from_slice(alloc, b"abc")?)?;
-    let plan = Vec::from_slice(alloc, &[Cut::Take(1), Cut::Wait])?;
-    opener.plan_next(plan, Vec::from_slice(alloc, &[2])?);
-    let table: [&[Result<Option<usize>, RawError>]; 2] = [
-        &[Ok(Some(1)), Ok(None), Err(RawError::Fault), Ok(Some(2))],
-        &[Ok(Some(3))],
+    let first: Given = (&[Cut::Take(1), Cut::Wait], &[2]);
+    let by_first: Answers = &[Ok(Some(1)), Ok(None), Err(RawError::Fault), Ok(Some(2))];
+    let second: Given = (&[Cut::Take(2)], &[]);
+    // The first plan is given before the path holds anything; then both streams follow it, another path's doesn't, and
+    // the second plan takes its place.
+    let table: [(Option<Given>, &str, Answers, (u64, u64)); 5] = [
+        (Some(first), "planned", by_first, (1, 1)),
+        (None, "planned", by_first, (2, 2)),
+        (None, "other", &[Ok(Some(3))], (2, 2)),
+        (Some(second), "planned", &[Ok(Some(2)), Ok(Some(1))], (2, 2)),
+        (Some(first), "planned", by_first, (3, 3)),
     ];
-    for answers in table {
-        let mut raw = opener.open_raw(alloc, "held", mode).expect(&rt, "opened");
+    let mut opener = MemOpener::new(alloc);
+    for (given, path, answers, counts) in table {
+        if let Some((plan, faults)) = given {
+            let plan = Vec::from_slice(alloc, plan)?;
+            opener.with_plan(alloc, path, plan, Vec::from_slice(alloc, faults)?)?;
+        }
+        opener.put(alloc, path, Vec::from_slice(alloc, b"abc")?)?;
+        let mut raw = opener.open_raw(alloc, path, mode).expect(&rt, "opened");
         for answer in answers {
             let mut buf = [0; 9];
             assert!(rt; !raw.closed() && raw.readable());
             assert_eq!(rt; raw.readinto(&mut buf), *answer);
         }
-        assert_eq!(rt; opener.done("held", raw), Ok(()));
-        assert_eq!(rt; (opener.raw_waits, opener.raw_faults), (1, 1));
+        assert_eq!(rt; opener.done(path, raw), Ok(()));
+        assert_eq!(rt; (opener.raw_waits, opener.raw_faults), counts);
     }
     Ok(())
 }

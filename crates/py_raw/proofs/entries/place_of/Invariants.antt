@@ -4,4 +4,4 @@ use Rattle.py_raw.specs.Entries.{held_in}
 use Rattle.py_raw.proofs.entries.place_of.Given as goal
 
 abbrev pub invariant-loop-place : goal.invariant-loop-place
-invariant-loop-place l = held_in (take l.place l.entries) l.path ≡ None
+invariant-loop-place g l = held_in (take l.place l.entries) l.path ≡ None

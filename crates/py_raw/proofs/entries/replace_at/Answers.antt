@@ -4,8 +4,8 @@ use Rattle.py_raw.proofs.Lookups.{HoldsNow-set}
 use Rattle.py_raw.proofs.entries.replace_at.Goals as goal
 
 pub returns : goal.returns
-returns c =
+returns g c =
     let entry = c.index-entries-place.result in
     let before = get_or c.args.entries.now c.args.place entry in
     λ (path : List ℕ) (at : StandsAt c.args.entries.now path c.args.place).
-    HoldsNow-set c.args.entries.now path c.args.place entry (record before { bytes = c.args.bytes }) at (at.named entry)
+    HoldsNow-set c.args.entries.now path c.args.place entry (record before { held = c.args.held }) at (at.named entry)
