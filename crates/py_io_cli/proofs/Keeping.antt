@@ -10,7 +10,7 @@ use Rattle.py_open.specs.Session.{SessionView}
 use Rattle.py_open.specs.Run.{IsRun}
 use Rattle.py_io_cli.specs.declared.status.Status.{Status}
 use Rattle.py_io_cli.specs.declared.status.Status.TheVariants as status
-use Rattle.py_io_cli.specs.Outcome.{Outside, closed_calls, RanCalls, HasLines, PrintsSome, RawOutcome, OpensPath}
+use Rattle.py_io_cli.specs.Outcome.{Outside, Asked, closed_calls, RanCalls, HasLines, PrintsSome, RawOutcome, OpensPath}
 
 -- one path or another
 same_or_other : (test : Bool) (other path : List ℕ) → bytes_eq other path ≡ test → (other ≡ path) ⊎ (other ≢ path)
@@ -42,32 +42,32 @@ raw_keeps path raw back old mid new opens same puts =
 abbrev pub RunsKeepBytes : Type 0
 RunsKeepBytes = (before : SessionView) (calls : List Call) (replies : List Reply) (after : SessionView) → IsRun before calls replies after → IsTrue before.raw.tells → after.raw.bytes ≡ before.raw.bytes
 
-run_keeps : RunsKeepBytes → (raw back : Raw) (calls : List Call) (lines : List ℕ) → RanCalls raw calls back lines → IsTrue raw.tells → back.bytes ≡ raw.bytes
-run_keeps law raw back calls lines ran tells =
+run_keeps : RunsKeepBytes → (raw back : Raw) (asked : Asked) (lines : List ℕ) → RanCalls raw asked back lines → IsTrue raw.tells → back.bytes ≡ raw.bytes
+run_keeps law raw back asked lines ran tells =
     ap (λ (last : Raw). last.bytes) ran.raw_is
-    ∙ law ran.run.opened (closed_calls calls) ran.replies ran.session ran.run.run (ran.run.opens.keeps.tells ∙ tells)
+    ∙ law ran.run.opened (closed_calls asked.calls) ran.replies ran.session ran.run.run (ran.run.opens.keeps.tells ∙ tells)
     ∙ (ran.run.opens.told tells).0
 
-lines_keep : RunsKeepBytes → (raw back : Raw) (calls : List Call) (lines : List ℕ) → HasLines raw calls back lines → IsTrue raw.tells → back.bytes ≡ raw.bytes
-lines_keep law raw back calls lines (inl ran) tells = run_keeps law raw back calls lines ran tells
-lines_keep law raw back calls lines (inr refused) tells = refused.why.3.bytes tells
+lines_keep : RunsKeepBytes → (raw back : Raw) (asked : Asked) (lines : List ℕ) → HasLines raw asked back lines → IsTrue raw.tells → back.bytes ≡ raw.bytes
+lines_keep law raw back asked lines (inl ran) tells = run_keeps law raw back asked lines ran tells
+lines_keep law raw back asked lines (inr refused) tells = refused.why.3.bytes tells
 
-some_keeps : RunsKeepBytes → (raw back : Raw) (calls : List Call) (old new : SinkView) → PrintsSome raw calls back old new → IsTrue raw.tells → back.bytes ≡ raw.bytes
-some_keeps law raw back calls old new prints tells = lines_keep law raw back calls prints.0 prints.1 tells
+some_keeps : RunsKeepBytes → (raw back : Raw) (asked : Asked) (old new : SinkView) → PrintsSome raw asked back old new → IsTrue raw.tells → back.bytes ≡ raw.bytes
+some_keeps law raw back asked old new prints tells = lines_keep law raw back asked prints.0 prints.1 tells
 
-outcome_keeps : RunsKeepBytes → (raw back : Raw) (calls : List Call) (ended : Status) (old new : SinkView) → RawOutcome raw calls ended back old new → IsTrue raw.tells → back.bytes ≡ raw.bytes
-outcome_keeps law raw back calls status.Done old new does tells = run_keeps law raw back calls does.0 does.1 tells
-outcome_keeps law raw back calls status.Refused old new does tells = does.1.why.3.bytes tells
-outcome_keeps law raw back calls status.SinkFailed old new does tells = some_keeps law raw back calls old new does.0 tells
-outcome_keeps law raw back calls status.NoMemory old new (inl prints) tells = some_keeps law raw back calls old new prints tells
-outcome_keeps law raw back calls status.NoMemory old new (inr none) tells = none.hands.bytes tells
-outcome_keeps law raw back calls status.NoForm old new does tells = absurd does
-outcome_keeps law raw back calls status.OutOfForm old new does tells = absurd does
-outcome_keeps law raw back calls status.SourceFailed old new does tells = absurd does
-outcome_keeps law raw back calls status.OpenerFailed old new does tells = absurd does
+outcome_keeps : RunsKeepBytes → (raw back : Raw) (asked : Asked) (ended : Status) (old new : SinkView) → RawOutcome raw asked ended back old new → IsTrue raw.tells → back.bytes ≡ raw.bytes
+outcome_keeps law raw back asked status.Done old new does tells = run_keeps law raw back asked does.0 does.1 tells
+outcome_keeps law raw back asked status.Refused old new does tells = does.1.why.3.bytes tells
+outcome_keeps law raw back asked status.SinkFailed old new does tells = some_keeps law raw back asked old new does.0 tells
+outcome_keeps law raw back asked status.NoMemory old new (inl prints) tells = some_keeps law raw back asked old new prints tells
+outcome_keeps law raw back asked status.NoMemory old new (inr none) tells = none.hands.bytes tells
+outcome_keeps law raw back asked status.NoForm old new does tells = absurd does
+outcome_keeps law raw back asked status.OutOfForm old new does tells = absurd does
+outcome_keeps law raw back asked status.SourceFailed old new does tells = absurd does
+outcome_keeps law raw back asked status.OpenerFailed old new does tells = absurd does
 
 -- whatever became of the calls over it, a path that was opened holds what it held
-pub path_keeps : RunsKeepBytes → (path : List ℕ) (calls : List Call) (ended : Status) (before after : Outside) → OpensPath path calls ended before after → IsTrue before.opener.tells → HoldsTheSame before.opener after.opener
-path_keeps law path calls ended before after opened tells =
+pub path_keeps : RunsKeepBytes → (path : List ℕ) (asked : Asked) (ended : Status) (before after : Outside) → OpensPath path asked ended before after → IsTrue before.opener.tells → HoldsTheSame before.opener after.opener
+path_keeps law path asked ended before after opened tells =
     let told = opened.opens.told tells in
-    raw_keeps path opened.raw opened.back before.opener opened.mid after.opener told (outcome_keeps law opened.raw opened.back calls ended before.sink after.sink opened.does told.tells) (opened.puts tells)
+    raw_keeps path opened.raw opened.back before.opener opened.mid after.opener told (outcome_keeps law opened.raw opened.back asked ended before.sink after.sink opened.does told.tells) (opened.puts tells)

@@ -1,5 +1,5 @@
 mod Printed
-mod LineFeed
+mod Planned
 mod OverRaw
 mod Opened
 mod Keeping

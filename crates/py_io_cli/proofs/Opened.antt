@@ -5,10 +5,9 @@ use Rattle.py_raw.specs.declared.opener.OpenError.TheVariants as open_error
 use Rattle.py_raw.specs.RawStream.{Raw}
 use Rattle.py_raw.specs.Sink.{SinkView}
 use Rattle.py_raw.specs.Opener.{OpenerView, OpenKeeps, Opens, DoneKeeps, DoneOutcome, PutsAway}
-use Rattle.py_open.specs.declared.call.Call.{Call}
 use Rattle.py_io_cli.specs.declared.status.Status.{Status}
 use Rattle.py_io_cli.specs.declared.status.Status.TheVariants as status
-use Rattle.py_io_cli.specs.Outcome.{RawOutcome, OpensPath, CallsOutcome, after_done}
+use Rattle.py_io_cli.specs.Outcome.{Asked, RawOutcome, OpensPath, CallsOutcome, after_done}
 use Rattle.py_io_cli.proofs.Printed.{rose_later}
 
 -- whatever the opener answered, where it tells the path holds the raw's bytes
@@ -21,8 +20,8 @@ puts_away path raw back before mid after (Err open_error.Memory) keeps opens put
     record { held = put.held (subst P (sym (opens.told tells).held) refl); others = put.others }
 
 -- the whole of it, by how the calls ended
-opened : (path : List ℕ) (calls : List Call) (ended : Status) (raw back : Raw) (before mid after : OpenerView) (old new : SinkView) (done : Result (Unit {0}) OpenError) → OpenKeeps before mid → Opens before path (codes "rb") raw mid → RawOutcome raw calls ended back old new → DoneKeeps back mid after → DoneOutcome back mid path done after → OpensPath path calls ended (record { opener = before; sink = old }) (record { opener = after; sink = new })
-opened path calls ended raw back before mid after old new done keeps opens does kept puts = record {
+opened : (path : List ℕ) (asked : Asked) (ended : Status) (raw back : Raw) (before mid after : OpenerView) (old new : SinkView) (done : Result (Unit {0}) OpenError) → OpenKeeps before mid → Opens before path (codes "rb") raw mid → RawOutcome raw asked ended back old new → DoneKeeps back mid after → DoneOutcome back mid path done after → OpensPath path asked ended (record { opener = before; sink = old }) (record { opener = after; sink = new })
+opened path asked ended raw back before mid after old new done keeps opens does kept puts = record {
   raw = raw;
   mid = mid;
   back = back;
@@ -33,21 +32,21 @@ opened path calls ended raw back before mid after old new done keeps opens does 
   puts = puts_away path raw back before mid after done keeps opens puts;
 }
 
-put_away_outcome : (path : List ℕ) (calls : List Call) (ended : Status) (raw back : Raw) (before mid after : OpenerView) (old new : SinkView) (done : Result (Unit {0}) OpenError) → OpenKeeps before mid → Opens before path (codes "rb") raw mid → RawOutcome raw calls ended back old new → DoneKeeps back mid after → DoneOutcome back mid path done after → CallsOutcome path calls (after_done ended done) (record { opener = before; sink = old }) (record { opener = after; sink = new })
-put_away_outcome path calls status.Done raw back before mid after old new (Ok done) keeps opens does kept puts = opened path calls status.Done raw back before mid after old new (Ok done) keeps opens does kept puts
-put_away_outcome path calls status.Done raw back before mid after old new (Err open_error.Fault) keeps opens does kept puts =
-    inr (opened path calls status.Done raw back before mid after old new (Err open_error.Fault) keeps opens does kept puts, rose_later before.faults mid.faults after.faults keeps.faults puts.cause, sym keeps.tells ∙ puts.untold)
-put_away_outcome path calls status.Done raw back before mid after old new (Err open_error.Memory) keeps opens does kept puts =
-    inr (inl (opened path calls status.Done raw back before mid after old new (Err open_error.Memory) keeps opens does kept puts))
-put_away_outcome path calls status.Refused raw back before mid after old new done keeps opens does kept puts = opened path calls status.Refused raw back before mid after old new done keeps opens does kept puts
-put_away_outcome path calls status.SinkFailed raw back before mid after old new done keeps opens does kept puts = opened path calls status.SinkFailed raw back before mid after old new done keeps opens does kept puts
-put_away_outcome path calls status.NoMemory raw back before mid after old new done keeps opens does kept puts = inl (opened path calls status.NoMemory raw back before mid after old new done keeps opens does kept puts)
-put_away_outcome path calls status.NoForm raw back before mid after old new done keeps opens does kept puts = absurd does
-put_away_outcome path calls status.OutOfForm raw back before mid after old new done keeps opens does kept puts = absurd does
-put_away_outcome path calls status.SourceFailed raw back before mid after old new done keeps opens does kept puts = absurd does
-put_away_outcome path calls status.OpenerFailed raw back before mid after old new done keeps opens does kept puts = absurd does
+put_away_outcome : (path : List ℕ) (asked : Asked) (ended : Status) (raw back : Raw) (before mid after : OpenerView) (old new : SinkView) (done : Result (Unit {0}) OpenError) → OpenKeeps before mid → Opens before path (codes "rb") raw mid → RawOutcome raw asked ended back old new → DoneKeeps back mid after → DoneOutcome back mid path done after → CallsOutcome path asked (after_done ended done) (record { opener = before; sink = old }) (record { opener = after; sink = new })
+put_away_outcome path asked status.Done raw back before mid after old new (Ok done) keeps opens does kept puts = opened path asked status.Done raw back before mid after old new (Ok done) keeps opens does kept puts
+put_away_outcome path asked status.Done raw back before mid after old new (Err open_error.Fault) keeps opens does kept puts =
+    inr (opened path asked status.Done raw back before mid after old new (Err open_error.Fault) keeps opens does kept puts, rose_later before.faults mid.faults after.faults keeps.faults puts.cause, sym keeps.tells ∙ puts.untold)
+put_away_outcome path asked status.Done raw back before mid after old new (Err open_error.Memory) keeps opens does kept puts =
+    inr (inl (opened path asked status.Done raw back before mid after old new (Err open_error.Memory) keeps opens does kept puts))
+put_away_outcome path asked status.Refused raw back before mid after old new done keeps opens does kept puts = opened path asked status.Refused raw back before mid after old new done keeps opens does kept puts
+put_away_outcome path asked status.SinkFailed raw back before mid after old new done keeps opens does kept puts = opened path asked status.SinkFailed raw back before mid after old new done keeps opens does kept puts
+put_away_outcome path asked status.NoMemory raw back before mid after old new done keeps opens does kept puts = inl (opened path asked status.NoMemory raw back before mid after old new done keeps opens does kept puts)
+put_away_outcome path asked status.NoForm raw back before mid after old new done keeps opens does kept puts = absurd does
+put_away_outcome path asked status.OutOfForm raw back before mid after old new done keeps opens does kept puts = absurd does
+put_away_outcome path asked status.SourceFailed raw back before mid after old new done keeps opens does kept puts = absurd does
+put_away_outcome path asked status.OpenerFailed raw back before mid after old new done keeps opens does kept puts = absurd does
 
 -- the same of the status that comes of both
-pub ended_outcome : (path : List ℕ) (calls : List Call) (ended last : Status) (raw back : Raw) (before mid after : OpenerView) (old new : SinkView) (done : Result (Unit {0}) OpenError) → last ≡ after_done ended done → OpenKeeps before mid → Opens before path (codes "rb") raw mid → RawOutcome raw calls ended back old new → DoneKeeps back mid after → DoneOutcome back mid path done after → CallsOutcome path calls last (record { opener = before; sink = old }) (record { opener = after; sink = new })
-ended_outcome path calls ended last raw back before mid after old new done is keeps opens does kept puts =
-    subst (λ (as_told : Status). CallsOutcome path calls as_told (record { opener = before; sink = old }) (record { opener = after; sink = new })) (sym is) (put_away_outcome path calls ended raw back before mid after old new done keeps opens does kept puts)
+pub ended_outcome : (path : List ℕ) (asked : Asked) (ended last : Status) (raw back : Raw) (before mid after : OpenerView) (old new : SinkView) (done : Result (Unit {0}) OpenError) → last ≡ after_done ended done → OpenKeeps before mid → Opens before path (codes "rb") raw mid → RawOutcome raw asked ended back old new → DoneKeeps back mid after → DoneOutcome back mid path done after → CallsOutcome path asked last (record { opener = before; sink = old }) (record { opener = after; sink = new })
+ended_outcome path asked ended last raw back before mid after old new done is keeps opens does kept puts =
+    subst (λ (as_told : Status). CallsOutcome path asked as_told (record { opener = before; sink = old }) (record { opener = after; sink = new })) (sym is) (put_away_outcome path asked ended raw back before mid after old new done keeps opens does kept puts)

@@ -1,5 +1,5 @@
 -- What the program did, by the status that it ends with.
-use Rattle.std.specs.Prelude.{◌≡◌, ℕ, ◌⊎◌, IsTrue, IsFalse, List, [], ◌∷◌, ◌++◌, Some, None, Result, Err, negsuc, codes}
+use Rattle.std.specs.Prelude.{◌≡◌, ℕ, ◌⊎◌, IsTrue, IsFalse, List, [], ◌∷◌, ◌++◌, Some, None, unwrap_or, Result, Ok, Err, codes}
 use Rattle.py_flat.specs.declared.fault.IoFault.TheVariants as fault
 use Rattle.py_flat.specs.Causes.{Rose}
 use Rattle.py_raw.specs.RawStream.{Raw}
@@ -14,10 +14,14 @@ use Rattle.py_open.specs.Session.{SessionView}
 use Rattle.py_open.specs.Run.{RunsCalls}
 use Rattle.py_script.specs.ReplyLine.{reply_lines}
 use Rattle.py_script.specs.Faults.{refused_line}
-use Rattle.py_script.specs.RunWords.{run_words}
+use Rattle.py_script.specs.CommandWords.{Command, Run, Help, Version, command_of}
+use Rattle.py_script.specs.OwnTexts.{own_text}
 use Rattle.py_io_cli.specs.declared.status.Status.{Status}
 use Rattle.py_io_cli.specs.declared.status.Status.TheVariants as status
+use Rattle.py_flat.specs.declared.fault.IoFault.{IoFault}
 use Rattle.py_open.specs.declared.open_args.OpenArgs.{OpenArgs}
+use Rattle.py_open.specs.declared.plan.OpenPlan.{OpenPlan}
+use Rattle.py_open.specs.Plan.{plan_of}
 use Rattle.py_raw.specs.declared.opener.OpenError.{OpenError}
 use Rattle.py_raw.specs.declared.opener.OpenError.TheVariants as open_error
 use Rattle.py_io_cli.specs.Status.{code_of}
@@ -30,16 +34,21 @@ pub record Outside : Type 0 where
 
 -- Over a raw that was opened.
 
+-- what is asked of a raw: a session with a buffer and chunks of these sizes in bytes, and the calls of a script
+pub record Asked : Type 0 where
+  pub buffer : ℕ
+  pub chunk : ℕ
+  pub calls : List Call
+
 -- the calls of the script, and the Close that the program adds
 abbrev pub closed_calls : List Call → List Call
 closed_calls calls = calls ++ Close ∷ []
 
--- the calls were made by a session over the raw, with a buffer and chunks of 8192 bytes, whose raw is `back`; `lines` are those of
--- the replies
-pub record RanCalls (raw : Raw) (calls : List Call) (back : Raw) (lines : List ℕ) : Type 0 where
+-- the calls were made by a session over the raw, whose raw is `back`; `lines` are those of the replies
+pub record RanCalls (raw : Raw) (asked : Asked) (back : Raw) (lines : List ℕ) : Type 0 where
   pub session : SessionView
   pub replies : List Reply
-  pub run : RunsCalls raw 8192 8192 (closed_calls calls) session replies
+  pub run : RunsCalls raw asked.buffer asked.chunk (closed_calls asked.calls) session replies
   pub raw_is : back ≡ session.raw
   pub lines_are : lines ≡ reply_lines replies
 
@@ -48,13 +57,17 @@ pub record RefusedRaw (raw : Raw) (back : Raw) (lines : List ℕ) : Type 0 where
   pub why : RefusesRaw raw fault.RawFault back
   pub lines_are : lines ≡ refused_line fault.RawFault
 
+-- what a plan asks with the calls of a script
+abbrev pub asked_by : OpenPlan → OpenArgs → List Call → Asked
+asked_by plan args calls = record { buffer = unwrap_or plan.buffer_size 1; chunk = args.chunk_size; calls = calls }
+
 -- what there is to print over a raw
-abbrev pub HasLines : Raw → List Call → Raw → List ℕ → Type 0
-HasLines raw calls back lines = RanCalls raw calls back lines ⊎ RefusedRaw raw back lines
+abbrev pub HasLines : Raw → Asked → Raw → List ℕ → Type 0
+HasLines raw asked back lines = RanCalls raw asked back lines ⊎ RefusedRaw raw back lines
 
 -- a front of what there is to print was printed
-abbrev pub PrintsSome : Raw → List Call → Raw → SinkView → SinkView → Type 0
-PrintsSome raw calls back old new = (lines : List ℕ) × HasLines raw calls back lines × PrintsFront old lines new
+abbrev pub PrintsSome : Raw → Asked → Raw → SinkView → SinkView → Type 0
+PrintsSome raw asked back old new = (lines : List ℕ) × HasLines raw asked back lines × PrintsFront old lines new
 
 -- no call was made, and nothing printed
 pub record MakesNoCall (raw : Raw) (back : Raw) (old new : SinkView) : Type 0 where
@@ -64,21 +77,21 @@ pub record MakesNoCall (raw : Raw) (back : Raw) (old new : SinkView) : Type 0 wh
 
 -- by the status: every reply was printed; or the refusal was; or a front of the one or the other, since the sink failed
 -- or there was no memory, for which no call may have been made
-abbrev pub RawOutcome : Raw → List Call → Status → Raw → SinkView → SinkView → Type 0
-RawOutcome raw calls status.Done back old new = (lines : List ℕ) × RanCalls raw calls back lines × Prints old lines new
-RawOutcome raw calls status.Refused back old new = (lines : List ℕ) × RefusedRaw raw back lines × Prints old lines new
-RawOutcome raw calls status.SinkFailed back old new = PrintsSome raw calls back old new × Rose old.faults new.faults
-RawOutcome raw calls status.NoMemory back old new = PrintsSome raw calls back old new ⊎ MakesNoCall raw back old new
-RawOutcome raw calls _ back old new = ⊥
+abbrev pub RawOutcome : Raw → Asked → Status → Raw → SinkView → SinkView → Type 0
+RawOutcome raw asked status.Done back old new = (lines : List ℕ) × RanCalls raw asked back lines × Prints old lines new
+RawOutcome raw asked status.Refused back old new = (lines : List ℕ) × RefusedRaw raw back lines × Prints old lines new
+RawOutcome raw asked status.SinkFailed back old new = PrintsSome raw asked back old new × Rose old.faults new.faults
+RawOutcome raw asked status.NoMemory back old new = PrintsSome raw asked back old new ⊎ MakesNoCall raw back old new
+RawOutcome raw asked _ back old new = ⊥
 
 -- the path was opened to be read, the calls ended so, and the raw was put away again, whatever the opener answered
-pub record OpensPath (path : List ℕ) (calls : List Call) (ended : Status) (before after : Outside) : Type 0 where
+pub record OpensPath (path : List ℕ) (asked : Asked) (ended : Status) (before after : Outside) : Type 0 where
   pub raw : Raw
   pub mid : OpenerView
   pub back : Raw
   pub open_keeps : OpenKeeps before.opener mid
   pub opens : Opens before.opener path (codes "rb") raw mid
-  pub does : RawOutcome raw calls ended back before.sink after.sink
+  pub does : RawOutcome raw asked ended back before.sink after.sink
   pub done_keeps : DoneKeeps back mid after.opener
   pub puts : IsTrue before.opener.tells → PutsAway back mid path after.opener
 
@@ -89,47 +102,100 @@ pub record OpensNothing (before after : Outside) : Type 0 where
   pub sink : after.sink ≡ before.sink
 
 -- the path couldn't be opened; or couldn't be put away when all was printed, which no opener that tells answers
-abbrev pub OpenerFails : List ℕ → List Call → Outside → Outside → Type 0
-OpenerFails path calls before after = (OpensNothing before after × OpenFaults before.opener path (codes "rb") after.opener) ⊎ (OpensPath path calls status.Done before after × Rose before.opener.faults after.opener.faults × IsFalse before.opener.tells)
+abbrev pub OpenerFails : List ℕ → Asked → Outside → Outside → Type 0
+OpenerFails path asked before after = (OpensNothing before after × OpenFaults before.opener path (codes "rb") after.opener) ⊎ (OpensPath path asked status.Done before after × Rose before.opener.faults after.opener.faults × IsFalse before.opener.tells)
 
 -- there was no memory: over the raw; or to put it away when all was printed; or the opener had none
-abbrev pub LacksMemory : List ℕ → List Call → Outside → Outside → Type 0
-LacksMemory path calls before after = OpensPath path calls status.NoMemory before after ⊎ (OpensPath path calls status.Done before after ⊎ (OpensNothing before after × OpenLacksMemory before.opener path (codes "rb") after.opener))
+abbrev pub LacksMemory : List ℕ → Asked → Outside → Outside → Type 0
+LacksMemory path asked before after = OpensPath path asked status.NoMemory before after ⊎ (OpensPath path asked status.Done before after ⊎ (OpensNothing before after × OpenLacksMemory before.opener path (codes "rb") after.opener))
 
 -- once the script was read
-abbrev pub CallsOutcome : List ℕ → List Call → Status → Outside → Outside → Type 0
-CallsOutcome path calls status.Done before after = OpensPath path calls status.Done before after
-CallsOutcome path calls status.Refused before after = OpensPath path calls status.Refused before after
-CallsOutcome path calls status.SinkFailed before after = OpensPath path calls status.SinkFailed before after
-CallsOutcome path calls status.NoMemory before after = LacksMemory path calls before after
-CallsOutcome path calls status.OpenerFailed before after = OpenerFails path calls before after
-CallsOutcome path calls _ before after = ⊥
+abbrev pub CallsOutcome : List ℕ → Asked → Status → Outside → Outside → Type 0
+CallsOutcome path asked status.Done before after = OpensPath path asked status.Done before after
+CallsOutcome path asked status.Refused before after = OpensPath path asked status.Refused before after
+CallsOutcome path asked status.SinkFailed before after = OpensPath path asked status.SinkFailed before after
+CallsOutcome path asked status.NoMemory before after = LacksMemory path asked before after
+CallsOutcome path asked status.OpenerFailed before after = OpenerFails path asked before after
+CallsOutcome path asked _ before after = ⊥
+
+-- What the plan makes of the script's calls.
+
+-- the line of a refusal by the plan was printed; or a front of it, since the sink failed or there was no memory
+abbrev pub RefusalPrinted : IoFault → Status → SinkView → SinkView → Type 0
+RefusalPrinted refused status.Refused old new = Prints old (refused_line refused) new
+RefusalPrinted refused status.SinkFailed old new = Rose old.faults new.faults × PrintsFront old (refused_line refused) new
+RefusalPrinted refused status.NoMemory old new = PrintsFront old (refused_line refused) new
+RefusalPrinted refused _ old new = ⊥
+
+-- the plan refuses the opening: nothing was opened
+pub record RefusesPlan (mode : List ℕ) (args : OpenArgs) (ended : Status) (before after : Outside) : Type 0 where
+  pub refused : IoFault
+  pub planned : plan_of mode args ≡ Err refused
+  pub opener : after.opener ≡ before.opener
+  pub prints : RefusalPrinted refused ended before.sink after.sink
+
+-- the plan accepts the opening: what it asks of a raw was done
+pub record FollowsPlan (path mode : List ℕ) (args : OpenArgs) (calls : List Call) (ended : Status) (before after : Outside) : Type 0 where
+  pub plan : OpenPlan
+  pub planned : plan_of mode args ≡ Ok plan
+  pub does : CallsOutcome path (asked_by plan args calls) ended before after
+
+-- by the plan
+abbrev pub PlannedOutcome : List ℕ → List ℕ → OpenArgs → List Call → Status → Outside → Outside → Type 0
+PlannedOutcome path mode args calls ended before after = RefusesPlan mode args ended before after ⊎ FollowsPlan path mode args calls ended before after
 
 -- The whole program.
 
--- the words name a path, and only the source was called
+-- nothing was called
+pub record CallsNothing (old new : SourceView) (before after : Outside) : Type 0 where
+  pub source : new ≡ old
+  pub same : after ≡ before
+
+-- the words ask for a text of the program's own, all of which was printed, or a front, since the sink failed
+abbrev pub TextPrinted : List ℕ → Status → SinkView → SinkView → Type 0
+TextPrinted text status.Done old new = Prints old text new
+TextPrinted text status.SinkFailed old new = Rose old.faults new.faults × PrintsFront old text new
+TextPrinted text _ old new = ⊥
+
+pub record PrintsText (words : List (List ℕ)) (ended : Status) (old new : SourceView) (before after : Outside) : Type 0 where
+  pub command : Command
+  pub form : command_of words ≡ Some command
+  pub text : List ℕ
+  pub asked : own_text command ≡ Some text
+  pub source : new ≡ old
+  pub opener : after.opener ≡ before.opener
+  pub sink : SinkKeeps before.sink after.sink
+  pub prints : TextPrinted text ended before.sink after.sink
+
+-- the words ask for a run, and only the source was called
 pub record OnlyReads (words : List (List ℕ)) (old new : SourceView) (before after : Outside) : Type 0 where
   pub path : List ℕ
-  pub form : run_words words ≡ Some path
+  pub mode : List ℕ
+  pub args : OpenArgs
+  pub form : command_of words ≡ Some (Run path mode args)
   pub source : SourceKeeps old new
   pub same : after ≡ before
 
--- the words name a path, the script was read to its end, and its calls ended so
+-- the words ask for a run, the script was read to its end, and its calls ended so
 pub record RunsScript (words : List (List ℕ)) (ended : Status) (old new : SourceView) (before after : Outside) : Type 0 where
   pub path : List ℕ
-  pub form : run_words words ≡ Some path
+  pub mode : List ℕ
+  pub args : OpenArgs
+  pub form : command_of words ≡ Some (Run path mode args)
   pub calls : List Call
   pub source : SourceKeeps old new
   pub reads : IsTrue old.tells → ReadsScript old calls new
   pub sink : SinkKeeps before.sink after.sink
-  pub does : CallsOutcome path calls ended before after
+  pub does : PlannedOutcome path mode args calls ended before after
 
 -- what the program did, by its status
 abbrev pub Outcome : Status → List (List ℕ) → SourceView → SourceView → Outside → Outside → Type 0
-Outcome status.NoForm words old new before after = (run_words words ≡ None) × (new ≡ old) × (after ≡ before)
+Outcome status.NoForm words old new before after = (command_of words ≡ None) × CallsNothing old new before after
 Outcome status.OutOfForm words old new before after = OnlyReads words old new before after × (IsTrue old.tells → IsOutOfForm old.left)
 Outcome status.SourceFailed words old new before after = OnlyReads words old new before after × Rose old.faults new.faults
-Outcome status.NoMemory words old new before after = OnlyReads words old new before after ⊎ RunsScript words status.NoMemory old new before after
+Outcome status.NoMemory words old new before after = CallsNothing old new before after ⊎ (OnlyReads words old new before after ⊎ RunsScript words status.NoMemory old new before after)
+Outcome status.Done words old new before after = RunsScript words status.Done old new before after ⊎ PrintsText words status.Done old new before after
+Outcome status.SinkFailed words old new before after = RunsScript words status.SinkFailed old new before after ⊎ PrintsText words status.SinkFailed old new before after
 Outcome ended words old new before after = RunsScript words ended old new before after
 
 -- the program ended with a number: that of a status, by which it did this
@@ -143,11 +209,3 @@ abbrev pub after_done : Status → Result (Unit {0}) OpenError → Status
 after_done status.Done (Err open_error.Fault) = status.OpenerFailed
 after_done status.Done (Err open_error.Memory) = status.NoMemory
 after_done ended done = ended
-
--- the arguments that the words stand for
-pub record IsLineFeed (args : OpenArgs) : Type 0 where
-  pub buffering : args.buffering ≡ negsuc 0
-  pub encoding : args.encoding ≡ None
-  pub errors : args.errors ≡ None
-  pub newline : args.newline ≡ Some (10 ∷ [])
-  pub chunk_size : args.chunk_size ≡ 8192

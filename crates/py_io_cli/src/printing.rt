@@ -1,5 +1,5 @@
 //! Printing replies and refusals, a line each.
-ghost use Rattle.std.specs.Prelude.{◌≡◌};
+ghost use Rattle.std.specs.Prelude.{◌≡◌, ◌≢◌, Err};
 ghost use Rattle.py_raw.specs.Sink.{SinkKeeps};
 ghost use Rattle.py_script.specs.ReplyLine.{reply_line, reply_lines};
 ghost use Rattle.py_script.specs.Faults.{refused_line};
@@ -47,9 +47,19 @@ pub fn print_refused<K: Sink>(alloc: Global, out: &mut K, fault: IoFault) -> Res
     }
 }
 
+/// Prints a text of the program's own, or `SinkFailed` with a front of it printed.
+pub fn print_text<K: Sink>(out: &mut K, text: &str) -> Result<(), Status>
+    ensures keeps { SinkKeeps (K.shows out.old) (K.shows out.new) }
+    ensures outcome { PrintOutcome (K.shows out.old) text.now result (K.shows out.new) }
+    ensures memory { result ≢ Err Status.NoMemory }
+{
+    print_line(out, text.as_bytes())
+}
+
 fn print_line<K: Sink>(out: &mut K, line: &[u8]) -> Result<(), Status>
     ensures keeps { SinkKeeps (K.shows out.old) (K.shows out.new) }
     ensures outcome { PrintOutcome (K.shows out.old) line.now result (K.shows out.new) }
+    ensures memory { result ≢ Err Status.NoMemory }
 {
     match out.write(line) {
         Ok(()) => Ok(()),

@@ -1,26 +1,29 @@
 //! The program: from its words to the lines that it prints and the status that it ends with.
-ghost use Rattle.std.specs.Prelude.{◌≡◌, ◌≢◌, ◌≤◌, ◌⊎◌, ◌↔◌, ℕ, IsTrue, List, codes, IfOk, MatchResult};
+ghost use Rattle.std.specs.Prelude.{◌≡◌, ◌≢◌, ◌≤◌, ◌⊎◌, ¬, ℕ, IsTrue, List, Ok, Some, None, codes, MatchResult};
 ghost use Rattle.py_flat.specs.Causes.{Rose};
 ghost use Rattle.py_raw.specs.Sink.{SinkKeeps};
 ghost use Rattle.py_raw.specs.Opener.{HoldsTheSame, IsOpened};
-ghost use Rattle.py_script.specs.RunWords.{run_words};
-ghost use Rattle.py_io_cli.specs.Outside.{texts, IsOutOfForm};
-ghost use Rattle.py_io_cli.specs.Outcome.{RawOutcome, CallsOutcome, Outcome, Ends, after_done, IsLineFeed};
-ghost use Rattle.py_io_cli.specs.Meaning.{TellsForm, TellsNoForm, NothingFails, PrintsReplies};
+ghost use Rattle.py_open.specs.declared.plan.OpenPlan.{OpenPlan as Plan};
+ghost use Rattle.py_open.specs.Plan.{plan_of};
+ghost use Rattle.py_script.specs.CommandWords.{Help, Version, command_of};
+ghost use Rattle.py_io_cli.specs.Outside.{texts, IsOutOfForm, Prints};
+ghost use Rattle.py_io_cli.specs.Outcome.{asked_by, RawOutcome, PlannedOutcome, Outcome, Ends, after_done};
+ghost use Rattle.py_io_cli.specs.Meaning.{IsRun, IsRefusedPlan, IsAcceptedAt, TellsForm, TellsNoForm, NothingFails, PrintsReplies};
 
 use crate::laws::a_smooth_run_prints_the_exact_replies;
-use crate::printing::{print_refused, print_replies};
+use crate::printing::{print_refused, print_replies, print_text};
 use crate::script::read_script;
 use crate::status::Status;
-use py_flat::{Chars, IoFault};
+use py_flat::IoFault;
 use py_open::{
-    Call, OpenArgs, OpenRefused, Run, a_run_keeps_the_bytes_and_the_settings, run_session,
+    Call, OpenArgs, OpenRefused, Run, a_run_keeps_the_bytes_and_the_settings, plan_open,
+    run_session,
 };
 use py_raw::{OpenError, Opener, RawStream, Sink, Source};
-use py_script::run_path;
-use std::alloc::{AllocError, Global};
+use py_script::{Command, HELP, VERSION, parse_words};
+use std::alloc::Global;
 
-/// Runs a script on a file, and prints each reply as a line.
+/// Runs a script on a file and prints each reply as a line, or prints a text of the program's own.
 ///
 /// `words` are those of the command line without the program's own name. It answers the status that the program ends
 /// with (docs/PROGRAM.md); the first stop that applies decides. A raw that was opened is always put away again.
@@ -28,16 +31,19 @@ use std::alloc::{AllocError, Global};
 /// `ends` says all that was read, opened, printed and put away, by the status. The other clauses follow from it:
 ///
 /// - `statuses`: it is 0 or one of 2 to 8;
-/// - `no_form`: 2 exactly for words of no form;
-/// - `source`, `refused`, `sink`, `opener`: 5, 4, 6 and 8 come only where a count of faults rose, of the source, of the
-///   raw, of the sink, or of the opener;
-/// - `complete`: where no count rose it is 0, or 3 for a script out of form, or 7 for want of memory;
+/// - `no_form`, `words`: 2 comes only of words of no form, and such words end with 2 unless memory was wanting;
+/// - `source`, `sink`, `opener`: 5, 6 and 8 come only where a count of faults rose, of the source, the sink, the opener;
+/// - `refused`: 4 comes only where the plan refuses the opening, or the raw's count of faults rose;
+/// - `planned`, `unopened`: an opening that the plan refuses ends with 4 unless the source or the sink failed or memory was
+///   wanting first, and nothing is opened;
+/// - `complete`: where no count rose and no plan refuses it is 0, or 3 for a script out of form, or 7 for want of memory;
 /// - `out_of_form`, `form`: 3 comes only of a script out of form, and such a script ends with 3 unless the source failed
 ///   or memory was wanting first;
 /// - `missing`, `found`: 8 comes of an opener that tells only where the path holds nothing, and such a path ends with 8
-///   unless the source failed or memory was wanting;
+///   unless the plan refuses, the source failed or memory was wanting;
 /// - `kept`: of an opener that tells every path holds what it held, the path of the words too, whatever the status is;
-/// - `printed`: with 0 the calls are those of the whole script, and what was printed is the lines of a run of them.
+/// - `printed`: with 0 the calls of a run are those of the whole script, and what was printed is the lines of a run of them;
+/// - `help`, `version`: with 0 the text that was asked for was printed.
 pub fn run_program<O: Opener, I: Source, K: Sink>(
     alloc: Global,
     words: &[String],
@@ -48,25 +54,31 @@ pub fn run_program<O: Opener, I: Source, K: Sink>(
     ensures ends { Ends result (texts words.now) (I.shows script.old) (I.shows script.new)
         (record { opener = O.shows opener.old; sink = K.shows out.old }) (record { opener = O.shows opener.new; sink = K.shows out.new }) }
     ensures statuses { (result ≤ 8) × (result ≢ 1) }
-    ensures no_form { (result ≡ 2) ↔ (run_words (texts words.now) ≡ None) }
+    ensures no_form { result ≡ 2 → command_of (texts words.now) ≡ None }
+    ensures words { command_of (texts words.now) ≡ None → (result ≡ 2) ⊎ (result ≡ 7) }
     ensures source { result ≡ 5 → Rose (I.shows script.old).faults (I.shows script.new).faults }
-    ensures refused { result ≡ 4 → Rose (O.shows opener.old).raw_faults (O.shows opener.new).raw_faults }
     ensures sink { result ≡ 6 → Rose (K.shows out.old).faults (K.shows out.new).faults }
     ensures opener { result ≡ 8 → Rose (O.shows opener.old).faults (O.shows opener.new).faults }
-    ensures complete { run_words (texts words.now) ≢ None → NothingFails (I.shows script.old) (I.shows script.new)
+    ensures refused { result ≡ 4 → IsRefusedPlan (command_of (texts words.now)) ⊎ Rose (O.shows opener.old).raw_faults (O.shows opener.new).raw_faults }
+    ensures planned { IsRefusedPlan (command_of (texts words.now)) → TellsForm (I.shows script.old)
+        → (result ≡ 4) ⊎ ((result ≡ 5) ⊎ ((result ≡ 6) ⊎ (result ≡ 7))) }
+    ensures unopened { IsRefusedPlan (command_of (texts words.now)) → O.shows opener.new ≡ O.shows opener.old }
+    ensures complete { command_of (texts words.now) ≢ None → ¬ IsRefusedPlan (command_of (texts words.now)) → NothingFails (I.shows script.old) (I.shows script.new)
         (record { opener = O.shows opener.old; sink = K.shows out.old }) (record { opener = O.shows opener.new; sink = K.shows out.new })
         → (result ≡ 0) ⊎ ((result ≡ 3) ⊎ (result ≡ 7)) }
     ensures out_of_form { result ≡ 3 → IsTrue (I.shows script.old).tells → IsOutOfForm (I.shows script.old).left }
-    ensures form { run_words (texts words.now) ≢ None → TellsNoForm (I.shows script.old)
+    ensures form { IsRun (command_of (texts words.now)) → TellsNoForm (I.shows script.old)
         → (result ≡ 3) ⊎ ((result ≡ 5) ⊎ (result ≡ 7)) }
-    ensures missing { (path : List ℕ) → run_words (texts words.now) ≡ Some path → result ≡ 8 → IsTrue (O.shows opener.old).tells
+    ensures missing { (path : List ℕ) → IsAcceptedAt path (command_of (texts words.now)) → result ≡ 8 → IsTrue (O.shows opener.old).tells
         → (O.shows opener.old).holds path ≡ None }
-    ensures found { (path : List ℕ) → run_words (texts words.now) ≡ Some path → TellsForm (I.shows script.old)
+    ensures found { (path : List ℕ) → IsAcceptedAt path (command_of (texts words.now)) → TellsForm (I.shows script.old)
         → IsTrue (O.shows opener.old).tells → (O.shows opener.old).holds path ≡ None
         → (result ≡ 8) ⊎ ((result ≡ 5) ⊎ (result ≡ 7)) }
     ensures kept { IsTrue (O.shows opener.old).tells → HoldsTheSame (O.shows opener.old) (O.shows opener.new) }
-    ensures printed { result ≡ 0 → IsTrue (I.shows script.old).tells → PrintsReplies (I.shows script.old) (I.shows script.new)
+    ensures printed { result ≡ 0 → IsRun (command_of (texts words.now)) → IsTrue (I.shows script.old).tells → PrintsReplies (I.shows script.old) (I.shows script.new)
         (record { opener = O.shows opener.old; sink = K.shows out.old }) (record { opener = O.shows opener.new; sink = K.shows out.new }) }
+    ensures help { result ≡ 0 → command_of (texts words.now) ≡ Some Help → Prints (K.shows out.old) help_text (K.shows out.new) }
+    ensures version { result ≡ 0 → command_of (texts words.now) ≡ Some Version → Prints (K.shows out.old) version_text (K.shows out.new) }
 {
     a_smooth_run_prints_the_exact_replies();
     a_run_keeps_the_bytes_and_the_settings();
@@ -84,30 +96,40 @@ fn run_to_status<O: Opener, I: Source, K: Sink>(
     ensures { Outcome result (texts words.now) (I.shows script.old) (I.shows script.new)
         (record { opener = O.shows opener.old; sink = K.shows out.old }) (record { opener = O.shows opener.new; sink = K.shows out.new }) }
 {
-    let Some(path) = run_path(words) else {
-        return Status::NoForm;
-    };
-    match read_script(alloc, script) {
-        Ok(calls) => run_calls(alloc, path, calls, opener, out),
-        Err(status) => status,
+    match parse_words(alloc, words) {
+        Ok(Some(Command::Run { path, mode, args })) => match read_script(alloc, script) {
+            Ok(calls) => run_calls(alloc, path, mode, args, calls, opener, out),
+            Err(status) => status,
+        },
+        Ok(Some(Command::Help)) => status_of(print_text(out, help_text()), Status::Done),
+        Ok(Some(Command::Version)) => status_of(print_text(out, version_text()), Status::Done),
+        Ok(None) => Status::NoForm,
+        Err(_) => Status::NoMemory,
     }
 }
 
-/// Opens the path, makes the calls and a Close, prints the replies, and puts the raw away.
+/// Opens the path, makes the calls and a Close, prints the replies, and puts the raw away; or prints why the plan refuses
+/// the opening, and opens nothing.
 fn run_calls<O: Opener, K: Sink>(
     alloc: Global,
     path: &str,
+    mode: &str,
+    args: OpenArgs,
     calls: Vec<Call>,
     opener: &mut O,
     out: &mut K,
 ) -> Status
     ensures sink { SinkKeeps (K.shows out.old) (K.shows out.new) }
-    ensures outcome { CallsOutcome path.now calls.items result
+    ensures outcome { PlannedOutcome path.now mode.now args calls.items result
         (record { opener = O.shows opener.old; sink = K.shows out.old }) (record { opener = O.shows opener.new; sink = K.shows out.new }) }
 {
-    match opener.open_raw(alloc, path, "rb") {
+    let plan = match plan_open(mode, &args) {
+        Ok(plan) => plan,
+        Err(fault) => return status_of(print_refused(alloc, out, fault), Status::Refused),
+    };
+    match opener.open_raw(alloc, path, plan.mode.rawmode()) {
         Ok(raw) => {
-            let (status, raw) = run_raw(alloc, raw, calls, out);
+            let (status, raw) = run_raw(alloc, raw, mode, args, calls, out);
             put_away(status, opener.done(path, raw))
         }
         Err(OpenError::Fault) => Status::OpenerFailed,
@@ -130,22 +152,21 @@ fn put_away(status: Status, done: Result<(), OpenError>) -> Status
 fn run_raw<R: RawStream, K: Sink>(
     alloc: Global,
     raw: R,
+    mode: &str,
+    args: OpenArgs,
     calls: Vec<Call>,
     out: &mut K,
 ) -> (Status, R)
     requires { IsOpened (codes "rb") (R.shows raw) }
     ensures sink { SinkKeeps (K.shows out.old) (K.shows out.new) }
-    ensures outcome { RawOutcome (R.shows raw) calls.items result.0 (R.shows result.1) (K.shows out.old) (K.shows out.new) }
+    ensures outcome { (plan : Plan) → plan_of mode.now args ≡ Ok plan
+        → RawOutcome (R.shows raw) (asked_by plan args calls.items) result.0 (R.shows result.1) (K.shows out.old) (K.shows out.new) }
 {
     let mut calls = calls;
     if calls.push(Call::Close).is_err() {
         return (Status::NoMemory, raw);
     }
-    let args = match line_feed_args(alloc) {
-        Ok(args) => args,
-        Err(_) => return (Status::NoMemory, raw),
-    };
-    match run_session(alloc, raw, "r", args, &calls) {
+    match run_session(alloc, raw, mode, args, &calls) {
         Ok(Run { session, replies }) => {
             let status = status_of(print_replies(alloc, out, &replies), Status::Done);
             (status, session.finish().raw)
@@ -168,13 +189,4 @@ fn status_of(printed: Result<(), Status>, whole: Status) -> Status
         Ok(()) => whole,
         Err(status) => status,
     }
-}
-
-/// The arguments of an opening with the newline argument LF.
-fn line_feed_args(alloc: Global) -> Result<OpenArgs, AllocError>
-    ensures { IfOk result IsLineFeed }
-{
-    let mut args = OpenArgs::default();
-    args.newline = Some(Chars::from_text(alloc, "\n")?);
-    Ok(args)
 }

@@ -63,12 +63,14 @@ fn line_of(alloc: Global, reply: &Reply) -> Result<Vec<u8>, AllocError> {
     Ok(line)
 }
 
-/// What a run of a script prints, and its status, over a file whose raw follows a plan and has calls that fail.
+/// What a run of a script by some options prints, and its status, over a file whose raw follows a plan and has calls that
+/// fail.
 fn run_over(
     rt: &impl Abort,
     alloc: Global,
     bytes: &[u8],
     follows: (Vec<Cut>, Vec<u64>),
+    options: &[&str],
     script: &[u8],
 ) -> Result<(u8, Vec<u8>), AllocError> {
     let mut opener = MemOpener::new(alloc);
@@ -78,6 +80,9 @@ fn run_over(
     let mut words = Vec::new(alloc);
     for word in ["run", "f", "r", "newline=0a"] {
         words.push(String::from_str(alloc, word)?)?;
+    }
+    for option in options {
+        words.push(String::from_str(alloc, option)?)?;
     }
     let mut source = MemSource::new(script.to_vec(alloc)?, Vec::new(alloc));
     let mut sink = MemSink::with_room(alloc, 1000, Vec::new(alloc))?;
@@ -123,10 +128,42 @@ fn a_file_that_comes_byte_by_byte_reads_as_the_plain_text(rt: HostRuntime) -> Re
         for script in [MIXED, SINGLE] {
             let plan = bytes_and_a_wait(alloc, 12)?;
             let follows = (plan, Vec::new(alloc));
-            let (status, printed) = run_over(&rt, alloc, bytes, follows, script)?;
+            let (status, printed) = run_over(&rt, alloc, bytes, follows, &[], script)?;
             assert_eq!(rt; status, 0);
             let lines = plain_lines(&rt, alloc, bytes, script)?;
             assert!(rt; printed == joined(alloc, &lines, &[])?, "of {bytes:?}");
+        }
+    }
+    Ok(())
+}
+
+/// The sizes of buffers and of chunks, as options.
+const SIZES: [(&str, &str); 8] = [
+    ("buffering=2", "chunk=2"),
+    ("buffering=3", "chunk=3"),
+    ("buffering=4", "chunk=4"),
+    ("buffering=5", "chunk=5"),
+    ("buffering=6", "chunk=6"),
+    ("buffering=7", "chunk=7"),
+    ("buffering=8", "chunk=8"),
+    ("buffering=9", "chunk=9"),
+];
+
+#[test]
+fn every_size_of_buffer_and_chunk_reads_as_the_plain_text(rt: HostRuntime) -> Result<(), Fail> {
+    let alloc = rt.alloc();
+    for bytes in files() {
+        let lines = plain_lines(&rt, alloc, bytes, MIXED)?;
+        let whole = joined(alloc, &lines, &[])?;
+        for (buffering, _) in SIZES {
+            for chunk in 0..9 {
+                let chunk = if chunk == 8 { "chunk=1" } else { SIZES[chunk].1 };
+                let follows = (Vec::new(alloc), Vec::new(alloc));
+                let options = [chunk, buffering];
+                let (status, printed) = run_over(&rt, alloc, bytes, follows, &options, MIXED)?;
+                assert_eq!(rt; status, 0);
+                assert!(rt; printed == whole, "of {bytes:?} by {buffering} and {chunk}");
+            }
         }
     }
     Ok(())
@@ -140,7 +177,7 @@ fn a_wait_before_any_transfer_puts_the_replies_off(rt: HostRuntime) -> Result<()
         let lines = plain_lines(&rt, alloc, bytes, SINGLE)?;
         for wait in 0..9 {
             let follows = (bytes_and_a_wait(alloc, wait)?, Vec::new(alloc));
-            let (status, printed) = run_over(&rt, alloc, bytes, follows, SINGLE)?;
+            let (status, printed) = run_over(&rt, alloc, bytes, follows, &[], SINGLE)?;
             assert_eq!(rt; status, 0);
             // A later wait may stand behind the last transfer.
             let mut found = wait > 0 && printed == joined(alloc, &lines, &[])?;
@@ -168,7 +205,7 @@ fn a_fault_at_any_call_ends_the_replies(rt: HostRuntime) -> Result<(), Fail> {
         let lines = plain_lines(&rt, alloc, bytes, MIXED)?;
         for fault in 0..12 {
             let follows = (bytes_and_a_wait(alloc, 12)?, vec![in alloc; fault]?);
-            let (status, printed) = run_over(&rt, alloc, bytes, follows, MIXED)?;
+            let (status, printed) = run_over(&rt, alloc, bytes, follows, &[], MIXED)?;
             if fault == 0 {
                 assert_eq!(rt; status, 4);
                 assert!(rt; printed == refused);

@@ -1,6 +1,7 @@
 //! Whole runs of the program over files, scripts and an output in memory.
 use crate::program::run_program;
 use py_raw::{Cut, MemOpener, MemSink, MemSource};
+use py_script::{help_text, version_text};
 use std::alloc::{AllocError, Global};
 use std::process::Abort;
 use std::test::Fail;
@@ -76,31 +77,84 @@ fn check_with(
 fn scripts_run_and_end_with_their_status(rt: HostRuntime) -> Result<(), Fail> {
     let alloc = rt.alloc();
     let whole = "text c3a90a\ntext 78\nok\n";
-    let long_mode = ["run", "f", "rr", "newline=0a"];
-    let cases: [(&[&str], Option<&[u8]>, &[u8], u8, &str); 7] = [
-        (&WORDS, Some(&FILE), SCRIPT, 0, whole),
+    let cases: [(Option<&[u8]>, &[u8], u8, &str); 10] = [
+        (Some(&FILE), SCRIPT, 0, whole),
         (
-            &WORDS,
             Some(b""),
             b"read\nreadline",
             0,
             "text -\ntext -\nok\n",
         ),
         (
-            &WORDS,
             Some(b"a\xFF"),
             b"read\nread 1\n",
             0,
             "err UnicodeDecodeError 1 2\ntext 61\nok\n",
         ),
-        (&WORDS[..2], Some(&FILE), SCRIPT, 2, ""),
-        (&long_mode, Some(&FILE), SCRIPT, 2, ""),
-        (&WORDS, Some(&FILE), b"red\n", 3, ""),
-        (&WORDS, None, SCRIPT, 8, ""),
+        (Some(&FILE), b"# nothing\n\n", 0, "ok\n"),
+        (Some(&FILE), b"red\n", 3, ""),
+        (Some(&FILE), b"read  1\n", 3, ""),
+        (Some(&FILE), b"read 18446744073709551615\n", 0, "text c3a90a78\nok\n"),
+        (Some(&FILE), b"read 18446744073709551616\n", 3, ""),
+        (None, SCRIPT, 8, ""),
+        (None, b"red\n", 3, ""),
     ];
-    for (words, held, script, status, printed) in cases {
+    for (held, script, status, printed) in cases {
         let outside = sound(alloc, script.to_vec(alloc)?)?;
-        check_run(&rt, alloc, words, held, outside, (status, printed))?;
+        check_run(&rt, alloc, &WORDS, held, outside, (status, printed))?;
+    }
+    Ok(())
+}
+
+#[test]
+fn words_are_a_form_and_then_an_opening(rt: HostRuntime) -> Result<(), Fail> {
+    let alloc = rt.alloc();
+    let whole = "text c3a90a\ntext 78\nok\n";
+    let unsupported = "refused Unsupported\n";
+    let cases: [(&[&str], u8, &str); 22] = [
+        (&[], 2, ""),
+        (&["run"], 2, ""),
+        (&["run", "f"], 2, ""),
+        (&["walk", "f", "r", "newline=0a"], 2, ""),
+        (&["run", "f", "r", "newline=0a", "newline=0a"], 2, ""),
+        (&["run", "f", "r", "newline=0"], 2, ""),
+        (&["run", "f", "r", "newline=ff"], 2, ""),
+        (&["run", "f", "r", "newline=0a", "colour=1"], 2, ""),
+        (&["--help", "f"], 2, ""),
+        (&["run", "f", "r", "newline=0A"], 0, whole),
+        (&["run", "f", "rt", "chunk=1", "newline=0a", "buffering=2"], 0, whole),
+        (
+            &["run", "f", "r", "errors=strict", "encoding=locale", "newline=0a"],
+            0,
+            whole,
+        ),
+        (&["run", "f", "rr", "newline=0a"], 4, "refused InvalidMode\n"),
+        (&["run", "f", "rwq"], 4, "refused MultipleFile\n"),
+        (&["run", "f", "tb"], 4, "refused MultipleEncode\n"),
+        (&["run", "f", "+"], 4, "refused NoFile\n"),
+        (&["run", "f", "r"], 4, unsupported),
+        (&["run", "f", "w", "newline=0a"], 4, unsupported),
+        (&["run", "f", "rb"], 4, unsupported),
+        (&["run", "f", "r", "newline=0a", "buffering=0"], 4, unsupported),
+        (&["run", "f", "r", "newline=0a", "chunk=0"], 4, unsupported),
+        (&["run", "missing", "w"], 4, unsupported),
+    ];
+    for (words, status, printed) in cases {
+        let outside = sound(alloc, SCRIPT.to_vec(alloc)?)?;
+        check_run(&rt, alloc, words, Some(&FILE), outside, (status, printed))?;
+    }
+    Ok(())
+}
+
+#[test]
+fn help_and_version_are_printed_alone(rt: HostRuntime) -> Result<(), Fail> {
+    let alloc = rt.alloc();
+    for (word, text) in [("--help", help_text()), ("--version", version_text())] {
+        for (writes, status, printed) in [(Vec::new(alloc), 0, text), (vec![in alloc; 0]?, 6, "")] {
+            let source = MemSource::new(SCRIPT.to_vec(alloc)?, Vec::new(alloc));
+            let outside = (source, MemSink::with_room(alloc, 4000, writes)?);
+            check_run(&rt, alloc, &[word], Some(&FILE), outside, (status, printed))?;
+        }
     }
     Ok(())
 }

@@ -8,8 +8,8 @@ use Rattle.py_open.specs.declared.reply.Reply.{Reply}
 use Rattle.py_open.specs.Run.{RunsCalls}
 use Rattle.py_script.specs.ReplyLine.{reply_lines}
 use Rattle.py_io_cli.specs.Outside.{PrintOutcome}
-use Rattle.py_io_cli.specs.Outcome.{closed_calls}
-use Rattle.py_io_cli.proofs.LineFeed.{planned_refusal, line_feed_buffer}
+use Rattle.py_io_cli.specs.Outcome.{closed_calls, asked_by}
+use Rattle.py_io_cli.proofs.Planned.{run_by, refused_raw}
 use Rattle.py_io_cli.proofs.OverRaw.{replies_printed, refused_printed}
 use Rattle.py_io_cli.proofs.program.run_raw.Goals as goal
 
@@ -17,26 +17,24 @@ use Rattle.py_io_cli.proofs.program.run_raw.Goals as goal
 calls_closed : (calls pushed lent : List Call) (fits : Bool) → fits ≡ true → pushed ≡ (if fits then calls ++ Close ∷ [] else calls) → lent ≡ pushed → lent ≡ closed_calls calls
 calls_closed calls pushed lent fits is made same = same ∙ made ∙ ap (λ (yes : Bool). if yes then calls ++ Close ∷ [] else calls) is
 
-pub returns-in-Ok-run_session-clause-outcome : goal.returns-in-Ok-run_session-clause-outcome
-returns-in-Ok-run_session-clause-outcome g c =
+pub returns-in-Ok-clause-outcome : goal.returns-in-Ok-clause-outcome
+returns-in-Ok-clause-outcome g c = λ plan accepted.
     let raw : Raw = g.R.RawStream.shows c.args.raw in
     let old : SinkView = g.K.Sink.shows c.args.out.now in
     let new : SinkView = g.K.Sink.shows c.print_replies.new.out in
-    let session = c.in-Ok-run_session.field-0.session in
-    let replies : List Reply = c.in-Ok-run_session.field-0.replies.items in
+    let session = c.in-Ok.field-0.session in
+    let replies : List Reply = c.in-Ok.field-0.replies.items in
     let calls_are : c.deref.result.now ≡ closed_calls c.args.calls.items = calls_closed c.args.calls.items c.push.new.self.items c.deref.result.now (is_ok c.push.result) c.if-is_err.ensures.negation c.push.ensures.items c.deref.ensures.value in
-    let planned = c.in-Ok-run_session.ensures in
-    let buffer_is : unwrap_or planned.0.buffer_size 1 ≡ 8192 = line_feed_buffer c.in-Ok.args planned.0 c.in-Ok.ensures planned.1 in
-    let buffered : RunsCalls raw 8192 c.in-Ok.args.chunk_size c.deref.result.now session replies = subst (λ (buffer : ℕ). RunsCalls raw buffer c.in-Ok.args.chunk_size c.deref.result.now session replies) buffer_is planned.2 in
-    let ran : RunsCalls raw 8192 8192 c.deref.result.now session replies = subst (λ (chunk : ℕ). RunsCalls raw 8192 chunk c.deref.result.now session replies) c.in-Ok.ensures.chunk_size buffered in
-    replies_printed raw c.args.calls.items session (g.R.RawStream.shows c.finish.result.raw) replies old new c.print_replies.result c.status_of-status.result
-    (subst (λ (calls : List Call). RunsCalls raw 8192 8192 calls session replies) calls_are ran) c.finish.ensures.raw
-    (subst (λ (printed : List Reply). PrintOutcome old (reply_lines printed) c.print_replies.result new) c.deref-in-Ok-run_session.ensures.value c.print_replies.ensures.outcome) c.status_of-status.ensures
+    let ran = c.in-Ok.ensures in
+    let planned : RunsCalls raw (unwrap_or plan.buffer_size 1) c.args.args.chunk_size c.deref.result.now session replies = run_by raw c.args.mode.now c.args.args ran.0 plan c.deref.result.now session replies ran.1 accepted ran.2 in
+    replies_printed raw (asked_by plan c.args.args c.args.calls.items) session (g.R.RawStream.shows c.finish.result.raw) replies old new c.print_replies.result c.status_of-status.result
+    (subst (λ (calls : List Call). RunsCalls raw (unwrap_or plan.buffer_size 1) c.args.args.chunk_size calls session replies) calls_are planned) c.finish.ensures.raw
+    (subst (λ (printed : List Reply). PrintOutcome old (reply_lines printed) c.print_replies.result new) c.deref-in-Ok.ensures.value c.print_replies.ensures.outcome) c.status_of-status.ensures
 
 pub returns-clause-outcome : goal.returns-clause-outcome
-returns-clause-outcome g c =
+returns-clause-outcome g c = λ plan accepted.
     let raw : Raw = g.R.RawStream.shows c.args.raw in
-    let back : Raw = g.R.RawStream.shows c.in-Err-run_session.field-0.raw in
-    let refused : IoFault = c.in-Err-run_session.field-0.fault in
-    refused_printed raw back c.args.calls.items refused (g.K.Sink.shows c.args.out.now) (g.K.Sink.shows c.print_refused.new.out) c.print_refused.result c.status_of-status-in_default.result
-    c.requires (planned_refusal raw c.in-Ok.args refused back c.in-Ok.ensures c.in-Err-run_session.ensures) c.in_default.not-NoMemory c.print_refused.ensures.outcome c.status_of-status-in_default.ensures
+    let back : Raw = g.R.RawStream.shows c.in-Err.field-0.raw in
+    let refused : IoFault = c.in-Err.field-0.fault in
+    refused_printed raw back (asked_by plan c.args.args c.args.calls.items) refused (g.K.Sink.shows c.args.out.now) (g.K.Sink.shows c.print_refused.new.out) c.print_refused.result c.status_of-status-in_default.result
+    c.requires (refused_raw raw c.args.mode.now c.args.args plan refused back accepted c.in-Err.ensures) c.in_default.not-NoMemory c.print_refused.ensures.outcome c.status_of-status-in_default.ensures
