@@ -4,3 +4,4 @@ mod ScriptLemmas
 mod WordLemmas
 mod FaultLemmas
 mod ReplyLemmas
+mod OptionLemmas

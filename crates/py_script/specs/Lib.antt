@@ -4,3 +4,5 @@ pub mod Faults
 pub mod ReplyLine
 pub mod RunWords
 pub mod ReplyRange
+pub mod Options
+pub mod CommandWords

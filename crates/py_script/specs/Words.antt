@@ -1,5 +1,5 @@
 -- Words of a line, and the numbers among them: this project's script language, docs/PROGRAM.md.
-use Rattle.std.specs.Prelude.{ℕ, ◌+◌, ◌-◌, ◌*◌, ◌^◌, ◌==◌, ◌&&◌, nat_le, nat_lt, Bool, List, [], ◌∷◌, ◌++◌, Option, Some, None, if◌then◌else◌}
+use Rattle.std.specs.Prelude.{ℕ, ◌+◌, ◌-◌, ◌*◌, ◌^◌, ◌==◌, ◌&&◌, nat_le, nat_lt, ℤ, pos, neg_ℤ, Bool, List, [], ◌∷◌, ◌++◌, Option, Some, None, if◌then◌else◌}
 use Rattle.std.specs.List.{slice_split}
 
 -- the words of a line, parted by one space: two spaces in a row have an empty word between them
@@ -29,3 +29,18 @@ as_size (Some value) = if nat_lt value (2 ^ 64) then Some value else None
 abbrev pub decimal_value : List ℕ → Option ℕ
 decimal_value [] = None
 decimal_value (digit ∷ digits) = as_size (value_onto 0 (digit ∷ digits))
+
+-- a number as one that 64 bits hold with a sign; None where it is above 9223372036854775807
+abbrev pub as_positive : Option ℕ → Option ℤ
+as_positive None = None
+as_positive (Some value) = if nat_lt value (2 ^ 63) then Some (pos value) else None
+
+-- the negative of a number, one that 64 bits hold with a sign; None where it is below -9223372036854775808
+abbrev pub as_negative : Option ℕ → Option ℤ
+as_negative None = None
+as_negative (Some value) = if nat_le value (2 ^ 63) then Some (neg_ℤ (pos value)) else None
+
+-- the number of one or more decimal digits, leading zeros too, after at most one `-`; None where it is below -9223372036854775808 or above 9223372036854775807
+abbrev pub integer_value : List ℕ → Option ℤ
+integer_value [] = None
+integer_value (byte ∷ bytes) = if byte == 45 then as_negative (decimal_value bytes) else as_positive (decimal_value (byte ∷ bytes))

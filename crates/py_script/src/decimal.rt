@@ -1,5 +1,5 @@
 ghost use Rattle.std.specs.Prelude.{◌≡◌, ◌∷◌, []};
-ghost use Rattle.py_script.specs.Words.{value_onto, as_size, decimal_value};
+ghost use Rattle.py_script.specs.Words.{value_onto, as_size, decimal_value, as_negative, integer_value};
 
 /// The number of one or more decimal digits, leading zeros too, with no sign; `None` for other bytes and for a number
 /// above 18446744073709551615.
@@ -29,4 +29,22 @@ fn value_with(value: usize, digit: u8) -> Option<usize>
     } else {
         None
     }
+}
+
+/// The number of one or more decimal digits, leading zeros too, after at most one `-`; `None` for other bytes and for a
+/// number below -9223372036854775808 or above 9223372036854775807.
+pub(crate) fn parse_integer(bytes: &[u8]) -> Option<i64>
+    ensures { result ≡ integer_value bytes.now }
+{
+    match bytes {
+        [b'-', digits @ ..] => negative(parse_decimal(digits)?),
+        digits => i64::try_from(parse_decimal(digits)?).ok(),
+    }
+}
+
+/// The negative of a number; `None` for one above 9223372036854775808.
+fn negative(value: usize) -> Option<i64>
+    ensures { result ≡ as_negative (Some value) }
+{
+    0i64.checked_sub_unsigned(value as u64)
 }

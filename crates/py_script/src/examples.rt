@@ -1,8 +1,11 @@
-ghost use Rattle.std.specs.Prelude.{◌≡◌, ◌++◌, ◌∷◌, [], codes, true, false};
+ghost use Rattle.std.specs.Prelude.{◌≡◌, ◌++◌, ◌∷◌, [], codes, true, false, pos, negsuc, option_map};
+ghost use Rattle.py_script.specs.Words.{words_of};
 ghost use Rattle.py_script.specs.Script.{script_calls};
 ghost use Rattle.py_script.specs.Faults.{refused_line};
 ghost use Rattle.py_script.specs.ReplyLine.{reply_line, reply_lines};
 ghost use Rattle.py_script.specs.RunWords.{run_words};
+ghost use Rattle.py_script.specs.Options.{arguments_of};
+ghost use Rattle.py_script.specs.CommandWords.{Run, Help, Version, command_of};
 
 use py_flat::{IoFault, ModeError, ParseModeError};
 use py_open::{Call, Reply};
@@ -71,4 +74,53 @@ pub fn examples_of_words()
     ensures other_mode { run_words (codes "run" ∷ codes "a" ∷ codes "w" ∷ codes "newline=0a" ∷ []) ≡ None }
     ensures too_few { run_words (codes "run" ∷ codes "a" ∷ codes "r" ∷ []) ≡ None }
     ensures too_many { run_words (codes "run" ∷ codes "a" ∷ codes "r" ∷ codes "newline=0a" ∷ [] ∷ []) ≡ None }
+{}
+
+/// Worked examples of what the words of a command line ask for, computed from the definition.
+pub fn examples_of_commands()
+    ensures no_options { command_of (words_of (codes "run f r")) ≡ Some (Run (codes "f") (codes "r")
+        (record { buffering = negsuc 0; encoding = None; errors = None; newline = None; chunk_size = 8192 })) }
+    ensures line_feed { command_of (words_of (codes "run f rr newline=0a")) ≡ Some (Run (codes "f") (codes "rr")
+        (record { buffering = negsuc 0; encoding = None; errors = None; newline = Some (10 ∷ []); chunk_size = 8192 })) }
+    ensures any_order { command_of (words_of (codes "run f r chunk=1 buffering=-1")) ≡ command_of (words_of (codes "run f r buffering=-1 chunk=1")) }
+    ensures help { command_of (codes "--help" ∷ []) ≡ Some Help }
+    ensures version { command_of (codes "--version" ∷ []) ≡ Some Version }
+    ensures no_words { command_of [] ≡ None }
+    ensures no_path { command_of (words_of (codes "run")) ≡ None }
+    ensures no_mode { command_of (words_of (codes "run f")) ≡ None }
+    ensures more_than_help { command_of (words_of (codes "--help x")) ≡ None }
+    ensures other_word { command_of (words_of (codes "open f r")) ≡ None }
+{}
+
+/// Worked examples of options in form, computed from the definition.
+pub fn examples_of_options()
+    ensures empty_newline { option_map (λ args. args.newline) (arguments_of (words_of (codes "newline="))) ≡ Some (Some []) }
+    ensures lower_case { option_map (λ args. args.newline) (arguments_of (words_of (codes "newline=c3a9"))) ≡ Some (Some (233 ∷ [])) }
+    ensures upper_case { option_map (λ args. args.newline) (arguments_of (words_of (codes "newline=C3A9"))) ≡ Some (Some (233 ∷ [])) }
+    ensures empty_name { option_map (λ args. args.encoding) (arguments_of (words_of (codes "encoding="))) ≡ Some (Some []) }
+    ensures equals_in_name { option_map (λ args. args.errors) (arguments_of (words_of (codes "errors=a=b"))) ≡ Some (Some (codes "a=b")) }
+    ensures zero { option_map (λ args. args.buffering) (arguments_of (words_of (codes "buffering=-0"))) ≡ Some (pos 0) }
+    ensures least { option_map (λ args. args.buffering) (arguments_of (words_of (codes "buffering=-9223372036854775808"))) ≡ Some (negsuc 9223372036854775807) }
+    ensures greatest { option_map (λ args. args.buffering) (arguments_of (words_of (codes "buffering=9223372036854775807"))) ≡ Some (pos 9223372036854775807) }
+    ensures greatest_chunk { option_map (λ args. args.chunk_size) (arguments_of (words_of (codes "chunk=18446744073709551615"))) ≡ Some 18446744073709551615 }
+    ensures two_options { option_map (λ args. args.chunk_size) (arguments_of (words_of (codes "buffering=-1 chunk=01"))) ≡ Some 1 }
+{}
+
+/// Worked examples of words that are no options, computed from the definition.
+pub fn examples_of_no_options()
+    ensures twice { arguments_of (words_of (codes "buffering=2 buffering=2")) ≡ None }
+    ensures unknown { arguments_of (words_of (codes "colour=1")) ≡ None }
+    ensures no_equals { arguments_of (words_of (codes "encoding")) ≡ None }
+    ensures odd_hex { arguments_of (words_of (codes "newline=0")) ≡ None }
+    ensures no_hex { arguments_of (words_of (codes "newline=0g")) ≡ None }
+    ensures no_utf8 { arguments_of (words_of (codes "newline=ff")) ≡ None }
+    ensures cut_utf8 { arguments_of (words_of (codes "newline=c3")) ≡ None }
+    ensures too_large { arguments_of (words_of (codes "buffering=9223372036854775808")) ≡ None }
+    ensures too_small { arguments_of (words_of (codes "buffering=-9223372036854775809")) ≡ None }
+    ensures minus_alone { arguments_of (words_of (codes "buffering=-")) ≡ None }
+    ensures two_minuses { arguments_of (words_of (codes "buffering=--1")) ≡ None }
+    ensures plus { arguments_of (words_of (codes "buffering=+1")) ≡ None }
+    ensures no_digits { arguments_of (words_of (codes "buffering=")) ≡ None }
+    ensures negative_chunk { arguments_of (words_of (codes "chunk=-1")) ≡ None }
+    ensures large_chunk { arguments_of (words_of (codes "chunk=18446744073709551616")) ≡ None }
 {}

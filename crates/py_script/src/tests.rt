@@ -1,7 +1,7 @@
 use super::*;
 use py_flat::{Chars, Data, IoFault, Lines, ModeError, ParseModeError};
 use py_open::Reply;
-use std::alloc::Global;
+use std::alloc::{AllocError, Global};
 use std::process::Abort;
 use std::test::Fail;
 
@@ -158,4 +158,114 @@ fn words_of_a_run_give_its_path(rt: HostRuntime) -> Result<(), Fail> {
         assert_eq!(rt; run_path(&texts), want);
     }
     Ok(())
+}
+
+#[test]
+fn words_of_a_command_line_ask_for_a_command(rt: HostRuntime) -> Result<(), Fail> {
+    let cases = [
+        ("--help", "help"),
+        ("--version", "version"),
+        ("run f r", "run f r -1 None None None 8192"),
+        (
+            "run f rr newline=0a",
+            "run f rr -1 None None Some(\"\\n\") 8192",
+        ),
+        ("run  r newline=", "run  r -1 None None Some(\"\") 8192"),
+        (
+            "run f r newline=c3A9",
+            "run f r -1 None None Some(\"é\") 8192",
+        ),
+        (
+            "run f r buffering=-1 chunk=1",
+            "run f r -1 None None None 1",
+        ),
+        (
+            "run f r chunk=18446744073709551615 errors=a=b encoding= newline=0D0a buffering=-0",
+            "run f r 0 Some(\"\") Some(\"a=b\") Some(\"\\r\\n\") 18446744073709551615",
+        ),
+        (
+            "run f r buffering=-9223372036854775808",
+            "run f r -9223372036854775808 None None None 8192",
+        ),
+        (
+            "run f r buffering=09223372036854775807",
+            "run f r 9223372036854775807 None None None 8192",
+        ),
+    ];
+    for (line, want) in cases {
+        let words = words_of(rt.alloc(), line)?;
+        match parse_words(rt.alloc(), &words)? {
+            Some(command) => {
+                let shown = shown(rt.alloc(), &command)?;
+                assert_eq!(rt; shown.as_str(), want, "at {line:?}");
+            }
+            None => assert!(rt; false, "no form at {line:?}"),
+        }
+    }
+    Ok(())
+}
+
+#[test]
+fn other_words_are_no_form(rt: HostRuntime) -> Result<(), Fail> {
+    assert!(rt; parse_words(rt.alloc(), &[])?.is_none());
+    let lines = [
+        "",
+        "run",
+        "run f",
+        "Run f r",
+        "--help x",
+        "--version --help",
+        "run f r --help",
+        "run f r colour=1",
+        "run f r Newline=0a",
+        "run f r encoding",
+        "run f r ",
+        "run f r buffering=2 buffering=2",
+        "run f r errors=a chunk=1 errors=b",
+        "run f r newline=0",
+        "run f r newline=0g",
+        "run f r newline=ff",
+        "run f r newline=c3",
+        "run f r newline=-",
+        "run f r buffering=",
+        "run f r buffering=-",
+        "run f r buffering=--1",
+        "run f r buffering=+1",
+        "run f r buffering=1_0",
+        "run f r buffering=9223372036854775808",
+        "run f r buffering=-9223372036854775809",
+        "run f r chunk=",
+        "run f r chunk=-1",
+        "run f r chunk=18446744073709551616",
+    ];
+    for line in lines {
+        let words = words_of(rt.alloc(), line)?;
+        assert!(rt; parse_words(rt.alloc(), &words)?.is_none(), "at {line:?}");
+    }
+    Ok(())
+}
+
+/// The words of a line, parted by one space.
+fn words_of(alloc: Global, line: &str) -> Result<Vec<String>, AllocError> {
+    let mut words = Vec::new(alloc);
+    for word in line.split(' ') {
+        words.push(String::from_str(alloc, word)?)?;
+    }
+    Ok(words)
+}
+
+/// A command with its parts in order.
+fn shown(alloc: Global, command: &Command) -> Result<String, AllocError> {
+    match command {
+        Command::Run { path, mode, args } => format!(in alloc;
+            "run {path} {mode} {} {:?} {:?} {:?} {}",
+            args.buffering,
+            args.encoding.as_ref().map(Chars::as_str),
+            args.errors.as_ref().map(Chars::as_str),
+            args.newline.as_ref().map(Chars::as_str),
+            args.chunk_size
+        ),
+        Command::Help => String::from_str(alloc, "help"),
+        Command::Version => String::from_str(alloc, "version"),
+    }
 }

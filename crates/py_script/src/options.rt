@@ -1,0 +1,152 @@
+ghost use Rattle.std.specs.Prelude.{◌≡◌, map, string_bytes, IfOk};
+ghost use Rattle.py_script.specs.Options.{text_of, hex_text, named_option, option_of, given_with, arguments_by, arguments_of};
+
+use crate::decimal::{parse_decimal, parse_integer};
+use hex::{FromHexError, decode};
+use py_flat::Chars;
+use py_open::OpenArgs;
+use std::alloc::{AllocError, Global};
+
+/// An option of the command line.
+#[derive(Debug, Drop)]
+enum WordOption {
+    /// The buffer's size.
+    Buffering(i64),
+    /// The encoding's name.
+    Encoding(Chars),
+    /// The handler's name.
+    Errors(Chars),
+    /// The newline argument.
+    Newline(Chars),
+    /// The chunk size.
+    ChunkSize(usize),
+}
+
+/// The options that were given so far.
+#[derive(Debug, Drop)]
+struct Given {
+    buffering: Option<i64>,
+    encoding: Option<Chars>,
+    errors: Option<Chars>,
+    newline: Option<Chars>,
+    chunk_size: Option<usize>,
+}
+
+/// The arguments of an opening by the words of its options, or `None` where one is no option or is given twice; `Err` for
+/// want of memory.
+pub(crate) fn parse_options(alloc: Global, words: &[String]) -> Result<Option<OpenArgs>, AllocError>
+    ensures { IfOk result (λ args. args ≡ arguments_of (map string_bytes words.now)) }
+{
+    let mut given = Given {
+        buffering: None,
+        encoding: None,
+        errors: None,
+        newline: None,
+        chunk_size: None,
+    };
+    for word in words {
+        let Some(option) = parse_option(alloc, word)? else {
+            return Ok(None);
+        };
+        let Some(more) = given_with(given, option) else {
+            return Ok(None);
+        };
+        given = more;
+    }
+    Ok(Some(arguments_by(given)))
+}
+
+/// The options with one more, or `None` where it was given before.
+fn given_with(given: Given, option: WordOption) -> Option<Given>
+    ensures { result ≡ given_with given option }
+{
+    match option {
+        WordOption::Buffering(size) if given.buffering.is_none() => Some(Given {
+            buffering: Some(size),
+            ..given
+        }),
+        WordOption::Encoding(name) if given.encoding.is_none() => Some(Given {
+            encoding: Some(name),
+            ..given
+        }),
+        WordOption::Errors(name) if given.errors.is_none() => Some(Given {
+            errors: Some(name),
+            ..given
+        }),
+        WordOption::Newline(text) if given.newline.is_none() => Some(Given {
+            newline: Some(text),
+            ..given
+        }),
+        WordOption::ChunkSize(size) if given.chunk_size.is_none() => Some(Given {
+            chunk_size: Some(size),
+            ..given
+        }),
+        _ => None,
+    }
+}
+
+/// The arguments of an opening by some options, at their defaults where none is given.
+fn arguments_by(given: Given) -> OpenArgs
+    ensures { result ≡ arguments_by given }
+{
+    let Given {
+        buffering,
+        encoding,
+        errors,
+        newline,
+        chunk_size,
+    } = given;
+    let defaults = OpenArgs::default();
+    OpenArgs {
+        buffering: buffering.unwrap_or(defaults.buffering),
+        encoding,
+        errors,
+        newline,
+        chunk_size: chunk_size.unwrap_or(defaults.chunk_size),
+    }
+}
+
+/// The option of a word, a name, `=` and a value, or `None` where it is none; `Err` for want of memory.
+fn parse_option(alloc: Global, word: &str) -> Result<Option<WordOption>, AllocError>
+    ensures { IfOk result (λ option. option ≡ option_of word.now) }
+{
+    match word.split_once('=') {
+        Some((name, value)) => named_option(alloc, name, value),
+        None => Ok(None),
+    }
+}
+
+/// The option of a name and its value, or `None` where there is none; `Err` for want of memory.
+fn named_option(alloc: Global, name: &str, value: &str) -> Result<Option<WordOption>, AllocError>
+    ensures { IfOk result (λ option. option ≡ named_option name.now value.now) }
+{
+    match name {
+        "buffering" => Ok(parse_integer(value.as_bytes()).map(WordOption::Buffering)),
+        "encoding" => Ok(Some(WordOption::Encoding(Chars::from_text(alloc, value)?))),
+        "errors" => Ok(Some(WordOption::Errors(Chars::from_text(alloc, value)?))),
+        "newline" => Ok(hex_text(alloc, value)?.map(WordOption::Newline)),
+        "chunk" => Ok(parse_decimal(value.as_bytes()).map(WordOption::ChunkSize)),
+        _ => Ok(None),
+    }
+}
+
+/// The text whose UTF-8 is written in hex, in digits of either case, or `None` where it is none; `Err` for want of memory.
+fn hex_text(alloc: Global, digits: &str) -> Result<Option<Chars>, AllocError>
+    ensures { IfOk result (λ text. text ≡ hex_text digits.now) }
+{
+    match decode(alloc, digits) {
+        Ok(bytes) => Ok(text_of(bytes)),
+        Err(FromHexError::OutOfMemory) => Err(AllocError),
+        Err(_) => Ok(None),
+    }
+}
+
+/// The text of some bytes, or `None` where they are no UTF-8.
+fn text_of(bytes: Vec<u8>) -> Option<Chars>
+    ensures { result ≡ text_of bytes.items }
+{
+    match String::from_utf8(bytes) {
+        Ok(text) => Some(Chars::from_string(text)),
+        Err(_) => None,
+    }
+}
