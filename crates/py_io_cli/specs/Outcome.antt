@@ -1,5 +1,5 @@
 -- What the program did, by the status that it ends with.
-use Rattle.std.specs.Prelude.{◌≡◌, ℕ, ◌⊎◌, IsTrue, IsFalse, List, [], ◌∷◌, ◌++◌, Some, None, unwrap_or, Result, Ok, Err, codes}
+use Rattle.std.specs.Prelude.{◌≡◌, ℕ, ◌⊎◌, IsTrue, IsFalse, List, [], ◌∷◌, ◌++◌, Option, Some, None, unwrap_or, Result, Ok, Err, codes}
 use Rattle.py_flat.specs.declared.fault.IoFault.TheVariants as fault
 use Rattle.py_flat.specs.Causes.{Rose}
 use Rattle.py_raw.specs.RawStream.{Raw}
@@ -15,7 +15,7 @@ use Rattle.py_open.specs.Run.{RunsCalls}
 use Rattle.py_script.specs.ReplyLine.{reply_lines}
 use Rattle.py_script.specs.Faults.{refused_line}
 use Rattle.py_script.specs.CommandWords.{Command, Run, Help, Version, command_of}
-use Rattle.py_script.specs.OwnTexts.{own_text}
+use Rattle.py_script.specs.Help.{help_text, version_text}
 use Rattle.py_io_cli.specs.declared.status.Status.{Status}
 use Rattle.py_io_cli.specs.declared.status.Status.TheVariants as status
 use Rattle.py_flat.specs.declared.fault.IoFault.{IoFault}
@@ -156,6 +156,12 @@ abbrev pub TextPrinted : List ℕ → Status → SinkView → SinkView → Type 
 TextPrinted text status.Done old new = Prints old text new
 TextPrinted text status.SinkFailed old new = Rose old.faults new.faults × PrintsFront old text new
 TextPrinted text _ old new = ⊥
+
+-- the text that a command prints by itself
+abbrev pub own_text : Command → Option (List ℕ)
+own_text Help = Some help_text
+own_text Version = Some version_text
+own_text (Run path mode args) = None
 
 pub record PrintsText (words : List (List ℕ)) (ended : Status) (old new : SourceView) (before after : Outside) : Type 0 where
   pub command : Command

@@ -6,6 +6,7 @@ ghost use Rattle.py_raw.specs.Opener.{HoldsTheSame, IsOpened};
 ghost use Rattle.py_open.specs.declared.plan.OpenPlan.{OpenPlan as Plan};
 ghost use Rattle.py_open.specs.Plan.{plan_of};
 ghost use Rattle.py_script.specs.CommandWords.{Help, Version, command_of};
+ghost use Rattle.py_script.specs.Help.{help_text, version_text};
 ghost use Rattle.py_io_cli.specs.Outside.{texts, IsOutOfForm, Prints};
 ghost use Rattle.py_io_cli.specs.Outcome.{asked_by, RawOutcome, PlannedOutcome, Outcome, Ends, after_done};
 ghost use Rattle.py_io_cli.specs.Meaning.{IsRun, IsRefusedPlan, IsAcceptedAt, TellsForm, TellsNoForm, NothingFails, PrintsReplies};
@@ -20,7 +21,7 @@ use py_open::{
     run_session,
 };
 use py_raw::{OpenError, Opener, RawStream, Sink, Source};
-use py_script::{Command, HELP, VERSION, parse_words};
+use py_script::{Command, help_text, parse_words, version_text};
 use std::alloc::Global;
 
 /// Runs a script on a file and prints each reply as a line, or prints a text of the program's own.

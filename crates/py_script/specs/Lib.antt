@@ -2,7 +2,6 @@ pub mod Words
 pub mod Script
 pub mod Faults
 pub mod ReplyLine
-pub mod RunWords
 pub mod ReplyRange
 pub mod Options
 pub mod CommandWords

@@ -3,7 +3,6 @@ ghost use Rattle.py_script.specs.Words.{words_of};
 ghost use Rattle.py_script.specs.Script.{script_calls};
 ghost use Rattle.py_script.specs.Faults.{refused_line};
 ghost use Rattle.py_script.specs.ReplyLine.{reply_line, reply_lines};
-ghost use Rattle.py_script.specs.RunWords.{run_words};
 ghost use Rattle.py_script.specs.Options.{arguments_of};
 ghost use Rattle.py_script.specs.CommandWords.{Run, Help, Version, command_of};
 
@@ -63,17 +62,6 @@ pub fn examples_of_refusals()
     ensures mode { reply_line (Reply.Refused (IoFault.ParseMode ParseModeError.InvalidMode)) ≡ codes "err InvalidMode\n" }
     ensures raw_mode { refused_line (IoFault.ModeText ModeError.BadRwa) ≡ codes "refused BadRwa\n" }
     ensures opening { refused_line IoFault.RawFault ≡ codes "refused RawFault\n" }
-{}
-
-/// Worked examples of the words of a command line, computed from the definition.
-pub fn examples_of_words()
-    ensures lower_case { run_words (codes "run" ∷ codes "a b" ∷ codes "r" ∷ codes "newline=0a" ∷ []) ≡ Some (codes "a b") }
-    ensures upper_case { run_words (codes "run" ∷ [] ∷ codes "r" ∷ codes "newline=0A" ∷ []) ≡ Some [] }
-    ensures no_newline { run_words (codes "run" ∷ codes "a" ∷ codes "r" ∷ codes "newline=" ∷ []) ≡ None }
-    ensures other_newline { run_words (codes "run" ∷ codes "a" ∷ codes "r" ∷ codes "newline=0d" ∷ []) ≡ None }
-    ensures other_mode { run_words (codes "run" ∷ codes "a" ∷ codes "w" ∷ codes "newline=0a" ∷ []) ≡ None }
-    ensures too_few { run_words (codes "run" ∷ codes "a" ∷ codes "r" ∷ []) ≡ None }
-    ensures too_many { run_words (codes "run" ∷ codes "a" ∷ codes "r" ∷ codes "newline=0a" ∷ [] ∷ []) ≡ None }
 {}
 
 /// Worked examples of what the words of a command line ask for, computed from the definition.

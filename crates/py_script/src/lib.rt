@@ -1,9 +1,8 @@
 //! The words of a program that runs scripts of calls: what a script, a reply's line and the command line mean.
 //!
 //! A script is read into calls (`parse_script`), replies and refusals are written as lines (`push_reply_line`,
-//! `push_refused_line`), and the command line's words are told apart (`parse_words`; `run_path` for the one form that the
-//! program takes so far). Nothing here opens, reads or prints. `reply_lines_tell` is a law: no two replies are printed
-//! alike.
+//! `push_refused_line`), and the command line's words are told apart (`parse_words`). Nothing here opens,
+//! reads or prints. `reply_lines_tell` is a law: no two replies are printed alike.
 #![tactic(auto)]
 
 mod command;
@@ -13,19 +12,17 @@ mod fault_line;
 mod options;
 mod reply_law;
 mod reply_line;
-mod run_words;
 mod script;
 
 pub use command::{Command, parse_words};
 pub use decimal::parse_decimal;
 pub use examples::{
     examples_of_commands, examples_of_no_options, examples_of_options, examples_of_refusals,
-    examples_of_replies, examples_of_scripts, examples_of_words, examples_out_of_form,
+    examples_of_replies, examples_of_scripts, examples_out_of_form,
 };
 pub use fault_line::{fault_name, push_refused_line};
 pub use reply_law::reply_lines_tell;
 pub use reply_line::push_reply_line;
-pub use run_words::run_path;
 pub use script::{MAX_SCRIPT_SIZE, parse_line, parse_script};
 
 #[cfg(test)]

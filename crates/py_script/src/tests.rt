@@ -141,26 +141,6 @@ fn check_line(rt: &impl Abort, alloc: Global, reply: &Reply, want: &str) -> Resu
 }
 
 #[test]
-fn words_of_a_run_give_its_path(rt: HostRuntime) -> Result<(), Fail> {
-    let cases = [
-        (["run", "a b", "r", "newline=0a"], Some("a b")),
-        (["run", "", "r", "newline=0A"], Some("")),
-        (["run", "a", "r", "newline="], None),
-        (["run", "a", "r", "newline=0d"], None),
-        (["run", "a", "w", "newline=0a"], None),
-        (["Run", "a", "r", "newline=0a"], None),
-    ];
-    for (words, want) in cases {
-        let mut texts = Vec::new(rt.alloc());
-        for word in words {
-            texts.push(String::from_str(rt.alloc(), word)?)?;
-        }
-        assert_eq!(rt; run_path(&texts), want);
-    }
-    Ok(())
-}
-
-#[test]
 fn words_of_a_command_line_ask_for_a_command(rt: HostRuntime) -> Result<(), Fail> {
     let cases = [
         ("--help", "help"),
