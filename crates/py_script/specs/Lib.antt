@@ -6,3 +6,4 @@ pub mod RunWords
 pub mod ReplyRange
 pub mod Options
 pub mod CommandWords
+pub mod Help
