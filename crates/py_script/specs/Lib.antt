@@ -5,3 +5,4 @@ pub mod ReplyLine
 pub mod ReplyRange
 pub mod Options
 pub mod CommandWords
+pub mod Help

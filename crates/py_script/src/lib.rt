@@ -1,14 +1,15 @@
 //! The words of a program that runs scripts of calls: what a script, a reply's line and the command line mean.
 //!
 //! A script is read into calls (`parse_script`), replies and refusals are written as lines (`push_reply_line`,
-//! `push_refused_line`), and the command line's words are told apart (`parse_words`). Nothing here opens,
-//! reads or prints. `reply_lines_tell` is a law: no two replies are printed alike.
+//! `push_refused_line`), and the command line's words are told apart (`parse_words`), with a text that tells how they are
+//! used (`help_text`). Nothing here opens, reads or prints. `reply_lines_tell` is a law: no two replies are printed alike.
 #![tactic(auto)]
 
 mod command;
 mod decimal;
 mod examples;
 mod fault_line;
+mod help;
 mod options;
 mod reply_law;
 mod reply_line;
@@ -21,6 +22,7 @@ pub use examples::{
     examples_of_replies, examples_of_scripts, examples_out_of_form,
 };
 pub use fault_line::{fault_name, push_refused_line};
+pub use help::{help_text, version_text};
 pub use reply_law::reply_lines_tell;
 pub use reply_line::push_reply_line;
 pub use script::{MAX_SCRIPT_SIZE, parse_line, parse_script};

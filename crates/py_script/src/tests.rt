@@ -225,6 +225,32 @@ fn other_words_are_no_form(rt: HostRuntime) -> Result<(), Fail> {
     Ok(())
 }
 
+#[test]
+fn the_help_names_every_word(rt: HostRuntime) {
+    let names = [
+        "run PATH MODE",
+        "--help",
+        "--version",
+        "buffering=",
+        "encoding=",
+        "errors=",
+        "newline=",
+        "chunk=",
+        "read [N]",
+        "readline [N]",
+        "close",
+        "text HEX",
+        "ok",
+        "notready",
+        "err NAME",
+        "refused NAME",
+    ];
+    for name in names {
+        assert!(rt; help_text().contains(name), "no {name:?}");
+    }
+    assert_eq!(rt; version_text(), "py_io_cli 0.1.0\n");
+}
+
 /// The words of a line, parted by one space.
 fn words_of(alloc: Global, line: &str) -> Result<Vec<String>, AllocError> {
     let mut words = Vec::new(alloc);
