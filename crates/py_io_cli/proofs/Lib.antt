@@ -1,5 +1,6 @@
 mod Printed
 mod Planned
+mod OwnTexts
 mod OverRaw
 mod Opened
 mod Keeping
