@@ -10,3 +10,4 @@ pub mod BinaryStep
 pub mod Owed
 pub mod Causes
 pub mod Examples
+pub mod ModeError

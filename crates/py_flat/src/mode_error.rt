@@ -1,3 +1,7 @@
+ghost use Rattle.std.specs.Prelude.{◌≡◌, IfOk, string_bytes};
+ghost use Rattle.py_flat.specs.ModeError.{message_of};
+
+use std::alloc::{AllocError, Global};
 use thiserror::Error;
 
 /// Why a text names no mode of a raw stream (`compute_mode`).
@@ -26,4 +30,60 @@ pub enum ParseModeError {
     /// None of `r`, `w`, `x` and `a`.
     #[error("Must have exactly one of create/read/write/append mode and at most one plus")]
     NoFile,
+}
+
+impl ParseModeError {
+    /// The message of Python's `open` for a mode that is refused for this reason, or `AllocError` for want of memory.
+    /// `mode` is the text that was refused; only the message of `InvalidMode` shows it.
+    pub fn error_msg(&self, alloc: Global, mode: &str) -> Result<String, AllocError>
+        ensures { IfOk result (λ message. string_bytes message ≡ message_of self.now mode.now) }
+    {
+        match self {
+            ParseModeError::InvalidMode => format!(in alloc; "invalid mode: '{mode}'"),
+            ParseModeError::MultipleFile => String::from_str(
+                alloc,
+                "must have exactly one of create/read/write/append mode",
+            ),
+            ParseModeError::MultipleEncode => {
+                String::from_str(alloc, "can't have text and binary mode at once")
+            }
+            ParseModeError::NoFile => String::from_str(
+                alloc,
+                "Must have exactly one of create/read/write/append mode and at most one plus",
+            ),
+        }
+    }
+}
+
+#[cfg(test)]
+mod tests {
+    use super::*;
+    use std::test::Fail;
+
+    #[test]
+    fn messages_are_those_of_python(rt: HostRuntime) -> Result<(), Fail> {
+        let alloc = rt.alloc();
+        for (error, mode, message) in [
+            (ParseModeError::InvalidMode, "rr", "invalid mode: 'rr'"),
+            (ParseModeError::InvalidMode, "é", "invalid mode: 'é'"),
+            (
+                ParseModeError::MultipleFile,
+                "rw",
+                "must have exactly one of create/read/write/append mode",
+            ),
+            (
+                ParseModeError::MultipleEncode,
+                "tb",
+                "can't have text and binary mode at once",
+            ),
+            (
+                ParseModeError::NoFile,
+                "",
+                "Must have exactly one of create/read/write/append mode and at most one plus",
+            ),
+        ] {
+            assert_eq!(rt; error.error_msg(alloc, mode)?.as_str(), message);
+        }
+        Ok(())
+    }
 }

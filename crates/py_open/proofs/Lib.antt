@@ -1,3 +1,4 @@
+mod Modes
 mod Planning
 mod Reading
 mod Running

@@ -1,5 +1,6 @@
 pub mod OpenArgs
 pub mod Calls
+pub mod Mode
 pub mod Plan
 pub mod Reader
 pub mod Waiting

@@ -5,7 +5,9 @@
 #![tactic(auto)]
 
 mod call;
+mod examples;
 mod laws;
+mod letters;
 mod mode;
 mod open_args;
 mod open_refused;
@@ -19,6 +21,10 @@ mod tests;
 mod text;
 
 pub use call::Call;
+pub use examples::{
+    a_mode_is_refused_before_any_argument, modes_are_taken_apart,
+    the_first_letter_that_offends_decides,
+};
 pub use laws::{
     a_calm_history_is_exact, a_closed_session_stays_closed, a_raw_is_closed_with_its_session,
     a_run_answers_each_call, a_run_is_a_history, a_run_keeps_the_bytes_and_the_settings,

@@ -1,6 +1,6 @@
 //! What a mode and arguments set up, decided before any raw stream is asked.
-ghost use Rattle.std.specs.Prelude.{◌≡◌, ◌&&◌};
-ghost use Rattle.py_open.specs.Plan.{plan_of, is_lf, are_default_names, are_default_sizes};
+ghost use Rattle.std.specs.Prelude.{◌≡◌, chars};
+ghost use Rattle.py_open.specs.Plan.{plan_of, is_given, is_lf, is_utf8, is_strict, buffer_size_of, reads_text, is_planned};
 
 use crate::{EncodeMode, FileMode, Mode, OpenArgs};
 use py_flat::{Chars, IoFault};
@@ -18,44 +18,301 @@ pub struct OpenPlan {
     pub buffer_size: Option<usize>,
 }
 
-/// Whether the newline argument is LF.
-fn is_line_feed(newline: &Option<Chars>) -> bool
-    ensures { result ≡ is_lf newline.now }
+/// Whether an argument is given, as a text.
+fn is_given(argument: &Option<Chars>, text: &str) -> bool
+    ensures { result ≡ is_given argument.now (chars text.now) }
 {
-    match newline {
-        Some(text) => text.as_str() == "\n",
+    match argument {
+        Some(characters) => characters.as_str() == text,
         None => false,
     }
 }
 
-/// Whether all arguments but the newline argument are at their defaults.
-fn are_default(args: &OpenArgs) -> bool
-    ensures { result ≡ (are_default_names args.now && are_default_sizes args.now) }
+/// Whether an encoding is utf-8, by no name, that of the locale or its own.
+#[tactic(auto, using(crate::proofs::Planning::locale_spelled, crate::proofs::Planning::utf8_spelled))]
+fn is_utf8(encoding: &Option<Chars>) -> bool
+    ensures { result ≡ is_utf8 encoding.now }
 {
-    args.encoding.is_none()
-        && args.errors.is_none()
-        && args.buffering == -1
-        && args.chunk_size == DEFAULT_BUFFER_SIZE
+    encoding.is_none() || is_given(encoding, "locale") || is_given(encoding, "utf-8")
 }
 
-/// What an opening by a mode and arguments sets up, before any raw is asked: a text that is read through a buffer of 8192
-/// bytes.
+/// Whether a handler is strict, by no name or its own.
+#[tactic(auto, using(crate::proofs::Planning::strict_spelled))]
+fn is_strict(errors: &Option<Chars>) -> bool
+    ensures { result ≡ is_strict errors.now }
+{
+    errors.is_none() || is_given(errors, "strict")
+}
+
+/// Whether a newline argument is LF.
+#[tactic(auto, using(crate::proofs::Planning::line_feed_spelled))]
+fn is_line_feed(newline: &Option<Chars>) -> bool
+    ensures { result ≡ is_lf newline.now }
+{
+    is_given(newline, "\n")
+}
+
+/// The buffer's size that a `buffering` asks for; `None` is unbuffered.
+fn buffer_size_of(buffering: i64) -> Option<usize>
+    ensures { result ≡ buffer_size_of buffering }
+{
+    match usize::try_from(buffering) {
+        Ok(0) => None,
+        Ok(1) | Err(_) => Some(DEFAULT_BUFFER_SIZE),
+        Ok(size) => Some(size),
+    }
+}
+
+/// Whether a mode reads a text, and no more.
+fn reads_text(mode: Mode) -> bool
+    ensures { result ≡ reads_text mode }
+{
+    match mode.file {
+        FileMode::Read => mode.encode == EncodeMode::Text && !mode.plus,
+        FileMode::Write | FileMode::Exclusive | FileMode::Append => false,
+    }
+}
+
+/// Whether mode and arguments are opened so far.
+fn is_planned(mode: Mode, args: &OpenArgs) -> bool
+    ensures { result ≡ is_planned mode args.now }
+{
+    reads_text(mode)
+        && is_utf8(&args.encoding)
+        && is_strict(&args.errors)
+        && is_line_feed(&args.newline)
+        && buffer_size_of(args.buffering).is_some()
+        && args.chunk_size > 0
+}
+
+/// What an opening by a mode and arguments sets up, before any raw is asked (Python's documentation of `open`): a text
+/// that is read, through a buffer of the size that `buffering` asks for. The arguments stay with the caller.
 ///
-/// So far it is `Unsupported` for all but mode `r` with the newline argument LF and every other argument at its
-/// default (`OpenArgs::default`), though Python's `open` takes more. The arguments stay with the caller.
+/// A mode out of form is refused first, as `ParseMode` with the reason (`Mode`'s `from_str`), whatever the arguments are.
+///
+/// So far it is `Unsupported` for all but these, though Python's `open` takes more:
+/// - mode `r`, also spelled with `t`;
+/// - encoding `None`, `locale` or `utf-8`, all of which mean utf-8, and errors `None` or `strict`, both of which mean
+///   strict; a name is compared letter for letter;
+/// - newline LF;
+/// - `buffering` other than 0: 1 and any negative number ask for 8192 bytes, any greater number for as many bytes;
+/// - a chunk size of at least 1 byte.
 pub fn plan_open(mode: &str, args: &OpenArgs) -> Result<OpenPlan, IoFault>
     ensures { result ≡ plan_of mode.now args.now }
 {
-    if mode == "r" && is_line_feed(&args.newline) && are_default(args) {
-        Ok(OpenPlan {
-            mode: Mode {
-                file: FileMode::Read,
-                encode: EncodeMode::Text,
-                plus: false,
-            },
-            buffer_size: Some(DEFAULT_BUFFER_SIZE),
+    let mode: Mode = match mode.parse() {
+        Ok(mode) => mode,
+        Err(why) => return Err(IoFault::ParseMode(why)),
+    };
+    if !is_planned(mode, args) {
+        return Err(IoFault::Unsupported);
+    }
+    Ok(OpenPlan {
+        mode,
+        buffer_size: buffer_size_of(args.buffering),
+    })
+}
+
+#[cfg(test)]
+mod tests {
+    use super::*;
+    use py_flat::ParseModeError;
+    use std::alloc::{AllocError, Global};
+    use std::test::Fail;
+
+    /// An opening, and the buffer's size of its plan or the fault that refuses it.
+    #[derive(Clone, Copy, Debug)]
+    struct Opening {
+        mode: &'static str,
+        buffering: i64,
+        encoding: Option<&'static str>,
+        errors: Option<&'static str>,
+        newline: Option<&'static str>,
+        chunk_size: usize,
+        answer: Result<usize, IoFault>,
+    }
+
+    /// A text that is read, with the newline argument LF and every other argument at its default.
+    const READ: Opening = Opening {
+        mode: "r",
+        buffering: -1,
+        encoding: None,
+        errors: None,
+        newline: Some("\n"),
+        chunk_size: 8192,
+        answer: Ok(8192),
+    };
+
+    /// The same, refused.
+    const UNSUPPORTED: Opening = Opening {
+        answer: Err(IoFault::Unsupported),
+        ..READ
+    };
+
+    /// An opening that is refused for each of its arguments, and for its mode before them.
+    const INVALID: Opening = Opening {
+        buffering: 0,
+        encoding: Some("latin-1"),
+        errors: Some("ignore"),
+        newline: None,
+        chunk_size: 0,
+        ..READ
+    };
+
+    fn chars(alloc: Global, text: Option<&str>) -> Result<Option<Chars>, AllocError> {
+        Ok(match text {
+            Some(text) => Some(Chars::from_text(alloc, text)?),
+            None => None,
         })
-    } else {
-        Err(IoFault::Unsupported)
+    }
+
+    fn planned(alloc: Global, opening: Opening) -> Result<Result<OpenPlan, IoFault>, AllocError> {
+        let args = OpenArgs {
+            buffering: opening.buffering,
+            encoding: chars(alloc, opening.encoding)?,
+            errors: chars(alloc, opening.errors)?,
+            newline: chars(alloc, opening.newline)?,
+            chunk_size: opening.chunk_size,
+        };
+        Ok(plan_open(opening.mode, &args))
+    }
+
+    #[test]
+    fn a_mode_out_of_form_is_refused_first(rt: HostRuntime) -> Result<(), Fail> {
+        let alloc = rt.alloc();
+        for (mode, error) in [
+            ("rr", ParseModeError::InvalidMode),
+            ("rw", ParseModeError::MultipleFile),
+            ("rtb", ParseModeError::MultipleEncode),
+            ("", ParseModeError::NoFile),
+        ] {
+            for opening in [READ, INVALID] {
+                let plan = planned(alloc, Opening { mode, ..opening })?;
+                assert_eq!(rt; plan, Err(IoFault::ParseMode(error)), "of {mode}");
+            }
+        }
+        for mode in ["rb", "w", "x", "a", "r+", "rb+", "w+"] {
+            for opening in [READ, INVALID] {
+                let plan = planned(alloc, Opening { mode, ..opening })?;
+                assert_eq!(rt; plan, Err(IoFault::Unsupported), "of {mode}");
+            }
+        }
+        Ok(())
+    }
+
+    #[test]
+    fn arguments_are_planned_or_unsupported(rt: HostRuntime) -> Result<(), Fail> {
+        let alloc = rt.alloc();
+        for opening in [
+            READ,
+            Opening { mode: "rt", ..READ },
+            Opening { mode: "tr", ..READ },
+            Opening {
+                encoding: Some("locale"),
+                ..READ
+            },
+            Opening {
+                encoding: Some("utf-8"),
+                ..READ
+            },
+            Opening {
+                encoding: Some("latin-1"),
+                ..UNSUPPORTED
+            },
+            Opening {
+                encoding: Some("UTF-8"),
+                ..UNSUPPORTED
+            },
+            Opening {
+                encoding: Some("utf8"),
+                ..UNSUPPORTED
+            },
+            Opening {
+                encoding: Some(""),
+                ..UNSUPPORTED
+            },
+            Opening {
+                errors: Some("strict"),
+                ..READ
+            },
+            Opening {
+                errors: Some("ignore"),
+                ..UNSUPPORTED
+            },
+            Opening {
+                errors: Some("Strict"),
+                ..UNSUPPORTED
+            },
+            Opening {
+                errors: Some("stricté"),
+                ..UNSUPPORTED
+            },
+            Opening {
+                newline: None,
+                ..UNSUPPORTED
+            },
+            Opening {
+                newline: Some(""),
+                ..UNSUPPORTED
+            },
+            Opening {
+                newline: Some("\r"),
+                ..UNSUPPORTED
+            },
+            Opening {
+                newline: Some("\r\n"),
+                ..UNSUPPORTED
+            },
+            Opening {
+                newline: Some("\n\n"),
+                ..UNSUPPORTED
+            },
+            Opening {
+                buffering: 0,
+                ..UNSUPPORTED
+            },
+            Opening {
+                buffering: 1,
+                ..READ
+            },
+            Opening {
+                buffering: -5,
+                ..READ
+            },
+            Opening {
+                buffering: i64::MIN,
+                ..READ
+            },
+            Opening {
+                buffering: 2,
+                answer: Ok(2),
+                ..READ
+            },
+            Opening {
+                buffering: i64::MAX,
+                answer: Ok(9223372036854775807),
+                ..READ
+            },
+            Opening {
+                chunk_size: 0,
+                ..UNSUPPORTED
+            },
+            Opening {
+                chunk_size: 1,
+                ..READ
+            },
+        ] {
+            let plan = planned(alloc, opening)?;
+            let expected = opening.answer.map(|size| OpenPlan {
+                mode: Mode {
+                    file: FileMode::Read,
+                    encode: EncodeMode::Text,
+                    plus: false,
+                },
+                buffer_size: Some(size),
+            });
+            assert_eq!(rt; plan, expected, "of {opening:?}");
+        }
+        Ok(())
     }
 }

@@ -5,7 +5,7 @@ ghost use Rattle.py_open.specs.Reader.{StandsAtStart};
 
 use crate::run::run_opened;
 use crate::{Call, OpenArgs, OpenRefused, Reply, Run, run_session};
-use py_flat::{Chars, IoFault, Life};
+use py_flat::{Chars, IoFault, Life, ParseModeError};
 use py_plain::{Newlines, PlainText};
 use py_raw::{Cut, MemRaw, RawFlags};
 use std::alloc::{AllocError, Global};
@@ -124,13 +124,14 @@ fn waits_cuts_and_refused_ranges_lose_nothing(rt: HostRuntime) -> Result<(), Fai
 }
 
 /// Good and bad UTF-8, with cut sequences at the end.
-fn texts() -> [&'static [u8]; 5] {
+fn texts() -> [&'static [u8]; 6] {
     [
         "".as_bytes(),
         "a\nbb\nccc".as_bytes(),
         "é\n€\n😀".as_bytes(),
         &[0x61, 0x0A, 0xE2, 0x82],
         &[0xF0, 0x9F, 0x98, 0x80, 0xC0, 0x61],
+        &[0xC3, 0xA9, 0x61, 0x0A, 0xC3, 0x0A],
     ]
 }
 
@@ -187,6 +188,33 @@ fn every_size_answers_as_the_plain_text(rt: HostRuntime) -> Result<(), Fail> {
                     run.replies,
                     expected,
                     "of {bytes:?} by {buffer} and {chunk}"
+                );
+            }
+        }
+    }
+    Ok(())
+}
+
+#[test]
+fn every_size_that_is_asked_for_answers_as_the_plain_text(rt: HostRuntime) -> Result<(), Fail> {
+    let alloc = rt.alloc();
+    for bytes in texts() {
+        let expected = plain_replies(alloc, bytes, &MIXED)?;
+        for buffering in 2..10 {
+            for chunk_size in 1..10 {
+                let args = OpenArgs {
+                    buffering,
+                    chunk_size,
+                    ..line_feed(alloc)?
+                };
+                let raw = raw_of(alloc, bytes, Vec::new(alloc))?;
+                let Ok(run) = run_session(alloc, raw, "r", args, &MIXED) else {
+                    return Err(Fail::from("refused"));
+                };
+                assert_eq!(rt;
+                    run.replies,
+                    expected,
+                    "of {bytes:?} by {buffering} and {chunk_size}"
                 );
             }
         }
@@ -308,7 +336,11 @@ fn a_refused_opening_hands_the_raw_back(rt: HostRuntime) -> Result<(), Fail> {
     let writable = RawFlags::able(false, true, true);
     for (mode, flags, fault) in [
         ("rb", readable, IoFault::Unsupported),
-        ("rr", readable, IoFault::Unsupported),
+        (
+            "rr",
+            readable,
+            IoFault::ParseMode(ParseModeError::InvalidMode),
+        ),
         ("r", writable, IoFault::Unsupported),
     ] {
         let raw = MemRaw::new(bytes()?, flags, Vec::new(alloc), Vec::new(alloc));
@@ -327,7 +359,11 @@ fn a_refused_opening_hands_the_raw_back(rt: HostRuntime) -> Result<(), Fail> {
 fn a_wait_makes_the_answer_short(rt: HostRuntime) -> Result<(), Fail> {
     let alloc = rt.alloc();
     let cases = [
-        (vec![in alloc; Cut::Take(1), Cut::Wait]?, text(alloc, "a")?, "b"),
+        (
+            vec![in alloc; Cut::Take(1), Cut::Wait]?,
+            text(alloc, "a")?,
+            "b",
+        ),
         (vec![in alloc; Cut::Wait]?, Reply::NotReady, "ab"),
     ];
     for (plan, short, rest) in cases {
