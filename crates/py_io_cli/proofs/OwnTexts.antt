@@ -1,5 +1,5 @@
 -- What comes of printing a text of the program's own.
-use Rattle.std.proofs.Common.{◌≡◌, ◌≢◌, ℕ, inr, List, Option, Some, Result, Ok, Err, MatchResult, refl, sym, subst}
+use Rattle.std.proofs.Common.{◌≡◌, ◌≢◌, ℕ, inr, List, Some, Result, Ok, Err, MatchResult, refl, sym, subst}
 use Rattle.py_raw.specs.Source.{SourceView}
 use Rattle.py_raw.specs.Sink.{SinkView, SinkKeeps}
 use Rattle.py_raw.specs.Opener.{OpenerView}

@@ -1,5 +1,5 @@
 -- What holds of a plan that is accepted: it reads, and a refusal behind it is the raw's.
-use Rattle.std.proofs.Common.{◌≡◌, ℕ, inl, inr, Bool, true, false, not, ◌&&◌, List, Option, Some, None, unwrap_or, Result, Ok, Err, MatchResult, codes, if◌then◌else◌, refl, sym, ap, ◌∙◌, subst}
+use Rattle.std.proofs.Common.{◌≡◌, ℕ, inl, Bool, true, false, not, ◌&&◌, List, Option, unwrap_or, Result, Ok, Err, MatchResult, codes, if◌then◌else◌, refl, sym, ap, ◌∙◌, subst}
 use Rattle.py_flat.specs.declared.fault.IoFault.{IoFault}
 use Rattle.py_flat.specs.declared.fault.IoFault.TheVariants.{Unsupported}
 use Rattle.py_flat.specs.declared.mode_error.ParseModeError.{ParseModeError}

@@ -1,6 +1,7 @@
-use Rattle.std.proofs.Common.{◌≡◌, ℕ, inl, inr, List, codes, refl, sym, ◌∙◌, subst}
+use Rattle.std.proofs.Common.{◌≡◌, ℕ, inl, inr, List, Err, codes, refl, sym, ◌∙◌, subst}
 use Rattle.py_raw.specs.RawStream.{Raw}
-use Rattle.py_raw.specs.Opener.{OpenerView, Opens, OpenFaults, OpenLacksMemory}
+use Rattle.py_raw.specs.Opener.{OpenerView, Opens, OpenFaults, OpenLacksMemory, OpenOutcome}
+use Rattle.py_raw.specs.declared.opener.OpenError.{OpenError}
 use Rattle.py_io_cli.specs.Outcome.{asked_by}
 use Rattle.py_io_cli.proofs.Planned.{reads_text, plan_refused}
 use Rattle.py_io_cli.proofs.Opened.{ended_outcome}
@@ -37,7 +38,7 @@ returns-in-Err-Fault-clause-outcome g c =
     let text_is : c.rawmode.result.now ≡ codes "rb" = c.rawmode.ensures.text ∙ reads_text c.args.mode.now c.args.args c.in-Ok.plan accepted in
     let old : OpenerView = g.O.Opener.shows c.args.opener.now in
     let new : OpenerView = g.O.Opener.shows c.open_raw.new.self in
-    let fails : OpenFaults old c.args.path.now (codes "rb") new = subst (λ (text : List ℕ). OpenFaults old c.args.path.now text new) text_is c.in-Err-Fault.ensures.outcome in
+    let fails : OpenFaults old c.args.path.now (codes "rb") new = subst (λ (text : List ℕ). OpenFaults old c.args.path.now text new) text_is (subst (λ (why : OpenError). OpenOutcome g.O.Raw.RawStream.shows old c.args.path.now c.rawmode.result.now (Err why) new) c.in-Err-Fault.field-0-is c.in-Err-Fault.ensures.outcome) in
     inr (record { plan = c.in-Ok.plan; planned = accepted; does = inl (record { keeps = c.in-Err-Fault.ensures.keeps; holds = fails.same; sink = refl }, fails) })
 
 pub returns-clause-outcome : goal.returns-clause-outcome
@@ -46,5 +47,5 @@ returns-clause-outcome g c =
     let text_is : c.rawmode.result.now ≡ codes "rb" = c.rawmode.ensures.text ∙ reads_text c.args.mode.now c.args.args c.in-Ok.plan accepted in
     let old : OpenerView = g.O.Opener.shows c.args.opener.now in
     let new : OpenerView = g.O.Opener.shows c.open_raw.new.self in
-    let lacks : OpenLacksMemory old c.args.path.now (codes "rb") new = subst (λ (text : List ℕ). OpenLacksMemory old c.args.path.now text new) text_is c.in-Err-Memory.ensures.outcome in
+    let lacks : OpenLacksMemory old c.args.path.now (codes "rb") new = subst (λ (text : List ℕ). OpenLacksMemory old c.args.path.now text new) text_is (subst (λ (why : OpenError). OpenOutcome g.O.Raw.RawStream.shows old c.args.path.now c.rawmode.result.now (Err why) new) c.in-Err-Memory.field-0-is c.in-Err-Memory.ensures.outcome) in
     inr (record { plan = c.in-Ok.plan; planned = accepted; does = inr (inr (record { keeps = c.in-Err-Memory.ensures.keeps; holds = lacks.same; sink = refl }, lacks)) })

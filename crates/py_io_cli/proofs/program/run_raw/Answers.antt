@@ -1,4 +1,4 @@
-use Rattle.std.proofs.Common.{◌≡◌, ℕ, Bool, true, List, ◌∷◌, ◌++◌, [], is_ok, unwrap_or, if◌then◌else◌, ap, ◌∙◌, subst}
+use Rattle.std.proofs.Common.{◌≡◌, Bool, true, List, ◌∷◌, ◌++◌, [], is_ok, unwrap_or, if◌then◌else◌, ap, ◌∙◌, subst}
 use Rattle.py_flat.specs.declared.fault.IoFault.{IoFault}
 use Rattle.py_raw.specs.RawStream.{Raw}
 use Rattle.py_raw.specs.Sink.{SinkView}
