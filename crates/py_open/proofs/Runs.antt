@@ -170,7 +170,7 @@ file_step_told : (before : SessionFile) (old : Raw) (call : Call) (reply : FileR
 file_step_told (OfText before) old call reply (OfText after) new short step tells = step.told tells
 
 pub history_of : (before : SessionView) (calls : List Call) (replies : List Reply) (after : SessionView) → IsRun before calls replies after → IsTrue before.raw.tells → HasHistory before calls replies after
-history_of before [] [] after run tells = record { entries = []; calls_are = refl; replies_are = refl; steps = ap (λ (view : SessionView). view.file) run }
+history_of before [] [] after run tells = record { entries = []; calls_are = refl; replies_are = refl; marked = run; steps = ap (λ (view : SessionView). view.file) run }
 history_of before (call ∷ calls) (reply ∷ replies) after run tells =
     let mid : SessionView = run.0 in
     let rest = history_of mid calls replies after run.2 ((step_keeps before call reply mid run.1).0.tells ∙ tells) in
@@ -179,6 +179,7 @@ history_of before (call ∷ calls) (reply ∷ replies) after run tells =
       entries = entry ∷ rest.entries;
       calls_are = ap (λ (more : List Call). call ∷ more) rest.calls_are;
       replies_are = ap (λ (more : List Reply). reply ∷ more) rest.replies_are;
+      marked = (mid, run.1, refl, refl, rest.marked);
       steps = (mid.file, file_step_told before.file before.raw call (said reply) mid.file mid.raw mid.short run.1.answers tells, rest.steps);
     }
 history_of before [] (reply ∷ replies) after run tells = absurd run

@@ -9,7 +9,7 @@ use Rattle.py_open.specs.declared.call.Call.{Call}
 use Rattle.py_open.specs.declared.reply.Reply.{Reply}
 use Rattle.py_open.specs.Calls.{text_call}
 use Rattle.py_open.specs.Session.{SessionFile, OfText, SessionView}
-use Rattle.py_open.specs.Run.{Entry, IsRun, IsHistory, calls_of, replies_of, exact_replies, exact_after, all_said}
+use Rattle.py_open.specs.Run.{Entry, IsRun, IsMarkedRun, IsHistory, calls_of, replies_of, exact_replies, exact_after, all_said}
 
 -- each reply is the exact one, and so is the file behind them
 pub record IsExact (before : SessionView) (calls : List Call) (replies : List Reply) (after : SessionView) : Type 0 where
@@ -21,11 +21,12 @@ pub record IsExactHistory (before : SessionFile) (entries : List Entry) (after :
   pub says : all_said (replies_of entries) ≡ exact_replies before (calls_of entries)
   pub leaves : after ≡ exact_after before (calls_of entries)
 
--- a run as a history: the same calls and replies, from file to file
+-- a run as a history: the same calls and replies, with the marks of the run, from file to file
 pub record HasHistory (before : SessionView) (calls : List Call) (replies : List Reply) (after : SessionView) : Type 0 where
   pub entries : List Entry
   pub calls_are : calls_of entries ≡ calls
   pub replies_are : replies_of entries ≡ replies
+  pub marked : IsMarkedRun before entries after
   pub steps : IsHistory before.file entries after.file
 
 -- a run in two parts, with the session between them

@@ -14,7 +14,7 @@ use Rattle.py_open.specs.declared.run.Run.{Run}
 use Rattle.py_open.specs.declared.open_refused.OpenRefused.{OpenRefused}
 use Rattle.py_open.specs.Calls.{text_call, said}
 use Rattle.py_open.specs.Reader.{RefusesRaw}
-use Rattle.py_open.specs.Session.{SessionFile, OfText, SessionView, SessionStep, Answers}
+use Rattle.py_open.specs.Session.{SessionFile, OfText, SessionView, SessionStep, says_fault, Answers}
 use Rattle.py_open.specs.Opening.{OpensText}
 use Rattle.py_open.specs.Plan.{plan_of}
 
@@ -26,7 +26,7 @@ IsRun before (call ∷ calls) (reply ∷ replies) after = (mid : SessionView) ×
 IsRun before [] (reply ∷ replies) after = ⊥
 IsRun before (call ∷ calls) [] after = ⊥
 
--- a call that was made, its reply, and whether the raw's waits and its faults rose in it
+-- a call that was made, its reply, and the marks of a wait, which cut it short, and of a fault
 pub record Entry : Type 0 where
   pub call : Call
   pub reply : Reply
@@ -40,6 +40,12 @@ calls_of (entry ∷ entries) = entry.call ∷ calls_of entries
 abbrev pub replies_of : List Entry → List Reply
 replies_of [] = []
 replies_of (entry ∷ entries) = entry.reply ∷ replies_of entries
+
+-- the entries of a run: there is a session between any two, and each is marked as its session was left: by a wait where
+-- that is short, so that the raw's waits rose in this call; by a fault where the reply says so, so that its faults did
+abbrev pub IsMarkedRun : SessionView → List Entry → SessionView → Type 0
+IsMarkedRun before [] after = after ≡ before
+IsMarkedRun before (entry ∷ entries) after = (mid : SessionView) × Answers before entry.call entry.reply mid × (entry.waited ≡ mid.short) × (entry.faulted ≡ says_fault (said entry.reply)) × IsMarkedRun mid entries after
 
 -- the same of flat files alone: there is a file between any two entries, and each entry is a step from one to the next
 abbrev pub IsHistory : SessionFile → List Entry → SessionFile → Type 0

@@ -31,8 +31,8 @@ pub fn a_run_splits_anywhere()
     ensures { (before : SessionView) (calls more : List Call) (replies others : List Reply) (after : SessionView) → length replies ≡ length calls → IsRun before (calls ++ more) (replies ++ others) after → RunsInTwo before calls more replies others after }
 {}
 
-/// A run over a raw that tells is a history of its flat files: the same calls and replies, each a step of the model, with
-/// the marks of the waits and faults that rose in it.
+/// A run over a raw that tells is a history of its flat files: the same calls and replies, each a step of the model, marked
+/// where a wait cut the call short and where a fault answered it. So each mark has its cause in the counts of the raw.
 pub fn a_run_is_a_history()
     ensures { (before : SessionView) (calls : List Call) (replies : List Reply) (after : SessionView) → IsRun before calls replies after → IsTrue before.raw.tells → HasHistory before calls replies after }
 {}

@@ -135,7 +135,7 @@ fn texts() -> [&'static [u8]; 6] {
     ]
 }
 
-const MIXED: [Call; 7] = [
+const MIXED: [Call; 8] = [
     Call::ReadLine(None),
     Call::Read(Some(2)),
     Call::ReadLine(Some(1)),
@@ -143,6 +143,7 @@ const MIXED: [Call; 7] = [
     Call::Read(None),
     Call::Read(None),
     Call::ReadLine(None),
+    Call::Close,
 ];
 
 /// What the plain slow text answers to calls.
@@ -151,14 +152,12 @@ fn plain_replies(alloc: Global, bytes: &[u8], calls: &[Call]) -> Result<Vec<Repl
     let mut replies = Vec::new(alloc);
     for call in calls {
         let answer = match call {
-            Call::Read(size) => plain.read(alloc, *size),
-            Call::ReadLine(limit) => plain.readline(alloc, *limit),
+            Call::Read(size) => plain.read(alloc, *size).map(Reply::Text),
+            Call::ReadLine(limit) => plain.readline(alloc, *limit).map(Reply::Text),
+            Call::Close => plain.close().map(|()| Reply::Done),
             _ => Err(IoFault::Unsupported),
         };
-        replies.push(match answer {
-            Ok(text) => Reply::Text(text),
-            Err(fault) => Reply::Refused(fault),
-        })?;
+        replies.push(answer.unwrap_or_else(Reply::Refused))?;
     }
     Ok(replies)
 }
@@ -166,7 +165,7 @@ fn plain_replies(alloc: Global, bytes: &[u8], calls: &[Call]) -> Result<Vec<Repl
 /// Transfers of one byte each, with a wait before one of them.
 fn bytes_and_a_wait(alloc: Global, wait: usize) -> Result<Vec<Cut>, AllocError> {
     let mut plan = Vec::new(alloc);
-    for transfer in 0..12 {
+    for transfer in 0..16 {
         if transfer == wait {
             plan.push(Cut::Wait)?;
         }
@@ -231,15 +230,15 @@ fn a_wait_before_any_transfer_loses_nothing(rt: HostRuntime) -> Result<(), Fail>
     }
     for bytes in texts() {
         let plain = plain_replies(alloc, bytes, &calls)?;
-        for wait in 0..9 {
+        for wait in 0..16 {
             let raw = raw_of(alloc, bytes, bytes_and_a_wait(alloc, wait)?)?;
             let run = small_run(&rt, alloc, raw, (2, 3), &calls);
-            if wait == 0 {
-                assert_eq!(rt; run.replies.first(), Some(&Reply::NotReady));
-            }
+            let mut waits = 0;
             let mut expected = plain.iter();
             for reply in &run.replies {
-                if !reply.says_wait() {
+                if reply.says_wait() {
+                    waits += 1;
+                } else {
                     assert_eq!(rt;
                         Some(reply),
                         expected.next(),
@@ -247,6 +246,10 @@ fn a_wait_before_any_transfer_loses_nothing(rt: HostRuntime) -> Result<(), Fail>
                     );
                 }
             }
+            // One reply for the raw's one wait, if it was asked so often.
+            let waited = run.session.finish().raw.wait_count();
+            assert_eq!(rt; waits, waited, "of {bytes:?}, waiting at {wait}");
+            assert!(rt; waited == 1 || wait > 0);
         }
     }
     Ok(())
@@ -257,27 +260,34 @@ fn a_fault_at_any_call_fails_the_session(rt: HostRuntime) -> Result<(), Fail> {
     let alloc = rt.alloc();
     for bytes in texts() {
         let plain = plain_replies(alloc, bytes, &MIXED)?;
-        for fault in 0..12 {
+        for fault in 0..18 {
             let flags = RawFlags::able(true, false, true);
-            let plan = bytes_and_a_wait(alloc, 12)?;
+            let plan = bytes_and_a_wait(alloc, 16)?;
             let raw = MemRaw::new(bytes.to_vec(alloc)?, flags, plan, vec![in alloc; fault]?);
             match run_opened(alloc, raw, 2, 3, &MIXED) {
                 Err(refused) => {
-                    assert_eq!(rt; refused.fault, IoFault::RawFault);
+                    assert_eq!(rt; (fault, refused.fault), (0, IoFault::RawFault));
                     assert_eq!(rt; refused.raw.bytes_of(), bytes);
                 }
                 Ok(run) => {
-                    let mut failed = false;
+                    let mut faults = 0;
                     for (reply, expected) in run.replies.iter().zip(&plain) {
-                        if failed {
+                        if faults > 0 {
                             assert_eq!(rt; *reply, Reply::Refused(IoFault::Failed));
                         } else if reply.says_fault() {
-                            failed = true;
+                            faults += 1;
                         } else {
                             assert_eq!(rt; reply, expected, "of {bytes:?}, failing at {fault}");
                         }
                     }
-                    assert_eq!(rt; run.session.life() == Life::Failed, failed);
+                    // A fault of the Close itself leaves the session closed.
+                    let last = Some(&Reply::Refused(IoFault::Failed));
+                    let life = if run.replies.last() == last { Life::Failed } else { Life::Closed };
+                    assert_eq!(rt; run.session.life(), life);
+                    // One reply for the raw's one fault, if it was called so often.
+                    let failed = run.session.finish().raw.fault_count();
+                    assert_eq!(rt; faults, failed, "of {bytes:?}, failing at {fault}");
+                    assert!(rt; failed == 1 || fault > 1);
                 }
             }
         }
