@@ -63,8 +63,15 @@ fn line_of(alloc: Global, reply: &Reply) -> Result<Vec<u8>, AllocError> {
     Ok(line)
 }
 
-/// What a run of a script by some options prints, and its status, over a file whose raw follows a plan and has calls that
-/// fail.
+/// How a run ended: its status, what was printed, and how often the file's raw waited and failed.
+struct Ended {
+    status: u8,
+    printed: Vec<u8>,
+    waits: u64,
+    faults: u64,
+}
+
+/// A run of a script by some options, over a file whose raw follows a plan and has calls that fail.
 fn run_over(
     rt: &impl Abort,
     alloc: Global,
@@ -72,7 +79,7 @@ fn run_over(
     follows: (Vec<Cut>, Vec<u64>),
     options: &[&str],
     script: &[u8],
-) -> Result<(u8, Vec<u8>), AllocError> {
+) -> Result<Ended, AllocError> {
     let mut opener = MemOpener::new(alloc);
     opener.put(alloc, "f", bytes.to_vec(alloc)?)?;
     let (plan, faults) = follows;
@@ -88,13 +95,18 @@ fn run_over(
     let mut sink = MemSink::with_room(alloc, 1000, Vec::new(alloc))?;
     let status = run_program(alloc, &words, &mut opener, &mut source, &mut sink);
     assert!(rt; opener.bytes_at("f") == Some(bytes));
-    Ok((status, sink.into_bytes()))
+    Ok(Ended {
+        status,
+        printed: sink.into_bytes(),
+        waits: opener.raw_wait_count(),
+        faults: opener.raw_fault_count(),
+    })
 }
 
 /// Transfers of one byte each, with a wait before one of them.
 fn bytes_and_a_wait(alloc: Global, wait: usize) -> Result<Vec<Cut>, AllocError> {
     let mut plan = Vec::new(alloc);
-    for transfer in 0..12 {
+    for transfer in 0..16 {
         if transfer == wait {
             plan.push(Cut::Wait)?;
         }
@@ -126,19 +138,19 @@ fn a_file_that_comes_byte_by_byte_reads_as_the_plain_text(rt: HostRuntime) -> Re
     let alloc = rt.alloc();
     for bytes in files() {
         for script in [MIXED, SINGLE] {
-            let plan = bytes_and_a_wait(alloc, 12)?;
-            let follows = (plan, Vec::new(alloc));
-            let (status, printed) = run_over(&rt, alloc, bytes, follows, &[], script)?;
-            assert_eq!(rt; status, 0);
+            let follows = (bytes_and_a_wait(alloc, 16)?, Vec::new(alloc));
+            let run = run_over(&rt, alloc, bytes, follows, &[], script)?;
+            assert_eq!(rt; (run.status, run.waits, run.faults), (0, 0, 0));
             let lines = plain_lines(&rt, alloc, bytes, script)?;
-            assert!(rt; printed == joined(alloc, &lines, &[])?, "of {bytes:?}");
+            assert!(rt; run.printed == joined(alloc, &lines, &[])?, "of {bytes:?}");
         }
     }
     Ok(())
 }
 
 /// The sizes of buffers and of chunks, as options.
-const SIZES: [(&str, &str); 8] = [
+const SIZES: [(&str, &str); 9] = [
+    ("buffering=1", "chunk=1"),
     ("buffering=2", "chunk=2"),
     ("buffering=3", "chunk=3"),
     ("buffering=4", "chunk=4"),
@@ -156,36 +168,36 @@ fn every_size_of_buffer_and_chunk_reads_as_the_plain_text(rt: HostRuntime) -> Re
         let lines = plain_lines(&rt, alloc, bytes, MIXED)?;
         let whole = joined(alloc, &lines, &[])?;
         for (buffering, _) in SIZES {
-            for chunk in 0..9 {
-                let chunk = if chunk == 8 { "chunk=1" } else { SIZES[chunk].1 };
+            for (_, chunk) in SIZES {
                 let follows = (Vec::new(alloc), Vec::new(alloc));
                 let options = [chunk, buffering];
-                let (status, printed) = run_over(&rt, alloc, bytes, follows, &options, MIXED)?;
-                assert_eq!(rt; status, 0);
-                assert!(rt; printed == whole, "of {bytes:?} by {buffering} and {chunk}");
+                let run = run_over(&rt, alloc, bytes, follows, &options, MIXED)?;
+                assert_eq!(rt; run.status, 0);
+                assert!(rt; run.printed == whole, "of {bytes:?} by {buffering} and {chunk}");
             }
         }
     }
     Ok(())
 }
 
-/// Reading one character at a time, one wait answers one call with `notready`, and the calls behind it go on from there.
+/// Reading one character at a time, a wait answers one call with `notready`, and the calls behind it go on from there.
 #[test]
 fn a_wait_before_any_transfer_puts_the_replies_off(rt: HostRuntime) -> Result<(), Fail> {
     let alloc = rt.alloc();
     for bytes in files() {
         let lines = plain_lines(&rt, alloc, bytes, SINGLE)?;
-        for wait in 0..9 {
+        for wait in 0..16 {
             let follows = (bytes_and_a_wait(alloc, wait)?, Vec::new(alloc));
-            let (status, printed) = run_over(&rt, alloc, bytes, follows, &[], SINGLE)?;
-            assert_eq!(rt; status, 0);
+            let run = run_over(&rt, alloc, bytes, follows, &[], SINGLE)?;
+            assert_eq!(rt; (run.status, run.faults), (0, 0));
             // A later wait may stand behind the last transfer.
-            let mut found = wait > 0 && printed == joined(alloc, &lines, &[])?;
+            assert!(rt; run.waits == 1 || wait > 0);
+            let mut found = run.waits == 0 && run.printed == joined(alloc, &lines, &[])?;
             for put_off in 0..CALLS {
                 let mut all = joined(alloc, &lines[..put_off], &[(&Reply::NotReady, 1)])?;
                 all.extend_from_slice(&joined(alloc, &lines[put_off..CALLS - 1], &[])?)?;
                 push_reply_line(alloc, &mut all, &Reply::Done)?;
-                found = found || printed == all;
+                found = found || run.waits == 1 && run.printed == all;
             }
             assert!(rt; found, "of {bytes:?}, waiting at {wait}");
         }
@@ -203,20 +215,22 @@ fn a_fault_at_any_call_ends_the_replies(rt: HostRuntime) -> Result<(), Fail> {
     push_refused_line(alloc, &mut refused, IoFault::RawFault)?;
     for bytes in files() {
         let lines = plain_lines(&rt, alloc, bytes, MIXED)?;
-        for fault in 0..12 {
-            let follows = (bytes_and_a_wait(alloc, 12)?, vec![in alloc; fault]?);
-            let (status, printed) = run_over(&rt, alloc, bytes, follows, &[], MIXED)?;
+        for fault in 0..18 {
+            let follows = (bytes_and_a_wait(alloc, 16)?, vec![in alloc; fault]?);
+            let run = run_over(&rt, alloc, bytes, follows, &[], MIXED)?;
+            // A later fault may stand behind the last call.
+            assert!(rt; run.faults == 1 || fault > 1);
             if fault == 0 {
-                assert_eq!(rt; status, 4);
-                assert!(rt; printed == refused);
+                assert_eq!(rt; run.status, 4);
+                assert!(rt; run.printed == refused);
                 continue;
             }
-            assert_eq!(rt; status, 0);
-            // A later fault may stand behind the last call.
-            let mut found = fault > 1 && printed == joined(alloc, &lines, &[])?;
+            assert_eq!(rt; (run.status, run.waits), (0, 0));
+            let mut found = run.faults == 0 && run.printed == joined(alloc, &lines, &[])?;
             for call in 0..=CALLS {
                 let last = [(&raw_fault, 1), (&failed, CALLS - call)];
-                found = found || printed == joined(alloc, &lines[..call], &last)?;
+                let all = joined(alloc, &lines[..call], &last)?;
+                found = found || run.faults == 1 && run.printed == all;
             }
             assert!(rt; found, "of {bytes:?}, failing at {fault}");
         }
