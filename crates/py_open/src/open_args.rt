@@ -9,7 +9,7 @@ use py_flat::Chars;
 pub struct OpenArgs {
     /// The buffer's size in bytes; 0 is unbuffered, 1 or a negative number means 8192.
     pub buffering: i64,
-    /// The encoding's name; `None` means utf-8.
+    /// The encoding's name; `None` and `locale` mean utf-8.
     pub encoding: Option<Chars>,
     /// The handler's name; `None` means strict.
     pub errors: Option<Chars>,

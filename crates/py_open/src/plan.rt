@@ -120,8 +120,8 @@ mod tests {
     use std::alloc::{AllocError, Global};
     use std::test::Fail;
 
-    /// An opening, and the buffer's size of its plan or the fault that refuses it.
-    #[derive(Clone, Copy, Debug)]
+    /// A mode and arguments.
+    #[derive(Clone, Copy)]
     struct Opening {
         mode: &'static str,
         buffering: i64,
@@ -129,7 +129,6 @@ mod tests {
         errors: Option<&'static str>,
         newline: Option<&'static str>,
         chunk_size: usize,
-        answer: Result<usize, IoFault>,
     }
 
     /// A text that is read, with the newline argument LF and every other argument at its default.
@@ -140,24 +139,31 @@ mod tests {
         errors: None,
         newline: Some("\n"),
         chunk_size: 8192,
-        answer: Ok(8192),
     };
 
-    /// The same, refused.
-    const UNSUPPORTED: Opening = Opening {
-        answer: Err(IoFault::Unsupported),
-        ..READ
-    };
-
-    /// An opening that is refused for each of its arguments, and for its mode before them.
+    /// An opening that is refused for each of its arguments.
     const INVALID: Opening = Opening {
+        mode: "r",
         buffering: 0,
         encoding: Some("latin-1"),
         errors: Some("ignore"),
         newline: None,
         chunk_size: 0,
-        ..READ
     };
+
+    const UNSUPPORTED: Result<OpenPlan, IoFault> = Err(IoFault::Unsupported);
+
+    /// A text that is read through a buffer of so many bytes.
+    fn opened(size: usize) -> Result<OpenPlan, IoFault> {
+        Ok(OpenPlan {
+            mode: Mode {
+                file: FileMode::Read,
+                encode: EncodeMode::Text,
+                plus: false,
+            },
+            buffer_size: Some(size),
+        })
+    }
 
     fn chars(alloc: Global, text: Option<&str>) -> Result<Option<Chars>, AllocError> {
         Ok(match text {
@@ -180,139 +186,124 @@ mod tests {
     #[test]
     fn a_mode_out_of_form_is_refused_first(rt: HostRuntime) -> Result<(), Fail> {
         let alloc = rt.alloc();
-        for (mode, error) in [
+        for (mode, why) in [
             ("rr", ParseModeError::InvalidMode),
             ("rw", ParseModeError::MultipleFile),
             ("rtb", ParseModeError::MultipleEncode),
             ("", ParseModeError::NoFile),
         ] {
-            for opening in [READ, INVALID] {
-                let plan = planned(alloc, Opening { mode, ..opening })?;
-                assert_eq!(rt; plan, Err(IoFault::ParseMode(error)), "of {mode}");
-            }
-        }
-        for mode in ["rb", "w", "x", "a", "r+", "rb+", "w+"] {
-            for opening in [READ, INVALID] {
-                let plan = planned(alloc, Opening { mode, ..opening })?;
-                assert_eq!(rt; plan, Err(IoFault::Unsupported), "of {mode}");
-            }
+            let refused = Err(IoFault::ParseMode(why));
+            assert_eq!(rt;
+                planned(alloc, Opening { mode, ..READ })?,
+                refused,
+                "of {mode}"
+            );
+            assert_eq!(rt;
+                planned(alloc, Opening { mode, ..INVALID })?,
+                refused,
+                "of {mode}"
+            );
         }
         Ok(())
     }
 
     #[test]
-    fn arguments_are_planned_or_unsupported(rt: HostRuntime) -> Result<(), Fail> {
+    fn only_a_text_is_read_so_far(rt: HostRuntime) -> Result<(), Fail> {
         let alloc = rt.alloc();
-        for opening in [
-            READ,
-            Opening { mode: "rt", ..READ },
-            Opening { mode: "tr", ..READ },
-            Opening {
-                encoding: Some("locale"),
-                ..READ
-            },
-            Opening {
-                encoding: Some("utf-8"),
-                ..READ
-            },
-            Opening {
-                encoding: Some("latin-1"),
-                ..UNSUPPORTED
-            },
-            Opening {
-                encoding: Some("UTF-8"),
-                ..UNSUPPORTED
-            },
-            Opening {
-                encoding: Some("utf8"),
-                ..UNSUPPORTED
-            },
-            Opening {
-                encoding: Some(""),
-                ..UNSUPPORTED
-            },
-            Opening {
-                errors: Some("strict"),
-                ..READ
-            },
-            Opening {
-                errors: Some("ignore"),
-                ..UNSUPPORTED
-            },
-            Opening {
-                errors: Some("Strict"),
-                ..UNSUPPORTED
-            },
-            Opening {
-                errors: Some("stricté"),
-                ..UNSUPPORTED
-            },
-            Opening {
-                newline: None,
-                ..UNSUPPORTED
-            },
-            Opening {
-                newline: Some(""),
-                ..UNSUPPORTED
-            },
-            Opening {
-                newline: Some("\r"),
-                ..UNSUPPORTED
-            },
-            Opening {
-                newline: Some("\r\n"),
-                ..UNSUPPORTED
-            },
-            Opening {
-                newline: Some("\n\n"),
-                ..UNSUPPORTED
-            },
+        for mode in ["r", "rt", "tr"] {
+            assert_eq!(rt;
+                planned(alloc, Opening { mode, ..READ })?,
+                opened(8192),
+                "of {mode}"
+            );
+        }
+        for mode in ["rb", "w", "x", "a", "r+", "rb+", "w+"] {
+            assert_eq!(rt;
+                planned(alloc, Opening { mode, ..READ })?,
+                UNSUPPORTED,
+                "of {mode}"
+            );
+        }
+        Ok(())
+    }
+
+    #[test]
+    fn names_are_compared_as_they_stand(rt: HostRuntime) -> Result<(), Fail> {
+        let alloc = rt.alloc();
+        for name in ["locale", "utf-8"] {
+            let encoding = Some(name);
+            assert_eq!(rt;
+                planned(alloc, Opening { encoding, ..READ })?,
+                opened(8192),
+                "of {name}"
+            );
+        }
+        for name in ["latin-1", "UTF-8", "utf8", "utf-8 ", ""] {
+            let encoding = Some(name);
+            assert_eq!(rt;
+                planned(alloc, Opening { encoding, ..READ })?,
+                UNSUPPORTED,
+                "of {name}"
+            );
+        }
+        let errors = Some("strict");
+        assert_eq!(rt; planned(alloc, Opening { errors, ..READ })?, opened(8192));
+        for name in ["ignore", "Strict", "stricté"] {
+            let errors = Some(name);
+            assert_eq!(rt;
+                planned(alloc, Opening { errors, ..READ })?,
+                UNSUPPORTED,
+                "of {name}"
+            );
+        }
+        for newline in [None, Some(""), Some("\r"), Some("\r\n"), Some("\n\n")] {
+            assert_eq!(rt;
+                planned(alloc, Opening { newline, ..READ })?,
+                UNSUPPORTED,
+                "of {newline:?}"
+            );
+        }
+        Ok(())
+    }
+
+    #[test]
+    fn buffers_have_the_size_that_is_asked_for(rt: HostRuntime) -> Result<(), Fail> {
+        let alloc = rt.alloc();
+        for (buffering, size) in [
+            (-1, 8192),
+            (1, 8192),
+            (-5, 8192),
+            (i64::MIN, 8192),
+            (2, 2),
+            (i64::MAX, 9223372036854775807),
+        ] {
+            let plan = planned(alloc, Opening { buffering, ..READ })?;
+            assert_eq!(rt; plan, opened(size), "of {buffering}");
+        }
+        let unbuffered = planned(
+            alloc,
             Opening {
                 buffering: 0,
-                ..UNSUPPORTED
-            },
-            Opening {
-                buffering: 1,
                 ..READ
             },
-            Opening {
-                buffering: -5,
-                ..READ
-            },
-            Opening {
-                buffering: i64::MIN,
-                ..READ
-            },
-            Opening {
-                buffering: 2,
-                answer: Ok(2),
-                ..READ
-            },
-            Opening {
-                buffering: i64::MAX,
-                answer: Ok(9223372036854775807),
-                ..READ
-            },
+        )?;
+        assert_eq!(rt; unbuffered, UNSUPPORTED);
+        let chunks_of_none = planned(
+            alloc,
             Opening {
                 chunk_size: 0,
-                ..UNSUPPORTED
+                ..READ
             },
+        )?;
+        assert_eq!(rt; chunks_of_none, UNSUPPORTED);
+        let chunks_of_one = planned(
+            alloc,
             Opening {
                 chunk_size: 1,
                 ..READ
             },
-        ] {
-            let plan = planned(alloc, opening)?;
-            let expected = opening.answer.map(|size| OpenPlan {
-                mode: Mode {
-                    file: FileMode::Read,
-                    encode: EncodeMode::Text,
-                    plus: false,
-                },
-                buffer_size: Some(size),
-            });
-            assert_eq!(rt; plan, expected, "of {opening:?}");
-        }
+        )?;
+        assert_eq!(rt; chunks_of_one, opened(8192));
         Ok(())
     }
 }

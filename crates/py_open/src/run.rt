@@ -17,7 +17,8 @@ pub struct Run<R: RawStream> {
     pub replies: Vec<Reply>,
 }
 
-/// Opens a session over a raw by a mode and arguments, and makes calls in order.
+/// Opens a session over a raw by a mode and arguments, and makes calls in order: through a buffer of the size that the
+/// plan gives, and with chunks of `args.chunk_size` bytes.
 ///
 /// The replies are a run of the model from the opening's flat file to the session's own: for every raw, told or not,
 /// each has its cause; where the raw tells, each is the model's, whatever pieces the raw moves and whatever the sizes of
