@@ -28,7 +28,7 @@ words_help =
     codes "                 any of CR LF, CR and LF, each read as LF)" ∷
     codes "  chunk=N        bytes that a text asks its buffer for at once (default 8192)" ∷
     codes "I and N are decimal numbers, I also behind a -. So far only MODE r is opened," ∷
-    codes "with newline=0a and every other option at its default." ∷
+    codes "with newline=0a, in UTF-8, strict, buffered, by chunks of 1 byte or more." ∷
     []
 
 -- the script and its replies

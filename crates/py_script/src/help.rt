@@ -16,7 +16,7 @@ MODE is as in Python's open. Each OPTION is given at most once, in any order:
                  any of CR LF, CR and LF, each read as LF)
   chunk=N        bytes that a text asks its buffer for at once (default 8192)
 I and N are decimal numbers, I also behind a -. So far only MODE r is opened,
-with newline=0a and every other option at its default.
+with newline=0a, in UTF-8, strict, buffered, by chunks of 1 byte or more.
 
 The script has a call on each line, with one space between its words:
   read [N]       reads N characters, or all that is left
