@@ -6,6 +6,7 @@ ghost use Rattle.py_raw.specs.Plans.{plan_in};
 ghost use Rattle.py_raw.specs.MemRaw.{view_of};
 ghost use Rattle.py_raw.specs.MemOpener.{bytes_in, opened_view};
 
+mod counts;
 mod plan;
 #[cfg(test)]
 mod tests;
