@@ -4,7 +4,7 @@ use Rattle.std.specs.declared.alloc.Global.{Global}
 use Rattle.py_raw.specs.RawStream.{Raw}
 use Rattle.py_raw.specs.MemRaw.{MemRawView}
 use Rattle.py_raw.specs.RawMode.{mode_reads, mode_writes}
-use Rattle.py_raw.specs.Opener.{OpenerView, OthersHoldTheSame}
+use Rattle.py_raw.specs.Opener.{OpenerView, HoldsTheSame, OthersHoldTheSame}
 use Rattle.py_raw.specs.Entries.{held_in}
 use Rattle.py_raw.specs.Plans.{PlanView, plan_in}
 use Rattle.py_raw.specs.declared.entries.Entry.{Entry}
@@ -24,13 +24,22 @@ shown_opener opener = record {
   raw_waits = opener.raw_waits;
 }
 
+-- its own faults, and the faults and waits of the raws that it took back, are as many as before
+pub record KeepsCounts (old new : OpenerView) : Type 0 where
+  pub faults : new.faults ≡ old.faults
+  pub raw_faults : new.raw_faults ≡ old.raw_faults
+  pub raw_waits : new.raw_waits ≡ old.raw_waits
+
 -- a path holds these bytes now; every other, and every count, is as before
 pub record Puts (old : OpenerView) (path bytes : List ℕ) (new : OpenerView) : Type 0 where
   pub held : new.holds path ≡ Some bytes
   pub others : OthersHoldTheSame path old new
-  pub faults : new.faults ≡ old.faults
-  pub raw_faults : new.raw_faults ≡ old.raw_faults
-  pub raw_waits : new.raw_waits ≡ old.raw_waits
+  pub counts : KeepsCounts old new
+
+-- every path and every count is as before
+pub record LeavesAll (old new : OpenerView) : Type 0 where
+  pub held : HoldsTheSame old new
+  pub counts : KeepsCounts old new
 
 -- the stream in memory that a mode opens on these bytes: at place 0, nothing counted, and it can seek
 abbrev pub opened_raw : List ℕ → List ℕ → Raw

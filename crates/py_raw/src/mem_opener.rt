@@ -6,6 +6,7 @@ ghost use Rattle.py_raw.specs.Plans.{plan_in};
 ghost use Rattle.py_raw.specs.MemRaw.{view_of};
 ghost use Rattle.py_raw.specs.MemOpener.{bytes_in, opened_view};
 
+mod counts;
 mod plan;
 #[cfg(test)]
 mod tests;
@@ -108,7 +109,7 @@ impl MemOpener {
     ghost use Rattle.py_raw.specs.RawStream.{Raw};
     ghost use Rattle.py_raw.specs.Opener.{HoldsTheSame, DoneKeeps, DoneOutcome};
     ghost use Rattle.py_raw.specs.Plans.{no_plan};
-    ghost use Rattle.py_raw.specs.MemOpener.{shown_opener, plan_at, SetsPlan, KeepsPlans, Puts};
+    ghost use Rattle.py_raw.specs.MemOpener.{shown_opener, plan_at, SetsPlan, KeepsPlans, Puts, LeavesAll};
 
     /// An opener none of whose paths holds anything or has a plan.
     pub fn new(alloc: Global) -> Self
@@ -148,10 +149,11 @@ impl MemOpener {
         put_in(&mut self.plans, alloc, path, given)
     }
 
-    /// Gives a path bytes, in place of those that it held. After an error every path holds what it held.
+    /// Gives a path bytes, in place of those that it held. After an error every path holds what it held. Whatever it
+    /// answers, the counts are as before.
     pub fn put(&mut self, alloc: Global, path: &str, bytes: Vec<u8>) -> Result<(), AllocError>
         ensures ok { OnOk result (Puts (shown_opener self.old) path.now bytes.items (shown_opener self.new)) }
-        ensures err { OnErr result (HoldsTheSame (shown_opener self.old) (shown_opener self.new)) }
+        ensures err { OnErr result (LeavesAll (shown_opener self.old) (shown_opener self.new)) }
         ensures complete { IsSome ((shown_opener self.old).holds path.now) → IsOk result }
         ensures plans { KeepsPlans self.old self.new }
     {

@@ -27,6 +27,8 @@ fn each_mode_opens_and_keeps_what_it_should(rt: HostRuntime) -> Result<(), Alloc
             now == Some(existing.unwrap_or("old").as_bytes()),
             "{mode} of a path that holds some"
         );
+        let refused = u64::from(missing.is_none()) + u64::from(existing.is_none());
+        assert_eq!(rt; opener.fault_count(), refused, "{mode}");
     }
     Ok(())
 }
@@ -64,7 +66,7 @@ fn every_stream_of_a_path_follows_its_plan(rt: HostRuntime) -> Result<(), AllocE
             assert_eq!(rt; raw.readinto(&mut buf), *answer);
         }
         assert_eq!(rt; opener.done(path, raw), Ok(()));
-        assert_eq!(rt; (opener.raw_waits, opener.raw_faults), counts);
+        assert_eq!(rt; (opener.raw_wait_count(), opener.raw_fault_count()), counts);
     }
     Ok(())
 }
