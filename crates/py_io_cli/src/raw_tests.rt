@@ -64,6 +64,7 @@ fn line_of(alloc: Global, reply: &Reply) -> Result<Vec<u8>, AllocError> {
 }
 
 /// How a run ended: its status, what was printed, and how often the file's raw waited and failed.
+#[derive(Drop)]
 struct Ended {
     status: u8,
     printed: Vec<u8>,
@@ -173,7 +174,10 @@ fn every_size_of_buffer_and_chunk_reads_as_the_plain_text(rt: HostRuntime) -> Re
                 let options = [chunk, buffering];
                 let run = run_over(&rt, alloc, bytes, follows, &options, MIXED)?;
                 assert_eq!(rt; run.status, 0);
-                assert!(rt; run.printed == whole, "of {bytes:?} by {buffering} and {chunk}");
+                assert!(rt;
+                    run.printed == whole,
+                    "of {bytes:?} by {buffering} and {chunk}"
+                );
             }
         }
     }

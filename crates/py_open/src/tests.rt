@@ -282,7 +282,11 @@ fn a_fault_at_any_call_fails_the_session(rt: HostRuntime) -> Result<(), Fail> {
                     }
                     // A fault of the Close itself leaves the session closed.
                     let last = Some(&Reply::Refused(IoFault::Failed));
-                    let life = if run.replies.last() == last { Life::Failed } else { Life::Closed };
+                    let life = if run.replies.last() == last {
+                        Life::Failed
+                    } else {
+                        Life::Closed
+                    };
                     assert_eq!(rt; run.session.life(), life);
                     // One reply for the raw's one fault, if it was called so often.
                     let failed = run.session.finish().raw.fault_count();
