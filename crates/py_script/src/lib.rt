@@ -26,7 +26,7 @@ pub use examples::{
 };
 pub use fault_line::{fault_name, push_refused_line};
 pub use help::{help_text, version_text};
-pub use option_laws::{an_option_stands_once, options_stand_in_any_order};
+pub use option_laws::{an_option_stands_once, every_text_has_its_hex, options_stand_in_any_order};
 pub use reply_law::reply_lines_tell;
 pub use reply_line::push_reply_line;
 pub use run_words::run_path;
