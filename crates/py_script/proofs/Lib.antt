@@ -5,3 +5,4 @@ mod WordLemmas
 mod FaultLemmas
 mod ReplyLemmas
 mod OptionLemmas
+mod OptionLaws

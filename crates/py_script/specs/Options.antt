@@ -50,10 +50,14 @@ given_with given (Errors name) = if is_none given.errors then Some (record given
 given_with given (Newline text) = if is_none given.newline then Some (record given { newline = Some text }) else None
 given_with given (ChunkSize size) = if is_none given.chunk_size then Some (record given { chunk_size = Some size }) else None
 
+-- the options with that of a word; None where it is no option, or was given before
+abbrev pub given_with_word : Given → List ℕ → Option Given
+given_with_word given word = option_and_then (given_with given) (option_of word)
+
 -- the options with those of some words, in any order; None where one is no option, or is given twice
 abbrev pub given_with_words : Given → List (List ℕ) → Option Given
 given_with_words given [] = Some given
-given_with_words given (word ∷ words) = option_and_then (λ next. given_with_words next words) (option_and_then (given_with given) (option_of word))
+given_with_words given (word ∷ words) = option_and_then (λ next. given_with_words next words) (given_with_word given word)
 
 -- the arguments of an opening by some options: where one isn't given, a buffer of the default size, no names, no newline argument, chunks of 8192 bytes
 abbrev pub arguments_by : Given → OpenArgs
@@ -68,3 +72,7 @@ arguments_by given = record {
 -- the arguments of an opening by the words of its options; None where these are out of form
 abbrev pub arguments_of : List (List ℕ) → Option OpenArgs
 arguments_of words = option_map arguments_by (given_with_words nothing_given words)
+
+-- the name of an option's word: what stands before its first `=`
+abbrev pub name_of : List ℕ → List ℕ
+name_of word = before_first is_equals word

@@ -10,6 +10,7 @@ mod decimal;
 mod examples;
 mod fault_line;
 mod help;
+mod option_laws;
 mod options;
 mod reply_law;
 mod reply_line;
@@ -23,6 +24,7 @@ pub use examples::{
 };
 pub use fault_line::{fault_name, push_refused_line};
 pub use help::{help_text, version_text};
+pub use option_laws::{an_option_stands_once, every_text_has_its_hex, options_stand_in_any_order};
 pub use reply_law::reply_lines_tell;
 pub use reply_line::push_reply_line;
 pub use script::{MAX_SCRIPT_SIZE, parse_line, parse_script};

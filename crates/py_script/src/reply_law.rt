@@ -37,7 +37,7 @@ fn read_reply(reply: &Reply)
 }
 
 /// Bytes are below 256.
-fn read_bytes(bytes: &[u8])
+pub(crate) fn read_bytes(bytes: &[u8])
     ensures { IsBytes bytes.now }
 {}
 
