@@ -100,10 +100,7 @@ fn is_planned(mode: Mode, args: &OpenArgs) -> bool
 pub fn plan_open(mode: &str, args: &OpenArgs) -> Result<OpenPlan, IoFault>
     ensures { result ≡ plan_of mode.now args.now }
 {
-    let mode: Mode = match mode.parse() {
-        Ok(mode) => mode,
-        Err(why) => return Err(IoFault::ParseMode(why)),
-    };
+    let mode: Mode = mode.parse().map_err(IoFault::ParseMode)?;
     if !is_planned(mode, args) {
         return Err(IoFault::Unsupported);
     }
