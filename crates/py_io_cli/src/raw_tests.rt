@@ -157,7 +157,11 @@ fn every_size_of_buffer_and_chunk_reads_as_the_plain_text(rt: HostRuntime) -> Re
         let whole = joined(alloc, &lines, &[])?;
         for (buffering, _) in SIZES {
             for chunk in 0..9 {
-                let chunk = if chunk == 8 { "chunk=1" } else { SIZES[chunk].1 };
+                let chunk = if chunk == 8 {
+                    "chunk=1"
+                } else {
+                    SIZES[chunk].1
+                };
                 let follows = (Vec::new(alloc), Vec::new(alloc));
                 let options = [chunk, buffering];
                 let (status, printed) = run_over(&rt, alloc, bytes, follows, &options, MIXED)?;

@@ -79,12 +79,7 @@ fn scripts_run_and_end_with_their_status(rt: HostRuntime) -> Result<(), Fail> {
     let whole = "text c3a90a\ntext 78\nok\n";
     let cases: [(Option<&[u8]>, &[u8], u8, &str); 10] = [
         (Some(&FILE), SCRIPT, 0, whole),
-        (
-            Some(b""),
-            b"read\nreadline",
-            0,
-            "text -\ntext -\nok\n",
-        ),
+        (Some(b""), b"read\nreadline", 0, "text -\ntext -\nok\n"),
         (
             Some(b"a\xFF"),
             b"read\nread 1\n",
@@ -94,7 +89,12 @@ fn scripts_run_and_end_with_their_status(rt: HostRuntime) -> Result<(), Fail> {
         (Some(&FILE), b"# nothing\n\n", 0, "ok\n"),
         (Some(&FILE), b"red\n", 3, ""),
         (Some(&FILE), b"read  1\n", 3, ""),
-        (Some(&FILE), b"read 18446744073709551615\n", 0, "text c3a90a78\nok\n"),
+        (
+            Some(&FILE),
+            b"read 18446744073709551615\n",
+            0,
+            "text c3a90a78\nok\n",
+        ),
         (Some(&FILE), b"read 18446744073709551616\n", 3, ""),
         (None, SCRIPT, 8, ""),
         (None, b"red\n", 3, ""),
@@ -122,20 +122,39 @@ fn words_are_a_form_and_then_an_opening(rt: HostRuntime) -> Result<(), Fail> {
         (&["run", "f", "r", "newline=0a", "colour=1"], 2, ""),
         (&["--help", "f"], 2, ""),
         (&["run", "f", "r", "newline=0A"], 0, whole),
-        (&["run", "f", "rt", "chunk=1", "newline=0a", "buffering=2"], 0, whole),
         (
-            &["run", "f", "r", "errors=strict", "encoding=locale", "newline=0a"],
+            &["run", "f", "rt", "chunk=1", "newline=0a", "buffering=2"],
             0,
             whole,
         ),
-        (&["run", "f", "rr", "newline=0a"], 4, "refused InvalidMode\n"),
+        (
+            &[
+                "run",
+                "f",
+                "r",
+                "errors=strict",
+                "encoding=locale",
+                "newline=0a",
+            ],
+            0,
+            whole,
+        ),
+        (
+            &["run", "f", "rr", "newline=0a"],
+            4,
+            "refused InvalidMode\n",
+        ),
         (&["run", "f", "rwq"], 4, "refused MultipleFile\n"),
         (&["run", "f", "tb"], 4, "refused MultipleEncode\n"),
         (&["run", "f", "+"], 4, "refused NoFile\n"),
         (&["run", "f", "r"], 4, unsupported),
         (&["run", "f", "w", "newline=0a"], 4, unsupported),
         (&["run", "f", "rb"], 4, unsupported),
-        (&["run", "f", "r", "newline=0a", "buffering=0"], 4, unsupported),
+        (
+            &["run", "f", "r", "newline=0a", "buffering=0"],
+            4,
+            unsupported,
+        ),
         (&["run", "f", "r", "newline=0a", "chunk=0"], 4, unsupported),
         (&["run", "missing", "w"], 4, unsupported),
     ];
