@@ -87,31 +87,65 @@ mod tests {
     use std::test::Fail;
 
     #[test]
-    fn faults_say_what_went_wrong(rt: HostRuntime) -> Result<(), Fail> {
+    fn each_fault_says_what_went_wrong(rt: HostRuntime) -> Result<(), Fail> {
         let alloc = rt.alloc();
-        for (fault, text) in [
+        let table: [(IoFault, &str); 24] = [
             (IoFault::Closed, "I/O operation on closed file"),
+            (IoFault::Detached, "raw stream has been detached"),
+            (IoFault::Failed, "an earlier fault left the stream unusable"),
+            (
+                IoFault::Unsupported,
+                "underlying stream does not support the operation",
+            ),
+            (IoFault::BadWhence, "invalid whence"),
+            (IoFault::NegativeSeek, "negative seek value"),
+            (IoFault::TooFar, "position or size too large"),
+            (IoFault::BadArgument, "invalid argument"),
+            (IoFault::RawFault, "the raw stream failed"),
             (
                 IoFault::WouldBlock { taken: 7 },
                 "write could not complete without blocking (7 bytes taken)",
             ),
+            (IoFault::NoMemory, "out of memory"),
             (
                 IoFault::UnicodeDecodeError { start: 2, end: 5 },
                 "can't decode bytes in position 2-5",
             ),
             (
-                IoFault::IndexError { dimension: 1 },
-                "index out of bounds on dimension 1",
+                IoFault::UnicodeEncodeError { start: 3, end: 4 },
+                "can't encode characters in position 3-4",
             ),
+            (
+                IoFault::SeekFirst,
+                "a text that was read from must be sought before it is written",
+            ),
+            (IoFault::InvalidCookie, "invalid cookie"),
+            (
+                IoFault::CannotRestore,
+                "can't restore logical file position",
+            ),
+            (IoFault::UnknownEncoding, "unknown encoding"),
+            (IoFault::UnknownHandler, "unknown error handler name"),
             (
                 IoFault::ParseMode(ParseModeError::NoFile),
                 "Must have exactly one of create/read/write/append mode and at most one plus",
             ),
             (
-                IoFault::ModeText(ModeError::BadRwa),
-                "Must have exactly one of create/read/write/append mode and at most one plus",
+                IoFault::BufferError,
+                "existing exports of data: object cannot be re-sized",
             ),
-        ] {
+            (
+                IoFault::BadRestart,
+                "position returned by the error handler is out of bounds",
+            ),
+            (IoFault::EndOfFile, "EOF when reading a line"),
+            (IoFault::ModeText(ModeError::Invalid), "invalid mode"),
+            (
+                IoFault::IndexError { dimension: 1 },
+                "index out of bounds on dimension 1",
+            ),
+        ];
+        for (fault, text) in table {
             assert_eq!(rt; format!(in alloc; "{fault}")?.as_str(), text);
         }
         Ok(())

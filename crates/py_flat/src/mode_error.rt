@@ -86,4 +86,36 @@ mod tests {
         }
         Ok(())
     }
+
+    #[test]
+    fn each_error_says_what_is_wrong_with_the_mode(rt: HostRuntime) -> Result<(), Fail> {
+        let alloc = rt.alloc();
+        for (error, text) in [
+            (ParseModeError::InvalidMode, "invalid mode"),
+            (
+                ParseModeError::MultipleFile,
+                "must have exactly one of create/read/write/append mode",
+            ),
+            (
+                ParseModeError::MultipleEncode,
+                "can't have text and binary mode at once",
+            ),
+            (
+                ParseModeError::NoFile,
+                "Must have exactly one of create/read/write/append mode and at most one plus",
+            ),
+        ] {
+            assert_eq!(rt; format!(in alloc; "{error}")?.as_str(), text);
+        }
+        for (error, text) in [
+            (ModeError::Invalid, "invalid mode"),
+            (
+                ModeError::BadRwa,
+                "Must have exactly one of create/read/write/append mode and at most one plus",
+            ),
+        ] {
+            assert_eq!(rt; format!(in alloc; "{error}")?.as_str(), text);
+        }
+        Ok(())
+    }
 }
