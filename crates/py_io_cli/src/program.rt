@@ -35,15 +35,18 @@ use std::alloc::Global;
 /// - `no_form`, `words`: 2 comes only of words of no form, and such words end with 2 unless memory was wanting;
 /// - `source`, `sink`, `opener`: 5, 6 and 8 come only where a count of faults rose, of the source, the sink, the opener;
 /// - `refused`: 4 comes only where the plan refuses the opening, or the raw's count of faults rose;
-/// - `planned`, `unopened`: an opening that the plan refuses ends with 4 unless the source or the sink failed or memory was
-///   wanting first, and nothing is opened;
-/// - `complete`: where no count rose and no plan refuses it is 0, or 3 for a script out of form, or 7 for want of memory;
-/// - `out_of_form`, `form`: 3 comes only of a script out of form, and such a script ends with 3 unless the source failed
-///   or memory was wanting first;
-/// - `missing`, `found`: 8 comes of an opener that tells only where the path holds nothing, and such a path ends with 8
-///   unless the plan refuses, the source failed or memory was wanting;
+/// - `planned`, `unopened`: an opening that the plan refuses opens nothing, and with a script that the source tells to be
+///   in form it ends with 4 unless the source or the sink failed or memory was wanting;
+/// - `complete`: of words in form, where no count rose and no plan refuses, it is 0, or 3 for a script out of form, or 7 for
+///   want of memory;
+/// - `out_of_form`, `form`: of a source that tells, 3 comes only of a script out of form, and such a script of a run ends
+///   with 3 unless the source failed or memory was wanting;
+/// - `missing`, `found`: of an opener that tells, and an opening that the plan accepts, 8 comes only where the path holds
+///   nothing, and such a path, with a script that the source tells to be in form, ends with 8 unless the source failed or
+///   memory was wanting;
 /// - `kept`: of an opener that tells every path holds what it held, the path of the words too, whatever the status is;
-/// - `printed`: with 0 the calls of a run are those of the whole script, and what was printed is the lines of a run of them;
+/// - `printed`: with 0, of a source that tells, the calls of a run are those of the whole script, and what was printed is
+///   the lines of a run of them;
 /// - `help`, `version`: with 0 the text that was asked for was printed.
 pub fn run_program<O: Opener, I: Source, K: Sink>(
     alloc: Global,

@@ -21,11 +21,11 @@ words_help =
     codes "  --version                   prints the program's name and version" ∷
     [] ∷
     codes "MODE is as in Python's open. Each OPTION is given at most once, in any order:" ∷
-    codes "  buffering=I    size of the buffer in bytes, 0 for none, -1 for 8192 (default)" ∷
+    codes "  buffering=I    size of the buffer in bytes; 1, and I below 0, mean 8192" ∷
     codes "  encoding=NAME  the encoding (default utf-8)" ∷
     codes "  errors=NAME    the handler of bytes that are out of form (default strict)" ∷
-    codes "  newline=HEX    what ends a line, in hex of its UTF-8, as 0a for LF (default" ∷
-    codes "                 any of CR LF, CR and LF, each read as LF)" ∷
+    codes "  newline=HEX    what ends a line, in hex of its UTF-8: 0a is LF (default: any" ∷
+    codes "                 of CR LF, CR and LF, each read as LF); none: empty text" ∷
     codes "  chunk=N        bytes that a text asks its buffer for at once (default 8192)" ∷
     codes "I and N are decimal numbers, I also behind a -. So far only MODE r is opened," ∷
     codes "with newline=0a, in UTF-8, strict, buffered, by chunks of 1 byte or more." ∷
@@ -42,7 +42,7 @@ script_help =
     codes "end. A script has at most 1048576 bytes." ∷
     [] ∷
     codes "Each call is answered by a line:" ∷
-    codes "  text HEX       what was read, in hex of its UTF-8; text - at the end" ∷
+    codes "  text HEX       what was read, in hex of its UTF-8; text - where nothing was" ∷
     codes "  ok             done" ∷
     codes "  notready       the file was not ready: make the call again" ∷
     codes "  err NAME ..    refused: Closed or Failed by an earlier call, RawFault where" ∷
@@ -57,8 +57,10 @@ status_help =
     codes "  0  every reply was printed        5  the script could not be read" ∷
     codes "  2  the words are no form          6  a line could not be printed" ∷
     codes "  3  the script is out of form      7  there was no memory left" ∷
-    codes "  4  the opening was refused, and   8  the path could not be opened, or the" ∷
-    codes "     refused NAME was printed          file not be put away again" ∷
+    codes "  4  refused NAME was printed: the  8  the path could not be opened, or the" ∷
+    codes "     mode (InvalidMode,                file not be put away again" ∷
+    codes "     MultipleFile, MultipleEncode, NoFile), an option (Unsupported), the file" ∷
+    codes "     (RawFault)" ∷
     []
 
 -- the lines that `--help` prints

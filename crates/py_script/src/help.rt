@@ -9,11 +9,11 @@ Opens a file, makes the calls of a script on it, and prints each reply.
   --version                   prints the program's name and version
 
 MODE is as in Python's open. Each OPTION is given at most once, in any order:
-  buffering=I    size of the buffer in bytes, 0 for none, -1 for 8192 (default)
+  buffering=I    size of the buffer in bytes; 1, and I below 0, mean 8192
   encoding=NAME  the encoding (default utf-8)
   errors=NAME    the handler of bytes that are out of form (default strict)
-  newline=HEX    what ends a line, in hex of its UTF-8, as 0a for LF (default
-                 any of CR LF, CR and LF, each read as LF)
+  newline=HEX    what ends a line, in hex of its UTF-8: 0a is LF (default: any
+                 of CR LF, CR and LF, each read as LF); none: empty text
   chunk=N        bytes that a text asks its buffer for at once (default 8192)
 I and N are decimal numbers, I also behind a -. So far only MODE r is opened,
 with newline=0a, in UTF-8, strict, buffered, by chunks of 1 byte or more.
@@ -26,7 +26,7 @@ Empty lines and lines that begin with # are skipped. A close is added at the
 end. A script has at most 1048576 bytes.
 
 Each call is answered by a line:
-  text HEX       what was read, in hex of its UTF-8; text - at the end
+  text HEX       what was read, in hex of its UTF-8; text - where nothing was
   ok             done
   notready       the file was not ready: make the call again
   err NAME ..    refused: Closed or Failed by an earlier call, RawFault where
@@ -37,8 +37,10 @@ The first status that applies ends the program:
   0  every reply was printed        5  the script could not be read
   2  the words are no form          6  a line could not be printed
   3  the script is out of form      7  there was no memory left
-  4  the opening was refused, and   8  the path could not be opened, or the
-     refused NAME was printed          file not be put away again
+  4  refused NAME was printed: the  8  the path could not be opened, or the
+     mode (InvalidMode,                file not be put away again
+     MultipleFile, MultipleEncode, NoFile), an option (Unsupported), the file
+     (RawFault)
 ";
 
 /// How the program is used, for one who has only the program: its words and options, the script, the replies and the

@@ -18,7 +18,7 @@ pub fn reply_lines_tell(first: &Reply, second: &Reply)
 }
 
 /// Reads the parts of a reply, which shows that each lies in its type's range.
-fn read_reply(reply: &Reply)
+pub(crate) fn read_reply(reply: &Reply)
     ensures { IsInRange reply.now }
 {
     match reply {

@@ -1,9 +1,12 @@
 ghost use Rattle.std.specs.Prelude.{◌≡◌, ◌++◌, ◌∷◌, [], length, map, decimal, encode_utf8_all, OnOk, OnErr, IfOk};
 ghost use Rattle.py_script.specs.Words.{spaced};
 ghost use Rattle.py_script.specs.Faults.{fault_name, fault_numbers};
+ghost use Rattle.py_open.specs.declared.reply.Reply.{Reply};
+ghost use Rattle.py_script.specs.ReplyRange.{IsInRange};
 ghost use Rattle.py_script.specs.ReplyLine.{hex_of, place_of, reply_word, reply_fields, reply_line};
 
 use crate::fault_name;
+use crate::reply_law::read_reply;
 use hex::encode;
 use py_flat::{Chars, Data, IoFault};
 use py_open::Reply;
@@ -13,8 +16,18 @@ use std::alloc::{AllocError, Global};
 /// unchanged.
 ///
 /// The line begins with a word for the reply's kind, and each further word stands behind one space: bytes, a text's
-/// UTF-8 and lines as hex in lower case (`-` for none), numbers as decimals (docs/PROGRAM.md).
+/// UTF-8 and lines as hex in lower case (`-` for none), numbers as decimals (docs/PROGRAM.md). It tells the reply: no other
+/// has this line.
 pub fn push_reply_line(alloc: Global, out: &mut Vec<u8>, reply: &Reply) -> Result<(), AllocError>
+    ensures ok { OnOk result (out.new.items ≡ out.old.items ++ reply_line reply.now) }
+    ensures err { OnErr result (out.new.items ≡ out.old.items) }
+    ensures tells { (other : Reply) → IsInRange other → reply_line other ≡ reply_line reply.now → other ≡ reply.now }
+{
+    read_reply(reply);
+    push_line(alloc, out, reply)
+}
+
+fn push_line(alloc: Global, out: &mut Vec<u8>, reply: &Reply) -> Result<(), AllocError>
     ensures ok { OnOk result (out.new.items ≡ out.old.items ++ reply_line reply.now) }
     ensures err { OnErr result (out.new.items ≡ out.old.items) }
 {
