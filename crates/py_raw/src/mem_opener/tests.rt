@@ -2,6 +2,7 @@
 use super::*;
 use crate::mode_tests::{EACH_MODE, opens};
 use crate::{RawError, RawStream, is_raw_mode};
+use std::process::Abort;
 
 #[test]
 fn each_mode_opens_and_keeps_what_it_should(rt: HostRuntime) -> Result<(), AllocError> {
@@ -33,10 +34,20 @@ fn each_mode_opens_and_keeps_what_it_should(rt: HostRuntime) -> Result<(), Alloc
     Ok(())
 }
 
+type Answers<'a> = &'a [Result<Option<usize>, RawError>];
+
+/// Tests what the next reads of a stream answer.
+fn check_reads(rt: &impl Abort, raw: &mut MemRaw, answers: Answers) {
+    for answer in answers {
+        let mut buf = [0; 9];
+        assert!(rt; !raw.closed() && raw.readable());
+        assert_eq!(rt; raw.readinto(&mut buf), *answer);
+    }
+}
+
 #[test]
 fn every_stream_of_a_path_follows_its_plan(rt: HostRuntime) -> Result<(), AllocError> {
     type Given<'a> = (&'a [Cut], &'a [u64]);
-    type Answers<'a> = &'a [Result<Option<usize>, RawError>];
     let alloc = rt.alloc();
     let mode = "rb";
     assert!(rt; is_raw_mode(mode));
@@ -60,11 +71,7 @@ fn every_stream_of_a_path_follows_its_plan(rt: HostRuntime) -> Result<(), AllocE
         }
         opener.put(alloc, path, Vec::from_slice(alloc, b"abc")?)?;
         let mut raw = opener.open_raw(alloc, path, mode).expect(&rt, "opened");
-        for answer in answers {
-            let mut buf = [0; 9];
-            assert!(rt; !raw.closed() && raw.readable());
-            assert_eq!(rt; raw.readinto(&mut buf), *answer);
-        }
+        check_reads(&rt, &mut raw, answers);
         assert_eq!(rt; opener.done(path, raw), Ok(()));
         assert_eq!(rt; (opener.raw_wait_count(), opener.raw_fault_count()), counts);
     }
