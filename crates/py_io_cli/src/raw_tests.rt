@@ -116,6 +116,15 @@ fn bytes_and_a_wait(alloc: Global, wait: usize) -> Result<Vec<Cut>, AllocError> 
     Ok(plan)
 }
 
+/// The lines from one number to before another; all of them where there aren't so many.
+fn part(lines: &[Vec<u8>], from: usize, to: usize) -> &[Vec<u8>] {
+    if from <= to && to <= lines.len() {
+        &lines[from..to]
+    } else {
+        lines
+    }
+}
+
 /// Some lines in one, then so many of another.
 fn joined(
     alloc: Global,
@@ -198,8 +207,8 @@ fn a_wait_before_any_transfer_puts_the_replies_off(rt: HostRuntime) -> Result<()
             assert!(rt; run.waits == 1 || wait > 0);
             let mut found = run.waits == 0 && run.printed == joined(alloc, &lines, &[])?;
             for put_off in 0..CALLS {
-                let mut all = joined(alloc, &lines[..put_off], &[(&Reply::NotReady, 1)])?;
-                all.extend_from_slice(&joined(alloc, &lines[put_off..CALLS - 1], &[])?)?;
+                let mut all = joined(alloc, part(&lines, 0, put_off), &[(&Reply::NotReady, 1)])?;
+                all.extend_from_slice(&joined(alloc, part(&lines, put_off, CALLS - 1), &[])?)?;
                 push_reply_line(alloc, &mut all, &Reply::Done)?;
                 found = found || run.waits == 1 && run.printed == all;
             }
@@ -233,7 +242,7 @@ fn a_fault_at_any_call_ends_the_replies(rt: HostRuntime) -> Result<(), Fail> {
             let mut found = run.faults == 0 && run.printed == joined(alloc, &lines, &[])?;
             for call in 0..=CALLS {
                 let last = [(&raw_fault, 1), (&failed, CALLS - call)];
-                let all = joined(alloc, &lines[..call], &last)?;
+                let all = joined(alloc, part(&lines, 0, call), &last)?;
                 found = found || run.faults == 1 && run.printed == all;
             }
             assert!(rt; found, "of {bytes:?}, failing at {fault}");

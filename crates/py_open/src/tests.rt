@@ -233,11 +233,11 @@ fn a_wait_before_any_transfer_loses_nothing(rt: HostRuntime) -> Result<(), Fail>
         for wait in 0..16 {
             let raw = raw_of(alloc, bytes, bytes_and_a_wait(alloc, wait)?)?;
             let run = small_run(&rt, alloc, raw, (2, 3), &calls);
-            let mut waits = 0;
+            let mut waits = 0u64;
             let mut expected = plain.iter();
             for reply in &run.replies {
                 if reply.says_wait() {
-                    waits += 1;
+                    waits = waits.saturating_add(1);
                 } else {
                     assert_eq!(rt;
                         Some(reply),
@@ -270,12 +270,12 @@ fn a_fault_at_any_call_fails_the_session(rt: HostRuntime) -> Result<(), Fail> {
                     assert_eq!(rt; refused.raw.bytes_of(), bytes);
                 }
                 Ok(run) => {
-                    let mut faults = 0;
+                    let mut faults = 0u64;
                     for (reply, expected) in run.replies.iter().zip(&plain) {
                         if faults > 0 {
                             assert_eq!(rt; *reply, Reply::Refused(IoFault::Failed));
                         } else if reply.says_fault() {
-                            faults += 1;
+                            faults = 1;
                         } else {
                             assert_eq!(rt; reply, expected, "of {bytes:?}, failing at {fault}");
                         }
