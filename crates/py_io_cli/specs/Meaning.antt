@@ -60,9 +60,9 @@ IsAcceptedAt path (Some (Run named mode args)) = (named ≡ path) × IsOk (plan_
 IsAcceptedAt path command = ⊥
 
 -- the words ask for a run
-abbrev pub IsRun : Option Command → Type 0
-IsRun (Some (Run path mode args)) = Unit {0}
-IsRun command = ⊥
+abbrev pub AsksForRun : Option Command → Type 0
+AsksForRun (Some (Run path mode args)) = Unit {0}
+AsksForRun command = ⊥
 
 -- what was printed is the lines of replies to the script's calls and a Close; unless one is for want of memory, they say
 -- what the model answers on a text of these bytes with chunks of this size, begun at place 0

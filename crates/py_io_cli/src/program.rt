@@ -9,7 +9,7 @@ ghost use Rattle.py_script.specs.CommandWords.{Help, Version, command_of};
 ghost use Rattle.py_script.specs.Help.{help_text, version_text};
 ghost use Rattle.py_io_cli.specs.Outside.{texts, IsOutOfForm, Prints};
 ghost use Rattle.py_io_cli.specs.Outcome.{asked_by, RawOutcome, PlannedOutcome, Outcome, Ends, after_done};
-ghost use Rattle.py_io_cli.specs.Meaning.{IsRun, IsRefusedPlan, IsAcceptedAt, TellsForm, TellsNoForm, NothingFails, PrintsReplies};
+ghost use Rattle.py_io_cli.specs.Meaning.{AsksForRun, IsRefusedPlan, IsAcceptedAt, TellsForm, TellsNoForm, NothingFails, PrintsReplies};
 
 use crate::laws::a_smooth_run_prints_the_exact_replies;
 use crate::printing::{print_refused, print_replies, print_text};
@@ -71,7 +71,7 @@ pub fn run_program<O: Opener, I: Source, K: Sink>(
         (record { opener = O.shows opener.old; sink = K.shows out.old }) (record { opener = O.shows opener.new; sink = K.shows out.new })
         → (result ≡ 0) ⊎ ((result ≡ 3) ⊎ (result ≡ 7)) }
     ensures out_of_form { result ≡ 3 → IsTrue (I.shows script.old).tells → IsOutOfForm (I.shows script.old).left }
-    ensures form { IsRun (command_of (texts words.now)) → TellsNoForm (I.shows script.old)
+    ensures form { AsksForRun (command_of (texts words.now)) → TellsNoForm (I.shows script.old)
         → (result ≡ 3) ⊎ ((result ≡ 5) ⊎ (result ≡ 7)) }
     ensures missing { (path : List ℕ) → IsAcceptedAt path (command_of (texts words.now)) → result ≡ 8 → IsTrue (O.shows opener.old).tells
         → (O.shows opener.old).holds path ≡ None }
@@ -79,7 +79,7 @@ pub fn run_program<O: Opener, I: Source, K: Sink>(
         → IsTrue (O.shows opener.old).tells → (O.shows opener.old).holds path ≡ None
         → (result ≡ 8) ⊎ ((result ≡ 5) ⊎ (result ≡ 7)) }
     ensures kept { IsTrue (O.shows opener.old).tells → HoldsTheSame (O.shows opener.old) (O.shows opener.new) }
-    ensures printed { result ≡ 0 → IsRun (command_of (texts words.now)) → IsTrue (I.shows script.old).tells → PrintsReplies (I.shows script.old) (I.shows script.new)
+    ensures printed { result ≡ 0 → AsksForRun (command_of (texts words.now)) → IsTrue (I.shows script.old).tells → PrintsReplies (I.shows script.old) (I.shows script.new)
         (record { opener = O.shows opener.old; sink = K.shows out.old }) (record { opener = O.shows opener.new; sink = K.shows out.new }) }
     ensures help { result ≡ 0 → command_of (texts words.now) ≡ Some Help → Prints (K.shows out.old) help_text (K.shows out.new) }
     ensures version { result ≡ 0 → command_of (texts words.now) ≡ Some Version → Prints (K.shows out.old) version_text (K.shows out.new) }

@@ -29,10 +29,6 @@ pub record SessionView : Type 0 where
 
 -- What the model says of a call.
 
--- what a call is refused by before the file is looked at: first by the life, then by the kind
-abbrev pub session_refusal : SessionFile → Call → Option IoFault
-session_refusal (OfText file) call = text_refusal file (text_call call)
-
 -- the allowed step
 abbrev pub SessionStep : SessionFile → Call → FileReply → Bool → Bool → SessionFile → Type 0
 SessionStep (OfText before) call reply waited faulted (OfText after) = TextStep before (text_call call) reply waited faulted after

@@ -1,8 +1,21 @@
-mod Rows
-mod Spells
-mod Encoded
+pub mod Rows
+pub mod Surrogates
+pub mod Spells
+pub mod Encoded
+pub mod PastAscii
+pub mod Escaped
 pub mod UnitLaws
+pub mod AnyUnits
+pub mod Utf16Laws
+pub mod OwnBytes
 pub mod Walks
-mod Translating
+pub mod Giving
+pub mod Encodings
+pub mod TextBytes
+pub mod OwnText
+pub mod Fronts
+pub mod Translating
 pub mod Strings
-mod Joining
+pub mod Joining
+pub mod Looking
+pub mod Items

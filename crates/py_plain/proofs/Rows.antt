@@ -1,6 +1,6 @@
 -- The rows of Table 3-7 one by one: what a first byte says that lies in a row, and in none.
 use Rattle.std.proofs.Common.{◌≡◌, ℕ, ◌-◌, ◌<◌, ◌≤◌, ◌⊎◌, inl, inr, true, false, cond, ◌∙◌, arith}
-use Rattle.std.proofs.lemmas.Bool.{le-leb, lt-leb, leb-true, and_from, and_left, and_right, and_parts, cond-true, cond-false}
+use Rattle.std.proofs.lemmas.Bool.{le-leb, lt-leb, leb-true, leb-false, and_from, and_left, and_right, and_parts, and_cases, cond-true, cond-false}
 use Rattle.py_plain.specs.Utf8.{Lead, Alone, Leads, Never, is_within, lead}
 
 pub is_within-in : (low high byte : ℕ) → low ≤ byte → byte ≤ high → is_within low high byte ≡ true
@@ -19,6 +19,11 @@ pub is_within-true : (low high byte : ℕ) → is_within low high byte ≡ true 
 unfolding is_within
 is_within-true low high byte is =
     let both = and_parts _ _ is in (leb-true low byte both.0, leb-true byte high both.1)
+
+pub is_within-false : (low high byte : ℕ) → is_within low high byte ≡ false → (byte < low) ⊎ (high < byte)
+unfolding is_within
+is_within-false low high byte is =
+    elim (and_cases _ _ is) [ inl below ↦ inl (leb-false low byte below) | inr above ↦ inr (leb-false byte high above) ]
 
 -- a byte outside a row is looked for in the rows behind it
 past : (low high byte : ℕ) (row others : Lead) → (byte < low) ⊎ (high < byte) → cond (is_within low high byte) row others ≡ others

@@ -1,5 +1,5 @@
 -- What a unit of UTF-8 says of the bytes that it stands for.
-use Rattle.std.proofs.Common.{◌≡◌, ℕ, zero, suc, ◌+◌, ◌-◌, ◌*◌, ◌/◌, ◌<◌, ◌≤◌, ◌⊎◌, inl, inr, cond, List, [], ◌∷◌, ◌++◌, length as len, take, Some, IsSome, IfSome, refl, sym, ap, subst, ◌∙◌, arith}
+use Rattle.std.proofs.Common.{◌≡◌, ℕ, zero, suc, ◌+◌, ◌-◌, ◌*◌, ◌/◌, ◌<◌, ◌≤◌, ◌⊎◌, inl, inr, cond, List, [], ◌∷◌, ◌++◌, length as len, take, Some, refl, sym, ap, subst, ◌∙◌, arith}
 use Rattle.std.specs.Char.{IsScalar, encode_utf8}
 use Rattle.std.proofs.lemmas.Bool.{cond-true, cond-false, cond_both, lt-ltb, le-ltb, le-leb, and_from, cases_lt}
 use lib.Utf8.{scalar_cases}
@@ -7,7 +7,7 @@ use Rattle.py_plain.specs.declared.unit.Unit.{Unit as Read}
 use Rattle.py_plain.specs.declared.unit.Unit.TheVariants.{Character, Malformed, Cut}
 use Rattle.py_plain.specs.Utf8.{Lead, Alone, Leads, Never, is_within, lead, sequence, unit_after, utf8_unit}
 use Rattle.py_plain.specs.Spelling.{Spells, least, greatest}
-use Rattle.py_plain.specs.UnitLaws.{IsUtf8Long, IsWithin}
+use Rattle.py_plain.specs.UnitLaws.{IsUtf8Long}
 use Rattle.py_plain.proofs.Rows.{is_within-true, lead-ascii, lead-C2, lead-E0, lead-E1, lead-ED, lead-EE, lead-F0, lead-F1, lead-F4}
 use Rattle.py_plain.proofs.Encoded.{upper, tail, continuing, IsSpelled, spelled, FirstFits, sequence-spells, encode-1, encode-2, encode-3, encode-4}
 
@@ -21,10 +21,10 @@ by_rows P byte ascii c2 e0 e1 ed ee f0 f1 f4 never =
 
 -- Characters.
 
-scalar_below : (c : ℕ) → c < 0xD800 → IsScalar c
+pub scalar_below : (c : ℕ) → c < 0xD800 → IsScalar c
 scalar_below c below = cond-true _ _ _ (lt-ltb c 0xD800 below)
 
-scalar_above : (c : ℕ) → 0xE000 ≤ c → c < 0x110000 → IsScalar c
+pub scalar_above : (c : ℕ) → 0xE000 ≤ c → c < 0x110000 → IsScalar c
 scalar_above c from below = cond-false _ _ _ (le-ltb c 0xD800 (omega arith)) ∙ and_from _ _ (le-leb 0xE000 c from) (lt-ltb c 0x110000 below)
 
 scalar_spelled : (follow low high bits : ℕ) (rest : List ℕ) (c : ℕ) → Spells follow low high bits → IsSpelled follow low high bits rest c → IsScalar c
@@ -161,7 +161,7 @@ Uses-later length follow left (Character c n) uses = (omega (arith, uses.0), ome
 Uses-later length follow left (Malformed n) uses = (omega (arith, uses.0), omega (arith, uses.1), omega (arith, uses.2))
 Uses-later length follow left (Cut n) uses = (omega (arith, uses.0), omega (arith, uses.1), omega (arith, uses.2))
 
-sequence-uses : (length follow low high bits : ℕ) (rest : List ℕ) → Uses length follow (len rest) (sequence length follow low high bits rest)
+pub sequence-uses : (length follow low high bits : ℕ) (rest : List ℕ) → Uses length follow (len rest) (sequence length follow low high bits rest)
 sequence-uses length zero low high bits rest = (omega arith, omega arith)
 sequence-uses length (suc follow) low high bits [] = (omega arith, omega arith, omega arith)
 sequence-uses length (suc follow) low high bits (byte ∷ rest) =
@@ -174,7 +174,7 @@ uses_of follow left (Character c n) short uses = (omega (arith, uses.0), omega (
 uses_of follow left (Malformed n) short uses = (uses.0, omega (arith, uses.1), omega (arith, uses.2))
 uses_of follow left (Cut n) short uses = (uses.0, omega (arith, uses.1), omega (arith, uses.2))
 
-unit_uses : (byte : ℕ) (rest : List ℕ) → IsUtf8Long (unit_after byte (lead byte) rest) (len (byte ∷ rest))
+pub unit_uses : (byte : ℕ) (rest : List ℕ) → IsUtf8Long (unit_after byte (lead byte) rest) (len (byte ∷ rest))
 unit_uses byte rest =
     let leads : (follow low high bits : ℕ) → follow ≤ 3 → IsUtf8Long (sequence 1 follow low high bits rest) (suc (len rest)) =
     λ follow low high bits short. uses_of follow (len rest) _ short (sequence-uses 1 follow low high bits rest) in
@@ -186,18 +186,3 @@ unit_within [] unit is = absurd (cc)
 unit_within (byte ∷ rest) unit is =
     let same : unit_after byte (lead byte) rest ≡ unit = cc in
     subst (λ u. IsUtf8Long u (suc (len rest))) same (unit_uses byte rest)
-
-pub unit_some : (bytes : List ℕ) → 0 < len bytes → IsSome (utf8_unit bytes)
-unit_some [] more = absurd (omega arith)
-unit_some (byte ∷ rest) more = refl
-
--- which a unit of any encoding has
-pub within_any : (unit : Read) (left : ℕ) → IsUtf8Long unit left → IsWithin unit left
-within_any (Character c n) left long = (long.0, long.2)
-within_any (Malformed n) left long = (long.0, long.2)
-within_any (Cut n) left long = (long.0, long.2)
-
--- the same of the unit, if there is one
-pub unit_within_any : (bytes : List ℕ) → IfSome (utf8_unit bytes) (λ unit. IsWithin unit (len bytes))
-unit_within_any [] = tt
-unit_within_any (byte ∷ rest) = within_any (unit_after byte (lead byte) rest) (len (byte ∷ rest)) (unit_uses byte rest)

@@ -1,12 +1,14 @@
 -- The plain decoding, one item at a time.
-use Rattle.std.proofs.Common.{◌≡◌, ℕ, zero, suc, ◌+◌, ◌-◌, ◌<◌, ◌≤◌, Bool, true, nat_eq, List, [], ◌∷◌, ◌++◌, length as len, get_or, drop, refl, sym, ap, ◌∙◌, arith}
+use Rattle.std.proofs.Common.{◌≡◌, ℕ, zero, suc, ◌+◌, ◌-◌, ◌<◌, ◌≤◌, Bool, true, nat_eq, List, [], ◌∷◌, ◌++◌, length as len, get_or, drop, Some, IfSome, refl, sym, ap, subst, ◌∙◌, arith}
 use Rattle.std.proofs.lemmas.List.{drop_more, drop-drop, append_assoc}
 use Rattle.py_plain.specs.declared.encoding.Encoding.{Encoding}
-use Rattle.py_plain.specs.declared.encoding.Encoding.TheVariants.{Utf8}
 use Rattle.py_plain.specs.declared.handler.Handler.{Handler}
-use Rattle.py_plain.specs.Units.{Order, first_unit, order_after}
+use Rattle.py_plain.specs.declared.unit.Unit.TheVariants.{Character}
+use Rattle.py_plain.specs.Units.{Order, first_unit}
+use Rattle.py_plain.specs.UnitLaws.{IsWithin}
 use Rattle.py_plain.specs.Handlers.{Treatment, treatment}
-use Rattle.py_plain.specs.Items.{Given, first_item, used_behind, onto_walk, walk_from, plain, characters_of, refusal_of}
+use Rattle.py_plain.specs.Items.{Given, item_of, first_item, used_behind, onto_walk, walk_from, plain, characters_of, refusal_of}
+use Rattle.py_plain.proofs.AnyUnits.{unit_within_any}
 
 -- passing over bytes is to stand behind them
 pub walk-skip : (encoding : Encoding) (treat : Treatment) (last : Bool) (order : Order) (place skip : ℕ) (bytes : List ℕ) → walk_from encoding treat last order place skip bytes ≡ walk_from encoding treat last order (place + skip) 0 (drop skip bytes)
@@ -15,16 +17,22 @@ walk-skip encoding treat last order place (suc skip) [] = refl
 walk-skip encoding treat last order place (suc skip) (byte ∷ rest) =
     walk-skip encoding treat last order (place + 1) skip rest ∙ ap (λ p. walk_from encoding treat last order p 0 (drop skip rest)) (omega arith)
 
--- UTF-8 keeps the order that it doesn't look at
-order_stays : (encoding : Encoding) (order : Order) (bytes : List ℕ) (at_start : Bool) → order_after encoding order (first_unit encoding order at_start bytes) ≡ order
-order_stays Utf8 order bytes at_start = refl
-
 -- a walk over bytes whose first item is characters goes on behind the bytes of that item
-pub walk-given : (encoding : Encoding) (treat : Treatment) (order : Order) (place : ℕ) (byte : ℕ) (rest cs : List ℕ) (used : ℕ) → 1 ≤ used → first_item encoding treat true order place (byte ∷ rest) ≡ Given cs used → walk_from encoding treat true order place 0 (byte ∷ rest) ≡ onto_walk place (Given cs used) (walk_from encoding treat true order (place + used) 0 (drop (used - 1) rest))
-walk-given encoding treat order place byte rest cs used some first =
-    ap (λ o. onto_walk place (first_item encoding treat true order place (byte ∷ rest)) (walk_from encoding treat true o (place + 1) (used_behind (first_item encoding treat true order place (byte ∷ rest))) rest)) (order_stays encoding order (byte ∷ rest) (nat_eq place 0))
-    ∙ ap (λ item. onto_walk place item (walk_from encoding treat true order (place + 1) (used_behind item) rest)) first
-    ∙ ap (λ w. onto_walk place (Given cs used) w) (walk-skip encoding treat true order (place + 1) (used - 1) rest ∙ ap (λ p. walk_from encoding treat true order p 0 (drop (used - 1) rest)) (omega arith))
+pub walk-given : (encoding : Encoding) (treat : Treatment) (last : Bool) (order : Order) (place : ℕ) (byte : ℕ) (rest cs : List ℕ) (used : ℕ) → 1 ≤ used → first_item encoding treat last order place (byte ∷ rest) ≡ Given cs used → walk_from encoding treat last order place 0 (byte ∷ rest) ≡ onto_walk place (Given cs used) (walk_from encoding treat last order (place + used) 0 (drop (used - 1) rest))
+walk-given encoding treat last order place byte rest cs used some first =
+    ap (λ item. onto_walk place item (walk_from encoding treat last order (place + 1) (used_behind item) rest)) first
+    ∙ ap (λ w. onto_walk place (Given cs used) w) (walk-skip encoding treat last order (place + 1) (used - 1) rest ∙ ap (λ p. walk_from encoding treat last order p 0 (drop (used - 1) rest)) (omega arith))
+
+-- a walk over bytes that begin with a character goes on behind it
+pub walk-character : (encoding : Encoding) (treat : Treatment) (last : Bool) (order : Order) (place : ℕ) (bytes : List ℕ) (c n : ℕ) → first_unit encoding order (nat_eq place 0) bytes ≡ Some (Character c n) → walk_from encoding treat last order place 0 bytes ≡ onto_walk place (Given (c ∷ []) n) (walk_from encoding treat last order (place + n) 0 (drop n bytes))
+walk-character encoding treat last order place [] c n is =
+    let within = subst (λ unit. IfSome unit (λ u. IsWithin u 0)) is (unit_within_any encoding order (nat_eq place 0) []) in
+    absurd (omega (arith, within.0, within.1))
+walk-character encoding treat last order place (byte ∷ rest) c n is =
+    let within = subst (λ unit. IfSome unit (λ u. IsWithin u (suc (len rest)))) is (unit_within_any encoding order (nat_eq place 0) (byte ∷ rest)) in
+    let behind : suc (n - 1) ≡ n = omega (arith, within.0) in
+    walk-given encoding treat last order place byte rest (c ∷ []) n within.0 (ap (λ unit. item_of treat last place (byte ∷ rest) unit) is)
+    ∙ ap (λ k. onto_walk place (Given (c ∷ []) n) (walk_from encoding treat last order (place + n) 0 (drop k (byte ∷ rest)))) behind
 
 -- the decoding from a place on begins with the item there
 pub plain-given : (encoding : Encoding) (treat : Treatment) (order : Order) (bytes : List ℕ) (place : ℕ) (cs : List ℕ) (used : ℕ) → place < len bytes → 1 ≤ used → first_item encoding treat true order place (drop place bytes) ≡ Given cs used → plain encoding treat order bytes place ≡ onto_walk place (Given cs used) (plain encoding treat order bytes (place + used))
@@ -32,7 +40,7 @@ plain-given encoding treat order bytes place cs used inside some first =
     let split = drop_more bytes place 0 inside in
     let behind : drop (used - 1) (drop (place + 1) bytes) ≡ drop (place + used) bytes = drop-drop (used - 1) (place + 1) bytes ∙ ap (λ k. drop k bytes) (omega arith) in
     ap (λ bs. walk_from encoding treat true order place 0 bs) split
-    ∙ walk-given encoding treat order place (get_or bytes place 0) (drop (place + 1) bytes) cs used some (ap (λ bs. first_item encoding treat true order place bs) (sym split) ∙ first)
+    ∙ walk-given encoding treat true order place (get_or bytes place 0) (drop (place + 1) bytes) cs used some (ap (λ bs. first_item encoding treat true order place bs) (sym split) ∙ first)
     ∙ ap (λ bs. onto_walk place (Given cs used) (walk_from encoding treat true order (place + used) 0 bs)) behind
 
 -- what is out at a place, and what comes from there on, are the whole decoding
@@ -40,12 +48,12 @@ pub record Continues (encoding : Encoding) (handler : Handler) (order : Order) (
   pub characters : out ++ characters_of (plain encoding (treatment handler encoding) order bytes place).items ≡ characters_of (plain encoding (treatment handler encoding) order bytes from).items
   pub refusal : refusal_of (plain encoding (treatment handler encoding) order bytes place).ending ≡ refusal_of (plain encoding (treatment handler encoding) order bytes from).ending
 
--- one character more is out
-pub Continues-next : (encoding : Encoding) (handler : Handler) (order : Order) (bytes : List ℕ) (from place : ℕ) (out : List ℕ) (c used : ℕ) → place < len bytes → 1 ≤ used → first_item encoding (treatment handler encoding) true order place (drop place bytes) ≡ Given (c ∷ []) used → Continues encoding handler order bytes from place out → Continues encoding handler order bytes from (place + used) (out ++ c ∷ [])
-Continues-next encoding handler order bytes from place out c used inside some first before =
+-- the characters of one item more are out
+pub Continues-next : (encoding : Encoding) (handler : Handler) (order : Order) (bytes : List ℕ) (from place : ℕ) (out : List ℕ) (cs : List ℕ) (used : ℕ) → place < len bytes → 1 ≤ used → first_item encoding (treatment handler encoding) true order place (drop place bytes) ≡ Given cs used → Continues encoding handler order bytes from place out → Continues encoding handler order bytes from (place + used) (out ++ cs)
+Continues-next encoding handler order bytes from place out cs used inside some first before =
     let treat = treatment handler encoding in
-    let step = plain-given encoding treat order bytes place (c ∷ []) used inside some first in
+    let step = plain-given encoding treat order bytes place cs used inside some first in
     record {
-      characters = append_assoc out (c ∷ []) (characters_of (plain encoding treat order bytes (place + used)).items) ∙ ap (λ w. out ++ characters_of w.items) (sym step) ∙ before.characters;
+      characters = append_assoc out cs (characters_of (plain encoding treat order bytes (place + used)).items) ∙ ap (λ w. out ++ characters_of w.items) (sym step) ∙ before.characters;
       refusal = ap (λ w. refusal_of w.ending) (sym step) ∙ before.refusal;
     }

@@ -1,15 +1,22 @@
--- What the program reads as the first item, in the words of the definitions.
-use Rattle.std.specs.Prelude.{ℕ, [], ◌∷◌}
-use Rattle.py_plain.specs.Items.{FirstItem, Given, RefusedRange}
+-- What the program does with a refused range and reads as the first item, in the words of the definitions.
+use Rattle.std.specs.Prelude.{ℕ, ◌≡◌, List, ◌++◌, Option, Some, None}
+use Rattle.py_plain.specs.Handlers.{Handled, Replaced, Refuses}
+use Rattle.py_plain.specs.Items.{FirstItem, Given, RefusedRange, Unfinished}
 use Rattle.py_plain.specs.declared.decoded.FirstItem.{FirstItem as Seen}
 use Rattle.py_plain.specs.declared.decoded.FirstItem.TheVariants as seen
 
--- the item of the definitions
-abbrev pub item_shown : Seen → FirstItem
-item_shown (seen.Given character used) = Given (character ∷ []) used
-item_shown (seen.RefusedRange length) = RefusedRange length
+-- the characters that a handler gives stand behind those of before, and the answer is the bytes that it used; or nothing is given, and there is no answer
+abbrev pub Treats : Handled → (before after : List ℕ) → Option ℕ → Type 0
+Treats (Replaced characters used) before after answer = (after ≡ before ++ characters) × (answer ≡ Some used)
+Treats Refuses before after answer = (after ≡ before) × (answer ≡ None)
+
+-- the same of the first item; where nothing comes behind the bytes, none is unfinished
+abbrev pub Gives : FirstItem → (before after : List ℕ) → Seen → Type 0
+Gives (Given characters used) before after answer = (after ≡ before ++ characters) × (answer ≡ seen.Given used)
+Gives (RefusedRange length) before after answer = (after ≡ before) × (answer ≡ seen.RefusedRange length)
+Gives Unfinished before after answer = ⊥
 
 -- how many bytes it stands for
 abbrev pub bytes_of : Seen → ℕ
-bytes_of (seen.Given character used) = used
+bytes_of (seen.Given used) = used
 bytes_of (seen.RefusedRange length) = length

@@ -1,6 +1,6 @@
 -- Decoding in pieces: each while more may come, what it left unused put before the next, and the last one finally.
 use Rattle.std.specs.Prelude.{◌≡◌, ℕ, ◌+◌, ◌-◌, ◌≤◌, Bool, true, false, List, [], ◌∷◌, ◌++◌, length, take, drop}
-use Rattle.py_plain.specs.declared.encoding.Encoding.TheVariants.{Utf8}
+use Rattle.py_plain.specs.declared.encoding.Encoding.{Encoding}
 use Rattle.py_plain.specs.Units.{Order}
 use Rattle.py_plain.specs.Handlers.{Treatment, Replaced}
 use Rattle.py_plain.specs.Items.{Item, Ending, AtEnd, AtRange, AtCut, Walk, walk_from}
@@ -10,9 +10,9 @@ pub record LooksAtRange (treat : Treatment) : Type 0 where
   pub same : (place size : ℕ) (rest other : List ℕ) → take size rest ≡ take size other → treat place rest size ≡ treat place other size
   pub within : (place size : ℕ) (rest characters : List ℕ) (used : ℕ) → treat place rest size ≡ Replaced characters used → used ≤ size
 
--- the decoding of bytes of UTF-8 that stand at a place
-abbrev pub utf8_walk : Treatment → Bool → Order → ℕ → List ℕ → Walk
-utf8_walk treat last order place bytes = walk_from Utf8 treat last order place 0 bytes
+-- the decoding of bytes that stand at a place
+abbrev pub walk_at : Encoding → Treatment → Bool → Order → ℕ → List ℕ → Walk
+walk_at encoding treat last order place bytes = walk_from encoding treat last order place 0 bytes
 
 -- some items before a decoding
 abbrev pub items_before : List Item → Walk → Walk
@@ -36,14 +36,14 @@ unless_refused (AtRange start end) walk = record { items = []; ending = AtRange 
 unless_refused _ walk = walk
 
 -- the decoding of a front while more may come, and then of what it left and the rest
-abbrev pub in_two : Treatment → Bool → Order → ℕ → (front rest : List ℕ) → Walk
-in_two treat last order place front rest =
-    let first = utf8_walk treat false order place front in
-    items_before first.items (unless_refused first.ending (utf8_walk treat last order (place_behind place front first.ending) (unused place front first.ending ++ rest)))
+abbrev pub in_two : Encoding → Treatment → Bool → Order → ℕ → (front rest : List ℕ) → Walk
+in_two encoding treat last order place front rest =
+    let first = walk_at encoding treat false order place front in
+    items_before first.items (unless_refused first.ending (walk_at encoding treat last order (place_behind place front first.ending) (unused place front first.ending ++ rest)))
 
 -- the decoding of any number of pieces behind the bytes that were kept, and of the last one
-abbrev pub in_pieces : Treatment → Order → ℕ → List ℕ → List (List ℕ) → List ℕ → Walk
-in_pieces treat order place kept [] final = utf8_walk treat true order place (kept ++ final)
-in_pieces treat order place kept (piece ∷ pieces) final =
-    let first = utf8_walk treat false order place (kept ++ piece) in
-    items_before first.items (unless_refused first.ending (in_pieces treat order (place_behind place (kept ++ piece) first.ending) (unused place (kept ++ piece) first.ending) pieces final))
+abbrev pub in_pieces : Encoding → Treatment → Order → ℕ → List ℕ → List (List ℕ) → List ℕ → Walk
+in_pieces encoding treat order place kept [] final = walk_at encoding treat true order place (kept ++ final)
+in_pieces encoding treat order place kept (piece ∷ pieces) final =
+    let first = walk_at encoding treat false order place (kept ++ piece) in
+    items_before first.items (unless_refused first.ending (in_pieces encoding treat order (place_behind place (kept ++ piece) first.ending) (unused place (kept ++ piece) first.ending) pieces final))

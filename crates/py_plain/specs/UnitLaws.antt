@@ -1,5 +1,6 @@
--- How long a unit is.
-use Rattle.std.specs.Prelude.{ℕ, ◌≤◌, ◌≡◌}
+-- How long a unit is, and which numbers are bytes.
+use Rattle.std.specs.Prelude.{ℕ, ◌<◌, ◌≤◌, ◌≡◌, List}
+use Rattle.std.specs.List.{All}
 use Rattle.py_plain.specs.declared.unit.Unit.{Unit}
 use Rattle.py_plain.specs.declared.unit.Unit.TheVariants.{Character, Malformed, Cut}
 
@@ -14,3 +15,7 @@ abbrev pub IsWithin : Unit → ℕ → Type 0
 IsWithin (Character c n) left = (1 ≤ n) × (n ≤ left)
 IsWithin (Malformed n) left = (1 ≤ n) × (n ≤ left)
 IsWithin (Cut n) left = (1 ≤ n) × (n ≡ left)
+
+-- numbers that are bytes
+abbrev pub AreBytes : List ℕ → Type 0
+AreBytes bytes = All (λ byte. byte < 0x100) bytes

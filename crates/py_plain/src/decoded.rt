@@ -1,10 +1,10 @@
-ghost use Rattle.std.specs.Prelude.{◌≡◌, ◌<◌, ◌≤◌, ℕ, List, true, length, IfOk};
-ghost use Rattle.py_plain.specs.declared.encoding.Encoding.{Encoding};
+ghost use Rattle.std.specs.Prelude.{◌≡◌, ◌<◌, ◌≤◌, ℕ, true, length, IfOk};
 ghost use Rattle.py_plain.specs.Units.{Order};
 ghost use Rattle.py_plain.specs.Handlers.{treatment};
 ghost use Rattle.py_plain.specs.Items.{first_item, item_handled, plain, characters_of, refusal_of};
-ghost use Rattle.py_plain.specs.Decoding.{item_shown, bytes_of};
+ghost use Rattle.py_plain.specs.Decoding.{Gives, bytes_of};
 
+use crate::replacement::push_replacement;
 use crate::{Encoding, Handler, Unit, first_unit};
 use std::alloc::{AllocError, Global};
 
@@ -20,35 +20,56 @@ pub struct Decoded {
 /// What comes first of some bytes, where nothing comes behind them.
 #[derive(Clone, Copy)]
 enum FirstItem {
-    /// A character that stands for so many bytes.
-    Given { character: char, used: usize },
+    /// Characters, or none, that stand for so many bytes.
+    Given { used: usize },
     /// A range of so many bytes that the handler refuses.
     RefusedRange { length: usize },
 }
 
-fn handled(handler: Handler, length: usize) -> FirstItem
-    ensures shown { (encoding : Encoding) (place : ℕ) (rest : List ℕ) → item_shown result
-        ≡ item_handled length (treatment handler encoding place rest length) }
-    ensures bytes { bytes_of result ≡ length }
+/// Appends what a handler gives for the refused range of so many bytes that `rest` begins with.
+fn handled(
+    alloc: Global,
+    out: &mut Vec<char>,
+    encoding: Encoding,
+    handler: Handler,
+    rest: &[u8],
+    size: usize,
+) -> Result<FirstItem, AllocError>
+    requires some { 1 ≤ size }
+    requires within { size ≤ length rest.now }
+    ensures shown { IfOk result (λ item. (place : ℕ)
+        → Gives (item_handled size (treatment handler encoding place rest.now size))
+        out.old.items out.new.items item) }
+    ensures within { IfOk result (λ item. (1 ≤ bytes_of item) × (bytes_of item ≤ length rest.now)) }
 {
-    match handler {
-        Handler::Strict => FirstItem::RefusedRange { length },
+    match push_replacement(alloc, out, encoding, handler, rest, size)? {
+        Some(used) => Ok(FirstItem::Given { used }),
+        None => Ok(FirstItem::RefusedRange { length: size }),
     }
 }
 
-fn first_item(encoding: Encoding, handler: Handler, bytes: &[u8]) -> FirstItem
+/// Appends the characters of what comes first.
+fn first_item(
+    alloc: Global,
+    out: &mut Vec<char>,
+    encoding: Encoding,
+    handler: Handler,
+    bytes: &[u8],
+) -> Result<FirstItem, AllocError>
     requires { 0 < length bytes.now }
-    ensures shown { (order : Order) (place : ℕ) → item_shown result
-        ≡ first_item encoding (treatment handler encoding) true order place bytes.now }
-    ensures some { 1 ≤ bytes_of result }
-    ensures within { bytes_of result ≤ length bytes.now }
+    ensures shown { IfOk result (λ item. (order : Order) (place : ℕ)
+        → Gives (first_item encoding (treatment handler encoding) true order place bytes.now)
+        out.old.items out.new.items item) }
+    ensures within { IfOk result (λ item. (1 ≤ bytes_of item) × (bytes_of item ≤ length bytes.now)) }
 {
     match first_unit(encoding, bytes).unwrap() {
-        Unit::Character { character, length } => FirstItem::Given {
-            character,
-            used: length,
-        },
-        Unit::Malformed { length } | Unit::Cut { length } => handled(handler, length),
+        Unit::Character { character, length } => {
+            out.push(character)?;
+            Ok(FirstItem::Given { used: length })
+        }
+        Unit::Malformed { length } | Unit::Cut { length } => {
+            handled(alloc, out, encoding, handler, bytes, length)
+        }
     }
 }
 
@@ -70,11 +91,8 @@ pub fn decode(
     let mut characters = Vec::new(alloc);
     let mut place = from;
     while place < bytes.len() {
-        match first_item(encoding, handler, &bytes[place..]) {
-            FirstItem::Given { character, used } => {
-                characters.push(character)?;
-                place += used;
-            }
+        match first_item(alloc, &mut characters, encoding, handler, &bytes[place..])? {
+            FirstItem::Given { used } => place += used,
             FirstItem::RefusedRange { length } => {
                 return Ok(Decoded {
                     characters,

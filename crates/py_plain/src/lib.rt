@@ -5,25 +5,34 @@
 //! step of each call. Beside them is the plain slow program that decodes a whole list and answers calls on it.
 #![tactic(auto)]
 
+mod character_bytes;
 mod decoded;
 mod encoding;
+mod escapes;
 mod handler;
 mod laws;
 mod line;
 mod newlines;
+mod one_byte;
 mod pieces;
+mod plain_encode;
 mod plain_text;
+mod replacement;
 #[cfg(test)]
 mod tests;
 mod unit;
+mod utf16;
 mod utf8;
 
+pub use character_bytes::{has_bytes, push_character};
 pub use decoded::{Decoded, decode};
 pub use encoding::Encoding;
 pub use handler::Handler;
-pub use laws::{plain_steps, utf8_units};
+pub use laws::{characters_and_their_bytes, items_decode_alone, plain_steps, utf8_units};
 pub use line::{Line, first_line};
 pub use newlines::{Newlines, translate};
 pub use pieces::pieces_decode_as_one;
+pub use plain_encode::{EncodedText, encode, push_replacement_text};
 pub use plain_text::PlainText;
+pub use replacement::push_replacement;
 pub use unit::{Unit, first_unit};

@@ -1,6 +1,6 @@
 use crate::{
-    Decoded, Encoding, Handler, Line, Newlines, PlainText, Unit, decode, first_line, first_unit,
-    plain_steps, translate, utf8_units,
+    Decoded, EncodedText, Encoding, Handler, Line, Newlines, PlainText, Unit, decode, encode,
+    first_line, first_unit, plain_steps, translate, utf8_units,
 };
 use py_flat::{IoFault, Life};
 use std::alloc::Global;
@@ -199,6 +199,8 @@ fn units_end_where_the_unicode_standard_ends_them(rt: HostRuntime) {
     }
     assert_eq!(rt; first_unit(Encoding::Utf8, b""), None);
     utf8_units();
+    crate::characters_and_their_bytes();
+    crate::items_decode_alone();
 }
 
 #[test]
@@ -274,6 +276,205 @@ fn a_decoding_begins_at_any_place(rt: HostRuntime) -> Result<(), Fail> {
         }
         assert_eq!(rt; text.as_str(), expected);
         assert_eq!(rt; refusal, range);
+    }
+    Ok(())
+}
+
+/// Decodes some bytes, and compares the characters and the refused range.
+fn decodes_to(
+    rt: &impl Abort,
+    alloc: Global,
+    encoding: Encoding,
+    handler: Handler,
+    bytes: &[u8],
+    expected: &str,
+    range: Option<(usize, usize)>,
+) -> Result<(), Fail> {
+    let Decoded {
+        characters,
+        refusal,
+    } = decode(alloc, encoding, handler, bytes, 0)?;
+    let mut text = String::new(alloc);
+    for character in &characters {
+        text.push(*character)?;
+    }
+    assert_eq!(rt; text.as_str(), expected, "of {bytes:?}");
+    assert_eq!(rt; refusal, range, "of {bytes:?}");
+    Ok(())
+}
+
+#[test]
+fn each_maximal_subpart_is_one_replacement(rt: HostRuntime) -> Result<(), Fail> {
+    let cases: [(&[u8], &str); 5] = [
+        (b"\xC0\xAF\xE0\x80", "\u{FFFD}\u{FFFD}\u{FFFD}\u{FFFD}"),
+        (b"\xF0\x9F\x98A", "\u{FFFD}A"),
+        (b"\xF4\x90\x80\x80", "\u{FFFD}\u{FFFD}\u{FFFD}\u{FFFD}"),
+        (b"\xED\xA0\x80", "\u{FFFD}\u{FFFD}\u{FFFD}"),
+        (b"\xE1\x80\xC3\xA9", "\u{FFFD}\u{E9}"),
+    ];
+    for (bytes, expected) in cases {
+        decodes_to(
+            &rt,
+            rt.alloc(),
+            Encoding::Utf8,
+            Handler::Replace,
+            bytes,
+            expected,
+            None,
+        )?;
+    }
+    Ok(())
+}
+
+#[test]
+fn an_unpaired_surrogate_is_one_replacement(rt: HostRuntime) -> Result<(), Fail> {
+    let cases: [(&[u8], &str); 4] = [
+        (b"\x3D\xD8\x00\xDE", "\u{1F600}"),
+        (b"\x3D\xD8\x41\x00", "\u{FFFD}A"),
+        (b"\x00\xDC", "\u{FFFD}"),
+        (b"\x3D\xD8\x00", "\u{FFFD}"),
+    ];
+    for (bytes, expected) in cases {
+        decodes_to(
+            &rt,
+            rt.alloc(),
+            Encoding::Utf16Le,
+            Handler::Replace,
+            bytes,
+            expected,
+            None,
+        )?;
+    }
+    Ok(())
+}
+
+#[test]
+fn refused_ranges_are_handled_by_each_handler(rt: HostRuntime) -> Result<(), Fail> {
+    let cases: [(Encoding, Handler, &[u8], &str, Option<(usize, usize)>); 7] = [
+        (Encoding::Latin1, Handler::Strict, b"\xE9", "\u{E9}", None),
+        (Encoding::Ascii, Handler::Strict, b"\x80", "", Some((0, 1))),
+        (Encoding::Ascii, Handler::Ignore, b"a\x80b", "ab", None),
+        (
+            Encoding::Utf8,
+            Handler::BackslashReplace,
+            b"A\xFFB",
+            "A\\xffB",
+            None,
+        ),
+        (
+            Encoding::Utf8,
+            Handler::SurrogateEscape,
+            b"\xFF",
+            "#56575",
+            None,
+        ),
+        (
+            Encoding::Utf8,
+            Handler::SurrogatePass,
+            b"\xED\xA0\x80",
+            "\\xd800",
+            None,
+        ),
+        (
+            Encoding::Utf16Be,
+            Handler::SurrogateEscape,
+            b"\xD8\x00\x00\x41",
+            "#56536\0",
+            Some((3, 4)),
+        ),
+    ];
+    for (encoding, handler, bytes, expected, range) in cases {
+        decodes_to(&rt, rt.alloc(), encoding, handler, bytes, expected, range)?;
+    }
+    Ok(())
+}
+
+/// Encodes some characters, and compares the bytes and the refused run.
+fn encodes_to(
+    rt: &impl Abort,
+    alloc: Global,
+    encoding: Encoding,
+    handler: Handler,
+    characters: &[char],
+    expected: &[u8],
+    run: Option<(usize, usize)>,
+) -> Result<(), Fail> {
+    let EncodedText { bytes, refusal } = encode(alloc, encoding, handler, characters)?;
+    assert_eq!(rt; bytes.as_slice(), expected, "of {characters:?}");
+    assert_eq!(rt; refusal, run, "of {characters:?}");
+    Ok(())
+}
+
+#[test]
+fn a_character_has_its_bytes_in_each_encoding(rt: HostRuntime) -> Result<(), Fail> {
+    let cases: [(Encoding, &[u8]); 3] = [
+        (Encoding::Utf8, b"a\xF0\x9F\x98\x80"),
+        (Encoding::Utf16Le, b"a\x00\x3D\xD8\x00\xDE"),
+        (Encoding::Utf16Be, b"\x00a\xD8\x3D\xDE\x00"),
+    ];
+    for (encoding, expected) in cases {
+        encodes_to(
+            &rt,
+            rt.alloc(),
+            encoding,
+            Handler::Strict,
+            &['a', '\u{1F600}'],
+            expected,
+            None,
+        )?;
+    }
+    Ok(())
+}
+
+#[test]
+fn runs_are_handled_by_each_handler(rt: HostRuntime) -> Result<(), Fail> {
+    let cases: [(Encoding, Handler, &[char], &[u8], Option<(usize, usize)>); 5] = [
+        (
+            Encoding::Latin1,
+            Handler::Strict,
+            &['\u{E9}', '\u{20AC}'],
+            b"\xE9",
+            Some((1, 2)),
+        ),
+        (
+            Encoding::Latin1,
+            Handler::Replace,
+            &['\u{E9}', '\u{20AC}'],
+            b"\xE9?",
+            None,
+        ),
+        (
+            Encoding::Ascii,
+            Handler::XmlCharRefReplace,
+            &['\u{E9}'],
+            b"&#233;",
+            None,
+        ),
+        (
+            Encoding::Ascii,
+            Handler::BackslashReplace,
+            &['\u{E9}', '\u{20AC}', '\u{1F600}'],
+            b"\\xe9\\u20ac\\U0001f600",
+            None,
+        ),
+        (
+            Encoding::Ascii,
+            Handler::SurrogateEscape,
+            &['a', '\u{E9}', '\u{20AC}', 'b'],
+            b"a",
+            Some((1, 3)),
+        ),
+    ];
+    for (encoding, handler, characters, expected, run) in cases {
+        encodes_to(
+            &rt,
+            rt.alloc(),
+            encoding,
+            handler,
+            characters,
+            expected,
+            run,
+        )?;
     }
     Ok(())
 }

@@ -3,7 +3,9 @@ ghost use Rattle.py_plain.specs.Units.{Order, first_unit};
 ghost use Rattle.py_plain.specs.UnitLaws.{IsWithin};
 
 use crate::Encoding;
+use crate::one_byte::{ascii_unit, latin1_unit};
 use crate::utf8::utf8_unit;
+use crate::utf16::utf16_unit;
 
 /// What some bytes begin with.
 #[derive(Clone, Copy, Debug, PartialEq, Eq)]
@@ -19,8 +21,8 @@ pub enum Unit {
 
 /// What some bytes begin with in an encoding: nothing where there are none.
 ///
-/// UTF-8 is read by the Unicode Standard's Table 3-7 and the maximal subparts of its section 3.9. Neither an order mark
-/// nor the start of a stream matters to it.
+/// UTF-8 is read by the Unicode Standard's Table 3-7 and the maximal subparts of its section 3.9, UTF-16 by its Table
+/// 3-5. Neither an order mark nor the start of a stream matters.
 pub fn first_unit(encoding: Encoding, bytes: &[u8]) -> Option<Unit>
     ensures unit { (order : Order) (at_start : Bool) → result
         ≡ first_unit encoding order at_start bytes.now }
@@ -29,5 +31,9 @@ pub fn first_unit(encoding: Encoding, bytes: &[u8]) -> Option<Unit>
 {
     match encoding {
         Encoding::Utf8 => utf8_unit(bytes),
+        Encoding::Latin1 => latin1_unit(bytes),
+        Encoding::Ascii => ascii_unit(bytes),
+        Encoding::Utf16Le => utf16_unit(false, bytes),
+        Encoding::Utf16Be => utf16_unit(true, bytes),
     }
 }

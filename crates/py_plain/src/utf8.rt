@@ -21,7 +21,7 @@ enum Lead {
 }
 
 #[tactic(auto, unfolding(crate::specs::Utf8::is_within))]
-fn is_within(low: u8, high: u8, byte: u8) -> bool
+pub(crate) fn is_within(low: u8, high: u8, byte: u8) -> bool
     ensures { result ≡ is_within low high byte }
 {
     low <= byte && byte <= high

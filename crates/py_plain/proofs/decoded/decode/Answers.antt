@@ -1,9 +1,19 @@
-use Rattle.std.proofs.Common.{sym}
 use Rattle.std.proofs.lemmas.List.{take_rest}
-use Rattle.py_plain.proofs.Walks.{Continues-next}
+use Rattle.py_plain.proofs.Giving.{Continues-given, Continues-refused}
 use Rattle.py_plain.proofs.decoded.decode.Goals as goal
 
 pub loop-place-preserved : goal.loop-place-preserved
 loop-place-preserved c = λ order.
-    let first = rw (take_rest c.args.bytes.now c.loop-place.place) at (c.in-Given.ensures.shown order c.loop-place.place) in
-    rw c.in_ok-push-in-Given.ensures.items (Continues-next _ _ order _ _ _ _ c.in-Given.character c.in-Given.used c.loop-place-test.true c.in-Given.ensures.some (sym first) (c.loop-place.invariant order))
+    let gives = rw (take_rest c.args.bytes.now c.loop-place.place, c.in-Given.is) at (c.in_ok-used.ensures.shown order c.loop-place.place) in
+    let some = rw c.in-Given.is at c.in_ok-used.ensures.within in
+    Continues-given _ _ order _ _ _ c.in-Given.used _ _ c.loop-place-test.true some.0 gives (c.loop-place.invariant order)
+
+pub returns-in-RefusedRange-clause-characters : goal.returns-in-RefusedRange-clause-characters
+returns-in-RefusedRange-clause-characters c = λ order.
+    let gives = rw (take_rest c.args.bytes.now c.loop-place.place, c.in-RefusedRange.is) at (c.in_ok-used.ensures.shown order c.loop-place.place) in
+    (Continues-refused _ _ order _ _ _ c.in-RefusedRange.length _ _ c.loop-place-test.true gives (c.loop-place.invariant order)).0
+
+pub returns-in-RefusedRange-clause-refusal : goal.returns-in-RefusedRange-clause-refusal
+returns-in-RefusedRange-clause-refusal c = λ order.
+    let gives = rw (take_rest c.args.bytes.now c.loop-place.place, c.in-RefusedRange.is) at (c.in_ok-used.ensures.shown order c.loop-place.place) in
+    (Continues-refused _ _ order _ _ _ c.in-RefusedRange.length _ _ c.loop-place-test.true gives (c.loop-place.invariant order)).1

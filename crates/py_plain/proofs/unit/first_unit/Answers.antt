@@ -1,8 +1,8 @@
-use Rattle.py_plain.proofs.UnitLaws.{unit_within_any, unit_some}
+use Rattle.std.proofs.Common.{true}
+use Rattle.py_plain.specs.declared.encoding.Encoding.TheVariants.{Utf8}
+use Rattle.py_plain.specs.Units.{Unknown}
+use Rattle.py_plain.proofs.AnyUnits.{unit_within_any}
 use Rattle.py_plain.proofs.unit.first_unit.Goals as goal
 
-pub returns-clause-some : goal.returns-clause-some
-returns-clause-some c = rw c.utf8_unit.ensures (unit_some c.args.bytes.now)
-
-pub returns-clause-within : goal.returns-clause-within
-returns-clause-within c = rw c.utf8_unit.ensures (unit_within_any c.args.bytes.now)
+pub returns-in-Utf8-clause-within : goal.returns-in-Utf8-clause-within
+returns-in-Utf8-clause-within c = rw c.utf8_unit.ensures (unit_within_any Utf8 Unknown true c.args.bytes.now)

@@ -1,0 +1,48 @@
+-- What the program gives for the first item, and the decoding that it goes on with.
+use Rattle.std.proofs.Common.{◌≡◌, ℕ, ◌+◌, ◌<◌, ◌≤◌, true, List, [], ◌∷◌, ◌++◌, length as len, drop, get_or, Some, sym, ap, ◌∙◌}
+use Rattle.std.proofs.lemmas.List.{drop_more, append-nil}
+use Rattle.py_plain.specs.declared.encoding.Encoding.{Encoding}
+use Rattle.py_plain.specs.declared.handler.Handler.{Handler}
+use Rattle.py_plain.specs.declared.decoded.FirstItem.TheVariants as seen
+use Rattle.py_plain.specs.Units.{Order}
+use Rattle.py_plain.specs.Handlers.{Treatment, treatment}
+use Rattle.py_plain.specs.Items.{FirstItem, Given, RefusedRange, Unfinished, AtRange, first_item, used_behind, onto_walk, walk_from, plain, characters_of, refusal_of}
+use Rattle.py_plain.specs.Decoding.{Gives}
+use Rattle.py_plain.proofs.Walks.{Continues, Continues-next}
+
+-- an item that is given has the characters that came
+Gives-given : (item : FirstItem) (used : ℕ) (before after : List ℕ) → Gives item before after (seen.Given used) → (characters : List ℕ) × (item ≡ Given characters used) × (after ≡ before ++ characters)
+Gives-given (Given characters count) used before after gives = (characters, cc, gives.0)
+Gives-given (RefusedRange length) used before after gives = absurd (cc)
+Gives-given Unfinished used before after gives = absurd gives
+
+-- and at a refused one nothing came
+Gives-range : (item : FirstItem) (size : ℕ) (before after : List ℕ) → Gives item before after (seen.RefusedRange size) → (item ≡ RefusedRange size) × (after ≡ before)
+Gives-range (Given characters count) size before after gives = absurd (cc)
+Gives-range (RefusedRange length) size before after gives = (cc, gives.0)
+Gives-range Unfinished size before after gives = absurd gives
+
+-- the decoding from a place on ends at a range that is refused there
+plain-refused : (encoding : Encoding) (treat : Treatment) (order : Order) (bytes : List ℕ) (place size : ℕ) → place < len bytes → first_item encoding treat true order place (drop place bytes) ≡ RefusedRange size → plain encoding treat order bytes place ≡ record { items = []; ending = AtRange place (place + size) }
+plain-refused encoding treat order bytes place size inside first =
+    let split = drop_more bytes place 0 inside in
+    let rest = drop (place + 1) bytes in
+    let here : first_item encoding treat true order place (get_or bytes place 0 ∷ rest) ≡ RefusedRange size = ap (λ bs. first_item encoding treat true order place bs) (sym split) ∙ first in
+    ap (λ bs. walk_from encoding treat true order place 0 bs) split
+    ∙ ap (λ item. onto_walk place item (walk_from encoding treat true order (place + 1) (used_behind item) rest)) here
+
+-- what the program has out behind an item goes on to the whole decoding
+pub Continues-given : (encoding : Encoding) (handler : Handler) (order : Order) (bytes : List ℕ) (from place used : ℕ) (before after : List ℕ) → place < len bytes → 1 ≤ used → Gives (first_item encoding (treatment handler encoding) true order place (drop place bytes)) before after (seen.Given used) → Continues encoding handler order bytes from place before → Continues encoding handler order bytes from (place + used) after
+Continues-given encoding handler order bytes from place used before after inside some gives continues =
+    let given = Gives-given (first_item encoding (treatment handler encoding) true order place (drop place bytes)) used before after gives in
+    rw given.2 (Continues-next encoding handler order bytes from place before given.0 used inside some given.1 continues)
+
+-- what it has out at a refused range is the whole decoding, and that range its refusal
+pub Continues-refused : (encoding : Encoding) (handler : Handler) (order : Order) (bytes : List ℕ) (from place size : ℕ) (before after : List ℕ) → place < len bytes → Gives (first_item encoding (treatment handler encoding) true order place (drop place bytes)) before after (seen.RefusedRange size) → Continues encoding handler order bytes from place before → (after ≡ characters_of (plain encoding (treatment handler encoding) order bytes from).items) × (Some (place, place + size) ≡ refusal_of (plain encoding (treatment handler encoding) order bytes from).ending)
+Continues-refused encoding handler order bytes from place size before after inside gives continues =
+    let treat = treatment handler encoding in
+    let range = Gives-range (first_item encoding treat true order place (drop place bytes)) size before after gives in
+    let here = plain-refused encoding treat order bytes place size inside range.0 in (
+      range.1 ∙ sym (append-nil before) ∙ ap (λ w. before ++ characters_of w.items) (sym here) ∙ continues.characters,
+      ap (λ w. refusal_of w.ending) (sym here) ∙ continues.refusal,
+    )

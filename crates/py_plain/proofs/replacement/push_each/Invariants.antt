@@ -1,0 +1,7 @@
+use Rattle.std.proofs.Common.{◌≡◌, ◌++◌, take}
+use Rattle.py_plain.specs.Escapes.{each_spelled}
+use Rattle.py_plain.specs.Escaping.{spelled_by}
+use Rattle.py_plain.proofs.replacement.push_each.Given as goal
+
+abbrev pub invariant-loop-byte : goal.invariant-loop-byte
+invariant-loop-byte l = l.out.items ≡ l.fn.out.items ++ each_spelled (spelled_by l.escape) (take l.byte-index l.bytes)
