@@ -1,0 +1,41 @@
+-- What the step of an incremental decoder follows from.
+use Rattle.std.proofs.Common.{◌≡◌, ℕ, ◌-◌, ◌≤◌, ◌⊎◌, inl, inr, Bool, List, [], ◌++◌, length as len, take, drop, Ok, Err, String, refl, sym, ap, subst, ◌∙◌}
+use Rattle.std.proofs.lemmas.List.{take_rest}
+use Rattle.std.specs.declared.alloc.Global.{Global}
+use Rattle.py_flat.specs.declared.fault.IoFault.{IoFault}
+use Rattle.py_flat.specs.declared.fault.IoFault.TheVariants.{UnicodeDecodeError, NoMemory}
+use Rattle.py_plain.specs.declared.encoding.Encoding.{Encoding}
+use Rattle.py_plain.specs.declared.handler.Handler.{Handler}
+use Rattle.py_plain.specs.Units.{Unknown}
+use Rattle.py_plain.specs.Handlers.{treatment}
+use Rattle.py_plain.specs.Items.{Walk, characters_of}
+use Rattle.py_codec.specs.Answers.{text_of}
+use Rattle.py_codec.specs.Incremental.{DecoderView, walk_with, decoding_with, DecoderStep}
+use Rattle.py_codec.proofs.Feeding.{answered, left_short}
+
+-- a decoder that holds nothing
+abbrev pub empty : Encoding → Handler → DecoderView
+empty encoding handler = record { encoding = encoding; handler = handler; held = [] }
+
+-- a decoding uses no more bytes than there are, and leaves at most three
+pub used_within : (encoding : Encoding) (handler : Handler) (last : Bool) (bytes text : List ℕ) (used : ℕ) → decoding_with (empty encoding handler) last bytes ≡ Ok (text, used) → (used ≤ len bytes) × (len (take (len bytes - used) (drop used bytes)) ≤ 3)
+used_within encoding handler last bytes text used is =
+    let walk : Walk = walk_with (empty encoding handler) last bytes in
+    let left = left_short encoding (treatment handler encoding) last Unknown bytes used (answered (characters_of walk.items) (len bytes) UnicodeDecodeError walk.ending text used is).came in
+    (left.0, subst (λ (bs : List ℕ). len bs ≤ 3) (sym (take_rest bytes used)) left.1)
+
+-- the step of a decoder, by the decoding of the held bytes and the piece joined
+pub step_ok : (decoder seen : DecoderView) (last : Bool) (bytes joined held : List ℕ) (text : String Global) (used : ℕ) → seen ≡ decoder → joined ≡ decoder.held ++ bytes → decoding_with (empty seen.encoding seen.handler) last joined ≡ Ok (text_of text, used) → held ≡ take (len joined - used) (drop used joined) → DecoderStep decoder last bytes (Ok text) (record seen { held = held })
+step_ok decoder seen last bytes joined held text used same is answer left =
+    let step : joined ≡ seen.held ++ bytes → DecoderStep seen last bytes (Ok text) (record seen { held = held }) = λ here. (
+      used,
+      ap (decoding_with (empty seen.encoding seen.handler) last) (sym here) ∙ answer,
+      ap (λ (bs : List ℕ). record seen { held = bs }) (left ∙ (take_rest joined used ∙ ap (drop used) here)),
+    ) in
+    subst (λ (d : DecoderView). joined ≡ d.held ++ bytes → DecoderStep d last bytes (Ok text) (record seen { held = held })) same step is
+
+pub step_err : (decoder seen : DecoderView) (last : Bool) (bytes joined : List ℕ) (why : IoFault) → seen ≡ decoder → joined ≡ decoder.held ++ bytes → (why ≡ NoMemory) ⊎ (decoding_with (empty seen.encoding seen.handler) last joined ≡ Err why) → DecoderStep decoder last bytes (Err why) decoder
+step_err decoder seen last bytes joined why same is (inl memory) = (refl, inl memory)
+step_err decoder seen last bytes joined why same is (inr refused) =
+    let step : joined ≡ seen.held ++ bytes → decoding_with seen last bytes ≡ Err why = λ here. ap (decoding_with (empty seen.encoding seen.handler) last) (sym here) ∙ refused in
+    (refl, inr (subst (λ (d : DecoderView). joined ≡ d.held ++ bytes → decoding_with d last bytes ≡ Err why) same step is))

@@ -1,0 +1,11 @@
+pub mod Answers
+pub mod ErrorHandler
+pub mod Treating
+pub mod Appending
+pub mod Writing
+pub mod Blocks
+pub mod Substituting
+pub mod Decoding
+pub mod Encoding
+pub mod Incremental
+pub mod Laws

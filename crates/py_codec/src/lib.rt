@@ -1,0 +1,51 @@
+//! Codecs and handlers: texts from bytes and bytes from texts, in five encodings, whole or in pieces.
+//!
+//! A decoding is the items of the whole list of bytes, from its front: characters, and refused ranges as a handler
+//! treats them. An encoding is the bytes of each character, and runs without bytes as a handler treats them. One engine
+//! decodes and one encodes, for all encodings and handlers; `py_plain` has the definitions and the plain slow program.
+#![tactic(auto)]
+
+mod ascii;
+#[cfg(test)]
+mod block_tests;
+mod counting;
+#[cfg(test)]
+mod custom_tests;
+mod decode;
+mod decoder_state;
+mod decoding;
+mod encode;
+mod encoding;
+mod error_handler;
+#[cfg(test)]
+mod examples;
+mod handler_ref;
+mod held;
+mod incremental_decoder;
+mod incremental_encoder;
+#[cfg(test)]
+mod incremental_tests;
+mod laws;
+mod no_handler;
+mod replacing;
+mod runs;
+mod substituting;
+#[cfg(test)]
+mod tests;
+mod utf16;
+mod utf16_blocks;
+mod writing;
+
+pub use decode::{ascii_decode, latin_1_decode, utf_8_decode, utf_16_be_decode, utf_16_le_decode};
+pub use decoder_state::DecoderState;
+pub use encode::{ascii_encode, latin_1_encode, utf_8_encode, utf_16_be_encode, utf_16_le_encode};
+pub use error_handler::{EncodeReplace, ErrorHandler, HandlerRefusal};
+pub use handler_ref::HandlerRef;
+pub use incremental_decoder::IncrementalDecoder;
+pub use incremental_encoder::IncrementalEncoder;
+pub use laws::{
+    a_decoder_reads_the_pieces_joined, a_text_encodes_and_decodes_back,
+    four_handlers_write_every_text, no_byte_is_lost,
+};
+pub use no_handler::NoHandler;
+pub use py_plain::{Encoding, Handler, items_decode_alone, pieces_decode_as_one};
