@@ -1,5 +1,5 @@
 ghost use Rattle.std.specs.Prelude.{◌≡◌, IfOk, string_bytes};
-ghost use Rattle.py_flat.specs.ModeError.{message_of};
+ghost use Rattle.py_flat.specs.ModeError.{message_of, raw_message_of};
 
 use std::alloc::{AllocError, Global};
 use thiserror::Error;
@@ -13,6 +13,22 @@ pub enum ModeError {
     /// No file letter, a second one, or a second plus.
     #[error("Must have exactly one of create/read/write/append mode and at most one plus")]
     BadRwa,
+}
+
+impl ModeError {
+    /// The message of Python's raw files for a mode that is refused for this reason, or `AllocError` for want of memory.
+    /// `mode` is the text that was refused; only the message of `Invalid` shows it.
+    pub fn error_msg(&self, alloc: Global, mode: &str) -> Result<String, AllocError>
+        ensures { IfOk result (λ message. string_bytes message ≡ raw_message_of self.now mode.now) }
+    {
+        match self {
+            ModeError::Invalid => format!(in alloc; "invalid mode: {mode}"),
+            ModeError::BadRwa => String::from_str(
+                alloc,
+                "Must have exactly one of create/read/write/append mode and at most one plus",
+            ),
+        }
+    }
 }
 
 /// Why a text names no mode of `io_open`, by its first letter that offends or, at last, by its end.
@@ -79,6 +95,28 @@ mod tests {
             (
                 ParseModeError::NoFile,
                 "",
+                "Must have exactly one of create/read/write/append mode and at most one plus",
+            ),
+        ] {
+            assert_eq!(rt; error.error_msg(alloc, mode)?.as_str(), message);
+        }
+        Ok(())
+    }
+
+    #[test]
+    fn messages_of_raw_modes_are_those_of_python(rt: HostRuntime) -> Result<(), Fail> {
+        let alloc = rt.alloc();
+        for (error, mode, message) in [
+            (ModeError::Invalid, "rt", "invalid mode: rt"),
+            (ModeError::Invalid, "é", "invalid mode: é"),
+            (
+                ModeError::BadRwa,
+                "rwb",
+                "Must have exactly one of create/read/write/append mode and at most one plus",
+            ),
+            (
+                ModeError::BadRwa,
+                "b",
                 "Must have exactly one of create/read/write/append mode and at most one plus",
             ),
         ] {
