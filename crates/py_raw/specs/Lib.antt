@@ -3,7 +3,9 @@ pub mod FileRaw
 pub mod Flags
 pub mod MemRaw
 pub mod RawStream
+pub mod ReadAll
 pub mod RawMode
+pub mod ComputeMode
 pub mod Source
 pub mod Sink
 pub mod Opener

@@ -4,8 +4,8 @@ ghost use Rattle.py_flat.specs.Limits.{greatest_place};
 
 use std::alloc::AllocError;
 
-/// Lengthens bytes by zeros to a size; longer ones stay as they are.
-fn lengthen(bytes: &mut Vec<u8>, size: usize) -> Result<(), AllocError>
+/// Lengthens bytes by zeros to a size; longer ones stay as they are. After an error all is unchanged.
+pub(crate) fn lengthen(bytes: &mut Vec<u8>, size: usize) -> Result<(), AllocError>
     ensures { bytes.new.items ≡ (if is_ok result then bytes.old.items ++ replicate (size - length bytes.old.items) 0 else bytes.old.items) }
 {
     if bytes.len() < size {

@@ -13,6 +13,7 @@ mod mem_opener;
 mod mem_raw;
 mod mem_sink;
 mod mem_source;
+mod mode_letters;
 #[cfg(test)]
 mod mode_tests;
 mod opener;
@@ -32,6 +33,7 @@ pub use mem_opener::MemOpener;
 pub use mem_raw::MemRaw;
 pub use mem_sink::MemSink;
 pub use mem_source::MemSource;
+pub use mode_letters::compute_mode;
 pub use opener::{OpenError, Opener};
 pub use py_flat::{Chars, Data, IoFault, Life, Lines, ModeError, ParseModeError};
 pub use raw_error::RawError;

@@ -1,8 +1,19 @@
-ghost use Rattle.std.specs.Prelude.{◌≡◌, ◌≤◌, true, false, length, IsTrue};
+ghost use Rattle.std.specs.Prelude.{◌≡◌, ◌≤◌, max, true, false, length, IsTrue};
 ghost use Rattle.py_flat.specs.Limits.{greatest_place};
+ghost use Rattle.py_raw.specs.ReadAll.{ReadOnceOutcome, ReadAllOutcome};
 ghost use Rattle.py_raw.specs.RawStream.{Raw, Keeps, StaysOpen, ReadOutcome, WriteOutcome, SeekOutcome, TellOutcome, EndOutcome, TruncateOutcome, CloseOutcome, WriteFits};
 
 use crate::RawError;
+use crate::laying::lengthen;
+use std::alloc::Global;
+
+/// How many bytes the next transfer of a reading up to the end asks for, after so many: 8192, and then as many as came,
+/// so that the room doubles.
+fn next_chunk(came: usize) -> usize
+    ensures { result ≡ max came 8192 }
+{
+    came.max(8192)
+}
 
 /// A stream of bytes under the buffers: a file, a pipe, a device, or memory.
 ///
@@ -22,6 +33,72 @@ pub trait RawStream {
         ensures keeps { Keeps (shows self.old) (shows self.new) }
         ensures open { StaysOpen (shows self.old) (shows self.new) }
         ensures outcome { ReadOutcome (shows self.old) buf.old result buf.new (shows self.new) };
+
+    /// Reads up to `n` bytes from the place on by one transfer, into a vector of its own; the place moves behind them.
+    ///
+    /// `Some(bytes)`: the next bytes, at most `n`; none only where `n` is 0, or at the end or past it. `None`: not ready,
+    /// all is as before. After `Fault` the bytes of the stream are unchanged. `Memory`: the stream lacked memory, or there
+    /// was none for the vector, which is taken before the transfer, so all is unchanged. The rule is that of `read` of
+    /// Python's `io.RawIOBase`.
+    fn read(&mut self, alloc: Global, n: usize) -> Result<Option<Vec<u8>>, RawError>
+        requires open { (shows self.old).closed ≡ false }
+        requires can { (shows self.old).readable ≡ true }
+        ensures keeps { Keeps (shows self.old) (shows self.new) }
+        ensures open { StaysOpen (shows self.old) (shows self.new) }
+        ensures outcome { ReadOnceOutcome (shows self.old) n result (shows self.new) }
+    {
+        let mut bytes = Vec::new(alloc);
+        if lengthen(&mut bytes, n).is_err() {
+            return Err(RawError::Memory);
+        }
+        match self.readinto(bytes.as_mut_slice()) {
+            Ok(Some(count)) => {
+                bytes.truncate(count);
+                Ok(Some(bytes))
+            }
+            Ok(None) => Ok(None),
+            Err(error) => Err(error),
+        }
+    }
+
+    /// Reads from the place on up to the end, or until the stream asks to wait, and appends what comes to `out`; the place
+    /// moves behind it.
+    ///
+    /// `Some(n)`: `n` bytes were appended, and the end was reached or, after at least one byte, the stream asked to wait.
+    /// `None`: it asked to wait before any byte, and all else is as before. After `Fault` and `Memory` what was read until
+    /// then is in `out`. After `Fault` the bytes of the stream are unchanged; where it stands isn't told. `Memory`: the
+    /// stream lacked memory, or there was none to lengthen `out`, which is done before each transfer, so the place is
+    /// behind what was appended. The rule is that of `readall` of Python's `io.RawIOBase`.
+    fn readall(&mut self, out: &mut Vec<u8>) -> Result<Option<usize>, RawError>
+        requires open { (shows self.old).closed ≡ false }
+        requires can { (shows self.old).readable ≡ true }
+        ensures keeps { Keeps (shows self.old) (shows self.new) }
+        ensures open { StaysOpen (shows self.old) (shows self.new) }
+        ensures outcome { ReadAllOutcome (shows self.old) out.old.items result out.new.items (shows self.new) }
+    {
+        let start = out.len();
+        'transfers: loop {
+            let held = out.len();
+            if lengthen(out, held + next_chunk(held - start)).is_err() {
+                return Err(RawError::Memory);
+            }
+            match self.readinto(&mut out[held..]) {
+                Ok(Some(0)) => {
+                    out.truncate(held);
+                    return Ok(Some(held - start));
+                }
+                Ok(Some(count)) => out.truncate(held + count),
+                Ok(None) => {
+                    out.truncate(held);
+                    return Ok((start < held).then_some(held - start));
+                }
+                Err(error) => {
+                    out.truncate(held);
+                    return Err(error);
+                }
+            }
+        }
+    }
 
     /// Writes a front of `piece` at the place, zeros up to it where it lies past the end; the place moves behind it.
     ///

@@ -122,3 +122,92 @@ fn a_listed_close_closes_all_the_same(rt: HostRuntime) {
         assert!(rt; raw.closed());
     }
 }
+
+/// Reads once, through the bound.
+fn read_once<R: RawStream>(
+    raw: &mut R,
+    alloc: Global,
+    n: usize,
+) -> Result<Option<Vec<u8>>, RawError> {
+    if raw.closed() || !raw.readable() {
+        return Err(RawError::Fault);
+    }
+    raw.read(alloc, n)
+}
+
+/// Reads up to the end, through the bound.
+fn read_all<R: RawStream>(raw: &mut R, out: &mut Vec<u8>) -> Result<Option<usize>, RawError> {
+    if raw.closed() || !raw.readable() {
+        return Err(RawError::Fault);
+    }
+    raw.readall(out)
+}
+
+#[test]
+fn a_reading_up_to_the_end_goes_on_where_the_stream_asked_to_wait(rt: HostRuntime) {
+    let mut raw = able(&rt, rt.alloc(), b"abc", &[Cut::Take(2), Cut::Wait], &[]);
+    let front = read_once(&mut raw, rt.alloc(), 9).expect(&rt, "no fault");
+    assert_eq!(rt; front.expect(&rt, "no wait").as_slice(), b"ab".as_slice());
+    let mut out = Vec::new(rt.alloc());
+    let table: [(Result<Option<usize>, RawError>, &[u8]); 3] = [
+        (Ok(None), b""),
+        (Ok(Some(1)), b"c"),
+        (Ok(Some(0)), b"c"),
+    ];
+    for (answer, held) in table {
+        assert_eq!(rt; read_all(&mut raw, &mut out), answer);
+        assert_eq!(rt; out.as_slice(), held);
+    }
+    let rest = read_once(&mut raw, rt.alloc(), 9).expect(&rt, "no fault");
+    assert!(rt; rest.expect(&rt, "no wait").is_empty());
+}
+
+#[test]
+fn a_single_reading_gives_what_one_transfer_does(rt: HostRuntime) {
+    let table: [(usize, &[Cut], &[u64], Result<Option<&[u8]>, RawError>, u64); 6] = [
+        (9, &[], &[], Ok(Some(b"abc")), 3),
+        (2, &[], &[], Ok(Some(b"ab")), 2),
+        (0, &[], &[], Ok(Some(b"")), 0),
+        (9, &[Cut::Take(1)], &[], Ok(Some(b"a")), 1),
+        (9, &[Cut::Wait], &[], Ok(None), 0),
+        (9, &[], &[0], Err(RawError::Fault), 0),
+    ];
+    for (n, plan, faults, answer, stands) in table {
+        let mut raw = able(&rt, rt.alloc(), b"abc", plan, faults);
+        match read_once(&mut raw, rt.alloc(), n) {
+            Ok(Some(bytes)) => assert_eq!(rt; Ok(Some(bytes.as_slice())), answer, "at {n}"),
+            Ok(None) => assert_eq!(rt; answer, Ok(None), "at {n}"),
+            Err(error) => assert_eq!(rt; answer, Err(error), "at {n}"),
+        }
+        assert_eq!(rt; tell(&mut raw), Ok(stands), "at {n}");
+    }
+}
+
+#[test]
+fn a_reading_up_to_the_end_keeps_what_came_before_a_fault(rt: HostRuntime) {
+    let one = Cut::Take(1);
+    let table: [(&[Cut], &[u64], Result<Option<usize>, RawError>, &[u8]); 5] = [
+        (&[], &[], Ok(Some(5)), b".abcde"),
+        (&[one, one, one, one, one], &[], Ok(Some(5)), b".abcde"),
+        (&[one, one, Cut::Wait], &[], Ok(Some(2)), b".ab"),
+        (&[one, one], &[2], Err(RawError::Fault), b".ab"),
+        (&[Cut::Take(2), one], &[2], Err(RawError::Fault), b".abc"),
+    ];
+    for (plan, faults, answer, held) in table {
+        let mut raw = able(&rt, rt.alloc(), b"abcde", plan, faults);
+        let mut out = Vec::from_slice(rt.alloc(), b".").expect(&rt, "memory");
+        assert_eq!(rt; read_all(&mut raw, &mut out), answer);
+        assert_eq!(rt; out.as_slice(), held);
+    }
+}
+
+#[test]
+fn a_reading_up_to_the_end_gives_a_long_content_whole(rt: HostRuntime) {
+    let mut long = Vec::new(rt.alloc());
+    long.resize(20000, b'x').expect(&rt, "memory");
+    let mut raw = able(&rt, rt.alloc(), long.as_slice(), &[], &[]);
+    let mut out = Vec::new(rt.alloc());
+    assert_eq!(rt; read_all(&mut raw, &mut out), Ok(Some(20000)));
+    assert!(rt; out == long);
+    assert_eq!(rt; raw.transfers, 4);
+}

@@ -1,0 +1,141 @@
+-- Reading on: a part, then the next bytes behind it, is a longer part.
+use Rattle.std.proofs.Common.{◌≡◌, ◌≢◌, ℕ, ◌+◌, ◌-◌, ◌<◌, ◌≤◌, List, [], ◌∷◌, ◌++◌, length, take, drop, refl, sym, ap, ◌∙◌, arith, append_assoc, length-append, inl, inr}
+use Rattle.std.specs.Prelude.{IsTrue, Bool, true, false, nat_lt, Option, Ok}
+use Rattle.std.specs.Bool.{then_some}
+use Rattle.std.proofs.lemmas.List.{nil_from_length, append-nil, length-take-le, take-take, take_at, drop_at, drop-drop, take-append-le}
+use Rattle.std.proofs.Math.Seq.{take-add}
+use Rattle.py_flat.specs.Bytes.{left_at}
+use Rattle.py_flat.specs.Causes.{counted}
+use Rattle.py_raw.specs.RawStream.{Raw, Keeps, AsksToWait, ReadBytes, ReadTold}
+use Rattle.py_raw.specs.ReadAll.{ReadOn, ReadSoFar, CameBy, ReadsAll, ReadAllOutcome}
+
+-- the bytes that were held, then what a transfer put in front of the room behind them
+held_and_read : (held buffer behind more : List ℕ) (count whole : ℕ) → count ≤ length buffer → length held + count ≤ whole → take (length held + count) (take whole ((held ++ (buffer ++ behind)) ++ more)) ≡ held ++ take count buffer
+held_and_read held buffer behind more count whole within enough =
+    rw (take-take (length held + count) whole ((held ++ (buffer ++ behind)) ++ more) enough, append_assoc held (buffer ++ behind) more, append_assoc buffer behind more, take-add (length held) count (held ++ (buffer ++ (behind ++ more))), take_at held (buffer ++ (behind ++ more)) (length held) refl, drop_at held (buffer ++ (behind ++ more)) (length held) refl, take-append-le count buffer (behind ++ more) within) refl
+
+-- the same for a vector that was cut behind them
+pub cut_behind : (held front buffer behind more cut : List ℕ) (size count whole : ℕ) → front ≡ held → size ≡ length held → count ≤ length buffer → size + count ≤ whole → cut ≡ take (size + count) (take whole ((front ++ (buffer ++ behind)) ++ more)) → cut ≡ held ++ take count buffer
+cut_behind held front buffer behind more cut size count whole same long within enough is =
+    let here : take (length held + count) (take whole ((held ++ (buffer ++ behind)) ++ more)) ≡ held ++ take count buffer = held_and_read held buffer behind more count whole within (omega arith) in
+    is ∙ rw (same, long) here
+
+-- and for one that was cut before them
+pub cut_back : (held front buffer behind more cut : List ℕ) (size whole : ℕ) → front ≡ held → size ≡ length held → size ≤ whole → cut ≡ take size (take whole ((front ++ (buffer ++ behind)) ++ more)) → cut ≡ held
+cut_back held front buffer behind more cut size whole same long enough is =
+    is
+    ∙ (take-take size whole ((front ++ (buffer ++ behind)) ++ more) enough
+    ∙ (ap (take size) (append_assoc front (buffer ++ behind) more) ∙ (take_at front _ size (ap length same ∙ sym long) ∙ same)))
+
+-- what two calls keep, one behind the other
+pub Keeps-then : (old mid new : Raw) → Keeps old mid → Keeps mid new → Keeps old new
+Keeps-then old mid new first second = record {
+  tells = second.tells ∙ first.tells;
+  readable = second.readable ∙ first.readable;
+  writable = second.writable ∙ first.writable;
+  seekable = second.seekable ∙ first.seekable;
+  takes_memory = second.takes_memory ∙ first.takes_memory;
+  faults = omega (arith, first.faults, second.faults);
+  waits = omega (arith, first.waits, second.waits);
+}
+
+-- two parts one behind the other
+next_part : (bytes part more : List ℕ) (place : ℕ) → take (length part) (left_at bytes place) ≡ part → take (length more) (left_at bytes (place + length part)) ≡ more → take (length (part ++ more)) (left_at bytes place) ≡ part ++ more
+next_part bytes part more place first second =
+    rw (length-append part more, take-add (length part) (length more) (drop place bytes), first, drop-drop (length part) place bytes, second) refl
+
+-- told: a transfer that moved bytes
+read_on : (old mid new : Raw) (part before after : List ℕ) (count : ℕ) → ReadOn old part mid → ReadTold mid before count after new → count ≤ length after → ReadOn old (part ++ take count after) new
+read_on old mid new part before after count was is within =
+    let size : length (take count after) ≡ count = length-take-le count after within in
+    let next : take (length (take count after)) (left_at old.bytes (old.place + length part)) ≡ take count after = rw (size, ← was.place, ← was.bytes) (sym is.given) in
+    record {
+      given = next_part old.bytes part (take count after) old.place was.given next;
+      bytes = is.bytes ∙ was.bytes;
+      place = let whole = length-append part (take count after) in omega (arith, is.place, was.place);
+    }
+
+-- one transfer more
+pub CameBy-more : (most more old mid new : ℕ) → CameBy most old mid → new ≡ counted mid 1 → most + 1 ≤ more → CameBy more old new
+CameBy-more most more old mid new was is within = record {
+  calls = was.calls + 1;
+  some = omega arith;
+  within = omega (arith, was.within);
+  count = omega (arith, was.count);
+}
+
+-- the first
+pub CameBy-one : (more old mid new : ℕ) → mid ≡ old → new ≡ counted mid 1 → 1 ≤ more → CameBy more old new
+CameBy-one more old mid new same is within = record { calls = 1; some = omega arith; within = within; count = omega arith }
+
+-- after a part, of no bytes or of some
+came_by_part : (part : List ℕ) (more old mid new : ℕ) → (part ≡ [] → mid ≡ old) → (part ≢ [] → CameBy (length part) old mid) → new ≡ counted mid 1 → length part + 1 ≤ more → CameBy more old new
+came_by_part [] more old mid new none some is within = CameBy-one more old mid new (none refl) is (omega arith)
+came_by_part (byte ∷ part) more old mid new none some is within = CameBy-more (length (byte ∷ part)) more old mid new (some (λ (e : byte ∷ part ≡ []). cc)) is within
+
+-- the transfers of what was read so far, and one more
+pub came_by_more : (old mid new : Raw) (start held : List ℕ) (most : ℕ) → IsTrue old.tells → (was : ReadSoFar old start held mid) → new.transfers ≡ counted mid.transfers 1 → length was.part + 1 ≤ most → CameBy most old.transfers new.transfers
+came_by_more old mid new start held most tells was is within =
+    came_by_part was.part most old.transfers mid.transfers new.transfers (λ none. ap (λ (raw : Raw). raw.transfers) (was.untouched none)) (was.transfers tells) is within
+
+-- and so for what was appended so far
+pub so_far_more : (old mid new : Raw) (start held before after : List ℕ) (count : ℕ) → Keeps old mid → ReadSoFar old start held mid → ReadBytes mid before count after new → 1 ≤ count → count ≤ length after → ReadSoFar old start (held ++ take count after) new
+so_far_more old mid new start held before after count keeps was is some within =
+    let size : length (take count after) ≡ count = length-take-le count after within in
+    record {
+      part = was.part ++ take count after;
+      appended = ap (λ front. front ++ take count after) was.appended ∙ append_assoc start was.part (take count after);
+      untouched = λ none. absurd (let whole = length-append was.part (take count after) in let none_is = ap length none in omega arith);
+      told = λ tells. read_on old mid new was.part before after count (was.told tells) (is.told (keeps.tells ∙ tells)) within;
+      transfers = λ tells _. let whole = length-append was.part (take count after) in came_by_more old mid new start held (length (was.part ++ take count after)) tells was (is.told (keeps.tells ∙ tells)).transfers (omega arith);
+    }
+
+-- the end was reached
+pub reads_to_end : (old mid new : Raw) (start held before after : List ℕ) (none count : ℕ) → Keeps old mid → ReadSoFar old start held mid → ReadBytes mid before none after new → none ≡ 0 → 1 ≤ length before → count ≡ length held - length start → ReadsAll old start count held new
+reads_to_end old mid new start held before after none count keeps was is is_none room counts =
+    let long : length held ≡ length start + length was.part = ap length was.appended ∙ length-append start was.part in
+    record {
+      part = was.part;
+      appended = was.appended;
+      counts = omega arith;
+      told = λ tells. let last = is.told (keeps.tells ∙ tells) in let part = was.told tells in record {
+        given = part.given;
+        bytes = last.bytes ∙ part.bytes;
+        place = omega (arith, last.place, part.place);
+      };
+      stops = inl (λ tells. let last = is.told (keeps.tells ∙ tells) in let part = was.told tells in let end = last.end is_none (λ bare. let empty = ap length bare in omega arith) in let size = ap length part.bytes in omega (arith, last.place));
+      transfers = λ tells. came_by_more old mid new start held (count + 1) tells was (is.told (keeps.tells ∙ tells)).transfers (omega arith);
+    }
+
+-- the stream asked to wait after some bytes
+pub reads_to_wait : (old mid new : Raw) (start held : List ℕ) (count : ℕ) → Keeps old mid → ReadSoFar old start held mid → AsksToWait mid new → length start < length held → count ≡ length held - length start → ReadsAll old start count held new
+reads_to_wait old mid new start held count keeps was is some counts =
+    let long : length held ≡ length start + length was.part = ap length was.appended ∙ length-append start was.part in
+    record {
+      part = was.part;
+      appended = was.appended;
+      counts = omega arith;
+      told = λ tells. let last = is.told (keeps.tells ∙ tells) in let part = was.told tells in record {
+        given = part.given;
+        bytes = last.bytes ∙ part.bytes;
+        place = last.place ∙ part.place;
+      };
+      stops = inr (omega arith, omega (arith, is.cause, keeps.waits));
+      transfers = λ tells. came_by_more old mid new start held (count + 1) tells was (is.told (keeps.tells ∙ tells)).transfers (omega arith);
+    }
+
+-- it asked to wait before any
+pub waits_at_first : (old mid new : Raw) (start held : List ℕ) → ReadSoFar old start held mid → AsksToWait mid new → length held ≤ length start → AsksToWait old new × (held ≡ start)
+waits_at_first old mid new start held was is none =
+    let long : length held ≡ length start + length was.part = ap length was.appended ∙ length-append start was.part in
+    let empty : was.part ≡ [] = nil_from_length was.part (omega arith) in
+    (rw (sym (was.untouched empty)) is, was.appended ∙ (ap (λ part. start ++ part) empty ∙ append-nil start))
+
+-- before any or after some
+by_test : (later : Bool) (old mid new : Raw) (start held : List ℕ) (answer : Option ℕ) (count : ℕ) → nat_lt (length start) (length held) ≡ later → answer ≡ then_some later count → count ≡ length held - length start → Keeps old mid → ReadSoFar old start held mid → AsksToWait mid new → ReadAllOutcome old start (Ok answer) held new
+by_test true old mid new start held answer count some answers counts keeps was is = rw answers (reads_to_wait old mid new start held count keeps was is (grind (arith, some)) counts)
+by_test false old mid new start held answer count none answers counts keeps was is = rw answers (waits_at_first old mid new start held was is (grind (arith, none)))
+
+pub waits_or_stops : (old mid new : Raw) (start held : List ℕ) (answer : Option ℕ) (began stands : ℕ) → began ≡ length start → stands ≡ length held → answer ≡ then_some (nat_lt began stands) (stands - began) → Keeps old mid → ReadSoFar old start held mid → AsksToWait mid new → ReadAllOutcome old start (Ok answer) held new
+waits_or_stops old mid new start held answer began stands first last answers keeps was is =
+    by_test (nat_lt (length start) (length held)) old mid new start held answer (stands - began) refl (answers ∙ (rw (first, last) refl)) (rw (first, last) refl) keeps was is
