@@ -9,7 +9,8 @@ use Rattle.py_raw.specs.Opener.{OpenerView, OpenKeeps, Opens, OpenFaults, OpenLa
 use Rattle.py_open.specs.declared.call.Call.{Call}
 use Rattle.py_open.specs.declared.call.Call.TheVariants.{Close}
 use Rattle.py_open.specs.declared.reply.Reply.{Reply}
-use Rattle.py_open.specs.Reader.{RefusesRaw, HandsRawBack, StandsWhereItStood}
+use Rattle.py_open.specs.Reader.{RefusesRaw, HandsRawBack}
+use Rattle.py_buffered.specs.Reader.{StandsWhereItStood}
 use Rattle.py_open.specs.Session.{SessionView}
 use Rattle.py_open.specs.Run.{RunsCalls}
 use Rattle.py_script.specs.ReplyLine.{reply_lines}

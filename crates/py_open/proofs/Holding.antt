@@ -1,5 +1,5 @@
 -- What a call of the reader leaves of what is known of a text.
-use Rattle.std.proofs.Common.{◌≡◌, ◌≢◌, ℕ, ◌+◌, false, nat_eq, IsTrue, List, [], ◌++◌, length as len, drop, Result, Ok, Err, sym, ap, ◌∙◌, subst, arith}
+use Rattle.std.proofs.Common.{◌≡◌, ◌≢◌, ℕ, ◌+◌, false, nat_eq, IsTrue, List, [], ◌++◌, length as len, drop, Result, Ok, Err, sym, ap, ◌∙◌, subst, refl, arith}
 use Rattle.std.proofs.Math.Seq.{drop-append_seam}
 use Rattle.std.proofs.lemmas.List.{append_assoc, length-append, drop-drop}
 use Rattle.std.specs.Str.{encode_utf8_all}
@@ -28,25 +28,25 @@ text_over old new at taken chunk held pending keeps forth still is = record {
 
 -- Closing.
 
--- a reader that lives after a close was left as it was
-closed_raw : (old new : ReaderView) (result : Result (Unit {0}) IoFault) → ClosesRaw old result new → new.life ≡ life.Live → new ≡ old
-closed_raw old new (Ok done) outcome live = absurd (cc)
-closed_raw old new (Err fault.RawFault) outcome live = absurd (let closed = outcome.1 in cc)
-closed_raw old new (Err fault.NoMemory) outcome live = outcome.1
-closed_raw old new (Err other) outcome live = absurd outcome
+-- a reader that lives after a close was left where it was
+closed_raw : (old new : ReaderView) (result : Result (Unit {0}) IoFault) → old.life ≡ life.Live → ClosesRaw old result new → new.life ≡ life.Live → (old.life ≡ life.Live) × (new.place ≡ old.place)
+closed_raw old new (Ok done) before outcome live = absurd (cc)
+closed_raw old new (Err fault.RawFault) before outcome live = absurd (let closed = outcome.1 in cc)
+closed_raw old new (Err fault.NoMemory) before outcome live = (before, outcome.1.place)
+closed_raw old new (Err other) before outcome live = absurd outcome
 
-closed_in : (current : Life) (old new : ReaderView) (result : Result (Unit {0}) IoFault) → ClosesIn current old result new → new.life ≡ life.Live → new ≡ old
-closed_in life.Live old new result outcome live = closed_raw old new result outcome live
-closed_in life.Closed old new result outcome live = outcome.1
-closed_in life.Failed old new result outcome live = outcome.1
-closed_in life.Detached old new result outcome live = outcome.1
+same_reader : (old new : ReaderView) → new ≡ old → new.life ≡ life.Live → (old.life ≡ life.Live) × (new.place ≡ old.place)
+same_reader old new same live = (sym (ap (λ (reader : ReaderView). reader.life) same) ∙ live, ap (λ (reader : ReaderView). reader.place) same)
 
-pub closed_live : (old new : ReaderView) (result : Result (Unit {0}) IoFault) → CloseOutcome old result new → new.life ≡ life.Live → new ≡ old
-closed_live old new result outcome live = closed_in old.life old new result outcome live
+closed_in : (current : Life) (old new : ReaderView) (result : Result (Unit {0}) IoFault) → old.life ≡ current → ClosesIn current old result new → new.life ≡ life.Live → (old.life ≡ life.Live) × (new.place ≡ old.place)
+closed_in life.Live old new result is outcome live = closed_raw old new result is outcome live
+closed_in life.Closed old new result is outcome live = same_reader old new outcome.1 live
+closed_in life.Failed old new result is outcome live = same_reader old new outcome.1 live
+closed_in life.Detached old new result is outcome live = same_reader old new outcome.1 live
 
 pub text_closed : (old new : ReaderView) (result : Result (Unit {0}) IoFault) (at taken chunk : ℕ) (held pending : List ℕ) → KeepsReader old new → MovesForth old new → CloseOutcome old result new → IsText old.raw old.place old.life at taken chunk held pending → IsText new.raw new.place new.life at taken chunk held pending
 text_closed old new result at taken chunk held pending keeps forth outcome is =
-    text_over old new at taken chunk held pending keeps forth (λ live. let same = closed_live old new result outcome live in (ap (λ (reader : ReaderView). reader.life) (sym same) ∙ live, ap (λ (reader : ReaderView). reader.place) same)) is
+    text_over old new at taken chunk held pending keeps forth (closed_in old.life old new result refl outcome) is
 
 -- Reading.
 

@@ -1,6 +1,7 @@
 mod Modes
 mod Planning
 mod Reading
+mod Beginning
 mod Running
 mod Decoding
 mod Tying

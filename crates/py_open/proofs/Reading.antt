@@ -1,158 +1,215 @@
--- How a reader's buffer goes from call to call.
-use Rattle.std.proofs.Common.{◌≡◌, ℕ, zero, suc, ◌+◌, ◌-◌, ◌<◌, ◌≤◌, ◌⊎◌, ⊎_elim, IsTrue, List, [], ◌∷◌, ◌++◌, length, take, drop, Option, Some, None, Result, Ok, Err, Vec, sym, ap, ◌∙◌, subst, refl, arith}
-use Rattle.std.proofs.lemmas.List.{append_assoc, length-drop, length-take, length-take-le, take-append-drop, drop-drop, drop-append-le, drop-take, take-take, take-append-le}
-use Rattle.std.proofs.lemmas.Slice.{between_from_start}
-use Rattle.std.specs.List.{slice_range}
+-- What the buffered reader's clause says of the bytes under a text.
+use Rattle.std.proofs.Common.{◌≡◌, ◌≢◌, ℕ, zero, suc, ◌+◌, ◌<◌, ◌≤◌, Bool, true, false, ◌&&◌, IsTrue, List, [], ◌∷◌, ◌++◌, length, take, drop, Option, Some, None, Result, Ok, Err, Vec, sym, ap, ◌∙◌, subst, refl, arith}
+use Rattle.std.proofs.lemmas.List.{append_assoc, take-append-drop, length-drop}
 use Rattle.std.specs.declared.alloc.Global.{Global}
 use Rattle.py_flat.specs.declared.fault.IoFault.{IoFault}
+use Rattle.py_flat.specs.declared.fault.IoFault.TheVariants as fault
 use Rattle.py_flat.specs.declared.life.Life.{Life}
 use Rattle.py_flat.specs.declared.life.Life.TheVariants as life
 use Rattle.py_flat.specs.Limits.{greatest_place}
-use Rattle.py_flat.specs.Bytes.{left_at}
-use Rattle.py_flat.specs.Refusals.{life_fault}
-use Rattle.py_flat.specs.BinaryStep.{IsFrontOf}
-use Rattle.py_raw.specs.RawStream.{Raw, ReadTold, ReadOutcome}
-use Rattle.py_raw.specs.declared.raw_error.RawError.{RawError}
-use Rattle.py_raw.specs.declared.raw_error.RawError.TheVariants as raw_error
-use Rattle.py_open.specs.Reader.{ReaderView, HoldsTold, IsReader, FillsTold, Fills, FillOutcome, GivesHeld, ReadFails, Read1Outcome}
+use Rattle.py_flat.specs.Bytes.{left_at, lay}
+use Rattle.py_flat.specs.Calls.{FileCall, FileReply, Bytes, Done, Refused, Read1, Close}
+use Rattle.py_flat.specs.FlatFile.{FlatFile, Abilities}
+use Rattle.py_flat.specs.ExactStep.{is_closed}
+use Rattle.py_flat.specs.Refusals.{life_fault, refusal}
+use Rattle.py_flat.specs.AllowedStep.{settled, waited_for, raw_faulted, out_of_memory}
+use Rattle.py_flat.specs.BinaryStep.{Transfers, BinaryStep, SettledBy}
+use Rattle.py_buffered.specs.Stream.{Stream, file_of}
+use Rattle.py_buffered.specs.Answers.{Answers, Leaves, refused_by}
+use Rattle.py_buffered.specs.Replies.{bytes_reply, done_reply}
+use Rattle.py_open.specs.Reader.{ReaderView, IsReader, KeepsReader, GivesTold, ReadFails, ChunkReadOutcome, ClosesRaw, ClosesIn, CloseOutcome}
 
-abbrev pub made : Raw → ℕ → Life → ℕ → List ℕ → ReaderView
-made raw place current size held = record { raw = raw; place = place; life = current; size = size; held = held }
+-- a reader with the place that is counted beside it, as the text sees it
+abbrev pub seen_at : Stream → ℕ → ReaderView
+seen_at reader place = record { raw = reader.raw; place = place; life = reader.life; size = reader.size }
 
--- a part of a list, less its front
-pub part_behind : (xs : List ℕ) (start end count : ℕ) → start + count ≤ end → slice_range xs (start + count) end ≡ drop count (slice_range xs start end)
-part_behind xs start end count within =
-    let rest : ℕ = end - (start + count) in
-    let size : end - start ≡ count + rest = omega arith in
-    sym (ap (λ (k : ℕ). drop count (take k (drop start xs))) size ∙ (drop-take count rest (drop start xs) ∙ ap (take rest) (drop-drop count start xs)))
+-- What a life refuses.
 
--- the front of a part
-pub part_front : (xs : List ℕ) (start end count : ℕ) → start + count ≤ end → slice_range xs start (start + count) ≡ take count (slice_range xs start end)
-part_front xs start end count within =
-    let size : start + count - start ≡ count = omega arith in
-    ap (λ (k : ℕ). take k (drop start xs)) size ∙ sym (take-take count (end - start) (drop start xs) (omega arith))
+-- a call of a stream that isn't live is refused by its life
+pub refuses_reading : (reader : Stream) (size : Option ℕ) (current : Life) (why : IoFault) → reader.life ≡ current → life_fault current ≡ Some why → refused_by reader (Read1 size) ≡ Some why
+refuses_reading reader size life.Live why is refuses = absurd (cc)
+refuses_reading reader size life.Failed why is refuses = rw is refuses
+refuses_reading reader size life.Closed why is refuses = rw is refuses
+refuses_reading reader size life.Detached why is refuses = rw is refuses
 
--- how long a part is
-pub length-part : (xs : List ℕ) (start end : ℕ) → start ≤ end → end ≤ length xs → length (slice_range xs start end) ≡ end - start
-length-part xs start end order within = length-take-le (end - start) (drop start xs) (omega (arith, length-drop start xs))
+-- and of one that is, nothing refuses a reading
+pub accepts_reading : (reader : Stream) (size : Option ℕ) → reader.life ≡ life.Live → reader.can.readable ≡ true → refused_by reader (Read1 size) ≡ None
+accepts_reading reader size live reads = rw live (rw reads refl)
 
--- some of the held bytes were given
-pub told_gave : (raw : Raw) (place count : ℕ) (held : List ℕ) → count ≤ length held → HoldsTold raw place held → HoldsTold raw (place + count) (drop count held)
-told_gave raw place count held fits told = record {
-  bytes = sym (drop-drop count place raw.bytes) ∙ (ap (drop count) told.bytes ∙ drop-append-le count held (left_at raw.bytes raw.place) fits);
-  behind = omega (arith, length-drop count held, told.behind);
-}
+pub accepts_close : (reader : Stream) → reader.life ≡ life.Live → refused_by reader Close ≡ None
+accepts_close reader live = rw live refl
 
-pub reader_gave : (raw : Raw) (place count size : ℕ) (current : Life) (held : List ℕ) → count ≤ length held → IsReader raw place current size held → IsReader raw (place + count) current size (drop count held)
-reader_gave raw place count size current held fits is = record {
-  buffered = is.buffered;
-  reads = is.reads;
-  is_open = is.is_open;
-  within = omega (arith, length-drop count held, is.within);
-  told = λ tells live. told_gave raw place count held fits (is.told tells live);
-}
+-- What a reading gave.
 
--- what a reader gives of the bytes that it holds is a front of what is left
-pub held_front : (raw : Raw) (place count : ℕ) (held : List ℕ) → HoldsTold raw place held → IsFrontOf (take count held) (left_at raw.bytes place)
-held_front raw place count held told = (drop count held ++ left_at raw.bytes raw.place, sym (append_assoc (take count held) (drop count held) (left_at raw.bytes raw.place)) ∙ (ap (λ (xs : List ℕ). xs ++ left_at raw.bytes raw.place) (take-append-drop count held) ∙ sym told.bytes))
-
--- a buffer that was filled by one transfer
-pub told_filled : (old new : Raw) (place count : ℕ) (before after : List ℕ) → old.place ≡ place → ReadTold old before count after new → HoldsTold new place (take count after)
-told_filled old new place count before after stands told =
-    let left : List ℕ = left_at old.bytes old.place in
-    let size : length (take count after) ≡ count = ap length told.given ∙ length-take-le count left told.left in
-    let moved : new.place ≡ place + count = told.place ∙ ap (λ (n : ℕ). n + count) stands in
-    let ahead : left_at new.bytes new.place ≡ drop count left = ap (λ (bytes : List ℕ). drop new.place bytes) told.bytes ∙ (ap (λ (n : ℕ). drop n old.bytes) told.place ∙ sym (drop-drop count old.place old.bytes)) in
-    record {
-      bytes = ap (λ (bytes : List ℕ). drop place bytes) told.bytes ∙ (ap (λ (n : ℕ). drop n old.bytes) (sym stands) ∙ (sym (take-append-drop count left) ∙ (ap (λ (xs : List ℕ). xs ++ drop count left) (sym told.given) ∙ ap (λ (xs : List ℕ). take count after ++ xs) (sym ahead))));
-      behind = moved ∙ ap (λ (n : ℕ). place + n) (sym size);
-    }
-
--- a view by its place and what is held
-pub same_view : (raw : Raw) (current : Life) (size : ℕ) (here there : ℕ) (before after : List ℕ) → here ≡ there → before ≡ after → made raw here current size before ≡ made raw there current size after
-same_view raw current size here there before after places bytes = ap (λ (place : ℕ). made raw place current size before) places ∙ ap (λ (held : List ℕ). made raw there current size held) bytes
-
--- the front of what a slice of a buffer was written into
-pub front_written : (size count : ℕ) (written behind : List ℕ) → count ≤ length written → length written ≤ size → take count (take size (written ++ behind)) ≡ take count written
-front_written size count written behind within fits = take-take count size (written ++ behind) (omega arith) ∙ take-append-le count written behind within
-
--- nothing came into a room: at the end, or where no room is left below the greatest place
-pub nothing_came : (old new : Raw) (size room place : ℕ) (before after : List ℕ) → length old.bytes ≤ greatest_place → (room ≡ 0 → (size ≡ 0) ⊎ (place ≡ greatest_place)) → length before ≡ room → old.place ≡ place → 0 < size → ReadTold old before 0 after new → length old.bytes ≤ place
-nothing_came old new size zero place before after longest none is stands some told = ⊎_elim (λ empty. absurd (omega arith)) (λ last. omega arith) (none refl)
-nothing_came old new size (suc room) place before after longest none is stands some told = omega (arith, told.end refl (λ empty. absurd (omega (arith, ap length empty))))
-
-pub fill_told : (old new : Raw) (size room place count : ℕ) (before after buffer : List ℕ) → length old.bytes ≤ greatest_place → (room ≡ 0 → (size ≡ 0) ⊎ (place ≡ greatest_place)) → length before ≡ room → take count buffer ≡ take count after → ReadTold old before count after new → FillsTold old size place count buffer new
-fill_told old new size room place count before after buffer longest none is front told = record {
-  bytes = told.bytes;
-  holds = λ stands. subst (HoldsTold new place) (sym front) (told_filled old new place count before after stands told);
-  end = λ stands some nothing. nothing_came old new size room place before after longest none is stands some (subst (λ (n : ℕ). ReadTold old before n after new) nothing told);
-}
-
--- one transfer into the front of a buffer
-pub filled : (old new : Raw) (size room place : ℕ) (result : Result (Option ℕ) RawError) (before after buffer : List ℕ) → (IsTrue old.tells → length old.bytes ≤ greatest_place) → place + room ≤ greatest_place → room ≤ size → (room ≡ 0 → (size ≡ 0) ⊎ (place ≡ greatest_place)) → length before ≡ room → ((count : ℕ) → count ≤ room → take count buffer ≡ take count after) → ReadOutcome old before result after new → FillOutcome old size place result buffer new
-filled old new size room place (Ok (Some count)) before after buffer longest within fits none is front outcome = record {
-  fits = omega (arith, outcome.fits);
-  within = omega (arith, outcome.fits);
-  told = λ tells. fill_told old new size room place count before after buffer (longest tells) none is (front count (omega (arith, outcome.fits))) (outcome.told tells);
-}
-filled old new size room place (Ok None) before after buffer longest within fits none is front outcome = outcome
-filled old new size room place (Err raw_error.Fault) before after buffer longest within fits none is front outcome = outcome
-filled old new size room place (Err raw_error.Memory) before after buffer longest within fits none is front outcome = outcome.0
-
--- the front of a front
-pub front_of_front : (n : ℕ) (xs whole : List ℕ) → IsFrontOf xs whole → IsFrontOf (take n xs) whole
-front_of_front n xs whole front = (drop n xs ++ front.0, sym (append_assoc (take n xs) (drop n xs) front.0) ∙ (ap (λ (ys : List ℕ). ys ++ front.0) (take-append-drop n xs) ∙ front.1))
+-- of a live reader
+pub gave_told : (old new : Stream) (size : ℕ) (part : List ℕ) (short faulted : _) → refusal (file_of old) (Read1 (Some size)) ≡ None → BinaryStep (file_of old) (Read1 (Some size)) (Bytes part) short faulted (file_of new) → Transfers (file_of old) (Read1 (Some size)) (take size (left_at (file_of old).bytes old.place)) (Bytes part) (file_of new)
+gave_told old new size part short faulted accepted (settled by) = subst (λ (why : Option IoFault). SettledBy (file_of old) (Read1 (Some size)) why (Bytes part) (file_of new)) accepted by
+gave_told old new size part short faulted accepted (waited_for waited by) = absurd (let never = by.1.0 in cc)
+gave_told old new size part short faulted accepted (raw_faulted faults says left) = absurd (cc)
+gave_told old new size part short faulted accepted (out_of_memory says left) = absurd (cc)
 
 -- where a front that isn't asked to be empty is empty, there is nothing
-pub nothing_taken : (n : ℕ) (xs : List ℕ) → 0 < n → take n xs ≡ [] → xs ≡ []
+nothing_taken : (n : ℕ) (xs : List ℕ) → 0 < n → take n xs ≡ [] → xs ≡ []
 nothing_taken n [] some none = refl
 nothing_taken zero (x ∷ xs) some none = absurd (omega arith)
-nothing_taken (suc n) (x ∷ xs) some none = cc
+nothing_taken (suc n) (x ∷ xs) some none = absurd (cc)
 
--- what a reader that holds some bytes is known to hold, where the raw tells
-pub record HoldsFront (raw : Raw) (place size : ℕ) (held : List ℕ) : Type 0 where
-  pub front : IsFrontOf held (left_at raw.bytes place)
-  pub end : held ≡ [] → 0 < size → length raw.bytes ≤ place
+-- a part that one transfer gave is a front of what is left, and empty only at the end
+transferred_told : (file : FlatFile) (size : ℕ) (part : List ℕ) (after : FlatFile) (view : ReaderView) → view.raw.bytes ≡ file.bytes → view.place ≡ file.place → Transfers file (Read1 (Some size)) (take size (left_at file.bytes file.place)) (Bytes part) after → GivesTold view size part
+transferred_told file size part after view bytes place moved =
+    let rest : List ℕ = left_at file.bytes file.place in
+    let same : part ≡ moved.part = let replies : Bytes part ≡ Bytes moved.part = ap (λ (outcome : FileReply × FlatFile). outcome.0) moved.outcome in cc in
+    let left : left_at view.raw.bytes view.place ≡ rest = rw bytes (rw place refl) in
+    record {
+      front = (
+        moved.front.0 ++ drop size rest,
+        sym (append_assoc part moved.front.0 (drop size rest)) ∙ (ap (λ (xs : List ℕ). (xs ++ moved.front.0) ++ drop size rest) same ∙ (ap (λ (xs : List ℕ). xs ++ drop size rest) moved.front.1 ∙ (take-append-drop size rest ∙ sym left))),
+      );
+      end = λ none some.
+          let nothing : rest ≡ [] = nothing_taken size rest some (moved.some (sym same ∙ none)) in
+          omega (arith, place, ap length bytes, ap length nothing, length-drop file.place file.bytes);
+    }
 
--- what a call that gives of the held bytes answers
-pub gave : (old mid new : ReaderView) (size : ℕ) (result : Result (Option (Vec ℕ Global)) IoFault) → mid.place ≡ old.place → old.life ≡ life.Live → mid.life ≡ life.Live → (IsTrue old.raw.tells → HoldsFront old.raw old.place size mid.held) → GivesHeld mid size result new → Read1Outcome old size result new
-gave old mid new size (Ok (Some part)) places before after told held = record {
-  fits = omega (arith, ap length held.0, length-take size mid.held);
-  live = ap (λ (view : ReaderView). view.life) held.1 ∙ after;
-  place = ap (λ (view : ReaderView). view.place) held.1 ∙ ap (λ (place : ℕ). place + length part.items) places;
-  told = λ tells. record {
-    front = subst (λ (xs : List ℕ). IsFrontOf xs (left_at old.raw.bytes old.place)) (sym held.0) (front_of_front size mid.held (left_at old.raw.bytes old.place) (told tells).front);
-    end = λ none some. (told tells).end (nothing_taken size mid.held some (sym held.0 ∙ none)) some;
-  };
+-- the place that is counted after a reading
+abbrev pub counted_by : Result (Option (Vec ℕ Global)) IoFault → ℕ → ℕ
+counted_by (Ok (Some part)) place = place + length part.items
+counted_by result place = place
+
+-- nothing is owed, so the flat bytes are the raw's
+flat_bytes : (reader : Stream) → reader.owed.bytes ≡ [] → reader.raw.bytes ≡ (file_of reader).bytes
+flat_bytes reader none = sym (ap (λ (owed : List ℕ). lay reader.raw.bytes reader.owed.place owed) none)
+
+-- of a live reader
+reads_live : (old new : Stream) (place size : ℕ) (result : Result (Option (Vec ℕ Global)) IoFault) → IsReader old place → old.life ≡ life.Live → Answers old (Read1 (Some size)) (bytes_reply result) new → ChunkReadOutcome (seen_at old place) size result (seen_at new (counted_by result place))
+reads_live old new place size (Ok (Some part)) is live answers = record {
+  fits = answers.moves.within;
+  live = answers.moves.life_is ∙ live;
+  place = refl;
+  told = λ tells. transferred_told (file_of old) size part.items (file_of new) (seen_at old place) (flat_bytes old is.owed) (sym (is.at live)) (gave_told old new size part.items new.short false (accepts_reading old (Some size) live is.reads) (answers.told tells));
 }
-gave old mid new size (Ok None) places before after told held = absurd held
-gave old mid new size (Err refused) places before after told held = subst (λ (why : IoFault). ReadFails old why new) (sym held.0) (record {
-  place = ap (λ (view : ReaderView). view.place) held.1 ∙ places;
-  life = ap (λ (view : ReaderView). view.life) held.1 ∙ (after ∙ sym before);
-})
+reads_live old new place size (Ok None) is live answers =
+    let short : IsTrue new.short = answers.shorts in
+    record {
+      cause = answers.causes.waits short;
+      nothing = record { place = refl; life = answers.moves.life_is };
+      told = λ tells. answers.hides short refl (answers.spares is.writes is.owed).owed tells ∙ (answers.moves.place ∙ is.at live);
+    }
+reads_live old new place size (Err fault.RawFault) is live answers = (answers.causes.faults refl, answers.moves.life_is)
+reads_live old new place size (Err fault.NoMemory) is live answers = record { place = refl; life = answers.moves.life_is }
+reads_live old new place size (Err (fault.WouldBlock taken)) is live answers =
+    absurd (let never = subst (λ (writes : Bool). IsTrue (writes && false)) is.writes (answers.answer (accepts_reading old (Some size) live is.reads)) in cc)
+reads_live old new place size (Err other) is live answers = absurd (answers.answer (accepts_reading old (Some size) live is.reads))
 
--- only a live stream's life refuses nothing
-pub lives : (current : Life) → life_fault current ≡ None → current ≡ life.Live
-lives life.Live none = refl
-lives life.Failed none = cc
-lives life.Closed none = cc
-lives life.Detached none = cc
+-- of one that isn't
+reads_refused : (old new : Stream) (place size : ℕ) (result : Result (Option (Vec ℕ Global)) IoFault) (why : IoFault) → life_fault old.life ≡ Some why → Leaves old (Refused why) (bytes_reply result) new → ((view : ReaderView) → (life_fault view.life ≡ Some why) → ReadFails view why view) → ChunkReadOutcome (seen_at old place) size result (seen_at new (counted_by result place))
+reads_refused old new place size (Ok (Some part)) why is leaves fails = absurd (let says = leaves.says in cc)
+reads_refused old new place size (Ok None) why is leaves fails = absurd (let says = leaves.says in cc)
+reads_refused old new place size (Err other) why is leaves fails =
+    let same : other ≡ why = let says : Refused other ≡ Refused why = leaves.says in cc in
+    let view : seen_at new place ≡ seen_at old place = ap (λ (reader : Stream). seen_at reader place) leaves.same in
+    subst (λ (by : IoFault). ReadFails (seen_at old place) by (seen_at new place)) (sym same) (subst (ReadFails (seen_at old place) why) (sym view) (fails (seen_at old place) is))
 
--- what a reader holds is the front of what is left; `end` says when it may hold nothing
-pub holds_front : (raw : Raw) (place asked : ℕ) (held : List ℕ) → HoldsTold raw place held → (held ≡ [] → 0 < asked → length raw.bytes ≤ place) → HoldsFront raw place asked held
-holds_front raw place asked held told end = record {
-  front = (left_at raw.bytes raw.place, sym told.bytes);
-  end = end;
+reads_in : (old new : Stream) (place size : ℕ) (result : Result (Option (Vec ℕ Global)) IoFault) (current : Life) → old.life ≡ current → IsReader old place → Answers old (Read1 (Some size)) (bytes_reply result) new → ChunkReadOutcome (seen_at old place) size result (seen_at new (counted_by result place))
+reads_in old new place size result life.Live life_is is answers = reads_live old new place size result is life_is answers
+reads_in old new place size result life.Failed life_is is answers = reads_refused old new place size result fault.Failed (rw life_is refl) (answers.refused fault.Failed (refuses_reading old (Some size) life.Failed fault.Failed life_is refl)) (λ view by. (by, refl))
+reads_in old new place size result life.Closed life_is is answers = reads_refused old new place size result fault.Closed (rw life_is refl) (answers.refused fault.Closed (refuses_reading old (Some size) life.Closed fault.Closed life_is refl)) (λ view by. (by, refl))
+reads_in old new place size result life.Detached life_is is answers = absurd (is.attached life_is)
+
+-- any reading of a reader under a text
+pub reads_chunk : (old new : Stream) (place size : ℕ) (result : Result (Option (Vec ℕ Global)) IoFault) → IsReader old place → Answers old (Read1 (Some size)) (bytes_reply result) new → ChunkReadOutcome (seen_at old place) size result (seen_at new (counted_by result place))
+reads_chunk old new place size result is answers = reads_in old new place size result old.life refl is answers
+
+-- What every call keeps.
+
+pub keeps_reader : (old new : Stream) (call : FileCall) (reply : FileReply) (before after : ℕ) → IsReader old before → Answers old call reply new → KeepsReader (seen_at old before) (seen_at new after)
+keeps_reader old new call reply before after is answers = record {
+  size = answers.keeps.size;
+  raw = answers.keeps.raw;
+  bytes = (answers.spares is.writes is.owed).bytes;
+  shut = answers.shut;
 }
 
--- the same of an empty buffer that was filled
-pub filled_front : (old new : Raw) (size place asked count : ℕ) (buffer : List ℕ) → HoldsTold old place [] → 0 < size → size ≤ length buffer → Fills old size place count buffer new → IsTrue old.tells → HoldsFront old place asked (slice_range buffer 0 count)
-filled_front old new size place asked count buffer empty some within fills tells =
-    let told = fills.told tells in
-    let stands : old.place ≡ place = omega (arith, empty.behind) in
-    let holds = told.holds stands in
-    let whole : slice_range buffer 0 count ≡ take count buffer = between_from_start buffer count in
-    subst (HoldsFront old place asked) (sym whole) (record {
-      front = (left_at new.bytes new.place, sym (ap (λ (bytes : List ℕ). left_at bytes place) (sym told.bytes) ∙ holds.bytes));
-      end = λ none some_asked. told.end stands some (omega (arith, ap length none, length-take-le count buffer (omega (arith, fills.fits))));
-    })
+-- the place that is counted is the reader's while that lives, which a reading keeps
+still_there : (old new : Stream) (place size : ℕ) (result : Result (Option (Vec ℕ Global)) IoFault) → IsReader old place → old.life ≡ life.Live → Answers old (Read1 (Some size)) (bytes_reply result) new → new.life ≡ life.Live → new.place ≡ counted_by result place
+still_there old new place size (Ok (Some part)) is live answers lives = answers.moves.place ∙ ap (λ (n : ℕ). n + length part.items) (is.at live)
+still_there old new place size (Ok None) is live answers lives = answers.moves.place ∙ is.at live
+still_there old new place size (Err fault.RawFault) is live answers lives = absurd (let failed = answers.moves.life_is in cc)
+still_there old new place size (Err fault.NoMemory) is live answers lives = answers.moves.place lives ∙ is.at live
+still_there old new place size (Err other) is live answers lives = answers.moves.place ∙ is.at live
+
+still_attached : (call : FileCall) (before after : Life) → before ≢ life.Detached → after ≡ before → after ≢ life.Detached
+still_attached call before after attached same = λ detached. attached (sym same ∙ detached)
+
+far_after : (old new : Stream) (place size : ℕ) (result : Result (Option (Vec ℕ Global)) IoFault) → IsReader old place → old.life ≡ life.Live → Answers old (Read1 (Some size)) (bytes_reply result) new → counted_by result place ≤ greatest_place
+far_after old new place size (Ok (Some part)) is live answers = omega (arith, answers.moves.far, answers.moves.place, is.at live)
+far_after old new place size (Ok None) is live answers = is.far
+far_after old new place size (Err other) is live answers = is.far
+
+attached_after : (old new : Stream) (size : ℕ) (result : Result (Option (Vec ℕ Global)) IoFault) → old.life ≡ life.Live → Answers old (Read1 (Some size)) (bytes_reply result) new → new.life ≢ life.Detached
+attached_after old new size (Ok (Some part)) live answers = λ detached. let same = answers.moves.life_is in absurd (cc)
+attached_after old new size (Ok None) live answers = λ detached. let same = answers.moves.life_is in absurd (cc)
+attached_after old new size (Err fault.RawFault) live answers = λ detached. let same = answers.moves.life_is in absurd (cc)
+attached_after old new size (Err fault.NoMemory) live answers = λ detached. let same = answers.moves.life_is in absurd (cc)
+attached_after old new size (Err other) live answers = λ detached. let same = answers.moves.life_is in absurd (cc)
+
+still_reader : (old new : Stream) (before after : ℕ) (call : FileCall) (reply : FileReply) → IsReader old before → Answers old call reply new → new.life ≢ life.Detached → (new.life ≡ life.Live → new.place ≡ after) → after ≤ greatest_place → IsReader new after
+still_reader old new before after call reply is answers attached at far = record {
+  reads = ap (λ (can : Abilities). can.readable) answers.keeps.can ∙ is.reads;
+  writes = ap (λ (can : Abilities). can.writable) answers.keeps.can ∙ is.writes;
+  owed = (answers.spares is.writes is.owed).owed;
+  attached = attached;
+  at = at;
+  far = far;
+}
+
+left_reader : (old new : Stream) (place : ℕ) → IsReader old place → new ≡ record old { short = false } → IsReader new place
+left_reader old new place is same = subst (λ (reader : Stream). IsReader reader place) (sym same) (record { reads = is.reads; writes = is.writes; owed = is.owed; attached = is.attached; at = is.at; far = is.far })
+
+refused_place : (result : Result (Option (Vec ℕ Global)) IoFault) (why : IoFault) (place : ℕ) → bytes_reply result ≡ Refused why → counted_by result place ≡ place
+refused_place (Ok (Some part)) why place says = absurd (cc)
+refused_place (Ok None) why place says = refl
+refused_place (Err other) why place says = refl
+
+reads_still_left : (old new : Stream) (place : ℕ) (result : Result (Option (Vec ℕ Global)) IoFault) (why : IoFault) → IsReader old place → Leaves old (Refused why) (bytes_reply result) new → IsReader new (counted_by result place)
+reads_still_left old new place result why is leaves = subst (IsReader new) (sym (refused_place result why place leaves.says)) (left_reader old new place is leaves.same)
+
+reads_still_in : (old new : Stream) (place size : ℕ) (result : Result (Option (Vec ℕ Global)) IoFault) (current : Life) → old.life ≡ current → IsReader old place → Answers old (Read1 (Some size)) (bytes_reply result) new → IsReader new (counted_by result place)
+reads_still_in old new place size result life.Live life_is is answers = still_reader old new place (counted_by result place) (Read1 (Some size)) (bytes_reply result) is answers (attached_after old new size result life_is answers) (still_there old new place size result is life_is answers) (far_after old new place size result is life_is answers)
+reads_still_in old new place size result life.Failed life_is is answers = reads_still_left old new place result fault.Failed is (answers.refused fault.Failed (refuses_reading old (Some size) life.Failed fault.Failed life_is refl))
+reads_still_in old new place size result life.Closed life_is is answers = reads_still_left old new place result fault.Closed is (answers.refused fault.Closed (refuses_reading old (Some size) life.Closed fault.Closed life_is refl))
+reads_still_in old new place size result life.Detached life_is is answers = absurd (is.attached life_is)
+
+-- the invariant of a reader with its place, after a reading
+pub reads_still : (old new : Stream) (place size : ℕ) (result : Result (Option (Vec ℕ Global)) IoFault) → IsReader old place → Answers old (Read1 (Some size)) (bytes_reply result) new → IsReader new (counted_by result place)
+reads_still old new place size result is answers = reads_still_in old new place size result old.life refl is answers
+
+-- Closing.
+
+closes_live : (old new : Stream) (place : ℕ) (result : Result (Unit {0}) IoFault) → IsReader old place → old.life ≡ life.Live → Answers old Close (done_reply result) new → ClosesRaw (seen_at old place) result (seen_at new place)
+closes_live old new place (Ok done) is live answers = answers.moves.life_is
+closes_live old new place (Err fault.RawFault) is live answers = (answers.causes.faults refl, answers.moves.life_is)
+closes_live old new place (Err fault.NoMemory) is live answers = (answers.wants refl refl, record { place = refl; life = answers.moves.life_is })
+closes_live old new place (Err (fault.WouldBlock taken)) is live answers =
+    absurd (let never = subst (λ (writes : Bool). IsTrue (writes && true)) is.writes (answers.answer (accepts_close old live)) in cc)
+closes_live old new place (Err other) is live answers = absurd (answers.answer (accepts_close old live))
+
+-- what is answered and left, of a call that leaves all
+said_done : (result : Result (Unit {0}) IoFault) → done_reply result ≡ Done → result ≡ Ok tt
+said_done (Ok done) says = refl
+said_done (Err other) says = absurd (cc)
+
+said_refused : (result : Result (Unit {0}) IoFault) (why : IoFault) → done_reply result ≡ Refused why → result ≡ Err why
+said_refused (Ok done) why says = absurd (cc)
+said_refused (Err other) why says = cc
+
+seen_same : (old new : Stream) (place : ℕ) → new ≡ record old { short = false } → seen_at new place ≡ seen_at old place
+seen_same old new place same = ap (λ (reader : Stream). seen_at reader place) same
+
+closes_in : (old new : Stream) (place : ℕ) (result : Result (Unit {0}) IoFault) (current : Life) → old.life ≡ current → IsReader old place → Answers old Close (done_reply result) new → ClosesIn current (seen_at old place) result (seen_at new place)
+closes_in old new place result life.Live life_is is answers = closes_live old new place result is life_is answers
+closes_in old new place result life.Closed life_is is answers = let leaves = answers.again (ap is_closed life_is) in (said_done result leaves.says, seen_same old new place leaves.same)
+closes_in old new place result life.Failed life_is is answers = let leaves = answers.refused fault.Failed (rw life_is refl) in (said_refused result fault.Failed leaves.says, seen_same old new place leaves.same)
+closes_in old new place result life.Detached life_is is answers = absurd (is.attached life_is)
+
+pub closes_reader : (old new : Stream) (place : ℕ) (result : Result (Unit {0}) IoFault) → IsReader old place → Answers old Close (done_reply result) new → CloseOutcome (seen_at old place) result (seen_at new place)
+closes_reader old new place result is answers = closes_in old new place result old.life refl is answers

@@ -15,7 +15,8 @@ use Rattle.py_raw.specs.RawStream.{Raw, Keeps}
 use Rattle.py_open.specs.declared.call.Call.{Call}
 use Rattle.py_open.specs.declared.reply.Reply.{Reply}
 use Rattle.py_open.specs.Calls.{text_call, said}
-use Rattle.py_open.specs.Reader.{is_closed, ClosedWith}
+use Rattle.py_flat.specs.ExactStep.{is_closed}
+use Rattle.py_buffered.specs.Answers.{ClosedWith}
 use Rattle.py_open.specs.Session.{SessionFile, OfText, SessionView, SessionStep, says_fault, AnswersText, AnswersFile, Answers}
 use Rattle.py_open.specs.Opening.{life_of}
 use Rattle.py_open.specs.Run.{Entry, IsRun, IsHistory, IsCalm, calls_of, IsSmooth, NoneLacksMemory, all_said, session_exact, exact_replies, exact_after}

@@ -12,7 +12,8 @@ use Rattle.py_raw.specs.RawStream.{Raw, Keeps, WhereTold}
 use Rattle.py_open.specs.declared.call.Call.{Call}
 use Rattle.py_open.specs.declared.reply.Reply.{Reply}
 use Rattle.py_open.specs.Calls.{text_call, said}
-use Rattle.py_open.specs.Reader.{is_closed, ClosedWith}
+use Rattle.py_flat.specs.ExactStep.{is_closed}
+use Rattle.py_buffered.specs.Answers.{ClosedWith}
 use Rattle.py_open.specs.Waiting.{ShowsAll}
 
 -- the flat file of a session, by its kind

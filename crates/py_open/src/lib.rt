@@ -1,10 +1,11 @@
 //! Opening by a mode, and sessions: calls made one by one, each answered as the model says.
 //!
 //! `run_session` opens a session over a raw stream and makes a list of calls; its replies are a run of the model from
-//! the opening's flat file to the session's own. The buffered reader, the decoder and the text are private parts.
+//! the opening's flat file to the session's own. The decoder and the text are private parts.
 #![tactic(auto)]
 
 mod call;
+mod chunk_reader;
 mod examples;
 mod laws;
 mod letters;
@@ -12,7 +13,6 @@ mod mode;
 mod open_args;
 mod open_refused;
 mod plan;
-mod reader;
 mod reply;
 mod run;
 mod session;
@@ -35,7 +35,8 @@ pub use mode::{EncodeMode, FileMode, Mode};
 pub use open_args::OpenArgs;
 pub use open_refused::OpenRefused;
 pub use plan::{DEFAULT_BUFFER_SIZE, OpenPlan, plan_open};
+pub use py_buffered::Detached;
 pub use py_flat::ParseModeError;
 pub use reply::Reply;
 pub use run::{Run, run_session};
-pub use session::{Detached, Session};
+pub use session::Session;

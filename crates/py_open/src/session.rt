@@ -1,14 +1,15 @@
 //! Sessions: each call is refused by life or kind, or answered by the text below.
 ghost use Rattle.std.specs.Prelude.{◌≡◌, ◌<◌, true, false, []};
 ghost use Rattle.py_plain.specs.TextStep.{Close, OtherKind};
-ghost use Rattle.py_open.specs.Reader.{StandsAtStart};
+ghost use Rattle.py_buffered.specs.Reader.{StandsAtStart};
 ghost use Rattle.py_open.specs.Text.{call_of};
 ghost use Rattle.py_open.specs.Session.{Answers, AnswersAs};
 ghost use Rattle.py_open.specs.Opening.{SessionOutcome, life_of, handed_at};
 
-use crate::reader::Reader;
+use crate::chunk_reader::ChunkReader;
 use crate::text::{Answer, Text, Wanted};
 use crate::{Call, OpenRefused, Reply};
+use py_buffered::Detached;
 use py_flat::{IoFault, Life};
 use py_raw::RawStream;
 use std::alloc::Global;
@@ -35,18 +36,6 @@ impl<R: RawStream> Model for Session<R> {
     ghost view = { λ s. record { file = OfText (file_of s.text); raw = s.text.reader.raw; buffer = s.text.reader.size; short = s.short } };
 }
 
-/// A raw stream that a session hands back.
-#[derive(Debug, Drop)]
-pub struct Detached<R> {
-    /// The raw stream.
-    pub raw: R,
-    /// The bytes that were taken from callers and that the raw isn't known to have taken.
-    pub unwritten: Vec<u8>,
-    /// Where the first of them belongs, in bytes from the start; of a text the byte of its place. `None` where the raw
-    /// can't seek.
-    pub place: Option<u64>,
-}
-
 impl<R: RawStream> Session<R> {
     /// A text session over a raw that is read from where it stands, with a buffer and chunks of these sizes in bytes.
     ///
@@ -64,7 +53,7 @@ impl<R: RawStream> Session<R> {
         requires start { StandsAtStart (R.shows raw) }
         ensures { SessionOutcome R.shows raw buffer_size chunk_size result }
     {
-        match Reader::new(alloc, raw, buffer_size) {
+        match ChunkReader::new(alloc, raw, buffer_size) {
             Ok(reader) => Ok(Session {
                 alloc,
                 text: Text::new(alloc, reader, chunk_size),

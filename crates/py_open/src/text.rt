@@ -10,7 +10,7 @@ ghost use Rattle.py_open.specs.Text.{IsFresh, DecodedSoFar, StoppedAt, DecodeOut
 #[cfg(test)]
 mod tests;
 
-use crate::reader::Reader;
+use crate::chunk_reader::ChunkReader;
 use py_flat::{Chars, IoFault, Life};
 use py_plain::{Encoding, Newlines, Unit, first_line, first_unit};
 use py_raw::RawStream;
@@ -61,7 +61,7 @@ pub(crate) enum Answer {
 
 #[derive(Drop)]
 pub(crate) struct Text<R: RawStream> {
-    reader: Reader<R>,
+    reader: ChunkReader<R>,
     chunk_size: usize,
     held: Vec<u8>,
     pending: Vec<char>,
@@ -208,7 +208,7 @@ impl Wanted {
 
 impl<R: RawStream> Text<R> {
     /// A text over a reader, from where that stands.
-    pub fn new(alloc: Global, reader: Reader<R>, chunk_size: usize) -> Self
+    pub fn new(alloc: Global, reader: ChunkReader<R>, chunk_size: usize) -> Self
         requires live { reader.life ≡ Life.Live }
         requires asks { 0 < chunk_size }
         ensures { IsFresh reader chunk_size result }
@@ -276,7 +276,7 @@ impl<R: RawStream> Text<R> {
         if self.held.reserve(self.chunk_size).is_err() {
             return Err(IoFault::NoMemory);
         }
-        match self.reader.read1(alloc, self.chunk_size) {
+        match self.reader.read_chunk(alloc, self.chunk_size) {
             Ok(Some(part)) => {
                 if part.is_empty() {
                     return Ok(Chunk::End);

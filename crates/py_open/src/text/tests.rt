@@ -2,7 +2,7 @@
 ghost use Rattle.std.specs.Prelude.{◌<◌};
 
 use super::{Answer, Text, Wanted};
-use crate::reader::Reader;
+use crate::chunk_reader::ChunkReader;
 use py_flat::{IoFault, Life};
 use py_raw::{Cut, MemRaw, RawFlags};
 use std::alloc::Global;
@@ -30,7 +30,7 @@ fn text_of(rt: &impl Abort, alloc: Global, bytes: &[u8], plan: &[Cut], size: usi
         plan,
         Vec::new(alloc),
     );
-    match Reader::new(alloc, raw, size) {
+    match ChunkReader::new(alloc, raw, size) {
         Ok(reader) => Text::new(alloc, reader, size),
         Err(_) => panic!(rt; "refused"),
     }

@@ -1,0 +1,253 @@
+-- How a gathering comes from one piece to the next, and what it ends with.
+use Rattle.std.proofs.Common.{◌≡◌, ℕ, ◌+◌, ◌<◌, ◌≤◌, Bool, true, false, IsTrue, List, [], ◌++◌, length, take, drop, inl, inr, ◌≢◌, Ok, Err, refl, sym, ap, subst, ◌∙◌, arith, append_assoc}
+use Rattle.std.proofs.lemmas.List.{append-nil, length-append, length-take, length-take-le, length-drop, take_all, take-append-drop, drop-drop}
+use Rattle.std.proofs.Math.ListN.{drop_of_length-le}
+use Rattle.py_flat.specs.declared.fault.IoFault.{IoFault}
+use Rattle.py_flat.specs.declared.fault.IoFault.TheVariants as fault
+use Rattle.py_flat.specs.declared.life.Life.TheVariants as life
+use Rattle.py_flat.specs.Bytes.{left_at}
+use Rattle.py_flat.specs.Causes.{Rose}
+use Rattle.py_flat.specs.BinaryStep.{IsFrontOf}
+use Rattle.py_raw.specs.RawStream.{WhereTold}
+use Rattle.py_buffered.specs.declared.data.Stop.TheVariants as stop
+use Rattle.py_buffered.specs.Window.{place_of, end_of, ahead_of, advanced}
+use Rattle.py_buffered.specs.Engine.{EngineView, IsEngine, HoldsTold, KeepsEngine, UsesUp, IsLast, Fills, FillsOutcome, StarvesWith, ComesNext, Took, Gives}
+use Rattle.py_buffered.specs.Reading.{GathersEnough, GatherOutcome}
+use Rattle.py_buffered.specs.Collecting.{HasEnough, WantsMore}
+use Rattle.py_buffered.proofs.Asking.{none_behind}
+use Rattle.py_buffered.proofs.Transfers.{more_taken, next_behind, held_next, keeps_then, keeps_advanced}
+
+-- these bytes were collected, up to the cursor; where no byte was moved yet, all is as it was
+pub record GatheredTo (old : EngineView) (part : List ℕ) (moved : Bool) (now : EngineView) : Type 0 where
+  pub given : Gives old part now
+  pub unmoved : moved ≡ false → now ≡ old
+  pub forth : moved ≡ true → WhereTold old.raw (old.raw.place < now.raw.place)
+
+-- where bytes were moved, some were left, and some of them are wanted
+pub record MovedSome (wanted : List ℕ → List ℕ) (old : EngineView) (moved : Bool) : Type 0 where
+  pub left : moved ≡ true → WhereTold old.raw (left_at old.raw.bytes (place_of old.window) ≢ [])
+  pub asked : moved ≡ true → WhereTold old.raw (wanted (left_at old.raw.bytes (place_of old.window)) ≢ [])
+
+-- What comes next.
+
+-- what came next, and all behind it
+next_parts : (bytes part : List ℕ) (place : ℕ) → take (length part) (left_at bytes place) ≡ part → left_at bytes place ≡ part ++ left_at bytes (place + length part)
+next_parts bytes part place next =
+    sym (take-append-drop (length part) (left_at bytes place))
+    ∙ (ap (λ (t : List ℕ). t ++ drop (length part) (left_at bytes place)) next
+    ∙ ap (λ (t : List ℕ). part ++ t) (drop-drop (length part) place bytes))
+
+module _ (old now : EngineView) (part : List ℕ) (moved : Bool) (gathered : GatheredTo old part moved now) where
+  -- what is held behind the bytes that were collected comes next
+  held_behind : (used : ℕ) → used ≤ length (ahead_of now.window) → WhereTold old.raw (take used (left_at old.raw.bytes (place_of old.window + length part)) ≡ take used (ahead_of now.window))
+  held_behind used fits = λ tells.
+      let kept : KeepsEngine old now = gathered.given.kept in
+      ap (take used) (ap (left_at old.raw.bytes) (sym gathered.given.place) ∙ ap (λ (bytes : List ℕ). left_at bytes (place_of now.window)) (sym (kept.bytes tells)))
+      ∙ held_next now.raw now.window used kept.is.window_is.cursor fits (kept.is.told (subst IsTrue (sym kept.raw.tells) tells) gathered.given.live)
+
+  comes_with : (used : ℕ) → used ≤ length (ahead_of now.window) → WhereTold old.raw (ComesNext old (part ++ take used (ahead_of now.window)))
+  comes_with used fits = λ tells.
+      let ahead : List ℕ = ahead_of now.window in
+      let size : length (part ++ take used ahead) ≡ length part + used = length-append part (take used ahead) ∙ ap (λ (n : ℕ). length part + n) (length-take-le used ahead fits) in
+      ap (λ (n : ℕ). take n (left_at old.raw.bytes (place_of old.window))) size
+      ∙ (next_behind old.raw.bytes part ahead (place_of old.window) (length part) used refl (gathered.given.told tells) (held_behind used fits tells)
+      ∙ more_taken (length part) used part ahead refl)
+
+  comes_with_all : WhereTold old.raw (ComesNext old (part ++ ahead_of now.window))
+  comes_with_all = λ tells. subst (λ (t : List ℕ). ComesNext old (part ++ t)) (take_all (length (ahead_of now.window)) (ahead_of now.window) (omega arith)) (comes_with (length (ahead_of now.window)) (omega arith) tells)
+
+  -- the collector has enough with some of what is held
+  gives_some : (used : ℕ) (after : List ℕ) → used ≤ length (ahead_of now.window) → after ≡ part ++ take used (ahead_of now.window) → Gives old after (record now { window = advanced used now.window })
+  gives_some used after fits is =
+      let kept : KeepsEngine old now = gathered.given.kept in
+      let size : length after ≡ length part + used = ap length is ∙ (length-append part (take used (ahead_of now.window)) ∙ ap (λ (n : ℕ). length part + n) (length-take-le used (ahead_of now.window) fits)) in
+      record {
+        kept = keeps_then old now (record now { window = advanced used now.window }) kept (keeps_advanced now used kept.is fits);
+        live = gathered.given.live;
+        place = omega (arith, gathered.given.place, size);
+        told = λ tells. subst (ComesNext old) (sym is) (comes_with used fits tells);
+      }
+
+  -- and wants no more of all that comes
+  gathers_enough : (wanted first : List ℕ → List ℕ) (used : ℕ) (after : List ℕ) → ((rest : List ℕ) → wanted rest ≡ first rest) → HasEnough wanted part (ahead_of now.window) used after → GathersEnough first old after
+  gathers_enough wanted first used after same enough =
+      let whole : List ℕ = part ++ ahead_of now.window in
+      record {
+        alone = sym (same after) ∙ enough.alone;
+        exact = λ tells.
+            let behind : List ℕ = left_at old.raw.bytes (place_of old.window + length whole) in
+            sym (same (left_at old.raw.bytes (place_of old.window)))
+            ∙ (ap wanted (next_parts old.raw.bytes whole (place_of old.window) (comes_with_all tells) ∙ append_assoc part (ahead_of now.window) behind)
+            ∙ enough.exact behind);
+      }
+
+  pub stops_enough : (new : EngineView) (wanted first : List ℕ → List ℕ) (used : ℕ) (after : List ℕ) → ((rest : List ℕ) → wanted rest ≡ first rest) → record now { window = advanced used now.window } ≡ new → HasEnough wanted part (ahead_of now.window) used after → GatherOutcome first old (Ok stop.Enough) after new
+  stops_enough new wanted first used after same is enough = (
+    subst (Gives old after) is (gives_some used after enough.fits enough.takes),
+    gathers_enough wanted first used after same enough,
+    tt,
+  )
+
+  -- the collector took all that is held
+  takes_all : (after : List ℕ) → after ≡ part ++ ahead_of now.window → Took old after moved now
+  takes_all after is =
+      let held : length now.window.held ≡ now.window.cursor + length (ahead_of now.window) = omega (arith, gathered.given.kept.is.window_is.cursor, length-drop now.window.cursor now.window.held) in
+      record {
+        kept = gathered.given.kept;
+        live = gathered.given.live;
+        end = omega (arith, gathered.given.place, held, ap length is, length-append part (ahead_of now.window));
+        unmoved = gathered.unmoved;
+        told = λ tells. subst (ComesNext old) (sym is) (comes_with_all tells);
+        forth = gathered.forth;
+      }
+
+module _ (old now : EngineView) (part : List ℕ) (moved : Bool) (took : Took old part moved now) where
+  told_now : IsTrue old.raw.tells → HoldsTold now.raw now.window
+  told_now tells = took.kept.is.told (subst IsTrue (sym took.kept.raw.tells) tells) took.live
+
+  not_back : (is : Bool) → moved ≡ is → WhereTold old.raw (old.raw.place ≤ now.raw.place)
+  not_back true is = λ tells. omega (arith, took.forth is tells)
+  not_back false is = λ tells. omega (arith, ap (λ (e : EngineView). e.raw.place) (took.unmoved is))
+
+  -- the window was filled anew
+  filled_on : (new : EngineView) (count : ℕ) → Fills now count new → GatheredTo old part true new
+  filled_on new count fills =
+      let kept : KeepsEngine old new = keeps_then old now new took.kept fills.transferred.kept in
+      record {
+        given = record {
+          kept = kept;
+          live = fills.transferred.live;
+          place = omega (arith, took.end, fills.holds.begin, fills.holds.cursor);
+          told = took.told;
+        };
+        unmoved = λ e. cc;
+        forth = λ is tells. omega (arith, not_back moved refl tells, fills.forth (subst IsTrue (sym took.kept.raw.tells) tells));
+      }
+
+  -- so something came behind what was collected
+  some_behind : (new : EngineView) (count : ℕ) → Fills now count new → WhereTold old.raw (left_at old.raw.bytes (place_of old.window + length part) ≢ [])
+  some_behind new count fills = λ tells none.
+      let bytes : now.raw.bytes ≡ old.raw.bytes = took.kept.bytes tells in
+      let nothing : left_at now.raw.bytes (end_of now.window) ≡ [] = ap (λ (bytes : List ℕ). left_at bytes (end_of now.window)) bytes ∙ (ap (left_at old.raw.bytes) took.end ∙ none) in
+      let held : new.window.held ≡ take count [] = sym (fills.told (subst IsTrue (sym took.kept.raw.tells) tells)) ∙ ap (take count) nothing in
+      absurd (omega (arith, fills.some, fills.holds.as_many, ap length held, length-take count (left_at [] 0)))
+
+  -- nothing more comes, or not yet: all that was collected is given
+  gives_all : (new : EngineView) → UsesUp now new → Gives old part new
+  gives_all new used = record {
+    kept = keeps_then old now new took.kept used.transferred.kept;
+    live = used.transferred.live;
+    place = omega (arith, took.end, used.place);
+    told = took.told;
+  }
+
+  last_of : (new : EngineView) → UsesUp now new → IsLast now → WhereTold old.raw (length old.raw.bytes ≤ place_of new.window)
+  last_of new used last = λ tells.
+      let same : length now.raw.bytes ≡ length old.raw.bytes = ap length (took.kept.bytes tells) in
+      omega (arith, used.place, last (subst IsTrue (sym took.kept.raw.tells) tells), same)
+
+  ends_at_last : (new : EngineView) (first : List ℕ → List ℕ) → first part ≡ part → UsesUp now new → IsLast now → GatherOutcome first old (Ok stop.End) part new
+  ends_at_last new first alone used last = (
+    (gives_all new used, last_of new used last),
+    record {
+      alone = alone;
+      exact = λ tells.
+          let none : left_at old.raw.bytes (place_of old.window + length part) ≡ [] = drop_of_length-le old.raw.bytes (omega (arith, took.end, used.place, last_of new used last tells)) in
+          ap first (next_parts old.raw.bytes part (place_of old.window) (took.told tells) ∙ (ap (λ (t : List ℕ). part ++ t) none ∙ append-nil part))
+          ∙ alone;
+    },
+    tt,
+  )
+
+  waits_at : (new : EngineView) (first : List ℕ → List ℕ) → first part ≡ part → ((more : List ℕ) → IsFrontOf part (first (part ++ more))) → UsesUp now new → Rose now.raw.waits new.raw.waits → GatherOutcome first old (Ok stop.Waits) part new
+  waits_at new first alone goes_on used waits = (
+    (
+      gives_all new used,
+      omega (arith, took.kept.raw.waits, waits),
+      λ tells. omega (arith, used.place, (told_now tells).stands, used.still (subst IsTrue (sym took.kept.raw.tells) tells)),
+    ),
+    record {
+      alone = alone;
+      front = λ tells. subst (λ (whole : List ℕ). IsFrontOf part (first whole)) (sym (next_parts old.raw.bytes part (place_of old.window) (took.told tells))) (goes_on (left_at old.raw.bytes (place_of old.window + length part)));
+    },
+    tt,
+  )
+
+-- A piece of which all was taken.
+
+module _ (old now : EngineView) (part after piece : List ℕ) (moved : Bool) (gathered : GatheredTo old part moved now) (wanted : List ℕ → List ℕ) (lent : piece ≡ ahead_of now.window) (more : WantsMore wanted part piece after) (new : EngineView) where
+  took_piece : Took old after moved now
+  took_piece = takes_all old now part moved gathered after (more.takes ∙ ap (λ (t : List ℕ). part ++ t) lent)
+
+  pub goes_on : (count : ℕ) → Fills now count new → GatheredTo old after true new
+  goes_on count fills = filled_on old now after moved took_piece new count fills
+
+  pub moved_some : (first : List ℕ → List ℕ) (count : ℕ) → ((rest : List ℕ) → wanted rest ≡ first rest) → Fills now count new → MovedSome first old true
+  moved_some first count same fills =
+      let place : ℕ = place_of old.window in
+      let behind : List ℕ = left_at old.raw.bytes (place + length after) in
+      let parts : IsTrue old.raw.tells → left_at old.raw.bytes place ≡ after ++ behind = λ tells. next_parts old.raw.bytes after place (took_piece.told tells) in
+      let some : WhereTold old.raw (behind ≢ []) = some_behind old now after moved took_piece new count fills in
+      record {
+        left = λ is tells none. some tells (none_behind after behind (sym (parts tells) ∙ none));
+        asked = λ is tells none. more.asks behind (some tells) (ap wanted (sym (parts tells)) ∙ (same (left_at old.raw.bytes place) ∙ none));
+      }
+
+  pub stops_at_end : (first : List ℕ → List ℕ) → ((rest : List ℕ) → wanted rest ≡ first rest) → UsesUp now new → IsLast now → GatherOutcome first old (Ok stop.End) after new
+  stops_at_end first same used last = ends_at_last old now after moved took_piece new first (sym (same after) ∙ more.alone) used last
+
+  pub stops_waiting : (first : List ℕ → List ℕ) → ((rest : List ℕ) → wanted rest ≡ first rest) → UsesUp now new → Rose now.raw.waits new.raw.waits → GatherOutcome first old (Ok stop.Waits) after new
+  stops_waiting first same used waits = waits_at old now after moved took_piece new first (sym (same after) ∙ more.alone)
+      (λ rest. subst (IsFrontOf after) (same (after ++ rest)) (more.goes_on rest)) used waits
+
+-- Where it ends without enough.
+
+-- an engine that failed
+keeps_failed : (engine : EngineView) → IsEngine engine.raw engine.window engine.life → KeepsEngine engine (record engine { life = life.Failed })
+keeps_failed engine is = record {
+  raw = record { tells = refl; readable = refl; writable = refl; seekable = refl; takes_memory = refl; faults = omega arith; waits = omega arith };
+  stays = refl;
+  bytes = λ tells. refl;
+  size = refl;
+  short = refl;
+  is = record {
+    window_is = is.window_is;
+    reads = is.reads;
+    is_open = λ live. absurd (cc);
+    attached = λ detached. cc;
+    told = λ tells live. absurd (cc);
+  };
+}
+
+-- memory was wanting
+pub starves_so_far : (old now new : EngineView) (part after : List ℕ) (moved : Bool) (first : List ℕ → List ℕ) → GatheredTo old part moved now → MovedSome first old moved → StarvesWith moved now new → GatherOutcome first old (Err fault.NoMemory) after new
+starves_so_far old now new part after false first gathered some starves = (
+  inl (starves ∙ gathered.unmoved refl),
+  tt,
+  λ failed. absurd (let both : life.Failed ≡ life.Live = sym failed ∙ (ap (λ (engine : EngineView). engine.life) starves ∙ gathered.given.live) in cc),
+)
+starves_so_far old now new part after true first gathered some starves =
+    subst (GatherOutcome first old (Err fault.NoMemory) after) (sym starves) (
+      inr (record {
+        kept = keeps_then old now (record now { life = life.Failed }) gathered.given.kept (keeps_failed now gathered.given.kept.is);
+        failed = refl;
+        told = gathered.forth refl;
+        some = some.left refl;
+      }),
+      tt,
+      λ failed. some.asked refl,
+    )
+
+-- or the raw failed
+pub fails_so_far : (old now new : EngineView) (part after : List ℕ) (moved : Bool) (first : List ℕ → List ℕ) (why : IoFault) → GatheredTo old part moved now → MovedSome first old moved → FillsOutcome now moved (Err why) new → GatherOutcome first old (Err why) after new
+fails_so_far old now new part after moved first fault.RawFault gathered some fails = (
+  record {
+    kept = keeps_then old now new gathered.given.kept fails.kept;
+    cause = omega (arith, gathered.given.kept.raw.faults, fails.cause);
+    failed = fails.failed;
+  },
+  tt,
+  tt,
+)
+fails_so_far old now new part after moved first fault.NoMemory gathered some fails = starves_so_far old now new part after moved first gathered some fails.1
+fails_so_far old now new part after moved first why gathered some fails = absurd fails

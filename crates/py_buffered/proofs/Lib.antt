@@ -1,0 +1,14 @@
+pub mod Transfers
+pub mod Steps
+pub mod Lines
+pub mod Asking
+pub mod Collectors
+pub mod Gathering
+pub mod Refusing
+pub mod Begun
+pub mod Answering
+pub mod ReadingOn
+pub mod Single
+pub mod Moving
+pub mod Outer
+pub mod Returning

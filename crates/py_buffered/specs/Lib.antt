@@ -1,0 +1,10 @@
+pub mod Stream
+pub mod Answers
+pub mod Window
+pub mod Engine
+pub mod Collecting
+pub mod Reading
+pub mod Moving
+pub mod Replies
+pub mod Reader
+pub mod Laws

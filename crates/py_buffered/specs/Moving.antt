@@ -1,0 +1,63 @@
+-- The steps of moving a stream.
+use Rattle.std.specs.Prelude.{◌≡◌, ℕ, ◌≤◌, ℤ, pos, suc, zero, IsTrue, length, Some, Result, Ok, Err}
+use Rattle.py_flat.specs.declared.fault.IoFault.{IoFault}
+use Rattle.py_flat.specs.declared.fault.IoFault.TheVariants as fault
+use Rattle.py_flat.specs.declared.life.Life.TheVariants as life
+use Rattle.py_flat.specs.Limits.{greatest_place}
+use Rattle.py_flat.specs.Causes.{Rose}
+use Rattle.py_flat.specs.Refusals.{moved_by, target_refusal}
+use Rattle.py_raw.specs.RawStream.{WhereTold}
+use Rattle.py_buffered.specs.Window.{place_of}
+use Rattle.py_buffered.specs.Engine.{EngineView, KeepsEngine}
+
+-- a place moved by an offset, or what refuses it
+abbrev pub MovedBy : ℕ → ℤ → Result ℕ IoFault → Type 0
+MovedBy base offset (Ok target) = (moved_by base offset ≡ Some target) × (target ≤ greatest_place)
+MovedBy base offset (Err why) = target_refusal (moved_by base offset) ≡ Some why
+
+-- what asking the raw where it ends, or moving it, leaves where it failed
+pub record FailsMoving (old new : EngineView) : Type 0 where
+  pub kept : KeepsEngine old new
+  pub cause : Rose old.raw.faults new.raw.faults
+  pub failed : new.life ≡ life.Failed
+
+-- the raw was asked where it ends: the stream is as it was, but for the raw's counts
+pub record AsksEnd (old : EngineView) (end : ℕ) (new : EngineView) : Type 0 where
+  pub kept : KeepsEngine old new
+  pub same : new ≡ record old { raw = new.raw }
+  pub within : end ≤ greatest_place
+  pub told : WhereTold old.raw (end ≡ length old.raw.bytes)
+
+abbrev pub EndOutcome : EngineView → Result ℕ IoFault → EngineView → Type 0
+EndOutcome old (Ok end) new = AsksEnd old end new
+EndOutcome old (Err fault.RawFault) new = FailsMoving old new
+EndOutcome old (Err fault.NoMemory) new = IsTrue old.raw.takes_memory × (new ≡ old)
+EndOutcome old (Err other) new = ⊥
+
+-- where a seek from a place that is known goes: nothing changes
+abbrev pub TargetFrom : ℕ → ℤ → EngineView → Result ℕ IoFault → EngineView → Type 0
+TargetFrom base offset old result new = MovedBy base offset result × (new ≡ old)
+
+-- and from the end: some end was answered, or the asking failed
+abbrev pub TargetFromEnd : ℤ → EngineView → Result ℕ IoFault → EngineView → Type 0
+TargetFromEnd offset old (Err fault.RawFault) new = FailsMoving old new
+TargetFromEnd offset old (Err fault.NoMemory) new = IsTrue old.raw.takes_memory × (new ≡ old)
+TargetFromEnd offset old result new = (end : ℕ) × AsksEnd old end new × MovedBy end offset result
+
+abbrev pub TargetOutcome : EngineView → ℤ → ℤ → Result ℕ IoFault → EngineView → Type 0
+TargetOutcome old offset (pos zero) result new = TargetFrom 0 offset old result new
+TargetOutcome old offset (pos (suc zero)) result new = TargetFrom (place_of old.window) offset old result new
+TargetOutcome old offset (pos (suc (suc zero))) result new = TargetFromEnd offset old result new
+TargetOutcome old offset whence result new = (result ≡ Err fault.BadWhence) × (new ≡ old)
+
+-- the stream stands at the target
+pub record GoesTo (old : EngineView) (target : ℕ) (new : EngineView) : Type 0 where
+  pub kept : KeepsEngine old new
+  pub live : new.life ≡ life.Live
+  pub place : place_of new.window ≡ target
+
+abbrev pub GoOutcome : EngineView → ℕ → Result (Unit {0}) IoFault → EngineView → Type 0
+GoOutcome old target (Ok done) new = GoesTo old target new
+GoOutcome old target (Err fault.RawFault) new = FailsMoving old new
+GoOutcome old target (Err fault.NoMemory) new = IsTrue old.raw.takes_memory × (new ≡ old)
+GoOutcome old target (Err other) new = ⊥

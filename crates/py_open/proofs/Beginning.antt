@@ -1,0 +1,105 @@
+-- What the buffered reader's opening says of the bytes under a text.
+use Rattle.std.proofs.Common.{◌≡◌, ℕ, ◌<◌, ◌≤◌, Bool, true, ◌&&◌, IsTrue, IsFalse, IsOk, None, Result, Ok, Err, sym, ap, ◌∙◌, subst, refl, arith}
+use Rattle.py_flat.specs.declared.fault.IoFault.{IoFault}
+use Rattle.py_flat.specs.declared.fault.IoFault.TheVariants as fault
+use Rattle.py_flat.specs.declared.life.Life.TheVariants as life
+use Rattle.py_flat.specs.Calls.{Place, Tell}
+use Rattle.py_flat.specs.FlatFile.{Abilities}
+use Rattle.py_flat.specs.Owed.{Owed}
+use Rattle.py_raw.specs.RawStream.{Raw, Keeps, StaysOpen}
+use Rattle.py_buffered.specs.Stream.{Stream}
+use Rattle.py_buffered.specs.Answers.{Answers, refused_by}
+use Rattle.py_buffered.specs.Replies.{place_reply}
+use Rattle.py_buffered.specs.Reader.{OpensReader as Opens, RefusesRaw as Refuses, StandsWhereItStood}
+use Rattle.py_open.specs.Reader.{IsReader, IsNew, CountsPlace, OpensReader, HandsRawBack, RefusesRaw}
+use Rattle.py_open.proofs.Reading.{seen_at}
+
+-- a reader that was opened is new
+pub opened_new : (raw : Raw) (size : ℕ) (stream : Stream) → Opens raw size stream → IsNew stream
+opened_new raw size stream opens = record {
+  reads = ap (λ (can : Abilities). can.readable) opens.can;
+  writes = ap (λ (can : Abilities). can.writable) opens.can;
+  live = opens.life_is;
+  start = λ still. opens.start (sym (ap (λ (can : Abilities). can.seekable) opens.can) ∙ still);
+  owed = ap (λ (owed : Owed). owed.bytes) opens.owed;
+}
+
+-- it can be asked where it stands
+accepts_tell : (reader : Stream) → reader.life ≡ life.Live → reader.can.seekable ≡ true → refused_by reader Tell ≡ None
+accepts_tell reader live can = rw live (rw can refl)
+
+-- so the asking is never refused
+pub tells_place : (old new : Stream) (result : Result ℕ IoFault) → IsNew old → old.can.seekable ≡ true → Answers old Tell (place_reply result) new → IsOk result
+tells_place old new (Ok place) is can answers = refl
+tells_place old new (Err (fault.WouldBlock taken)) is can answers = absurd (let never = subst (λ (writes : Bool). IsTrue (writes && true)) is.writes (answers.answer (accepts_tell old is.live can)) in cc)
+tells_place old new (Err other) is can answers = absurd (answers.answer (accepts_tell old is.live can))
+
+-- and answers the place, with all but what is owed as it was
+pub counts_told : (old new : Stream) (place : ℕ) → IsNew old → Answers old Tell (Place place) new → CountsPlace old place new
+counts_told old new place is answers = record {
+  is = answers.moves.place.0;
+  at = answers.moves.place.1;
+  raw = (answers.idle refl is.writes).raw;
+  can = answers.keeps.can;
+  life_is = answers.moves.life_is;
+  size = answers.keeps.size;
+  owed = (answers.spares is.writes is.owed).owed;
+}
+
+-- what can't seek stands at 0, as it was
+pub counts_start : (old : Stream) → IsNew old → IsFalse old.can.seekable → CountsPlace old 0 old
+counts_start old is still = record { is = sym (is.start still); at = refl; raw = refl; can = refl; life_is = refl; size = refl; owed = is.owed }
+
+-- the invariant of a reader with its place
+pub begins_reader : (raw : Raw) (size : ℕ) (stream new : Stream) (place : ℕ) → Opens raw size stream → CountsPlace stream place new → IsReader new place
+begins_reader raw size stream new place opens counts =
+    let is = opened_new raw size stream opens in
+    record {
+      reads = ap (λ (can : Abilities). can.readable) counts.can ∙ is.reads;
+      writes = ap (λ (can : Abilities). can.writable) counts.can ∙ is.writes;
+      owed = counts.owed;
+      attached = λ detached. let live = counts.life_is ∙ is.live in absurd (cc);
+      at = λ live. counts.at ∙ sym counts.is;
+      far = omega (arith, counts.is, opens.within);
+    }
+
+-- an open reader
+pub opens_reader : (raw : Raw) (size : ℕ) (stream new : Stream) (place : ℕ) → Opens raw size stream → CountsPlace stream place new → OpensReader raw size (seen_at new place)
+opens_reader raw size stream new place opens counts = record {
+  opened = opens.was_open;
+  reads = opens.reads;
+  keeps = subst (Keeps raw) (sym counts.raw) opens.untouched.keeps;
+  stays = subst (StaysOpen raw) (sym counts.raw) opens.untouched.stays;
+  untouched = λ tells. subst (λ (now : Raw). now.transfers ≤ raw.transfers) (sym counts.raw) (opens.untouched.transfers tells);
+  life = counts.life_is ∙ opens.life_is;
+  size_is = counts.size ∙ opens.size_is;
+  start = λ still. counts.is ∙ opens.start still;
+  told = λ tells. (
+    ap (λ (now : Raw). now.bytes) counts.raw ∙ opens.untouched.bytes tells,
+    ap (λ (now : Raw). now.place) counts.raw ∙ opens.stands tells,
+    counts.is ∙ opens.place tells,
+  );
+}
+
+-- Refusals.
+
+same_back : (raw : Raw) → HandsRawBack raw raw
+same_back raw = record {
+  keeps = record { tells = refl; readable = refl; writable = refl; seekable = refl; takes_memory = refl; faults = omega arith; waits = omega arith };
+  stays = refl;
+  bytes = λ tells. refl;
+  untouched = λ tells. omega arith;
+}
+
+pub refuses_raw : (raw : Raw) (size : ℕ) (why : IoFault) (back : Raw) → 0 < size → Refuses raw size why back → RefusesRaw raw why back
+refuses_raw raw size fault.Closed back some refused = refused
+refuses_raw raw size fault.Unsupported back some refused = refused
+refuses_raw raw size fault.BadArgument back some refused = absurd (omega (arith, refused.2))
+refuses_raw raw size fault.NoMemory back some refused = (refused.0.is_open, refused.0.reads, subst (HandsRawBack raw) (sym refused.1) (same_back raw), subst (StandsWhereItStood raw) (sym refused.1) (λ tells. refl))
+refuses_raw raw size fault.RawFault back some refused = (
+  refused.0.is_open,
+  refused.0.reads,
+  refused.2,
+  record { keeps = refused.3.keeps; stays = refused.3.stays; bytes = refused.3.bytes; untouched = refused.3.transfers },
+)
+refuses_raw raw size other back some refused = absurd refused
