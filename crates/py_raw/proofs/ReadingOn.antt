@@ -6,7 +6,7 @@ use Rattle.std.proofs.lemmas.List.{nil_from_length, append-nil, length-take-le, 
 use Rattle.std.proofs.Math.Seq.{take-add}
 use Rattle.py_flat.specs.Bytes.{left_at}
 use Rattle.py_flat.specs.Causes.{counted}
-use Rattle.py_raw.specs.RawStream.{Raw, Keeps, AsksToWait, ReadBytes, ReadTold}
+use Rattle.py_raw.specs.RawStream.{Raw, Keeps, NoFault, NoWait, LeavesCounts, AsksToWait, ReadBytes, ReadTold}
 use Rattle.py_raw.specs.ReadAll.{ReadOn, ReadSoFar, CameBy, ReadsAll, ReadAllOutcome}
 
 -- the bytes that were held, then what a transfer put in front of the room behind them
@@ -35,8 +35,22 @@ Keeps-then old mid new first second = record {
   writable = second.writable ∙ first.writable;
   seekable = second.seekable ∙ first.seekable;
   takes_memory = second.takes_memory ∙ first.takes_memory;
+  counts_exactly = second.counts_exactly ∙ first.counts_exactly;
   faults = omega (arith, first.faults, second.faults);
   waits = omega (arith, first.waits, second.waits);
+}
+
+-- and what they leave uncounted
+pub no_fault_then : (old mid new : Raw) → Keeps old mid → NoFault old mid → NoFault mid new → NoFault old new
+no_fault_then old mid new keeps first second exact = second (keeps.counts_exactly ∙ exact) ∙ first exact
+
+pub no_wait_then : (old mid new : Raw) → Keeps old mid → NoWait old mid → NoWait mid new → NoWait old new
+no_wait_then old mid new keeps first second exact = second (keeps.counts_exactly ∙ exact) ∙ first exact
+
+pub uncounted_then : (old mid new : Raw) → Keeps old mid → LeavesCounts old mid → LeavesCounts mid new → LeavesCounts old new
+uncounted_then old mid new keeps first second = record {
+  no_fault = no_fault_then old mid new keeps first.no_fault second.no_fault;
+  no_wait = no_wait_then old mid new keeps first.no_wait second.no_wait;
 }
 
 -- two parts one behind the other
@@ -86,6 +100,7 @@ so_far_more old mid new start held before after count keeps was is some within =
       part = was.part ++ take count after;
       appended = ap (λ front. front ++ take count after) was.appended ∙ append_assoc start was.part (take count after);
       untouched = λ none. absurd (let whole = length-append was.part (take count after) in let none_is = ap length none in omega arith);
+      counts = uncounted_then old mid new keeps was.counts is.counts;
       told = λ tells. read_on old mid new was.part before after count (was.told tells) (is.told (keeps.tells ∙ tells)) within;
       transfers = λ tells _. let whole = length-append was.part (take count after) in came_by_more old mid new start held (length (was.part ++ take count after)) tells was (is.told (keeps.tells ∙ tells)).transfers (omega arith);
     }
@@ -98,12 +113,13 @@ reads_to_end old mid new start held before after none count keeps was is is_none
       part = was.part;
       appended = was.appended;
       counts = omega arith;
+      no_fault = no_fault_then old mid new keeps was.counts.no_fault is.counts.no_fault;
       told = λ tells. let last = is.told (keeps.tells ∙ tells) in let part = was.told tells in record {
         given = part.given;
         bytes = last.bytes ∙ part.bytes;
         place = omega (arith, last.place, part.place);
       };
-      stops = inl (λ tells. let last = is.told (keeps.tells ∙ tells) in let part = was.told tells in let end = last.end is_none (λ bare. let empty = ap length bare in omega arith) in let size = ap length part.bytes in omega (arith, last.place));
+      stops = inl (no_wait_then old mid new keeps was.counts.no_wait is.counts.no_wait, λ tells. let last = is.told (keeps.tells ∙ tells) in let part = was.told tells in let end = last.end is_none (λ bare. let empty = ap length bare in omega arith) in let size = ap length part.bytes in omega (arith, last.place));
       transfers = λ tells. came_by_more old mid new start held (count + 1) tells was (is.told (keeps.tells ∙ tells)).transfers (omega arith);
     }
 
@@ -115,6 +131,7 @@ reads_to_wait old mid new start held count keeps was is some counts =
       part = was.part;
       appended = was.appended;
       counts = omega arith;
+      no_fault = no_fault_then old mid new keeps was.counts.no_fault is.no_fault;
       told = λ tells. let last = is.told (keeps.tells ∙ tells) in let part = was.told tells in record {
         given = part.given;
         bytes = last.bytes ∙ part.bytes;

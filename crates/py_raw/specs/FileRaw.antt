@@ -25,6 +25,7 @@ shown raw = record {
   writable = raw.writable;
   seekable = raw.seekable;
   takes_memory = false;
+  counts_exactly = true;
 }
 
 -- which errors of a transfer ask to wait and try again

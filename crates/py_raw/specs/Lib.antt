@@ -6,13 +6,7 @@ pub mod RawStream
 pub mod ReadAll
 pub mod RawMode
 pub mod ComputeMode
-pub mod Source
-pub mod Sink
 pub mod Opener
-pub mod MemSource
-pub mod MemSink
-pub mod ReadSource
-pub mod WriteSink
 pub mod Entries
 pub mod Plans
 pub mod MemOpener

@@ -55,6 +55,7 @@ opened_raw mode bytes = record {
   writable = mode_writes mode;
   seekable = true;
   takes_memory = mode_writes mode;
+  counts_exactly = true;
 }
 
 -- such a stream with the plan that it follows; none of its calls was made

@@ -27,6 +27,7 @@ shown raw = record {
   writable = can_write raw.flags;
   seekable = can_seek raw.flags;
   takes_memory = can_write raw.flags;
+  counts_exactly = true;
 }
 
 -- what it shows, and what its further calls follow: its plan, the numbers of the calls that fail, and the number of the next

@@ -6,7 +6,8 @@ use Rattle.py_flat.specs.Causes.{Rose, counted}
 use Rattle.py_raw.specs.declared.raw_error.RawError.{RawError}
 use Rattle.py_raw.specs.declared.raw_error.RawError.TheVariants.{Fault, Memory}
 
--- what a raw stream shows. Its bytes, its place and its number of transfers mean something only where it tells them
+-- what a raw stream shows. Its bytes, its place and its number of transfers mean something only where it tells them. It
+-- counts exactly where its counts rise in the calls alone that answer a fault, or ask to wait
 pub record Raw : Type 0 where
   pub tells : Bool
   pub bytes : List ℕ
@@ -19,6 +20,7 @@ pub record Raw : Type 0 where
   pub writable : Bool
   pub seekable : Bool
   pub takes_memory : Bool
+  pub counts_exactly : Bool
 
 -- what every call keeps: what the stream can do never changes, and its counts never fall
 pub record Keeps (old new : Raw) : Type 0 where
@@ -27,6 +29,7 @@ pub record Keeps (old new : Raw) : Type 0 where
   pub writable : new.writable ≡ old.writable
   pub seekable : new.seekable ≡ old.seekable
   pub takes_memory : new.takes_memory ≡ old.takes_memory
+  pub counts_exactly : new.counts_exactly ≡ old.counts_exactly
   pub faults : old.faults ≤ new.faults
   pub waits : old.waits ≤ new.waits
 
@@ -35,6 +38,19 @@ abbrev pub StaysOpen : Raw → Raw → Type 0
 StaysOpen old new = new.closed ≡ old.closed
 
 -- What outcomes are made of.
+
+-- where the stream counts exactly: no fault was counted
+abbrev pub NoFault : Raw → Raw → Type 0
+NoFault old new = IsTrue old.counts_exactly → new.faults ≡ old.faults
+
+-- and no wait
+abbrev pub NoWait : Raw → Raw → Type 0
+NoWait old new = IsTrue old.counts_exactly → new.waits ≡ old.waits
+
+-- neither
+pub record LeavesCounts (old new : Raw) : Type 0 where
+  pub no_fault : NoFault old new
+  pub no_wait : NoWait old new
 
 -- told: bytes and place as before, after so many transfers
 pub record StandsStill (more : ℕ) (old new : Raw) : Type 0 where
@@ -54,11 +70,13 @@ pub record LacksMemory (old new : Raw) : Type 0 where
 -- not ready: the waits rose, and nothing moved
 pub record AsksToWait (old new : Raw) : Type 0 where
   pub cause : Rose old.waits new.waits
+  pub no_fault : NoFault old new
   pub told : WhereTold old (StandsStill 1 old new)
 
 -- a fault that leaves the bytes as they were; at most so many transfers more are counted
 pub record FailsWithout (most : ℕ) (old new : Raw) : Type 0 where
   pub cause : Rose old.faults new.faults
+  pub no_wait : NoWait old new
   pub told : WhereTold old (new.bytes ≡ old.bytes)
   pub transfers : WhereTold old ((old.transfers ≤ new.transfers) × (new.transfers ≤ counted old.transfers most))
 
@@ -75,6 +93,7 @@ pub record ReadTold (old : Raw) (before : List ℕ) (count : ℕ) (after : List 
 
 pub record ReadBytes (old : Raw) (before : List ℕ) (count : ℕ) (after : List ℕ) (new : Raw) : Type 0 where
   pub fits : count ≤ length before
+  pub counts : LeavesCounts old new
   pub told : WhereTold old (ReadTold old before count after new)
 
 -- `before` and `after` are the buffer's bytes
@@ -100,11 +119,14 @@ pub record WriteTold (old : Raw) (piece : List ℕ) (count : ℕ) (new : Raw) : 
 pub record WritesBytes (old : Raw) (piece : List ℕ) (count : ℕ) (new : Raw) : Type 0 where
   pub fits : count ≤ length piece
   pub none : count ≡ 0 → piece ≢ [] → Rose old.faults new.faults
+  pub no_fault : (count ≡ 0 → piece ≡ []) → NoFault old new
+  pub no_wait : NoWait old new
   pub told : WhereTold old (WriteTold old piece count new)
 
 -- a fault of a write may have laid on a front of the piece
 pub record FailsWriting (old : Raw) (piece : List ℕ) (new : Raw) : Type 0 where
   pub cause : Rose old.faults new.faults
+  pub no_wait : NoWait old new
   pub told : WhereTold old ((count : ℕ) × (count ≤ length piece) × (new.bytes ≡ lay old.bytes old.place (take count piece)))
   pub transfers : WhereTold old ((old.transfers ≤ new.transfers) × (new.transfers ≤ counted old.transfers 1))
 
@@ -122,14 +144,19 @@ pub record Moved (old : Raw) (place : ℕ) (new : Raw) : Type 0 where
   pub place_is : new.place ≡ place
   pub transfers : new.transfers ≡ old.transfers
 
+pub record Seeks (old : Raw) (place : ℕ) (new : Raw) : Type 0 where
+  pub counts : LeavesCounts old new
+  pub told : WhereTold old (Moved old place new)
+
 abbrev pub SeekOutcome : Raw → ℕ → Result (Unit {0}) RawError → Raw → Type 0
-SeekOutcome old place (Ok done) new = WhereTold old (Moved old place new)
+SeekOutcome old place (Ok done) new = Seeks old place new
 SeekOutcome old place (Err Fault) new = FailsWithout 0 old new
 SeekOutcome old place (Err Memory) new = LacksMemory old new
 
 -- a number that a stream answered: told, it is this one, and nothing moved
 pub record Answers (old : Raw) (told answer : ℕ) (new : Raw) : Type 0 where
   pub within : answer ≤ greatest_place
+  pub counts : LeavesCounts old new
   pub value : WhereTold old (answer ≡ told)
   pub still : WhereTold old (StandsStill 0 old new)
 
@@ -155,11 +182,16 @@ pub record Resized (old : Raw) (size : ℕ) (new : Raw) : Type 0 where
 -- a fault of a truncation leaves the bytes as they were, or with the size
 pub record FailsResizing (old : Raw) (size : ℕ) (new : Raw) : Type 0 where
   pub cause : Rose old.faults new.faults
+  pub no_wait : NoWait old new
   pub told : WhereTold old ((new.bytes ≡ old.bytes) ⊎ (new.bytes ≡ resized old.bytes size))
   pub transfers : WhereTold old (new.transfers ≡ old.transfers)
 
+pub record Truncates (old : Raw) (size : ℕ) (new : Raw) : Type 0 where
+  pub counts : LeavesCounts old new
+  pub told : WhereTold old (Resized old size new)
+
 abbrev pub TruncateOutcome : Raw → ℕ → Result (Unit {0}) RawError → Raw → Type 0
-TruncateOutcome old size (Ok done) new = WhereTold old (Resized old size new)
+TruncateOutcome old size (Ok done) new = Truncates old size new
 TruncateOutcome old size (Err Fault) new = FailsResizing old size new
 TruncateOutcome old size (Err Memory) new = LacksMemory old new
 
@@ -168,9 +200,10 @@ TruncateOutcome old size (Err Memory) new = LacksMemory old new
 -- closed, with the bytes as they were
 pub record Closes (old new : Raw) : Type 0 where
   pub closed : new.closed ≡ true
+  pub no_wait : NoWait old new
   pub told : WhereTold old ((new.bytes ≡ old.bytes) × (new.transfers ≡ old.transfers))
 
 abbrev pub CloseOutcome : Raw → Result (Unit {0}) RawError → Raw → Type 0
-CloseOutcome old (Ok done) new = Closes old new
+CloseOutcome old (Ok done) new = Closes old new × NoFault old new
 CloseOutcome old (Err Fault) new = Closes old new × Rose old.faults new.faults
 CloseOutcome old (Err Memory) new = LacksMemory old new

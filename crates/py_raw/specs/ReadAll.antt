@@ -5,7 +5,7 @@ use Rattle.py_flat.specs.Bytes.{left_at}
 use Rattle.py_flat.specs.Causes.{Rose, counted}
 use Rattle.py_raw.specs.declared.raw_error.RawError.{RawError}
 use Rattle.py_raw.specs.declared.raw_error.RawError.TheVariants.{Fault, Memory}
-use Rattle.py_raw.specs.RawStream.{Raw, Keeps, WhereTold, AsksToWait, FailsWithout}
+use Rattle.py_raw.specs.RawStream.{Raw, Keeps, WhereTold, NoFault, NoWait, LeavesCounts, AsksToWait, FailsWithout}
 
 -- told: a part is the next bytes of the stream
 abbrev pub IsNext : Raw → List ℕ → Type 0
@@ -22,6 +22,7 @@ pub record ReadOn (old : Raw) (part : List ℕ) (new : Raw) : Type 0 where
 -- one transfer gave these bytes, at most as many as were asked for; told: none of some only at the end
 pub record ReadsOnce (old : Raw) (size : ℕ) (bytes : List ℕ) (new : Raw) : Type 0 where
   pub fits : length bytes ≤ size
+  pub counts : LeavesCounts old new
   pub told : WhereTold old (ReadOn old bytes new)
   pub end : WhereTold old (length bytes ≡ 0 → size ≢ 0 → length old.bytes ≤ old.place)
   pub transfers : WhereTold old (new.transfers ≡ counted old.transfers 1)
@@ -47,18 +48,20 @@ pub record ReadSoFar (old : Raw) (before after : List ℕ) (new : Raw) : Type 0 
   pub part : List ℕ
   pub appended : after ≡ before ++ part
   pub untouched : part ≡ [] → new ≡ old
+  pub counts : LeavesCounts old new
   pub told : WhereTold old (ReadOn old part new)
   pub transfers : WhereTold old (part ≢ [] → CameBy (length part) old.transfers new.transfers)
 
 -- why a reading up to the end stops: the end was reached, or the stream asked to wait after some bytes
 abbrev pub Stops : Raw → ℕ → Raw → Type 0
-Stops old count new = WhereTold old (length old.bytes ≤ new.place) ⊎ ((1 ≤ count) × Rose old.waits new.waits)
+Stops old count new = (NoWait old new × WhereTold old (length old.bytes ≤ new.place)) ⊎ ((1 ≤ count) × Rose old.waits new.waits)
 
 -- so many bytes were read and appended; one transfer more found that no more come
 pub record ReadsAll (old : Raw) (before : List ℕ) (count : ℕ) (after : List ℕ) (new : Raw) : Type 0 where
   pub part : List ℕ
   pub appended : after ≡ before ++ part
   pub counts : count ≡ length part
+  pub no_fault : NoFault old new
   pub told : WhereTold old (ReadOn old part new)
   pub stops : Stops old count new
   pub transfers : WhereTold old (CameBy (count + 1) old.transfers new.transfers)

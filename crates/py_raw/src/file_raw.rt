@@ -9,13 +9,10 @@ mod counts;
 #[cfg(test)]
 mod tests;
 
-use crate::{RawError, RawStream};
+use crate::{GREATEST_PLACE, RawError, RawStream};
 use std::fs::{File, OpenFile};
 use std::io;
 use std::io::{ErrorKind, Read, Seek, SeekFrom, Write};
-
-/// The greatest place and size, in bytes from the start.
-const GREATEST_PLACE: u64 = 9223372036854775807;
 
 /// A raw stream over a file, a pipe or a device of the system.
 ///
@@ -57,6 +54,7 @@ impl<F> FileRaw<F> {
           writable = writable;
           seekable = seekable;
           takes_memory = false;
+          counts_exactly = true;
         } }
         ensures file { result.file ≡ file }
     {

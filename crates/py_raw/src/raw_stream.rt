@@ -7,6 +7,10 @@ use crate::RawError;
 use crate::laying::lengthen;
 use std::alloc::Global;
 
+/// The greatest place and the greatest size of a stream, in bytes from its start: the greatest signed number of 64 bits, as in
+/// Python's `io`.
+pub const GREATEST_PLACE: u64 = 9223372036854775807;
+
 /// How many bytes the next transfer of a reading up to the end asks for, after so many: 8192, and then as many as came,
 /// so that the room doubles.
 fn next_chunk(came: usize) -> usize

@@ -26,6 +26,7 @@ impl MemRaw {
             writable = can_write flags;
             seekable = can_seek flags;
             takes_memory = can_write flags;
+            counts_exactly = true;
           };
           plan = plan.items;
           refused = faults.items;

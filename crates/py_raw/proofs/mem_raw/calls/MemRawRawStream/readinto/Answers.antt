@@ -13,6 +13,7 @@ returns-in-Moves-clause-outcome c =
     let within : c.in-Moves.count ≤ length left = omega arith in
     record {
       fits = omega arith;
+      counts = record { no_fault = λ _. ap (λ (view : MemRawView). view.shows.faults) c.advance.ensures; no_wait = λ _. ap (λ (view : MemRawView). view.shows.waits) c.advance.ensures };
       told = λ _. record {
         left = within;
         given = front_given left c.args.buf.now c.fill_front.new.buf c.in-Moves.count within cc;

@@ -18,7 +18,7 @@ pub struct MemSink {
 
 impl MemSink {
     ghost use Rattle.std.specs.Prelude.{true, [], IfOk};
-    ghost use Rattle.py_raw.specs.MemSink.{shown_sink, written_in, room_of, failing_writes, writes_made};
+    ghost use Rattle.py_source_sink.specs.MemSink.{shown_sink, written_in, room_of, failing_writes, writes_made};
 
     /// A sink that holds at most `room` bytes. `faults` lists the numbers of the writes that fail outright, counted
     /// from 0.
@@ -56,8 +56,8 @@ impl MemSink {
 impl Sink for MemSink {
     ghost use Rattle.std.specs.Prelude.{◌+◌, ◌-◌, ◌++◌, ◌↔◌, length, take, IsOk, IsErr, OnOk, OnErr};
     ghost use Rattle.py_flat.specs.Causes.{counted};
-    ghost use Rattle.py_raw.specs.Sink.{SinkKeeps, SinkOutcome};
-    ghost use Rattle.py_raw.specs.MemSink.{shown_sink, written_in, room_of, failing_writes, writes_made, NextWriteFails, HasRoomFor};
+    ghost use Rattle.py_source_sink.specs.Sink.{SinkKeeps, SinkOutcome};
+    ghost use Rattle.py_source_sink.specs.MemSink.{shown_sink, written_in, room_of, failing_writes, writes_made, NextWriteFails, HasRoomFor};
 
     ghost shows = { shown_sink };
 

@@ -1,7 +1,7 @@
 -- What a sink in memory shows, and which of its writes fail.
 use Rattle.std.specs.Prelude.{ℕ, ◌+◌, ◌≤◌, true, List, length, Contains}
-use Rattle.py_raw.specs.Sink.{SinkView}
-use Rattle.py_raw.specs.declared.mem_sink.MemSink.{MemSink}
+use Rattle.py_source_sink.specs.Sink.{SinkView}
+use Rattle.py_source_sink.specs.declared.mem_sink.MemSink.{MemSink}
 
 -- the bytes that were written
 abbrev pub written_in : MemSink → List ℕ

@@ -1,4 +1,4 @@
-ghost use Rattle.py_raw.specs.Source.{SourceView, SourceKeeps, SourceOutcome};
+ghost use Rattle.py_source_sink.specs.Source.{SourceView, SourceKeeps, SourceOutcome};
 
 use thiserror::Error;
 

@@ -1,7 +1,7 @@
 -- What a sink shows, and what a write to it may do.
 use Rattle.std.specs.Prelude.{◌≡◌, ℕ, ◌≤◌, Bool, IsTrue, List, ◌++◌, length, take, Result, Ok, Err}
 use Rattle.py_flat.specs.Causes.{Rose}
-use Rattle.py_raw.specs.declared.source.Failed.{Failed}
+use Rattle.py_source_sink.specs.declared.source.Failed.{Failed}
 
 -- what was written means something only where the sink tells it
 pub record SinkView : Type 0 where

@@ -1,7 +1,7 @@
 -- What a source shows, and what a read of it may do.
 use Rattle.std.specs.Prelude.{◌≡◌, ◌≢◌, ℕ, ◌≤◌, Bool, IsTrue, List, [], length, take, drop, Result, Ok, Err}
 use Rattle.py_flat.specs.Causes.{Rose}
-use Rattle.py_raw.specs.declared.source.Failed.{Failed}
+use Rattle.py_source_sink.specs.declared.source.Failed.{Failed}
 
 -- what is left means something only where the source tells it
 pub record SourceView : Type 0 where

@@ -14,7 +14,7 @@ pub struct WriteSink<W> {
 
 impl<W: Write> WriteSink<W> {
     ghost use Rattle.std.specs.Prelude.{◌≡◌, false, []};
-    ghost use Rattle.py_raw.specs.WriteSink.{writer_of, shown_write_sink};
+    ghost use Rattle.py_source_sink.specs.WriteSink.{writer_of, shown_write_sink};
 
     /// A sink that writes to this writer.
     pub fn new(writer: W) -> Self
@@ -36,8 +36,8 @@ fn write_through<W: Write>(writer: &mut W, piece: &[u8]) -> io::Result<()>
 impl<W: Write> Sink for WriteSink<W> {
     ghost use Rattle.std.specs.Prelude.{◌≡◌, OnErr};
     ghost use Rattle.py_flat.specs.Causes.{counted};
-    ghost use Rattle.py_raw.specs.Sink.{SinkKeeps, SinkOutcome};
-    ghost use Rattle.py_raw.specs.WriteSink.{writer_of, shown_write_sink};
+    ghost use Rattle.py_source_sink.specs.Sink.{SinkKeeps, SinkOutcome};
+    ghost use Rattle.py_source_sink.specs.WriteSink.{writer_of, shown_write_sink};
 
     ghost shows = { shown_write_sink };
 

@@ -1,4 +1,4 @@
-ghost use Rattle.py_raw.specs.Sink.{SinkView, SinkKeeps, SinkOutcome};
+ghost use Rattle.py_source_sink.specs.Sink.{SinkView, SinkKeeps, SinkOutcome};
 
 use crate::Failed;
 

@@ -1,7 +1,7 @@
 -- What a sink over a writer shows.
 use Rattle.std.specs.Prelude.{false, []}
-use Rattle.py_raw.specs.Sink.{SinkView}
-use Rattle.py_raw.specs.declared.write_sink.WriteSink.{WriteSink}
+use Rattle.py_source_sink.specs.Sink.{SinkView}
+use Rattle.py_source_sink.specs.declared.write_sink.WriteSink.{WriteSink}
 
 -- the writer under it
 abbrev pub writer_of : {W : Type 0} → WriteSink W → W

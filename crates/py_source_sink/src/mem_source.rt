@@ -15,7 +15,7 @@ pub struct MemSource {
 
 impl MemSource {
     ghost use Rattle.std.specs.Prelude.{true};
-    ghost use Rattle.py_raw.specs.MemSource.{shown_source, failing_reads, reads_made};
+    ghost use Rattle.py_source_sink.specs.MemSource.{shown_source, failing_reads, reads_made};
 
     /// A source that gives these bytes. `faults` lists the numbers of the reads that fail, counted from 0.
     pub fn new(bytes: Vec<u8>, faults: Vec<u64>) -> Self
@@ -46,8 +46,8 @@ fn copy_front(from: &[u8], to: &mut [u8]) -> usize
 impl Source for MemSource {
     ghost use Rattle.std.specs.Prelude.{◌↔◌, IsErr, IfOk, OnOk, OnErr};
     ghost use Rattle.py_flat.specs.Causes.{counted};
-    ghost use Rattle.py_raw.specs.Source.{SourceKeeps, SourceOutcome};
-    ghost use Rattle.py_raw.specs.MemSource.{shown_source, left_in, failing_reads, reads_made, NextReadFails};
+    ghost use Rattle.py_source_sink.specs.Source.{SourceKeeps, SourceOutcome};
+    ghost use Rattle.py_source_sink.specs.MemSource.{shown_source, left_in, failing_reads, reads_made, NextReadFails};
 
     ghost shows = { shown_source };
 

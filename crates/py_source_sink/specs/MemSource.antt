@@ -1,7 +1,7 @@
 -- What a source in memory shows, and which of its reads fail.
 use Rattle.std.specs.Prelude.{ℕ, true, List, drop, Contains}
-use Rattle.py_raw.specs.Source.{SourceView}
-use Rattle.py_raw.specs.declared.mem_source.MemSource.{MemSource}
+use Rattle.py_source_sink.specs.Source.{SourceView}
+use Rattle.py_source_sink.specs.declared.mem_source.MemSource.{MemSource}
 
 -- the bytes that are left: those from the place on
 abbrev pub left_in : MemSource → List ℕ

@@ -10,7 +10,7 @@ pub struct ReadSource<R> {
 
 impl<R: Read> ReadSource<R> {
     ghost use Rattle.std.specs.Prelude.{◌≡◌, false, []};
-    ghost use Rattle.py_raw.specs.ReadSource.{reader_of, shown_read_source};
+    ghost use Rattle.py_source_sink.specs.ReadSource.{reader_of, shown_read_source};
 
     /// A source that reads from this reader.
     pub fn new(reader: R) -> Self
@@ -25,8 +25,8 @@ impl<R: Read> Source for ReadSource<R> {
     ghost use Rattle.std.specs.Prelude.{◌≡◌, OnOk, OnErr};
     ghost use Rattle.std.specs.Io.KnownBytes.{ReadConsumes};
     ghost use Rattle.py_flat.specs.Causes.{counted};
-    ghost use Rattle.py_raw.specs.Source.{SourceKeeps, SourceOutcome};
-    ghost use Rattle.py_raw.specs.ReadSource.{reader_of, shown_read_source};
+    ghost use Rattle.py_source_sink.specs.Source.{SourceKeeps, SourceOutcome};
+    ghost use Rattle.py_source_sink.specs.ReadSource.{reader_of, shown_read_source};
 
     ghost shows = { shown_read_source };
 

@@ -1,7 +1,7 @@
 -- What a source over a reader shows.
 use Rattle.std.specs.Prelude.{false, []}
-use Rattle.py_raw.specs.Source.{SourceView}
-use Rattle.py_raw.specs.declared.read_source.ReadSource.{ReadSource}
+use Rattle.py_source_sink.specs.Source.{SourceView}
+use Rattle.py_source_sink.specs.declared.read_source.ReadSource.{ReadSource}
 
 -- the reader under it
 abbrev pub reader_of : {R : Type 0} → ReadSource R → R
