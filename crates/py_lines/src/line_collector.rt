@@ -1,0 +1,104 @@
+ghost use Rattle.std.specs.Prelude.{◌≡◌, ◌+◌, ◌<◌, ◌≤◌, [], length, Some};
+ghost use Rattle.py_lines.specs.Collecting.{line_wanted, limit_left, LineIsOpen, FitsLimit, TakesBytes};
+
+use crate::{Collected, Collector};
+use memchr::memchr;
+use std::alloc::{AllocError, Global};
+use std::marker::Model;
+
+/// Collects one line: the bytes of a stream up to and with the first LF, at most a limit of them; all of them where
+/// neither comes.
+///
+/// Contracts see the bytes of the line so far and its limit.
+#[derive(Debug, Drop)]
+pub struct LineCollector {
+    line: Vec<u8>,
+    left: Option<usize>,
+    limit: Option<usize>,
+}
+
+impl Model for LineCollector {
+    ghost use Rattle.std.specs.Prelude.{vec_len, ◌≡◌};
+    ghost use Rattle.py_lines.specs.Collecting.{LineView, limit_left, WithinLimit};
+
+    ghost Value = { LineView };
+
+    ghost view = { λ l. record { line = l.line.items; limit = l.limit } };
+
+    ghost invariant = { λ l. (l.left ≡ limit_left l.limit (vec_len l.line)) × WithinLimit l.limit (vec_len l.line) };
+}
+
+impl LineCollector {
+    /// A collector that has nothing so far, of a line of at most `limit` bytes, its LF among them; without a limit the line
+    /// ends by its LF alone. It takes no memory.
+    pub fn new(alloc: Global, limit: Option<usize>) -> Self
+        ensures new { result ≡ record { line = []; limit = limit } }
+        ensures open { LineIsOpen result }
+    {
+        LineCollector {
+            line: Vec::new(alloc),
+            left: limit,
+            limit,
+        }
+    }
+
+    /// The bytes of the line so far: once `collect` answered `Enough`, or the stream ended, the whole line. It takes no
+    /// memory.
+    pub fn into_line(self) -> Vec<u8>
+        ensures { result.items ≡ self.line }
+    {
+        let LineCollector {
+            line,
+            left: _,
+            limit: _,
+        } = self;
+        line
+    }
+}
+
+impl Collector for LineCollector {
+    ghost collected = { λ l. l.line };
+
+    ghost wanted = { line_wanted };
+
+    ghost is_open = { LineIsOpen };
+
+    fn collect(&mut self, bytes: &[u8]) -> Result<Collected, AllocError> {
+        let allowed = self.allowed(bytes.len());
+        if let Some(at) = memchr(b'\n', &bytes[..allowed]) {
+            self.take(&bytes[..at + 1])?;
+            return Ok(Collected::Enough(at + 1));
+        }
+        self.take(&bytes[..allowed])?;
+        if self.left == Some(0) {
+            return Ok(Collected::Enough(allowed));
+        }
+        Ok(Collected::All)
+    }
+}
+
+impl LineCollector {
+    /// How many of so many bytes the limit allows.
+    fn allowed(&self, count: usize) -> usize
+        ensures within { result ≤ count }
+        ensures fits { FitsLimit self.now result }
+        ensures short { result < count → limit_left self.now.limit (length self.now.line + result) ≡ Some 0 }
+    {
+        match self.left {
+            Some(left) if left < count => left,
+            _ => count,
+        }
+    }
+
+    /// Puts bytes behind the line, no more than the limit leaves.
+    fn take(&mut self, bytes: &[u8]) -> Result<(), AllocError>
+        requires { FitsLimit self.old (length bytes.now) }
+        ensures { TakesBytes self.old bytes.now result self.new }
+    {
+        self.line.extend_from_slice(bytes)?;
+        if let Some(left) = self.left {
+            self.left = Some(left - bytes.len());
+        }
+        Ok(())
+    }
+}

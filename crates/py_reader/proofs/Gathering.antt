@@ -1,0 +1,301 @@
+-- How a gathering comes from one piece to the next, and what it ends with.
+use Rattle.std.proofs.Common.{◌≡◌, ℕ, ◌+◌, ◌<◌, ◌≤◌, Bool, true, false, IsTrue, List, [], ◌∷◌, ◌++◌, length, take, drop, inl, inr, ◌≢◌, Ok, Err, refl, sym, ap, subst, ◌∙◌, arith, append_assoc}
+use Rattle.std.proofs.lemmas.List.{append-nil, length-append, length-take, length-take-le, length-drop, take_all, take-append-drop, drop-drop}
+use Rattle.std.proofs.Math.ListN.{drop_of_length-le}
+use Rattle.py_flat.specs.declared.fault.IoFault.{IoFault}
+use Rattle.py_flat.specs.declared.fault.IoFault.TheVariants as fault
+use Rattle.py_flat.specs.declared.life.Life.TheVariants as life
+use Rattle.py_flat.specs.Bytes.{left_at}
+use Rattle.py_flat.specs.Causes.{Rose}
+use Rattle.py_flat.specs.BinaryStep.{IsFrontOf}
+use Rattle.py_raw.specs.RawStream.{WhereTold, NoWait}
+use Rattle.py_reader.specs.declared.data.Stop.TheVariants as stop
+use Rattle.py_reader.specs.Window.{place_of, end_of, ahead_of, advanced}
+use Rattle.py_reader.specs.Engine.{EngineView, IsEngine, KeepsEngine, UsesUp, IsLast, Fills, FillsOutcome, StarvesWith, ComesNext, Took, Gives}
+use Rattle.py_reader.specs.Reading.{GathersEnough, GatherOutcome}
+use Rattle.py_lines.specs.Collecting.{HasEnough, WantsMore}
+use Rattle.py_lines.proofs.Asking.{none_behind}
+use Rattle.py_reader.proofs.Transfers.{more_taken, next_behind, held_next, keeps_then, keeps_advanced, no_fault_then, no_wait_then}
+
+-- these bytes were collected, up to the cursor; where no byte was moved yet, all is as it was
+pub record GatheredTo (old : EngineView) (part : List ℕ) (moved : Bool) (now : EngineView) : Type 0 where
+  pub given : Gives old part now
+  pub no_wait : NoWait old.raw now.raw
+  pub unmoved : moved ≡ false → now ≡ old
+  pub forth : moved ≡ true → end_of old.window < end_of now.window
+  pub forth_told : moved ≡ true → WhereTold old.raw (old.raw.place < now.raw.place)
+
+-- nothing is wanted, whatever is left
+abbrev pub WantsNothing : (List ℕ → List ℕ) → Type 0
+WantsNothing wanted = (left : List ℕ) → wanted left ≡ []
+
+-- where bytes were moved, something is wanted; some were left, and some of them are wanted
+pub record MovedSome (wanted : List ℕ → List ℕ) (old : EngineView) (moved : Bool) : Type 0 where
+  pub wants : moved ≡ true → WantsNothing wanted → ⊥
+  pub left : moved ≡ true → WhereTold old.raw (left_at old.raw.bytes (place_of old.window) ≢ [])
+  pub asked : moved ≡ true → WhereTold old.raw (wanted (left_at old.raw.bytes (place_of old.window)) ≢ [])
+
+-- where nothing is wanted, no byte was moved
+unmoved_for_nothing : (old now : EngineView) (part : List ℕ) (moved : Bool) (wanted : List ℕ → List ℕ) → GatheredTo old part moved now → MovedSome wanted old moved → WantsNothing wanted → now ≡ old
+unmoved_for_nothing old now part true wanted gathered some nothing = absurd (some.wants refl nothing)
+unmoved_for_nothing old now part false wanted gathered some nothing = gathered.unmoved refl
+
+-- a collector that took all of a piece wants something
+wants_something : (wanted first : List ℕ → List ℕ) (before piece after : List ℕ) → ((rest : List ℕ) → wanted rest ≡ first rest) → WantsMore wanted before piece after → WantsNothing first → ⊥
+wants_something wanted first before piece after same more nothing =
+    let longer : List ℕ = after ++ (0 ∷ []) in
+    more.asks (0 ∷ []) (λ none. absurd (cc)) (same longer ∙ nothing longer)
+
+-- What comes next.
+
+-- what came next, and all behind it
+next_parts : (bytes part : List ℕ) (place : ℕ) → take (length part) (left_at bytes place) ≡ part → left_at bytes place ≡ part ++ left_at bytes (place + length part)
+next_parts bytes part place next =
+    sym (take-append-drop (length part) (left_at bytes place))
+    ∙ (ap (λ (t : List ℕ). t ++ drop (length part) (left_at bytes place)) next
+    ∙ ap (λ (t : List ℕ). part ++ t) (drop-drop (length part) place bytes))
+
+module _ (old now : EngineView) (part : List ℕ) (moved : Bool) (gathered : GatheredTo old part moved now) where
+  -- what is held behind the bytes that were collected comes next
+  held_behind : (used : ℕ) → used ≤ length (ahead_of now.window) → WhereTold old.raw (take used (left_at old.raw.bytes (place_of old.window + length part)) ≡ take used (ahead_of now.window))
+  held_behind used fits = λ tells.
+      let kept : KeepsEngine old now = gathered.given.kept in
+      ap (take used) (ap (left_at old.raw.bytes) (sym gathered.given.place) ∙ ap (λ (bytes : List ℕ). left_at bytes (place_of now.window)) (sym (kept.bytes tells)))
+      ∙ held_next now.raw now.window used kept.is.window_is.cursor fits (kept.is.told (subst IsTrue (sym kept.raw.tells) tells) gathered.given.live)
+
+  comes_with : (used : ℕ) → used ≤ length (ahead_of now.window) → WhereTold old.raw (ComesNext old (part ++ take used (ahead_of now.window)))
+  comes_with used fits = λ tells.
+      let ahead : List ℕ = ahead_of now.window in
+      let size : length (part ++ take used ahead) ≡ length part + used = length-append part (take used ahead) ∙ ap (λ (n : ℕ). length part + n) (length-take-le used ahead fits) in
+      ap (λ (n : ℕ). take n (left_at old.raw.bytes (place_of old.window))) size
+      ∙ (next_behind old.raw.bytes part ahead (place_of old.window) (length part) used refl (gathered.given.told tells) (held_behind used fits tells)
+      ∙ more_taken (length part) used part ahead refl)
+
+  comes_with_all : WhereTold old.raw (ComesNext old (part ++ ahead_of now.window))
+  comes_with_all = λ tells. subst (λ (t : List ℕ). ComesNext old (part ++ t)) (take_all (length (ahead_of now.window)) (ahead_of now.window) (omega arith)) (comes_with (length (ahead_of now.window)) (omega arith) tells)
+
+  -- the collector has enough with some of what is held
+  gives_some : (used : ℕ) (after : List ℕ) → used ≤ length (ahead_of now.window) → after ≡ part ++ take used (ahead_of now.window) → Gives old after (record now { window = advanced used now.window })
+  gives_some used after fits is =
+      let kept : KeepsEngine old now = gathered.given.kept in
+      let size : length after ≡ length part + used = ap length is ∙ (length-append part (take used (ahead_of now.window)) ∙ ap (λ (n : ℕ). length part + n) (length-take-le used (ahead_of now.window) fits)) in
+      record {
+        kept = keeps_then old now (record now { window = advanced used now.window }) kept (keeps_advanced now used kept.is fits);
+        no_fault = gathered.given.no_fault;
+        live = gathered.given.live;
+        place = omega (arith, gathered.given.place, size);
+        told = λ tells. subst (ComesNext old) (sym is) (comes_with used fits tells);
+      }
+
+  -- and wants no more of all that comes
+  gathers_enough : (wanted first : List ℕ → List ℕ) (used : ℕ) (after : List ℕ) → ((rest : List ℕ) → wanted rest ≡ first rest) → HasEnough wanted part (ahead_of now.window) used after → GathersEnough first old after
+  gathers_enough wanted first used after same enough =
+      let whole : List ℕ = part ++ ahead_of now.window in
+      record {
+        alone = sym (same after) ∙ enough.alone;
+        exact = λ tells.
+            let behind : List ℕ = left_at old.raw.bytes (place_of old.window + length whole) in
+            sym (same (left_at old.raw.bytes (place_of old.window)))
+            ∙ (ap wanted (next_parts old.raw.bytes whole (place_of old.window) (comes_with_all tells) ∙ append_assoc part (ahead_of now.window) behind)
+            ∙ enough.exact behind);
+      }
+
+  pub stops_enough : (new : EngineView) (wanted first : List ℕ → List ℕ) (used : ℕ) (after : List ℕ) → ((rest : List ℕ) → wanted rest ≡ first rest) → MovedSome first old moved → record now { window = advanced used now.window } ≡ new → HasEnough wanted part (ahead_of now.window) used after → GatherOutcome first old (Ok stop.Enough) after new
+  stops_enough new wanted first used after same some is enough =
+      let raw : new.raw ≡ now.raw = sym (ap (λ (engine : EngineView). engine.raw) is) in (
+        (
+          subst (Gives old after) is (gives_some used after enough.fits enough.takes),
+          subst (λ (engine : EngineView). NoWait old.raw engine.raw) is gathered.no_wait,
+        ),
+        gathers_enough wanted first used after same enough,
+        tt,
+        λ nothing. (raw ∙ ap (λ (engine : EngineView). engine.raw) (unmoved_for_nothing old now part moved first gathered some nothing), λ fails. absurd (cc)),
+      )
+
+  -- the collector took all that is held
+  takes_all : (after : List ℕ) → after ≡ part ++ ahead_of now.window → Took old after moved now
+  takes_all after is =
+      let held : length now.window.held ≡ now.window.cursor + length (ahead_of now.window) = omega (arith, gathered.given.kept.is.window_is.cursor, length-drop now.window.cursor now.window.held) in
+      record {
+        kept = gathered.given.kept;
+        counts = record { no_fault = gathered.given.no_fault; no_wait = gathered.no_wait };
+        live = gathered.given.live;
+        place = omega (arith, gathered.given.place);
+        end = omega (arith, gathered.given.place, held, ap length is, length-append part (ahead_of now.window));
+        unmoved = gathered.unmoved;
+        told = λ tells. subst (ComesNext old) (sym is) (comes_with_all tells);
+        forth = gathered.forth;
+        forth_told = gathered.forth_told;
+      }
+
+module _ (old now : EngineView) (part : List ℕ) (moved : Bool) (took : Took old part moved now) where
+  end_not_back : (is : Bool) → moved ≡ is → end_of old.window ≤ end_of now.window
+  end_not_back true is = omega (arith, took.forth is)
+  end_not_back false is = omega (arith, ap (λ (e : EngineView). end_of e.window) (took.unmoved is))
+
+  not_back : (is : Bool) → moved ≡ is → WhereTold old.raw (old.raw.place ≤ now.raw.place)
+  not_back true is = λ tells. omega (arith, took.forth_told is tells)
+  not_back false is = λ tells. omega (arith, ap (λ (e : EngineView). e.raw.place) (took.unmoved is))
+
+  -- the window was filled anew
+  filled_on : (new : EngineView) (count : ℕ) → Fills now count new → GatheredTo old part true new
+  filled_on new count fills =
+      let kept : KeepsEngine old new = keeps_then old now new took.kept fills.transferred.kept in
+      record {
+        given = record {
+          kept = kept;
+          no_fault = no_fault_then old now new took.kept took.counts.no_fault fills.transferred.no_fault;
+          live = fills.transferred.live;
+          place = omega (arith, took.end, fills.holds.begin, fills.holds.cursor);
+          told = took.told;
+        };
+        no_wait = no_wait_then old now new took.kept took.counts.no_wait fills.no_wait;
+        unmoved = λ e. cc;
+        forth = λ is. omega (arith, end_not_back moved refl, fills.some, fills.holds.begin, fills.holds.as_many);
+        forth_told = λ is tells. omega (arith, not_back moved refl tells, fills.forth (subst IsTrue (sym took.kept.raw.tells) tells));
+      }
+
+  -- so something came behind what was collected
+  some_behind : (new : EngineView) (count : ℕ) → Fills now count new → WhereTold old.raw (left_at old.raw.bytes (place_of old.window + length part) ≢ [])
+  some_behind new count fills = λ tells none.
+      let bytes : now.raw.bytes ≡ old.raw.bytes = took.kept.bytes tells in
+      let nothing : left_at now.raw.bytes (end_of now.window) ≡ [] = ap (λ (bytes : List ℕ). left_at bytes (end_of now.window)) bytes ∙ (ap (left_at old.raw.bytes) took.end ∙ none) in
+      let held : new.window.held ≡ take count [] = sym (fills.told (subst IsTrue (sym took.kept.raw.tells) tells)) ∙ ap (take count) nothing in
+      absurd (omega (arith, fills.some, fills.holds.as_many, ap length held, length-take count (left_at [] 0)))
+
+  -- nothing more comes, or not yet: all that was collected is given
+  gives_all : (new : EngineView) → UsesUp now new → Gives old part new
+  gives_all new used = record {
+    kept = keeps_then old now new took.kept used.transferred.kept;
+    no_fault = no_fault_then old now new took.kept took.counts.no_fault used.transferred.no_fault;
+    live = used.transferred.live;
+    place = omega (arith, took.end, used.place);
+    told = took.told;
+  }
+
+  last_of : (new : EngineView) → UsesUp now new → IsLast now → WhereTold old.raw (length old.raw.bytes ≤ place_of new.window)
+  last_of new used last = λ tells.
+      let same : length now.raw.bytes ≡ length old.raw.bytes = ap length (took.kept.bytes tells) in
+      omega (arith, used.place, last (subst IsTrue (sym took.kept.raw.tells) tells), same)
+
+  ends_at_last : (new : EngineView) (first : List ℕ → List ℕ) → first part ≡ part → (WantsNothing first → ⊥) → UsesUp now new → IsLast now → NoWait now.raw new.raw → GatherOutcome first old (Ok stop.End) part new
+  ends_at_last new first alone wants used last no_wait = (
+    (
+      gives_all new used,
+      no_wait_then old now new took.kept took.counts.no_wait no_wait,
+      last_of new used last,
+    ),
+    record {
+      alone = alone;
+      exact = λ tells.
+          let none : left_at old.raw.bytes (place_of old.window + length part) ≡ [] = drop_of_length-le old.raw.bytes (omega (arith, took.end, used.place, last_of new used last tells)) in
+          ap first (next_parts old.raw.bytes part (place_of old.window) (took.told tells) ∙ (ap (λ (t : List ℕ). part ++ t) none ∙ append-nil part))
+          ∙ alone;
+    },
+    tt,
+    λ nothing. absurd (wants nothing),
+  )
+
+  waits_at : (new : EngineView) (first : List ℕ → List ℕ) → first part ≡ part → ((more : List ℕ) → IsFrontOf part (first (part ++ more))) → (WantsNothing first → ⊥) → UsesUp now new → Rose now.raw.waits new.raw.waits → GatherOutcome first old (Ok stop.Waits) part new
+  waits_at new first alone goes_on wants used waits = (
+    (
+      gives_all new used,
+      omega (arith, took.kept.raw.waits, waits),
+      used.end ∙ sym used.place,
+    ),
+    record {
+      alone = alone;
+      front = λ tells. subst (λ (whole : List ℕ). IsFrontOf part (first whole)) (sym (next_parts old.raw.bytes part (place_of old.window) (took.told tells))) (goes_on (left_at old.raw.bytes (place_of old.window + length part)));
+    },
+    tt,
+    λ nothing. absurd (wants nothing),
+  )
+
+-- A piece of which all was taken.
+
+module _ (old now : EngineView) (part after piece : List ℕ) (moved : Bool) (gathered : GatheredTo old part moved now) (wanted : List ℕ → List ℕ) (lent : piece ≡ ahead_of now.window) (more : WantsMore wanted part piece after) (new : EngineView) where
+  took_piece : Took old after moved now
+  took_piece = takes_all old now part moved gathered after (more.takes ∙ ap (λ (t : List ℕ). part ++ t) lent)
+
+  pub goes_on : (count : ℕ) → Fills now count new → GatheredTo old after true new
+  goes_on count fills = filled_on old now after moved took_piece new count fills
+
+  pub moved_some : (first : List ℕ → List ℕ) (count : ℕ) → ((rest : List ℕ) → wanted rest ≡ first rest) → Fills now count new → MovedSome first old true
+  moved_some first count same fills =
+      let place : ℕ = place_of old.window in
+      let behind : List ℕ = left_at old.raw.bytes (place + length after) in
+      let parts : IsTrue old.raw.tells → left_at old.raw.bytes place ≡ after ++ behind = λ tells. next_parts old.raw.bytes after place (took_piece.told tells) in
+      let some : WhereTold old.raw (behind ≢ []) = some_behind old now after moved took_piece new count fills in
+      record {
+        wants = λ is. wants_something wanted first part piece after same more;
+        left = λ is tells none. some tells (none_behind after behind (sym (parts tells) ∙ none));
+        asked = λ is tells none. more.asks behind (some tells) (ap wanted (sym (parts tells)) ∙ (same (left_at old.raw.bytes place) ∙ none));
+      }
+
+  pub stops_at_end : (first : List ℕ → List ℕ) → ((rest : List ℕ) → wanted rest ≡ first rest) → UsesUp now new → IsLast now → NoWait now.raw new.raw → GatherOutcome first old (Ok stop.End) after new
+  stops_at_end first same used last no_wait = ends_at_last old now after moved took_piece new first (sym (same after) ∙ more.alone)
+      (wants_something wanted first part piece after same more) used last no_wait
+
+  pub stops_waiting : (first : List ℕ → List ℕ) → ((rest : List ℕ) → wanted rest ≡ first rest) → UsesUp now new → Rose now.raw.waits new.raw.waits → GatherOutcome first old (Ok stop.Waits) after new
+  stops_waiting first same used waits = waits_at old now after moved took_piece new first (sym (same after) ∙ more.alone)
+      (λ rest. subst (IsFrontOf after) (same (after ++ rest)) (more.goes_on rest)) (wants_something wanted first part piece after same more) used waits
+
+-- Where it ends without enough.
+
+-- an engine that failed
+keeps_failed : (engine : EngineView) → IsEngine engine.raw engine.window engine.life → KeepsEngine engine (record engine { life = life.Failed })
+keeps_failed engine is = record {
+  raw = record { tells = refl; readable = refl; writable = refl; seekable = refl; takes_memory = refl; counts_exactly = refl; faults = omega arith; waits = omega arith };
+  stays = refl;
+  bytes = λ tells. refl;
+  size = refl;
+  short = refl;
+  is = record {
+    window_is = is.window_is;
+    reads = is.reads;
+    is_open = λ live. absurd (cc);
+    attached = λ detached. cc;
+    told = λ tells live. absurd (cc);
+  };
+}
+
+-- memory was wanting
+pub starves_so_far : (old now new : EngineView) (part after : List ℕ) (moved : Bool) (first : List ℕ → List ℕ) → GatheredTo old part moved now → MovedSome first old moved → StarvesWith moved now new → GatherOutcome first old (Err fault.NoMemory) after new
+starves_so_far old now new part after false first gathered some starves = (
+  inl (starves ∙ gathered.unmoved refl),
+  tt,
+  λ failed. absurd (let both : life.Failed ≡ life.Live = sym failed ∙ (ap (λ (engine : EngineView). engine.life) starves ∙ gathered.given.live) in cc),
+  λ nothing. (ap (λ (engine : EngineView). engine.raw) (starves ∙ gathered.unmoved refl), λ fails. absurd (cc)),
+)
+starves_so_far old now new part after true first gathered some starves =
+    subst (GatherOutcome first old (Err fault.NoMemory) after) (sym starves) (
+      inr (record {
+        kept = keeps_then old now (record now { life = life.Failed }) gathered.given.kept (keeps_failed now gathered.given.kept.is);
+        counts = record { no_fault = gathered.given.no_fault; no_wait = gathered.no_wait };
+        failed = refl;
+        place = omega (arith, gathered.given.place);
+        forth = gathered.forth refl;
+        told = gathered.forth_told refl;
+        some = some.left refl;
+      }),
+      tt,
+      λ failed. some.asked refl,
+      λ nothing. absurd (some.wants refl nothing),
+    )
+
+-- or the raw failed, which is called only where something is wanted
+pub fails_so_far : (old now new : EngineView) (part after : List ℕ) (moved : Bool) (wanted first : List ℕ → List ℕ) (piece : List ℕ) (why : IoFault) → GatheredTo old part moved now → MovedSome first old moved → ((rest : List ℕ) → wanted rest ≡ first rest) → WantsMore wanted part piece after → FillsOutcome now moved (Err why) new → GatherOutcome first old (Err why) after new
+fails_so_far old now new part after moved wanted first piece fault.RawFault gathered some same more fails = (
+  record {
+    kept = keeps_then old now new gathered.given.kept fails.kept;
+    cause = omega (arith, gathered.given.kept.raw.faults, fails.cause);
+    no_wait = no_wait_then old now new gathered.given.kept gathered.no_wait fails.no_wait;
+    failed = fails.failed;
+    place = omega (arith, gathered.given.place, gathered.given.kept.is.window_is.cursor, fails.place);
+  },
+  tt,
+  tt,
+  λ nothing. absurd (wants_something wanted first part piece after same more nothing),
+)
+fails_so_far old now new part after moved wanted first piece fault.NoMemory gathered some same more fails = starves_so_far old now new part after moved first gathered some fails.1
+fails_so_far old now new part after moved wanted first piece why gathered some same more fails = absurd fails

@@ -1,0 +1,10 @@
+pub mod Transfers
+pub mod Steps
+pub mod Gathering
+pub mod Refusing
+pub mod Begun
+pub mod Answering
+pub mod ReadingOn
+pub mod Single
+pub mod Moving
+pub mod Outer

@@ -1,0 +1,217 @@
+-- Readings into a buffer, and of all that is left.
+use Rattle.std.proofs.Common.{◌≡◌, ◌≢◌, ℕ, zero, suc, ◌<◌, ◌≤◌, ◌⊎◌, inl, inr, Bool, true, false, IsTrue, List, [], ◌∷◌, ◌++◌, length, take, drop, Option, Some, None, Result, Ok, Err, refl, sym, ap, ◌∙◌, subst, arith}
+use Rattle.std.proofs.lemmas.List.{nil_from_length, length-take-le, length-drop, take_all, take-take, take-append-drop}
+use Rattle.std.proofs.Math.Seq.{take-append_seam}
+use Rattle.std.proofs.lemmas.Bool.{eqb-true}
+use Rattle.std.specs.Bool.{◌==◌}
+use Rattle.py_flat.specs.declared.fault.IoFault.{IoFault}
+use Rattle.py_flat.specs.declared.fault.IoFault.TheVariants as fault
+use Rattle.py_flat.specs.declared.life.Life.TheVariants as life
+use Rattle.py_flat.specs.Bytes.{left_at}
+use Rattle.py_flat.specs.Lines.{lines_of, joined}
+use Rattle.py_flat.specs.Calls.{FileCall, Read, ReadLine, ReadLines, Refused}
+use Rattle.py_flat.specs.BinaryStep.{IsFrontOf}
+use Rattle.py_raw.specs.RawStream.{WhereTold}
+use Rattle.py_reader.specs.declared.data.Stop.{Stop}
+use Rattle.py_reader.specs.declared.data.Stop.TheVariants as stops
+use Rattle.py_reader.specs.declared.data.reading.Progress.{Progress}
+use Rattle.py_stream.specs.Kinds.{reads_on, has_room, asks_nothing, takes_space_first}
+use Rattle.py_stream.specs.Answers.{Answers}
+use Rattle.py_reader.specs.Window.{place_of}
+use Rattle.py_reader.specs.Engine.{EngineView, stream_of, IsEngine, StarvesAt, StopOutcome}
+use Rattle.py_reader.specs.Reading.{Gathers, FailsStarved, ReadsInto, ReadIntoOutcome, ReadAllOutcome, StarvesWanting, IdleWanting, GatherOutcome}
+use Rattle.py_lines.specs.Collecting.{LineView, LinesView, line_wanted, lines_wanted}
+use Rattle.py_reader.proofs.Transfers.{keeps_self, uncounted}
+use Rattle.py_reader.proofs.Answering.{wanted_by, reading_on, wants_nothing, fails_further, many, answers_faulted, answers_wanting, answers_failing}
+
+-- Whether there are any.
+
+pub none_counted : {A : Type 0} → (items : List A) (count : ℕ) (empty : Bool) → count ≡ length items → empty ≡ (count == 0) → empty ≡ true → items ≡ []
+none_counted items count empty size is none = nil_from_length items (sym size ∙ eqb-true count 0 (sym is ∙ none))
+
+pub some_counted : {A : Type 0} → (items : List A) (count : ℕ) (empty : Bool) → count ≡ length items → empty ≡ (count == 0) → empty ≡ false → items ≢ []
+some_counted items count empty size is some none =
+    let zeros : count ≡ 0 = size ∙ ap length none in
+    let tested : empty ≡ true = is ∙ ap (λ (n : ℕ). n == 0) zeros in
+    absurd (cc)
+
+-- Where the reading stopped without an answer.
+
+-- memory was wanting before anything moved
+unmoved : (old new : EngineView) (call : FileCall) → reads_on call ≡ true → old.life ≡ life.Live → old.short ≡ false → IsEngine old.raw old.window old.life → (IsTrue (has_room call) → IsTrue old.raw.takes_memory) → new ≡ old → Answers (stream_of old) call (Refused fault.NoMemory) (stream_of new)
+unmoved old new call on live whole is wants same =
+    subst (λ (engine : EngineView). Answers (stream_of old) call (Refused fault.NoMemory) (stream_of engine)) (sym same)
+    (answers_wanting old old call (reading_on call on) live whole (keeps_self old is) live refl (uncounted old.raw old.raw refl) (λ asks. refl) wants (λ reads. refl) (λ single. absurd (cc (many call on))))
+
+-- or after bytes had left the raw
+starved : (old new : EngineView) (call : FileCall) → reads_on call ≡ true → has_room call ≡ false → takes_space_first call ≡ false → old.life ≡ life.Live → old.short ≡ false → IsEngine old.raw old.window old.life → StarvesAt old new → (IsTrue (asks_nothing call) → new.raw ≡ old.raw) → (new.life ≡ life.Failed → WhereTold old.raw (wanted_by call (left_at old.raw.bytes (place_of old.window)) ≢ [])) → Answers (stream_of old) call (Refused fault.NoMemory) (stream_of new)
+starved old new call on room later live whole is (inl same) idle some = unmoved old new call on live whole is (λ has. absurd (cc)) same
+starved old new call on room later live whole is (inr fails) idle some =
+    answers_failing old new call on live whole (λ has. absurd (cc)) (λ takes. absurd (cc)) (record {
+      kept = fails.kept;
+      counts = fails.counts;
+      failed = fails.failed;
+      place = fails.place;
+      forth = fails.forth;
+      forth_told = fails.told;
+      idle = idle;
+      some = some fails.failed;
+    })
+
+-- where bytes had left the raw before memory was wanting, some are wanted
+abbrev pub WantsSome : FileCall → EngineView → IoFault → EngineView → Type 0
+WantsSome call old fault.NoMemory new = new.life ≡ life.Failed → WhereTold old.raw (wanted_by call (left_at old.raw.bytes (place_of old.window)) ≢ [])
+WantsSome call old why new = Unit {0}
+
+-- a raw that isn't called where no byte is asked for doesn't fail such a call
+abbrev pub IdleNothing : FileCall → EngineView → IoFault → EngineView → Type 0
+IdleNothing call old why new = IsTrue (asks_nothing call) → (new.raw ≡ old.raw) × (why ≢ fault.RawFault)
+
+not_asked : (asks : Bool) → (IsTrue asks → ⊥) → asks ≡ false
+not_asked true none = absurd (none refl)
+not_asked false none = refl
+
+pub refused_stop : (old new : EngineView) (call : FileCall) (part : List ℕ) (why : IoFault) → reads_on call ≡ true → has_room call ≡ false → takes_space_first call ≡ false → old.life ≡ life.Live → old.short ≡ false → IsEngine old.raw old.window old.life → StopOutcome old part (Err why) new → IdleNothing call old why new → WantsSome call old why new → Answers (stream_of old) call (Refused why) (stream_of new)
+refused_stop old new call part fault.RawFault on room later live whole is outcome idle some =
+    answers_faulted old new call (reading_on call on) live whole outcome (fails_further call (place_of old.window) (place_of new.window) on outcome.place) (not_asked (asks_nothing call) (λ asks. (idle asks).1 refl)) (λ single. absurd (cc (many call on)))
+refused_stop old new call part fault.NoMemory on room later live whole is outcome idle some = starved old new call on room later live whole is outcome (λ asks. (idle asks).0) some
+refused_stop old new call part why on room later live whole is outcome idle some = absurd outcome
+
+-- All that is left.
+
+left_wanted : (old new : EngineView) (part : List ℕ) (why : IoFault) → old.life ≡ life.Live → StopOutcome old part (Err why) new → WantsSome (Read None) old why new
+left_wanted old new part fault.NoMemory live (inl same) = λ failed. absurd (let both : life.Failed ≡ life.Live = sym failed ∙ ap (λ (engine : EngineView). engine.life) same ∙ live in cc)
+left_wanted old new part fault.NoMemory live (inr fails) = λ failed. fails.some
+left_wanted old new part why live outcome = tt
+
+pub refused_rest : (old new : EngineView) (part : List ℕ) (why : IoFault) → old.life ≡ life.Live → old.short ≡ false → IsEngine old.raw old.window old.life → ReadAllOutcome old (Err why) part new → Answers (stream_of old) (Read None) (Refused why) (stream_of new)
+refused_rest old new part why live whole is outcome = refused_stop old new (Read None) part why refl refl refl live whole is outcome (λ asks. absurd (cc)) (left_wanted old new part why live outcome)
+
+-- what comes next, where as much is left
+comes_all : (left part : List ℕ) → take (length part) left ≡ part → length left ≤ length part → left ≡ part
+comes_all left part next within = sym (take_all (length part) left within) ∙ next
+
+-- and a front of it
+comes_front : (left part : List ℕ) → take (length part) left ≡ part → IsFrontOf part left
+comes_front left part next = (drop (length part) left, ap (λ (front : List ℕ). front ++ drop (length part) left) (sym next) ∙ take-append-drop (length part) left)
+
+pub gathers_rest : (old new : EngineView) (part : List ℕ) (stop : Stop) → ReadAllOutcome old (Ok stop) part new → StopOutcome old part (Ok stop) new × Gathers (wanted_by (Read None)) old part (Ok stop)
+gathers_rest old new part stops.Enough outcome = absurd outcome
+gathers_rest old new part stops.End outcome = (
+  outcome,
+  record {
+    alone = refl;
+    exact = λ tells. comes_all (left_at old.raw.bytes (place_of old.window)) part (outcome.0.told tells) (let place = outcome.0.place in omega (arith, length-drop (place_of old.window) old.raw.bytes, outcome.2 tells));
+  },
+)
+gathers_rest old new part stops.Waits outcome = (outcome, record { alone = refl; front = λ tells. comes_front (left_at old.raw.bytes (place_of old.window)) part (outcome.0.told tells) })
+
+-- Into a buffer.
+
+-- a call that wants so many bytes
+abbrev pub WantsSize : FileCall → ℕ → Type 0
+WantsSize call size = (left : List ℕ) → wanted_by call left ≡ take size left
+
+some_taken : (size : ℕ) (left : List ℕ) → 0 < size → left ≢ [] → take size left ≢ []
+some_taken size [] asks some = absurd (some refl)
+some_taken zero (byte ∷ more) asks some = absurd (omega arith)
+some_taken (suc size) (byte ∷ more) asks some = λ none. cc
+
+-- it asks for some
+asks_some : (call : FileCall) (size : ℕ) → reads_on call ≡ true → WantsSize call size → 0 < size → asks_nothing call ≡ false
+asks_some call size on wants asks = not_asked (asks_nothing call) (λ none. some_taken size (0 ∷ []) asks (λ empty. cc) (sym (wants (0 ∷ [])) ∙ wants_nothing call on none (0 ∷ [])))
+
+-- or for none: then the raw wasn't called
+pub idle_into : (old new : EngineView) (call : FileCall) (size : ℕ) (progress : Progress) (buffer : List ℕ) → reads_on call ≡ true → WantsSize call size → length buffer ≡ size → ReadsInto old progress buffer new → IsTrue (asks_nothing call) → new.raw ≡ old.raw
+idle_into old new call size progress buffer on wants long read asks = read.idle (sym (take_all size buffer (omega (arith, long))) ∙ sym (wants buffer) ∙ wants_nothing call on asks buffer)
+
+gathers_size : (old new : EngineView) (call : FileCall) (size count : ℕ) (buffer : List ℕ) (stop : Stop) → WantsSize call size → length buffer ≡ size → count ≤ length buffer → (stop ≡ stops.Enough → count ≡ length buffer) → StopOutcome old (take count buffer) (Ok stop) new → Gathers (wanted_by call) old (take count buffer) (Ok stop)
+gathers_size old new call size count buffer stops.Enough wants long fits full given =
+    let part : List ℕ = take count buffer in
+    let taken : length part ≡ count = length-take-le count buffer fits in
+    let all : length part ≡ size = omega (arith, full refl) in
+    record {
+      alone = wants part ∙ take_all size part (omega arith);
+      exact = λ tells. wants (left_at old.raw.bytes (place_of old.window)) ∙ ap (λ (n : ℕ). take n (left_at old.raw.bytes (place_of old.window))) (sym all) ∙ given.0.told tells;
+    }
+gathers_size old new call size count buffer stops.End wants long fits full outcome =
+    let part : List ℕ = take count buffer in
+    let left : List ℕ = left_at old.raw.bytes (place_of old.window) in
+    let taken : length part ≡ count = length-take-le count buffer fits in
+    let alone : wanted_by call part ≡ part = wants part ∙ take_all size part (omega arith) in
+    record {
+      alone = alone;
+      exact = λ tells. ap (wanted_by call) (comes_all left part (outcome.0.told tells) (let place = outcome.0.place in omega (arith, length-drop (place_of old.window) old.raw.bytes, outcome.2 tells))) ∙ alone;
+    }
+gathers_size old new call size count buffer stops.Waits wants long fits full outcome =
+    let part : List ℕ = take count buffer in
+    let left : List ℕ = left_at old.raw.bytes (place_of old.window) in
+    let taken : length part ≡ count = length-take-le count buffer fits in
+    record {
+      alone = wants part ∙ take_all size part (omega arith);
+      front = λ tells. subst (IsFrontOf part) (sym (wants left)) (comes_front (take size left) part (take-take (length part) size left (omega arith) ∙ outcome.0.told tells));
+    }
+
+pub gathers_into : (old new : EngineView) (call : FileCall) (size : ℕ) (progress : Progress) (buffer : List ℕ) → WantsSize call size → length buffer ≡ size → ReadsInto old progress buffer new → Gathers (wanted_by call) old (take progress.count buffer) (Ok progress.stop)
+gathers_into old new call size progress buffer wants long read = gathers_size old new call size progress.count buffer progress.stop wants long read.fits read.full read.stops
+
+starved_into : (old new : EngineView) (call : FileCall) (size : ℕ) → reads_on call ≡ true → WantsSize call size → 0 < size → old.life ≡ life.Live → old.short ≡ false → IsEngine old.raw old.window old.life → IsTrue old.raw.takes_memory → ((false ≡ false) × (new ≡ old)) ⊎ FailsStarved old false new → Answers (stream_of old) call (Refused fault.NoMemory) (stream_of new)
+starved_into old new call size on wants asks live whole is takes (inl same) = unmoved old new call on live whole is (λ has. takes) same.1
+starved_into old new call size on wants asks live whole is takes (inr fails) =
+    answers_failing old new call on live whole (λ has. takes) (λ first. takes) (record {
+      kept = fails.kept;
+      counts = fails.counts;
+      failed = fails.failed;
+      place = fails.place;
+      forth = fails.further refl;
+      forth_told = fails.further_told refl;
+      idle = λ none. absurd (let some : asks_nothing call ≡ false = asks_some call size on wants asks in cc);
+      some = λ tells. subst (λ (part : List ℕ). part ≢ []) (sym (wants (left_at old.raw.bytes (place_of old.window)))) (some_taken size (left_at old.raw.bytes (place_of old.window)) asks (fails.some refl tells));
+    })
+
+pub refused_into : (old new : EngineView) (call : FileCall) (size : ℕ) (buffer : List ℕ) (why : IoFault) → reads_on call ≡ true → WantsSize call size → length buffer ≡ size → old.life ≡ life.Live → old.short ≡ false → IsEngine old.raw old.window old.life → ReadIntoOutcome old false (Err why) buffer new → Answers (stream_of old) call (Refused why) (stream_of new)
+refused_into old new call size buffer fault.RawFault on wants long live whole is outcome =
+    answers_faulted old new call (reading_on call on) live whole outcome.0 (fails_further call (place_of old.window) (place_of new.window) on outcome.0.place) (asks_some call size on wants (subst (λ (n : ℕ). 0 < n) long outcome.1)) (λ single. absurd (cc (many call on)))
+refused_into old new call size buffer fault.NoMemory on wants long live whole is outcome = starved_into old new call size on wants (subst (λ (n : ℕ). 0 < n) long outcome.1) live whole is outcome.0.0 outcome.0.1
+refused_into old new call size buffer why on wants long live whole is outcome = absurd outcome
+
+-- what a vector has whose front was read into, and which was cut to what came
+pub cut_to : (buffer more : List ℕ) (count size : ℕ) → length buffer ≡ size → take count (take size (buffer ++ more)) ≡ take count buffer
+cut_to buffer more count size long = ap (λ (n : ℕ). take count (take n (buffer ++ more))) (sym long) ∙ ap (take count) (take-append_seam buffer more)
+
+-- no space for the bytes
+pub unread : (old : EngineView) (size : ℕ) → old.life ≡ life.Live → old.short ≡ false → IsEngine old.raw old.window old.life → Answers (stream_of old) (Read (Some size)) (Refused fault.NoMemory) (stream_of old)
+unread old size live whole is = unmoved old old (Read (Some size)) refl live whole is (λ has. absurd (cc)) refl
+
+-- Of lines.
+
+wanting : (call : FileCall) (old new : EngineView) (why : IoFault) → StarvesWanting (wanted_by call) old (Err why) new → WantsSome call old why new
+wanting call old new fault.NoMemory starves = starves
+wanting call old new why starves = tt
+
+idle_refused : (call : FileCall) (old new : EngineView) (why : IoFault) → reads_on call ≡ true → IdleWanting (wanted_by call) old (Err why) new → IdleNothing call old why new
+idle_refused call old new why on idle asks = let unasked = idle (wants_nothing call on asks) in (unasked.0, λ failed. unasked.1 (ap Err failed))
+
+-- where no byte is asked for, the raw wasn't called
+pub idle_gathered : (call : FileCall) (old new : EngineView) (result : Result Stop IoFault) → reads_on call ≡ true → IdleWanting (wanted_by call) old result new → IsTrue (asks_nothing call) → new.raw ≡ old.raw
+idle_gathered call old new result on idle asks = (idle (wants_nothing call on asks)).0
+
+pub refused_gather : (old new : EngineView) (call : FileCall) (part : List ℕ) (why : IoFault) → reads_on call ≡ true → has_room call ≡ false → takes_space_first call ≡ false → old.life ≡ life.Live → old.short ≡ false → IsEngine old.raw old.window old.life → GatherOutcome (wanted_by call) old (Err why) part new → Answers (stream_of old) call (Refused why) (stream_of new)
+refused_gather old new call part why on room later live whole is outcome = refused_stop old new call part why on room later live whole is outcome.0 (idle_refused call old new why on outcome.3) (wanting call old new why outcome.2)
+
+-- what a line, or lines, were gathered by
+pub line_gathered : (view : LineView) (limit : Option ℕ) (old new : EngineView) (result : Result Stop IoFault) (part : List ℕ) → view ≡ record { line = []; limit = limit } → GatherOutcome (line_wanted view) old result part new → GatherOutcome (wanted_by (ReadLine limit)) old result part new
+line_gathered view limit old new result part is outcome = subst (λ (seen : LineView). GatherOutcome (line_wanted seen) old result part new) is outcome
+
+pub lines_gathered : (view : LinesView) (hint : Option ℕ) (old new : EngineView) (result : Result Stop IoFault) (part : List ℕ) → view.hint ≡ hint → GatherOutcome (lines_wanted view) old result part new → GatherOutcome (wanted_by (ReadLines hint)) old result part new
+lines_gathered view hint old new result part is outcome = subst (λ (some : Option ℕ). GatherOutcome (wanted_by (ReadLines some)) old result part new) is outcome
+
+-- lines that are handed on, by their bytes
+pub lines_are : (lines : List (List ℕ)) (part : List ℕ) → joined lines ≡ part → lines_of (joined lines) ≡ lines → lines ≡ lines_of part
+lines_are lines part all cut = sym cut ∙ ap lines_of all
+
+pub none_joined : (lines : List (List ℕ)) (part : List ℕ) → joined lines ≡ part → lines ≡ [] → part ≡ []
+none_joined lines part all none = sym all ∙ ap joined none
+
+pub some_joined : (lines : List (List ℕ)) (part : List ℕ) → joined lines ≡ part → lines_of (joined lines) ≡ lines → lines ≢ [] → part ≢ []
+some_joined lines part all cut some none = some (lines_are lines part all cut ∙ ap lines_of none)

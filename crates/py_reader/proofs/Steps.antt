@@ -1,0 +1,241 @@
+-- How a reading that goes on comes from one transfer to the next.
+use Rattle.std.proofs.Common.{◌≡◌, ◌≢◌, ℕ, ◌+◌, ◌-◌, ◌^◌, ◌<◌, ◌≤◌, ◌⊎◌, replicate, inl, inr, ⊎_elim, Bool, true, false, IsTrue, List, [], ◌++◌, length, take, drop, min, Ok, refl, sym, ap, ◌∙◌, subst, arith}
+use Rattle.std.proofs.lemmas.Bool.{true≢false}
+use Rattle.std.proofs.lemmas.List.{append-nil, take-take, take-append-le, take-append-drop, take_all, length-replicate, length-take-le, length-append, drop_all, length-drop, take_at}
+use borrow.Rule.Slice.PartMut.{put_mid}
+use Rattle.py_flat.specs.declared.life.Life.TheVariants as life
+use Rattle.py_flat.specs.Bytes.{left_at}
+use Rattle.py_raw.specs.RawStream.{WhereTold, NoFault, NoWait, LeavesCounts}
+use Rattle.py_reader.specs.declared.data.Stop.{Stop}
+use Rattle.py_reader.specs.declared.data.Stop.TheVariants as stop
+use Rattle.py_reader.specs.declared.data.reading.Step.TheVariants as step
+use Rattle.py_reader.specs.Window.{place_of, end_of, ahead_of, advanced}
+use Rattle.py_reader.specs.Engine.{EngineView, IsEngine, KeepsEngine, UsesUp, Gives}
+use Rattle.py_reader.specs.Reading.{StepsOn, StepOutcome, ReadsInto, ReadsMore, ReadAllOutcome}
+use Rattle.py_reader.proofs.Transfers.{more_taken, next_behind, held_next, keeps_self, keeps_then, keeps_advanced, no_fault_then, no_wait_then, uncounted, uncounted_then}
+
+-- a buffer after what is left of it was written
+pub end_written : (count : ℕ) (buffer rest : List ℕ) → count < length buffer → length rest ≡ length (take (length buffer - count) (drop count buffer)) → put_mid count (length buffer - count) buffer rest ≡ take count buffer ++ rest
+end_written count buffer rest fits long =
+    let none : drop (length buffer - count) (drop count buffer) ≡ [] = drop_all (length buffer - count) (drop count buffer) (omega (arith, length-drop count buffer)) in
+    ap (λ (xs : List ℕ). take count buffer ++ (rest ++ xs)) none ∙ ap (λ (xs : List ℕ). take count buffer ++ xs) (append-nil rest)
+
+-- a list that was lengthened by zeros
+abbrev pub lengthened : ℕ → ℕ → List ℕ → List ℕ
+lengthened start more before = take (start + more) before ++ replicate (start + more - start) 0
+
+pub length-lengthened : (start more : ℕ) (before : List ℕ) → length before ≡ start → length (lengthened start more before) ≡ start + more
+length-lengthened start more before size = length-append (take (start + more) before) (replicate (start + more - start) 0) ∙ omega (arith, ap length (take_all (start + more) before (omega arith)), length-replicate {A = ℕ} (start + more - start) 0)
+
+-- and cut again behind the bytes that came in the place of zeros
+pub vector_read : (before resized buffer after : List ℕ) (start more count long : ℕ) → length before ≡ start → resized ≡ lengthened start more before → length buffer ≡ length resized → take start buffer ≡ take start resized → long ≡ length resized → count ≤ length (drop start buffer) → after ≡ take (start + count) (take long (buffer ++ drop (length buffer) resized)) → after ≡ before ++ take count (drop start buffer)
+vector_read before resized buffer after start more count long size is same front whole fits cut =
+    let all : length resized ≡ start + more = ap length is ∙ length-lengthened start more before size in
+    let zeros : List ℕ = replicate (start + more - start) 0 in
+    let begins : take start buffer ≡ before = front ∙ (ap (take start) (is ∙ ap (λ (xs : List ℕ). xs ++ zeros) (take_all (start + more) before (omega arith))) ∙ take_at before zeros start size) in
+    cut
+    ∙ (take-take (start + count) long (buffer ++ drop (length buffer) resized) (omega (arith, length-drop start buffer))
+    ∙ (take-append-le (start + count) buffer (drop (length buffer) resized) (omega (arith, length-drop start buffer))
+    ∙ (ap (take (start + count)) (sym (take-append-drop start buffer))
+    ∙ (more_taken start count (take start buffer) (drop start buffer) (length-take-le start buffer (omega arith))
+    ∙ ap (λ (xs : List ℕ). xs ++ take count (drop start buffer)) begins))))
+
+-- the front of a buffer was given
+pub gives_front : (old new : EngineView) (count : ℕ) (buffer : List ℕ) → count ≤ length buffer → KeepsEngine old new → NoFault old.raw new.raw → new.life ≡ life.Live → place_of new.window ≡ place_of old.window + count → WhereTold old.raw (take count (left_at old.raw.bytes (place_of old.window)) ≡ take count buffer) → Gives old (take count buffer) new
+gives_front old new count buffer fits kept no_fault live place told =
+    let long : length (take count buffer) ≡ count = length-take-le count buffer fits in
+    record {
+      kept = kept;
+      no_fault = no_fault;
+      live = live;
+      place = place ∙ ap (λ (n : ℕ). place_of old.window + n) (sym long);
+      told = λ tells. ap (λ (n : ℕ). take n (left_at old.raw.bytes (place_of old.window))) long ∙ told tells;
+    }
+
+-- all that is asked for was held
+pub held_enough : (old : EngineView) (count : ℕ) (buffer : List ℕ) → IsEngine old.raw old.window old.life → old.life ≡ life.Live → count ≡ length buffer → count ≤ length (ahead_of old.window) → take count buffer ≡ take count (ahead_of old.window) → ReadsInto old (record { count = count; stop = stop.Enough }) buffer (record old { window = advanced count old.window })
+held_enough old count buffer is live all fits front = record {
+  fits = omega arith;
+  full = λ enough. all;
+  idle = λ none. refl;
+  stops = (
+    gives_front old (record old { window = advanced count old.window }) count buffer (omega arith) (keeps_advanced old count is fits) (λ exact. refl) live (omega arith) (λ tells. held_next old.raw old.window count is.window_is.cursor fits (is.told tells live) ∙ sym front),
+    λ exact. refl,
+  );
+}
+
+-- so many bytes have come into the front of a buffer that isn't full: all that were held, and those of the transfers since
+pub record Reads (old : EngineView) (was : Bool) (count : ℕ) (buffer : List ℕ) (moved : Bool) (now : EngineView) : Type 0 where
+  pub kept : KeepsEngine old now
+  pub counts : LeavesCounts old.raw now.raw
+  pub live : now.life ≡ life.Live
+  pub less : count < length buffer
+  pub place : place_of old.window ≤ place_of now.window
+  pub end : end_of now.window ≡ place_of old.window + count
+  pub told : WhereTold old.raw (take count (left_at old.raw.bytes (place_of old.window)) ≡ take count buffer)
+  pub stepped : ((moved ≡ was) × (now ≡ old)) ⊎ ((moved ≡ true) × (0 < count) × (end_of old.window < end_of now.window) × WhereTold old.raw (old.raw.place < now.raw.place))
+
+-- before the first transfer
+pub reads_first : (old : EngineView) (was : Bool) (count : ℕ) (buffer : List ℕ) → IsEngine old.raw old.window old.life → old.life ≡ life.Live → count ≡ min (length (ahead_of old.window)) (length buffer) → count ≢ length buffer → take count buffer ≡ take count (ahead_of old.window) → Reads old was count buffer was old
+reads_first old was count buffer is live least more front =
+    let all : count ≡ length (ahead_of old.window) = omega arith in
+    record {
+      kept = keeps_self old is;
+      counts = uncounted old.raw old.raw refl;
+      live = live;
+      less = omega arith;
+      place = omega arith;
+      end = omega (arith, is.window_is.cursor, length-drop old.window.cursor old.window.held);
+      told = λ tells. held_next old.raw old.window count is.window_is.cursor (omega arith) (is.told tells live) ∙ sym front;
+      stepped = inl (refl, refl);
+    }
+
+-- the raw doesn't go back
+pub not_back : (old : EngineView) (was : Bool) (count : ℕ) (buffer : List ℕ) (moved : Bool) (now : EngineView) → Reads old was count buffer moved now → IsTrue old.raw.tells → old.raw.place ≤ now.raw.place
+not_back old was count buffer moved now reads tells = ⊎_elim (λ same. omega (arith, ap (λ (engine : EngineView). engine.raw.place) same.1)) (λ forth. omega (arith, forth.3 tells)) reads.stepped
+
+-- nor does the end of what was held
+pub end_not_back : (old : EngineView) (was : Bool) (count : ℕ) (buffer : List ℕ) (moved : Bool) (now : EngineView) → Reads old was count buffer moved now → end_of old.window ≤ end_of now.window
+end_not_back old was count buffer moved now reads = ⊎_elim (λ same. omega (arith, ap (λ (engine : EngineView). end_of engine.window) same.1)) (λ forth. omega (arith, forth.2)) reads.stepped
+
+-- what one more transfer brings, behind what came
+pub behind_told : (old : EngineView) (was : Bool) (count : ℕ) (buffer : List ℕ) (moved : Bool) (now : EngineView) (more : ℕ) (rest : List ℕ) (new : EngineView) → Reads old was count buffer moved now → StepsOn now more rest new → WhereTold old.raw (take (count + more) (left_at old.raw.bytes (place_of old.window)) ≡ take (count + more) (take count buffer ++ rest))
+behind_told old was count buffer moved now more rest new reads steps tells =
+    let bytes : now.raw.bytes ≡ old.raw.bytes = reads.kept.bytes tells in
+    let next : take more (left_at now.raw.bytes (end_of now.window)) ≡ take more rest = steps.told (subst IsTrue (sym reads.kept.raw.tells) tells) in
+    next_behind old.raw.bytes (take count buffer) rest (place_of old.window) count more (length-take-le count buffer (omega (arith, reads.less))) (reads.told tells)
+    (ap (λ (place : ℕ). take more (left_at old.raw.bytes place)) (sym reads.end) ∙ (ap (λ (xs : List ℕ). take more (left_at xs (end_of now.window))) (sym bytes) ∙ next))
+
+-- one more transfer
+pub reads_on : (old : EngineView) (was : Bool) (count : ℕ) (buffer : List ℕ) (moved : Bool) (now : EngineView) (more : ℕ) (rest : List ℕ) (new : EngineView) → Reads old was count buffer moved now → StepOutcome now moved (Ok (step.On more)) rest new → Reads old was (count + more) (take count buffer ++ rest) true new
+reads_on old was count buffer moved now more rest new reads outcome =
+    let steps : StepsOn now more rest new = outcome.0 in
+    record {
+      kept = keeps_then old now new reads.kept steps.kept;
+      counts = uncounted_then old now new reads.kept reads.counts steps.counts;
+      live = steps.live;
+      less = omega (arith, outcome.1, length-append (take count buffer) rest, length-take-le count buffer (omega (arith, reads.less)));
+      place = omega (arith, reads.end, steps.place);
+      end = omega (arith, reads.end, outcome.2);
+      told = behind_told old was count buffer moved now more rest new reads steps;
+      stepped = inr (refl, omega (arith, steps.some), omega (arith, end_not_back old was count buffer moved now reads, outcome.2, steps.some), λ tells. omega (arith, not_back old was count buffer moved now reads tells, steps.forth (subst IsTrue (sym reads.kept.raw.tells) tells)));
+    }
+
+-- the last transfer filled the buffer
+pub reads_enough : (old : EngineView) (was : Bool) (count : ℕ) (buffer : List ℕ) (moved : Bool) (now : EngineView) (more : ℕ) (rest : List ℕ) (new : EngineView) → Reads old was count buffer moved now → StepsOn now more rest new → more ≡ length rest → place_of new.window ≡ end_of now.window + more → ReadsInto old (record { count = count + more; stop = stop.Enough }) (take count buffer ++ rest) new
+reads_enough old was count buffer moved now more rest new reads steps all place =
+    let long : length (take count buffer ++ rest) ≡ count + more = length-append (take count buffer) rest ∙ omega (arith, length-take-le count buffer (omega (arith, reads.less))) in
+    record {
+      fits = omega arith;
+      full = λ enough. sym long;
+      idle = λ none. absurd (omega (arith, ap length none, steps.some));
+      stops = (
+        gives_front old new (count + more) (take count buffer ++ rest) (omega arith) (keeps_then old now new reads.kept steps.kept) (no_fault_then old now new reads.kept reads.counts.no_fault steps.counts.no_fault) steps.live (omega (arith, reads.end)) (behind_told old was count buffer moved now more rest new reads steps),
+        no_wait_then old now new reads.kept reads.counts.no_wait steps.counts.no_wait,
+      );
+    }
+
+-- no more came: what came is given
+pub reads_given : (old : EngineView) (was : Bool) (count : ℕ) (buffer : List ℕ) (moved : Bool) (now : EngineView) (rest : List ℕ) (new : EngineView) → Reads old was count buffer moved now → UsesUp now new → Gives old (take count (take count buffer ++ rest)) new
+reads_given old was count buffer moved now rest new reads uses =
+    let long : length (take count buffer) ≡ count = length-take-le count buffer (omega (arith, reads.less)) in
+    gives_front old new count (take count buffer ++ rest) (omega (arith, length-append (take count buffer) rest)) (keeps_then old now new reads.kept uses.transferred.kept) (no_fault_then old now new reads.kept reads.counts.no_fault uses.transferred.no_fault) uses.transferred.live (uses.place ∙ reads.end)
+    (λ tells. reads.told tells ∙ sym (take_at (take count buffer) rest count long))
+
+pub reads_none : (old : EngineView) (was : Bool) (count : ℕ) (buffer : List ℕ) (moved : Bool) (now : EngineView) (rest : List ℕ) (new : EngineView) (why : Stop) → why ≢ stop.Enough → 0 < length rest → Reads old was count buffer moved now → StepOutcome now moved (Ok (step.Stopped 0 why)) rest new → ReadsInto old (record { count = count; stop = why }) (take count buffer ++ rest) new
+reads_none old was count buffer moved now rest new stop.Enough other some reads outcome = absurd (other refl)
+reads_none old was count buffer moved now rest new stop.End other some reads outcome = record {
+  fits = omega (arith, reads.less, length-append (take count buffer) rest, length-take-le count buffer (omega (arith, reads.less)));
+  full = λ enough. absurd (other enough);
+  idle = λ none. absurd (omega (arith, ap length none, some, length-append (take count buffer) rest));
+  stops = (
+    reads_given old was count buffer moved now rest new reads outcome.1,
+    no_wait_then old now new reads.kept reads.counts.no_wait outcome.3,
+    λ tells. subst (λ (bytes : List ℕ). length bytes ≤ place_of new.window) (reads.kept.bytes tells) (subst (λ (place : ℕ). length now.raw.bytes ≤ place) (sym outcome.1.place) (outcome.2 (subst IsTrue (sym reads.kept.raw.tells) tells))),
+  );
+}
+reads_none old was count buffer moved now rest new stop.Waits other some reads outcome = record {
+  fits = omega (arith, reads.less, length-append (take count buffer) rest, length-take-le count buffer (omega (arith, reads.less)));
+  full = λ enough. absurd (other enough);
+  idle = λ none. absurd (omega (arith, ap length none, some, length-append (take count buffer) rest));
+  stops = (
+    reads_given old was count buffer moved now rest new reads outcome.1,
+    omega (arith, reads.kept.raw.waits, outcome.2),
+    outcome.1.end ∙ sym outcome.1.place,
+  );
+}
+
+-- the reading stops
+pub reads_stopped : (old : EngineView) (was : Bool) (count : ℕ) (buffer : List ℕ) (moved : Bool) (now : EngineView) (more : ℕ) (why : Stop) (rest : List ℕ) (new : EngineView) → 0 < length rest → Reads old was count buffer moved now → StepOutcome now moved (Ok (step.Stopped more why)) rest new → ReadsInto old (record { count = count + more; stop = why }) (take count buffer ++ rest) new
+reads_stopped old was count buffer moved now more stop.Enough rest new some reads outcome = reads_enough old was count buffer moved now more rest new reads outcome.0 outcome.1 outcome.2
+reads_stopped old was count buffer moved now more stop.End rest new some reads outcome =
+    let same : count ≡ count + more = omega (arith, outcome.0) in
+    subst (λ (n : ℕ). ReadsInto old (record { count = n; stop = stop.End }) (take count buffer ++ rest) new) same (reads_none old was count buffer moved now rest new stop.End (λ (e : stop.End ≡ stop.Enough). cc) some reads (refl, outcome.1, outcome.2, outcome.3))
+reads_stopped old was count buffer moved now more stop.Waits rest new some reads outcome =
+    let same : count ≡ count + more = omega (arith, outcome.0) in
+    subst (λ (n : ℕ). ReadsInto old (record { count = n; stop = stop.Waits }) (take count buffer ++ rest) new) same (reads_none old was count buffer moved now rest new stop.Waits (λ (e : stop.Waits ≡ stop.Enough). cc) some reads (refl, outcome.1, outcome.2))
+
+-- all that was asked for so far has come: nothing was, at first; then as much as is asked for next
+pub record ReadsAll (old : EngineView) (bytes : List ℕ) (more : ℕ) (moved : Bool) (now : EngineView) : Type 0 where
+  pub gives : Gives old bytes now
+  pub no_wait : NoWait old.raw now.raw
+  pub stands : WhereTold old.raw (old.raw.place ≡ end_of old.window)
+  pub some : 0 < more
+  pub fits : more < 2 ^ 64
+  pub first : moved ≡ false → (now ≡ old) × (bytes ≡ []) × (length (ahead_of old.window) < more)
+  pub later : moved ≡ true → (more ≡ length bytes) × (end_of old.window < place_of now.window)
+
+-- what was given, and what was given behind it
+pub gives_then : (old mid new : EngineView) (first second : List ℕ) → Gives old first mid → Gives mid second new → Gives old (first ++ second) new
+gives_then old mid new first second before behind =
+    let long : length (first ++ second) ≡ length first + length second = length-append first second in
+    record {
+      kept = keeps_then old mid new before.kept behind.kept;
+      no_fault = no_fault_then old mid new before.kept before.no_fault behind.no_fault;
+      live = behind.live;
+      place = omega (arith, before.place, behind.place);
+      told = λ tells.
+          let bytes : mid.raw.bytes ≡ old.raw.bytes = before.kept.bytes tells in
+          let next : take (length second) (left_at mid.raw.bytes (place_of mid.window)) ≡ second = behind.told (subst IsTrue (sym before.kept.raw.tells) tells) in
+          ap (λ (n : ℕ). take n (left_at old.raw.bytes (place_of old.window))) long
+          ∙ (next_behind old.raw.bytes first second (place_of old.window) (length first) (length second) refl (before.told tells)
+          (ap (λ (place : ℕ). take (length second) (left_at old.raw.bytes place)) (sym before.place) ∙ (ap (λ (xs : List ℕ). take (length second) (left_at xs (place_of mid.window))) (sym bytes) ∙ (next ∙ sym (take_all (length second) second (omega arith)))))
+          ∙ take_all (length first + length second) (first ++ second) (omega arith));
+    }
+
+-- what is asked for reaches behind the bytes that were held at first
+pub past_held : (old : EngineView) (bytes : List ℕ) (more : ℕ) (moved : Bool) (now : EngineView) → ReadsAll old bytes more moved now → end_of old.window < place_of now.window + more
+past_held old bytes more false now reads =
+    let same : now ≡ old = (reads.first refl).0 in
+    let beyond : length (ahead_of old.window) < more = (reads.first refl).2 in
+    omega (arith, ap (λ (engine : EngineView). place_of engine.window) same, length-drop old.window.cursor old.window.held)
+past_held old bytes more true now reads = omega (arith, (reads.later refl).1)
+
+-- a turn brought all that it asked for
+pub all_on : (old : EngineView) (bytes : List ℕ) (more : ℕ) (moved : Bool) (now : EngineView) (after : List ℕ) (next : ℕ) (new : EngineView) → ReadsAll old bytes more moved now → ReadsMore now bytes more stop.Enough after new → next ≡ length after → next < 2 ^ 64 → ReadsAll old after next true new
+all_on old bytes more moved now after next new reads brings size fits =
+    let long : length after ≡ length bytes + more = ap length brings.behind ∙ (length-append bytes brings.part ∙ ap (λ (n : ℕ). length bytes + n) (brings.full refl)) in
+    let place : place_of new.window ≡ place_of now.window + more = brings.stops.0.place ∙ ap (λ (n : ℕ). place_of now.window + n) (brings.full refl) in
+    record {
+      gives = subst (λ (xs : List ℕ). Gives old xs new) (sym brings.behind) (gives_then old now new bytes brings.part reads.gives brings.stops.0);
+      no_wait = no_wait_then old now new reads.gives.kept reads.no_wait brings.stops.1;
+      stands = reads.stands;
+      some = omega (arith, reads.some);
+      fits = fits;
+      first = λ none. absurd (true≢false none);
+      later = λ some. (size, omega (arith, past_held old bytes more moved now reads));
+    }
+
+-- a turn brought the last bytes
+pub all_read : (old : EngineView) (bytes : List ℕ) (more : ℕ) (moved : Bool) (now : EngineView) (why : Stop) (after : List ℕ) (new : EngineView) → why ≢ stop.Enough → ReadsAll old bytes more moved now → ReadsMore now bytes more why after new → ReadAllOutcome old (Ok why) after new
+all_read old bytes more moved now stop.Enough after new other reads brings = absurd (other refl)
+all_read old bytes more moved now stop.End after new other reads brings = (
+  subst (λ (xs : List ℕ). Gives old xs new) (sym brings.behind) (gives_then old now new bytes brings.part reads.gives brings.stops.0),
+  no_wait_then old now new reads.gives.kept reads.no_wait brings.stops.1,
+  λ tells. subst (λ (xs : List ℕ). length xs ≤ place_of new.window) (reads.gives.kept.bytes tells) (brings.stops.2 (subst IsTrue (sym reads.gives.kept.raw.tells) tells)),
+)
+all_read old bytes more moved now stop.Waits after new other reads brings = (
+  subst (λ (xs : List ℕ). Gives old xs new) (sym brings.behind) (gives_then old now new bytes brings.part reads.gives brings.stops.0),
+  omega (arith, reads.gives.kept.raw.waits, brings.stops.1),
+  brings.stops.2,
+)

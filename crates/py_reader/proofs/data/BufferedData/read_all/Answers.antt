@@ -1,0 +1,18 @@
+use Rattle.std.proofs.Common.{arith, subst}
+use Rattle.py_reader.specs.declared.data.Stop.{Stop}
+use Rattle.py_reader.specs.Reading.{ReadsMore}
+use Rattle.py_reader.proofs.Steps.{all_on, all_read}
+use Rattle.py_reader.proofs.data.BufferedData.read_all.Goals as goal
+
+pub loop-moved-preserved : goal.loop-moved-preserved
+loop-moved-preserved g c =
+    let loop = c.loop-moved in
+    let now = c.read_more.new in
+    all_on c.args.self.now loop.bytes.items loop.more loop.moved loop.self now.bytes.items c.len-more.result now.self loop.invariant
+    (subst (λ (why : Stop). ReadsMore loop.self loop.bytes.items loop.more why now.bytes.items now.self) c.in-Enough.is c.in_ok-stop.ensures)
+    (omega (arith, now.bytes.ok.0)) (omega (arith, now.bytes.small))
+
+pub returns-in_default : goal.returns-in_default
+returns-in_default g c =
+    let loop = c.loop-moved in
+    all_read c.args.self.now loop.bytes.items loop.more loop.moved loop.self c.in_ok-stop.stop c.read_more.new.bytes.items c.read_more.new.self c.in_default.not-Enough loop.invariant c.in_ok-stop.ensures

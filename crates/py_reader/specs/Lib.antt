@@ -1,0 +1,5 @@
+pub mod Window
+pub mod Engine
+pub mod Reading
+pub mod Moving
+pub mod Reader

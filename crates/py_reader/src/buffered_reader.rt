@@ -1,0 +1,398 @@
+//! The reader, which is its engine or, once detached, what is left of it.
+ghost use Rattle.std.specs.Prelude.{◌≡◌, ◌≢◌, Some, None, [], false, length, vec_len, if◌then◌else◌};
+ghost use types.Logic.{sem};
+ghost use Rattle.std.specs.Io.BufRead.{Rests};
+ghost use Rattle.py_flat.specs.Calls.{Read, Read1, ReadLine, ReadLines, Peek, ReadInto, ReadInto1, Seek, Tell, Flush, Close};
+ghost use Rattle.py_flat.specs.ExactStep.{is_closed};
+ghost use Rattle.py_stream.specs.Answers.{Answers};
+ghost use Rattle.py_stream.specs.Replies.{bytes_reply, into_reply, CountFits, KeepsBuffer, KeepsUnread, lent_reply, lines_reply, place_reply, done_reply};
+ghost use Rattle.py_stream.specs.Stream.{reader_can};
+ghost use Rattle.py_stream.specs.Opening.{StandsAtStart, MayOpen, NewOutcome};
+ghost use Rattle.py_stream.specs.Handing.{DetachOutcome, PartsOutcome, LendsRaw};
+ghost use Rattle.py_reader.specs.Reader.{Looks, held_of, BeginsDetach};
+ghost use Rattle.py_reader.specs.Window.{place_of};
+
+use crate::data::BufferedData;
+use crate::window::Window;
+use py_raw::{IoFault, Life, Lines, RawError, RawStream};
+use py_stream::{Detached, NewRefused, first_place, refused_at_first};
+use std::alloc::Global;
+use std::marker::Model;
+
+/// A buffered reader over a raw stream, as Python's `io.BufferedReader`.
+///
+/// It is seen as a `Stream`: what its raw shows, its place, what it can do, its life, the buffer's size, and whether its last
+/// answer was short. Sizes, limits and hints are bytes; places are bytes from the start of the stream, from 0 to
+/// 9223372036854775807.
+///
+/// Each call first answers by the life, with all as it was: `Failed` after a fault (a `detach` still works), `Closed` after a
+/// `close` (which may be called again), `Detached` after a `detach`. Else, where the raw failed in the call, it is
+/// `RawFault`: the reader is failed from then on (after `close` closed); its place is where the call began, or further on where a
+/// reading had taken bytes by then. Where the raw asked to wait, a reading call answers what came by then, never nothing, or
+/// `None` where nothing had, with all as it was; `short` is true then. `NoMemory` is
+/// want of memory; what stands then, each call says. What waits and faults leave is this project's choice
+/// (docs/DECISIONS.md), all else the rule of Python's `io` module.
+#[derive(Drop)]
+pub struct BufferedReader<R: RawStream> {
+    data: Option<BufferedData<R>>,
+    seekable: bool,
+    size: usize,
+}
+
+// A function's proof knows the invariant where the function uses a field: so some begin with `let _ = &self.data;`.
+impl<R: RawStream> Model for BufferedReader<R> {
+    ghost use Rattle.py_stream.specs.Stream.{Stream};
+    ghost use Rattle.py_reader.specs.Reader.{reader_of, IsReader};
+
+    ghost Value = { Stream };
+
+    ghost view = { λ r. reader_of r.data r.seekable r.size };
+
+    ghost invariant = { λ r. IsReader r.data r.seekable r.size };
+}
+
+impl<R: RawStream> BufferedReader<R> {
+    ghost use Rattle.py_reader.specs.contracts.buffered_reader.BufferedReader.{the_row};
+
+    /// A reader of a raw stream, from where that stands, with a buffer of `buffer_size` bytes. A raw that can seek is asked
+    /// where it stands; one that can't stands at place 0.
+    ///
+    /// Refused, the raw is handed back with nothing read: `Closed` where it is closed, then `Unsupported` where it can't be
+    /// read from, `BadArgument` for a size of 0, `NoMemory`, and `RawFault` where it failed to say where it stands. But for
+    /// the last it is as it was.
+    pub fn new(alloc: Global, raw: R, buffer_size: usize) -> Result<Self, NewRefused<R>>
+        requires start { StandsAtStart (R.shows raw) }
+        ensures { NewOutcome R.shows (λ shown. shown.readable) reader_can raw buffer_size result }
+    {
+        if let Some(fault) = refused_at_first(&raw, raw.readable(), buffer_size) {
+            return Err(NewRefused { raw, fault });
+        }
+        match vec![in alloc; 0u8; buffer_size] {
+            Ok(buffer) => BufferedReader::over(raw, buffer),
+            Err(_) => Err(NewRefused {
+                raw,
+                fault: IoFault::NoMemory,
+            }),
+        }
+    }
+
+    /// A reader with this buffer.
+    fn over(raw: R, buffer: Vec<u8>) -> Result<Self, NewRefused<R>>
+        requires start { StandsAtStart (R.shows raw) }
+        requires may { MayOpen (λ shown. shown.readable) (R.shows raw) (vec_len buffer) }
+        ensures { NewOutcome R.shows (λ shown. shown.readable) reader_can raw (vec_len buffer) result }
+    {
+        let mut raw = raw;
+        let seekable = raw.seekable();
+        let size = buffer.len();
+        match first_place(&mut raw) {
+            Ok(place) => Ok(BufferedReader {
+                data: Some(BufferedData::new(raw, Window::new(buffer, place))),
+                seekable,
+                size,
+            }),
+            Err(RawError::Fault) => Err(NewRefused {
+                raw,
+                fault: IoFault::RawFault,
+            }),
+            Err(RawError::Memory) => Err(NewRefused {
+                raw,
+                fault: IoFault::NoMemory,
+            }),
+        }
+    }
+
+    /// Reads the next `size` bytes, or all that are left for `None`; fewer come only at the end.
+    ///
+    /// Space for a `size` is taken before anything is read. `NoMemory` leaves the reader as it was, unless bytes had left the
+    /// raw already: then it is failed.
+    pub fn read(&mut self, alloc: Global, size: Option<usize>) -> Result<Option<Vec<u8>>, IoFault>
+        ensures { Answers self.old (Read size) (bytes_reply result) self.new }
+    {
+        match &mut self.data {
+            Some(data) => data.read(alloc, size),
+            None => Err(IoFault::Detached),
+        }
+    }
+
+    /// Reads some of the next bytes, at most `size`, by at most one transfer of the raw; for `None` the buffer's size is asked
+    /// for. No bytes come only where `size` is 0 or nothing is left.
+    ///
+    /// `NoMemory` leaves place and life as they were.
+    pub fn read1(&mut self, alloc: Global, size: Option<usize>) -> Result<Option<Vec<u8>>, IoFault>
+        ensures { Answers self.old (Read1 size) (bytes_reply result) self.new }
+    {
+        match &mut self.data {
+            Some(data) => data.read1(alloc, size),
+            None => Err(IoFault::Detached),
+        }
+    }
+
+    /// Shows some of the next bytes, lent from the buffer, by at most one transfer of the raw; the place stays. No bytes are
+    /// shown only where nothing is left.
+    ///
+    /// It takes no memory: `NoMemory` comes only of a raw that takes some.
+    pub fn peek(&mut self) -> Result<Option<&[u8]>, IoFault>
+        ensures* { sem 𝓛 (Rests (the_row R.row R.RawStream) self.entry (λ new. Answers self.old Peek (lent_reply result) new)) }
+    {
+        match look(&mut self.data) {
+            Ok(true) => Ok(Some(held(&self.data))),
+            Ok(false) => Ok(None),
+            Err(fault) => Err(fault),
+        }
+    }
+
+    /// Reads as many bytes as `buffer` is long into its front, and answers how many; fewer come only at the end. What `buffer`
+    /// has behind them may have changed, and after `None` and a refusal all of it (but for one by the life).
+    ///
+    /// It takes no memory: `NoMemory` comes only of a raw that takes some, and leaves the reader as it was, unless bytes had
+    /// left the raw already: then it is failed.
+    pub fn readinto(&mut self, buffer: &mut [u8]) -> Result<Option<usize>, IoFault>
+        ensures answers { Answers self.old (ReadInto (length buffer.old)) (into_reply result buffer.new) self.new }
+        ensures length { length buffer.new ≡ length buffer.old }
+        ensures fits { CountFits result buffer.new }
+        ensures refused { KeepsBuffer self.old.life buffer.old buffer.new }
+    {
+        match &mut self.data {
+            Some(data) => data.readinto(buffer),
+            None => Err(IoFault::Detached),
+        }
+    }
+
+    /// Reads some of the next bytes into the front of `buffer`, by at most one transfer of the raw, and answers how many. No
+    /// bytes come only where `buffer` is empty or nothing is left. `None` and refusals leave `buffer` as it was.
+    ///
+    /// It takes no memory: `NoMemory` comes only of a raw that takes some, and leaves place and life as they were.
+    pub fn readinto1(&mut self, buffer: &mut [u8]) -> Result<Option<usize>, IoFault>
+        ensures answers { Answers self.old (ReadInto1 (length buffer.old)) (into_reply result buffer.new) self.new }
+        ensures length { length buffer.new ≡ length buffer.old }
+        ensures fits { CountFits result buffer.new }
+        ensures unread { KeepsUnread result buffer.old buffer.new }
+    {
+        match &mut self.data {
+            Some(data) => data.readinto1(buffer),
+            None => Err(IoFault::Detached),
+        }
+    }
+
+    /// Reads the bytes up to and with the next LF, at most `limit`; the last line may lack its LF. No bytes come only where
+    /// `limit` is 0 or nothing is left.
+    ///
+    /// `NoMemory` leaves the reader as it was, unless bytes had left the raw already: then it is failed.
+    pub fn readline(
+        &mut self,
+        alloc: Global,
+        limit: Option<usize>,
+    ) -> Result<Option<Vec<u8>>, IoFault>
+        ensures { Answers self.old (ReadLine limit) (bytes_reply result) self.new }
+    {
+        match &mut self.data {
+            Some(data) => data.readline(alloc, limit),
+            None => Err(IoFault::Detached),
+        }
+    }
+
+    /// Reads lines, each with its LF but for the last, which may lack it, until their total is above `hint`; all that are left
+    /// for `None` and 0. A short answer's last line may lack its LF too.
+    ///
+    /// `NoMemory` leaves the reader as it was, unless bytes had left the raw already: then it is failed.
+    pub fn readlines(
+        &mut self,
+        alloc: Global,
+        hint: Option<usize>,
+    ) -> Result<Option<Lines>, IoFault>
+        ensures { Answers self.old (ReadLines hint) (lines_reply result) self.new }
+    {
+        match &mut self.data {
+            Some(data) => data.readlines(alloc, hint),
+            None => Err(IoFault::Detached),
+        }
+    }
+
+    /// Moves to `offset` bytes from the start (`whence` 0), the place (1) or the end (2), past the end too, and answers the new
+    /// place.
+    ///
+    /// `Unsupported` where the raw can't seek, `BadWhence` for another `whence`, `NegativeSeek` and `TooFar` for a target below
+    /// 0 or past 9223372036854775807: all is as it was. From the end, the raw is asked first where that is, and may fail. It
+    /// takes no memory: `NoMemory` comes only of a raw that takes some, and leaves place and life as they were.
+    pub fn seek(&mut self, offset: i64, whence: i32) -> Result<u64, IoFault>
+        ensures { Answers self.old (Seek offset whence) (place_reply result) self.new }
+    {
+        match &mut self.data {
+            Some(data) => data.seek(offset, whence),
+            None => Err(IoFault::Detached),
+        }
+    }
+
+    /// The place. `Unsupported` where the raw can't seek; nothing else refuses it but the life. It calls no raw.
+    pub fn tell(&mut self) -> Result<u64, IoFault>
+        ensures { Answers self.old Tell (place_reply result) self.new }
+    {
+        match &mut self.data {
+            Some(data) => data.tell(),
+            None => Err(IoFault::Detached),
+        }
+    }
+
+    /// Does nothing: a reader has nothing to pass on. Only the life refuses it. It calls no raw.
+    pub fn flush(&mut self) -> Result<(), IoFault>
+        ensures { Answers self.old Flush (done_reply result) self.new }
+    {
+        match &mut self.data {
+            Some(data) => data.flush(),
+            None => Err(IoFault::Detached),
+        }
+    }
+
+    /// Closes the raw; the reader stays closed after `RawFault` too. A closed reader may be closed again, which calls no raw.
+    ///
+    /// It takes no memory: `NoMemory` comes only of a raw that takes some, and leaves the reader live.
+    pub fn close(&mut self) -> Result<(), IoFault>
+        ensures { Answers self.old Close (done_reply result) self.new }
+    {
+        match &mut self.data {
+            Some(data) => data.close(),
+            None => Err(IoFault::Detached),
+        }
+    }
+
+    /// Hands the raw back, with nothing unwritten, and the place (`None` where the raw can't seek). The raw isn't called: it
+    /// stands behind what was last read from it, and after a fault anywhere. A failed reader may be detached, a closed
+    /// one not. It takes no memory.
+    pub fn detach(&mut self) -> Result<Detached<R>, IoFault>
+        ensures { DetachOutcome R.shows self.old result self.new }
+    {
+        begin_detach(&mut self.data)?;
+        match self.data.take() {
+            Some(engine) => Ok(hand_over(engine, self.seekable)),
+            None => Err(IoFault::Detached),
+        }
+    }
+
+    /// The same in every life; `None` exactly where the raw was handed back already. It calls no raw and takes no memory.
+    pub fn into_parts(self) -> Option<Detached<R>>
+        ensures { PartsOutcome R.shows self result }
+    {
+        let BufferedReader {
+            data,
+            seekable,
+            size: _,
+        } = self;
+        match data {
+            Some(data) => Some(hand_over(data, seekable)),
+            None => None,
+        }
+    }
+
+    /// Whether it reads: always.
+    pub fn readable(&self) -> bool
+        ensures { result ≡ self.now.can.readable }
+    {
+        let _ = &self.data;
+        true
+    }
+
+    /// Whether it writes: never, whatever its raw can.
+    pub fn writable(&self) -> bool
+        ensures { result ≡ self.now.can.writable }
+    {
+        let _ = &self.data;
+        false
+    }
+
+    /// Whether it can be moved: where its raw can.
+    pub fn seekable(&self) -> bool
+        ensures { result ≡ self.now.can.seekable }
+    {
+        self.seekable
+    }
+
+    /// Whether it was closed. A detached reader wasn't.
+    pub fn closed(&self) -> bool
+        ensures { result ≡ is_closed self.now.life }
+    {
+        matches!(self.life(), Life::Closed)
+    }
+
+    /// What became of it: live at first, failed by a fault, closed, or detached.
+    pub fn life(&self) -> Life
+        ensures { result ≡ self.now.life }
+    {
+        match &self.data {
+            Some(data) => data.life(),
+            None => Life::Detached,
+        }
+    }
+
+    /// How many bytes its buffer holds.
+    pub fn buffer_size(&self) -> usize
+        ensures { result ≡ self.now.size }
+    {
+        self.size
+    }
+
+    /// Whether a wait of the raw cut the last call short: its answer is what came by then, or `None`.
+    pub fn short(&self) -> bool
+        ensures { result ≡ self.now.short }
+    {
+        match &self.data {
+            Some(data) => data.short(),
+            None => false,
+        }
+    }
+
+    /// The raw, lent; `None` exactly where it was handed back.
+    pub fn raw(&self) -> Option<&R>
+        ensures { LendsRaw R.shows self.now result }
+    {
+        match &self.data {
+            Some(data) => Some(data.raw()),
+            None => None,
+        }
+    }
+}
+
+/// Sees to it that some of the bytes that come next are held; else the raw asked to wait.
+fn look<R: RawStream>(engine: &mut Option<BufferedData<R>>) -> Result<bool, IoFault>
+    ensures { Looks engine.old result engine.new }
+{
+    match engine {
+        Some(engine) => engine.look(),
+        None => Err(IoFault::Detached),
+    }
+}
+
+/// The bytes that are held from the place on, lent.
+fn held<R: RawStream>(engine: &Option<BufferedData<R>>) -> &[u8]
+    ensures { result.now ≡ held_of engine.now }
+{
+    match engine {
+        Some(engine) => engine.ahead(),
+        None => &[],
+    }
+}
+
+/// Whether the raw may be handed back: of a live stream and of a failed one.
+fn begin_detach<R: RawStream>(engine: &mut Option<BufferedData<R>>) -> Result<(), IoFault>
+    ensures { BeginsDetach engine.old result engine.new }
+{
+    match engine {
+        Some(engine) => engine.begin_detach(),
+        None => Err(IoFault::Detached),
+    }
+}
+
+/// What an engine hands back.
+fn hand_over<R: RawStream>(engine: BufferedData<R>, seekable: bool) -> Detached<R>
+    ensures raw { R.shows result.raw ≡ engine.raw }
+    ensures unwritten { result.unwritten.items ≡ [] }
+    ensures place { result.place ≡ (if seekable then Some (place_of engine.window) else None) }
+    ensures attached { engine.life ≢ Life.Detached }
+{
+    let (raw, unwritten, place) = engine.into_parts();
+    Detached {
+        raw,
+        unwritten,
+        place: if seekable { Some(place) } else { None },
+    }
+}

@@ -1,0 +1,15 @@
+//! Buffered streams over raw ones: one buffer, filled in one piece and given out bit by bit.
+#![tactic(auto)]
+
+mod buffered_reader;
+mod data;
+#[cfg(test)]
+mod examples;
+#[cfg(test)]
+mod table_tests;
+#[cfg(test)]
+mod tests;
+mod window;
+
+pub use buffered_reader::BufferedReader;
+pub use py_stream::{Detached, NewRefused, a_seek_to_the_told_place_keeps_all};

@@ -1,0 +1,5 @@
+pub mod Refused
+pub mod Refusing
+pub mod Completing
+pub mod Begun
+pub mod Returning

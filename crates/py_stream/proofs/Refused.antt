@@ -1,0 +1,153 @@
+-- A stream whose raw was handed back, and what a call leaves that is refused.
+use Rattle.std.proofs.Common.{◌≡◌, ℕ, suc, zero, pos, Bool, true, false, IsTrue, Option, Some, None, Result, Ok, Err, if◌then◌else◌, refl, sym, ap, ◌∙◌, arith}
+use Rattle.std.proofs.lemmas.List.{append-nil}
+use Rattle.py_flat.specs.declared.fault.IoFault.{IoFault}
+use Rattle.py_flat.specs.declared.fault.IoFault.TheVariants as fault
+use Rattle.py_flat.specs.declared.life.Life.{Life}
+use Rattle.py_flat.specs.declared.life.Life.TheVariants as life
+use Rattle.py_flat.specs.Calls.{FileCall, Read1, Write, WriteLines, Truncate, Seek, Flush, Close, Detach, Refused}
+use Rattle.py_flat.specs.FlatFile.{Abilities}
+use Rattle.py_flat.specs.Refusals.{is_getter, is_other_getter, or_else, refused_if, refusal}
+use Rattle.py_flat.specs.BinaryStep.{asks_end}
+use Rattle.py_raw.specs.declared.raw_error.RawError.{RawError}
+use Rattle.py_raw.specs.declared.raw_error.RawError.TheVariants as raw_error
+use Rattle.py_raw.specs.RawStream.{Raw, Keeps, TellOutcome}
+use Rattle.py_stream.specs.Stream.{Stream, file_of, no_raw, detached_stream}
+use Rattle.py_stream.specs.Kinds.{says_no_memory}
+use Rattle.py_stream.specs.Writing.{LaysInOrder, PassesOn, BlocksFull, OwesNoneOfIts, Writes}
+use Rattle.py_stream.specs.Answers.{LifeMoves, PlaceMoves, GivesWithin, IsShort, SeeksByEnd, closes_again, refused_by, Answers}
+use Rattle.py_stream.specs.Opening.{PlaceOutcome}
+
+-- a raw that wasn't called
+pub keeps_same : (raw : Raw) → Keeps raw raw
+keeps_same raw = record { tells = refl; readable = refl; writable = refl; seekable = refl; takes_memory = refl; counts_exactly = refl; faults = omega arith; waits = omega arith }
+
+-- the place that a raw that can seek answers
+pub told_place : (old new : Raw) (result : Result ℕ RawError) → IsTrue old.seekable → TellOutcome old result new → PlaceOutcome old result new
+told_place old new (Ok place) can told = record {
+  within = told.within;
+  counts = told.counts;
+  start = λ cannot. absurd (cc (can, cannot));
+  told = λ tells. ((told.still tells).bytes, (told.still tells).place, (λ _. told.value tells), omega (arith, (told.still tells).transfers));
+}
+told_place old new (Err raw_error.Fault) can told = (can, told)
+told_place old new (Err raw_error.Memory) can told = told
+
+-- A call that is refused, and leaves all.
+
+-- a refusal that isn't the raw's, nor want of memory
+abbrev pub is_own : IoFault → Bool
+is_own fault.RawFault = false
+is_own fault.NoMemory = false
+is_own (fault.WouldBlock taken) = false
+is_own why = true
+
+nothing_laid : (before : Stream) (call : FileCall) → LaysInOrder before call before.raw.bytes
+nothing_laid before (Truncate size) = tt
+nothing_laid before call = record { owed = 0; more = 0; order = λ some. absurd (some refl); bytes = refl }
+
+nothing_passed : (before after : Stream) (call : FileCall) (why : IoFault) → PassesOn before call (Refused why) after
+nothing_passed before after Flush why = tt
+nothing_passed before after Close why = tt
+nothing_passed before after Detach why = tt
+nothing_passed before after (Seek offset whence) why = tt
+nothing_passed before after call why = tt
+
+nothing_blocked : (after : Stream) (call : FileCall) (why : IoFault) → is_own why ≡ true → BlocksFull call (Refused why) after
+nothing_blocked after call (fault.WouldBlock taken) own = absurd (cc)
+nothing_blocked after (Write bytes) why own = tt
+nothing_blocked after (WriteLines lines) why own = tt
+nothing_blocked after call why own = tt
+
+none_of_its : (before after : Stream) (call : FileCall) (why : IoFault) → is_own why ≡ true → OwesNoneOfIts before call (Refused why) after
+none_of_its before after (Write bytes) fault.RawFault own = absurd (cc)
+none_of_its before after (Write bytes) why own = tt
+none_of_its before after call why own = tt
+
+wants_none : (why : IoFault) → is_own why ≡ true → says_no_memory (Refused why) ≡ false
+wants_none fault.NoMemory own = absurd (cc)
+wants_none why own = refl
+
+-- what a refused call does with the bytes of a stream that writes
+pub leaves_all : (before : Stream) (call : FileCall) (why : IoFault) → is_own why ≡ true → before.short ≡ false → Writes before call (Refused why) before
+leaves_all before call why own whole = record {
+  takes = λ writing up_to. record { taken = 0; within = omega arith; place = omega arith; passed = 0; owed = sym (append-nil before.owed.bytes); up_to = up_to; told = λ tells. (0, omega arith, omega arith, refl) };
+  leaves = λ _. record { passed = 0; bytes = refl; place = λ _. omega arith };
+  lays = λ tells. nothing_laid before call;
+  passes = nothing_passed before before call why;
+  full = nothing_blocked before call why own;
+  starves = λ wants. absurd (cc (wants_none why own));
+  straight = none_of_its before before call why own;
+  settles = λ at. at;
+  unclosed = λ _. refl;
+  rests = λ _. refl;
+}
+
+-- A stream whose raw was handed back.
+
+life_stays : (call : FileCall) (current : Life) → LifeMoves call (Refused fault.Detached) current current
+life_stays Close current = refl
+life_stays Detach current = refl
+life_stays call current = refl
+
+place_stays : (call : FileCall) (current : Life) (place : ℕ) → PlaceMoves call (Refused fault.Detached) current place place
+place_stays (Write bytes) current place = refl
+place_stays (WriteLines lines) current place = refl
+place_stays call current place = refl
+
+is_whole : (call : FileCall) → IsShort call (Refused fault.Detached) false
+is_whole (Read1 size) = refl
+is_whole call = refl
+
+gives_nothing : (size : ℕ) (call : FileCall) → GivesWithin size call (Refused fault.Detached)
+gives_nothing size (Read1 None) = tt
+gives_nothing size (Read1 (Some bytes)) = tt
+gives_nothing size call = tt
+
+asks_no_end : (can : Abilities) (size : ℕ) (call : FileCall) → asks_end (file_of (detached_stream can size)) call ≡ false
+asks_no_end can size (Seek offset (pos (suc (suc zero)))) = refl
+asks_no_end can size call = refl
+
+seeks_no_end : (can : Abilities) (size : ℕ) (call : FileCall) → SeeksByEnd (detached_stream can size) call (Refused fault.Detached) (detached_stream can size)
+seeks_no_end can size (Seek offset (pos (suc (suc zero)))) = λ asks. absurd (cc)
+seeks_no_end can size call = tt
+
+never_closes : (can : Abilities) (size : ℕ) (call : FileCall) → closes_again (detached_stream can size) call ≡ false
+never_closes can size Close = refl
+never_closes can size call = refl
+
+refuses_all : (can : Abilities) (size : ℕ) (call : FileCall) → is_getter call ≡ false → is_other_getter call ≡ false → refusal (file_of (detached_stream can size)) call ≡ Some fault.Detached
+refuses_all can size call asks known =
+    let refused : Bool → Bool → Option IoFault = λ (getter other : Bool). if getter then None else or_else (refused_if other fault.Unsupported) (Some fault.Detached) in
+    ap (λ (getter : Bool). refused getter (is_other_getter call)) asks ∙ ap (refused false) known
+
+-- a call of such a stream: it is refused, and the stream stays as it is
+pub detached_answers : (can : Abilities) (size : ℕ) (call : FileCall) → is_getter call ≡ false → is_other_getter call ≡ false → Answers (detached_stream can size) call (Refused fault.Detached) (detached_stream can size)
+detached_answers can size call asks known =
+    let stream : Stream = detached_stream can size in
+    let refuses : refusal (file_of stream) call ≡ Some fault.Detached = refuses_all can size call asks known in
+    let by : refused_by stream call ≡ Some fault.Detached = ap (λ (end : Bool). if end then None else refusal (file_of stream) call) (asks_no_end can size call) ∙ refuses in
+    record {
+      keeps = record { size = refl; can = refl; raw = keeps_same no_raw };
+      refused = λ why refused. record { says = let same : Some fault.Detached ≡ Some why = sym by ∙ refused in cc; same = refl };
+      again = λ closes. absurd (let never : closes_again stream call ≡ false = never_closes can size call in cc);
+      shut = λ none shut. shut;
+      causes = record { waits = λ short. absurd (cc); faults = λ faults. absurd (cc) };
+      counted = λ exact. absurd (cc);
+      shorts = is_whole call;
+      moves = record { life_is = life_stays call life.Detached; place = place_stays call life.Detached 0; far = omega arith; within = gives_nothing size call };
+      ends = seeks_no_end can size call;
+      wants = λ wants. absurd (cc);
+      starves = λ wants. absurd (cc);
+      first = λ wants. absurd (cc);
+      nothing = λ _. record { raw = refl; fault = refl };
+      idle = λ _. record { raw = refl; fault = refl; memory = refl };
+      single = λ _ tells. absurd (cc);
+      spares = λ _ _. record { bytes = λ _. refl; owed = refl };
+      writes = λ _. leaves_all stream call fault.Detached refl refl;
+      answer = λ accepted. absurd (let wrong : Some fault.Detached ≡ None = sym by ∙ accepted in cc);
+      complete = λ accepted. absurd (let wrong : Some fault.Detached ≡ None = sym by ∙ accepted in cc);
+      told = λ tells. absurd (cc);
+      near = λ live. absurd (cc);
+      hides = λ short. absurd (cc);
+    }

@@ -1,0 +1,170 @@
+-- What a stream refuses by itself, whatever the call: nothing but the reply tells that the call came.
+use Rattle.std.proofs.Common.{◌≡◌, ℕ, ◌≤◌, Bool, true, false, ◌&&◌, not, pos, suc, zero, Option, Some, None, if◌then◌else◌, refl, sym, ap, ◌∙◌, subst, arith}
+use Rattle.std.proofs.Math.Bool.{and-false}
+use Rattle.py_flat.specs.declared.fault.IoFault.{IoFault}
+use Rattle.py_flat.specs.declared.fault.IoFault.TheVariants as fault
+use Rattle.py_flat.specs.declared.life.Life.{Life}
+use Rattle.py_flat.specs.declared.life.Life.TheVariants as life
+use Rattle.py_flat.specs.Calls.{FileCall, Read1, Write, WriteLines, Seek, Close, Detach, FileReply, Refused}
+use Rattle.py_flat.specs.FlatFile.{FlatFile, Buffered}
+use Rattle.py_flat.specs.Refusals.{refusal, is_getter, is_other_getter, lets_through, life_fault, life_refusal, or_else, refused_if, lacks, argument_refusal}
+use Rattle.py_flat.specs.Limits.{greatest_place}
+use Rattle.py_flat.specs.ExactStep.{is_closed}
+use Rattle.py_flat.specs.BinaryStep.{asks_end, is_live, SettledBy}
+use Rattle.py_flat.specs.AllowedStep.{settled}
+use Rattle.py_stream.specs.Stream.{Stream, file_of}
+use Rattle.py_stream.specs.Kinds.{says_fault, says_no_memory}
+use Rattle.py_stream.specs.Writing.{Writes}
+use Rattle.py_stream.specs.Answers.{Answers, LifeMoves, PlaceMoves, IsShort, IsNear, SeeksByEnd, GivesWithin, closes_again, refused_by}
+use Rattle.py_stream.proofs.Refused.{is_own, keeps_same, leaves_all}
+use Rattle.py_stream.proofs.Begun.{writes_whole}
+
+life_stays : (call : FileCall) (why : IoFault) (current : Life) → is_own why ≡ true → LifeMoves call (Refused why) current current
+life_stays call fault.RawFault current own = absurd (cc)
+life_stays call fault.NoMemory current own = absurd (cc)
+life_stays Close why current own = refl
+life_stays Detach why current own = refl
+life_stays call why current own = refl
+
+place_stays : (call : FileCall) (why : IoFault) (current : Life) (place : ℕ) → is_own why ≡ true → PlaceMoves call (Refused why) current place place
+place_stays call fault.RawFault current place own = absurd (cc)
+place_stays call fault.NoMemory current place own = absurd (cc)
+place_stays (Write bytes) (fault.WouldBlock taken) current place own = absurd (cc)
+place_stays (WriteLines lines) (fault.WouldBlock taken) current place own = absurd (cc)
+place_stays (Write bytes) why current place own = refl
+place_stays (WriteLines lines) why current place own = refl
+place_stays call why current place own = refl
+
+never_short : (call : FileCall) (why : IoFault) → is_own why ≡ true → IsShort call (Refused why) false
+never_short call (fault.WouldBlock taken) own = absurd (cc)
+never_short (Read1 size) why own = refl
+never_short call why own = refl
+
+gives_nothing : (size : ℕ) (call : FileCall) (why : IoFault) → GivesWithin size call (Refused why)
+gives_nothing size (Read1 None) why = tt
+gives_nothing size (Read1 (Some bytes)) why = tt
+gives_nothing size call why = tt
+
+no_fault : (why : IoFault) → is_own why ≡ true → says_fault (Refused why) ≡ false
+no_fault fault.RawFault own = absurd (cc)
+no_fault why own = refl
+
+no_want : (why : IoFault) → is_own why ≡ true → says_no_memory (Refused why) ≡ false
+no_want fault.NoMemory own = absurd (cc)
+no_want why own = refl
+
+no_end : (before : Stream) (call : FileCall) (reply : FileReply) (after : Stream) → asks_end (file_of before) call ≡ false → SeeksByEnd before call reply after
+no_end before (Seek offset (pos (suc (suc zero)))) reply after none = λ asks. absurd (cc)
+no_end before call reply after none = tt
+
+-- what isn't asked of the end is refused as the model says
+pub refused_alone : (before : Stream) (call : FileCall) → asks_end (file_of before) call ≡ false → refused_by before call ≡ refusal (file_of before) call
+refused_alone before call none = ap (λ (asks : Bool). if asks then None else refusal (file_of before) call) none
+
+-- what is known of a stream that a call comes to: its place; and while it lives, where its raw stands
+pub record IsPlaced (stream : Stream) : Type 0 where
+  pub far : stream.place ≤ greatest_place
+  pub near : stream.life ≡ life.Live → IsNear stream
+
+-- A refusal of the stream's own leaves all as it was.
+pub refused_with : (before after : Stream) (call : FileCall) (why : IoFault) → IsPlaced before → refusal (file_of before) call ≡ Some why → asks_end (file_of before) call ≡ false → is_own why ≡ true → closes_again before call ≡ false → after ≡ record before { short = false } → Answers before call (Refused why) after
+refused_with before after call why is refuses alone own first same =
+    let left : Stream = record before { short = false } in
+    let by : refused_by before call ≡ Some why = refused_alone before call alone ∙ refuses in
+    let writes : Writes left call (Refused why) left = leaves_all left call why own refl in
+    let answers : Answers before call (Refused why) left = record {
+      keeps = record { size = refl; can = refl; raw = keeps_same before.raw };
+      refused = λ other refused. record { says = let same_why : Some why ≡ Some other = sym by ∙ refused in cc; same = refl };
+      again = λ closes. absurd (cc);
+      shut = λ none closed. closed;
+      causes = record { waits = λ short. absurd (cc); faults = λ faulted. absurd (cc (no_fault why own)) };
+      counted = λ exact. record { faults = λ sound. refl; waits = λ short writes. refl };
+      shorts = never_short call why own;
+      moves = record {
+        life_is = life_stays call why before.life own;
+        place = place_stays call why before.life before.place own;
+        far = is.far;
+        within = gives_nothing before.size call why;
+      };
+      ends = no_end before call (Refused why) left alone;
+      wants = λ wanting room. absurd (cc (no_want why own));
+      starves = λ wanting reads. absurd (cc (no_want why own));
+      first = λ wanting takes none. absurd (cc (no_want why own));
+      nothing = λ asks. record { raw = refl; fault = no_fault why own };
+      idle = λ keeps. record { raw = refl; fault = no_fault why own; memory = no_want why own };
+      single = λ single tells. omega arith;
+      spares = λ reads none. record { bytes = λ tells. refl; owed = none };
+      writes = λ can. writes_whole before left call (Refused why) writes;
+      answer = λ accepted. absurd (let wrong : Some why ≡ None = sym by ∙ accepted in cc);
+      complete = λ accepted calm sound. absurd (let wrong : Some why ≡ None = sym by ∙ accepted in cc);
+      told = λ tells. settled (subst (λ (refused : Option IoFault). SettledBy (file_of before) call refused (Refused why) (file_of left)) (sym refuses) (refl, refl));
+      near = λ live. let near = is.near live in record { ahead = near.ahead; behind = near.behind; stands = near.stands };
+      hides = λ short. absurd (cc);
+    } in
+    subst (λ (now : Stream). Answers before call (Refused why) now) (sym same) answers
+
+-- By the life.
+
+own_of_life : (current : Life) (why : IoFault) → life_fault current ≡ Some why → is_own why ≡ true
+own_of_life life.Live why by = absurd (cc)
+own_of_life life.Failed why by = let same : fault.Failed ≡ why = cc in ap is_own (sym same)
+own_of_life life.Closed why by = let same : fault.Closed ≡ why = cc in ap is_own (sym same)
+own_of_life life.Detached why by = let same : fault.Detached ≡ why = cc in ap is_own (sym same)
+
+not_live : (current : Life) (why : IoFault) → life_fault current ≡ Some why → is_live current ≡ false
+not_live life.Live why by = absurd (cc)
+not_live current why by = refl
+
+asks_no_end : (file : FlatFile) (call : FileCall) → is_live file.life ≡ false → asks_end file call ≡ false
+asks_no_end file (Seek offset (pos (suc (suc zero)))) dead = ap (λ (lives : Bool). lives && not (lacks file (Seek offset (pos 2)))) dead
+asks_no_end file call dead = refl
+
+close_refused : (current : Life) (size : ℕ) → lets_through current (Buffered size) Close ≡ false → is_closed current ≡ false
+close_refused life.Closed size stopped = absurd (cc)
+close_refused current size stopped = refl
+
+closes_no_more : (stream : Stream) (call : FileCall) → lets_through stream.life (Buffered stream.size) call ≡ false → closes_again stream call ≡ false
+closes_no_more stream Close stopped = close_refused stream.life stream.size stopped
+closes_no_more stream call stopped = refl
+
+-- what a file refuses by its life
+life_refuses : (file : FlatFile) (call : FileCall) (why : IoFault) → is_getter call ≡ false → is_other_getter call ≡ false → lets_through file.life file.buffering call ≡ false → life_fault file.life ≡ Some why → refusal file call ≡ Some why
+life_refuses file call why works own stopped by =
+    let ability : Option IoFault = or_else (refused_if (lacks file call) fault.Unsupported) (argument_refusal file call) in
+    let later : Option IoFault = or_else (life_refusal file call) ability in
+    ap (λ (getter : Bool). if getter then None else or_else (refused_if (is_other_getter call) fault.Unsupported) later) works
+    ∙ ap (λ (other : Bool). or_else (refused_if other fault.Unsupported) later) own
+    ∙ ap (λ (through : Bool). or_else (if through then None else life_fault file.life) ability) stopped
+    ∙ ap (λ (refused : Option IoFault). or_else refused ability) by
+
+-- A call that the life doesn't let through.
+pub refused_by_life : (before after : Stream) (call : FileCall) (why : IoFault) → IsPlaced before → is_getter call ≡ false → is_other_getter call ≡ false → lets_through before.life (Buffered before.size) call ≡ false → life_fault before.life ≡ Some why → after ≡ record before { short = false } → Answers before call (Refused why) after
+refused_by_life before after call why is works own stopped fails same =
+    let file : FlatFile = file_of before in
+    refused_with before after call why is (life_refuses file call why works own stopped fails) (asks_no_end file call (not_live before.life why fails)) (own_of_life before.life why fails) (closes_no_more before call stopped) same
+
+-- By what the stream can do.
+
+-- what a live file refuses for want of an ability
+ability_refuses : (file : FlatFile) (call : FileCall) → is_getter call ≡ false → is_other_getter call ≡ false → file.life ≡ life.Live → lacks file call ≡ true → refusal file call ≡ Some fault.Unsupported
+ability_refuses file call works own live wants =
+    let ability : Bool → Option IoFault = λ (lacking : Bool). or_else (refused_if lacking fault.Unsupported) (argument_refusal file call) in
+    let later : Option IoFault = or_else (life_refusal file call) (ability (lacks file call)) in
+    ap (λ (getter : Bool). if getter then None else or_else (refused_if (is_other_getter call) fault.Unsupported) later) works
+    ∙ ap (λ (other : Bool). or_else (refused_if other fault.Unsupported) later) own
+    ∙ ap (λ (current : Life). or_else (if lets_through current file.buffering call then None else life_fault current) (ability (lacks file call))) live
+    ∙ ap ability wants
+
+lacks_no_end : (file : FlatFile) (call : FileCall) → lacks file call ≡ true → asks_end file call ≡ false
+lacks_no_end file (Seek offset (pos (suc (suc zero)))) wants = ap (λ (lacking : Bool). is_live file.life && not lacking) wants ∙ and-false (is_live file.life)
+lacks_no_end file call wants = refl
+
+pub live_not_closed : (stream : Stream) (call : FileCall) → stream.life ≡ life.Live → closes_again stream call ≡ false
+live_not_closed stream Close live = ap is_closed live
+live_not_closed stream call live = refl
+
+-- A call of a live stream that lacks what the call needs.
+pub refused_by_ability : (before after : Stream) (call : FileCall) → IsPlaced before → is_getter call ≡ false → is_other_getter call ≡ false → before.life ≡ life.Live → lacks (file_of before) call ≡ true → after ≡ record before { short = false } → Answers before call (Refused fault.Unsupported) after
+refused_by_ability before after call is works own live wants same =
+    let file : FlatFile = file_of before in
+    refused_with before after call fault.Unsupported is (ability_refuses file call works own live wants) (lacks_no_end file call wants) refl (live_not_closed before call live) same

@@ -1,0 +1,9 @@
+pub mod Stream
+pub mod Kinds
+pub mod Writing
+pub mod Answers
+pub mod Replies
+pub mod Opening
+pub mod Handing
+pub mod Laws
+pub mod Moving

@@ -1,0 +1,64 @@
+-- What the answers of the calls say, in the model's words.
+use Rattle.std.specs.Prelude.{◌≡◌, ◌≢◌, ℕ, ◌≤◌, length, Bool, true, false, List, take, Option, Some, None, Result, Ok, Err, Vec}
+use denote.Bor.{Bor}
+use Rattle.std.specs.declared.alloc.Global.{Global}
+use Rattle.py_flat.specs.declared.fault.IoFault.{IoFault}
+use Rattle.py_flat.specs.declared.life.Life.{Life}
+use Rattle.py_flat.specs.declared.life.Life.TheVariants as life
+use Rattle.py_flat.specs.Calls.{FileReply, Bytes, Lines as LinesReply, Count, Place, Done, NotReady, Refused}
+
+-- of a reading that gives bytes
+abbrev pub bytes_reply : Result (Option (Vec ℕ Global)) IoFault → FileReply
+bytes_reply (Ok (Some part)) = Bytes part.items
+bytes_reply (Ok None) = NotReady
+bytes_reply (Err why) = Refused why
+
+-- of one into a buffer, by what the buffer has then
+abbrev pub into_reply : Result (Option ℕ) IoFault → List ℕ → FileReply
+into_reply (Ok (Some count)) buffer = Bytes (take count buffer)
+into_reply (Ok None) buffer = NotReady
+into_reply (Err why) buffer = Refused why
+
+-- no more bytes are counted than the buffer has
+abbrev pub CountFits : Result (Option ℕ) IoFault → List ℕ → Type 0
+CountFits (Ok (Some count)) buffer = count ≤ length buffer
+CountFits result buffer = Unit {0}
+
+-- what a life refuses leaves the caller's buffer as it was
+abbrev pub KeepsBuffer : Life → List ℕ → List ℕ → Type 0
+KeepsBuffer current before after = current ≢ life.Live → after ≡ before
+
+-- an answer without bytes leaves the caller's buffer as it was
+abbrev pub KeepsUnread : Result (Option ℕ) IoFault → List ℕ → List ℕ → Type 0
+KeepsUnread (Ok (Some count)) before after = Unit {0}
+KeepsUnread result before after = after ≡ before
+
+-- of one that lends bytes
+abbrev pub lent_reply : Result (Option (Bor (List ℕ))) IoFault → FileReply
+lent_reply (Ok (Some part)) = Bytes part.now
+lent_reply (Ok None) = NotReady
+lent_reply (Err why) = Refused why
+
+-- of one that says only whether bytes are held that may be lent
+abbrev pub look_reply : Result Bool IoFault → List ℕ → FileReply
+look_reply (Ok true) held = Bytes held
+look_reply (Ok false) held = NotReady
+look_reply (Err why) held = Refused why
+
+abbrev pub lines_reply : Result (Option (List (List ℕ))) IoFault → FileReply
+lines_reply (Ok (Some lines)) = LinesReply lines
+lines_reply (Ok None) = NotReady
+lines_reply (Err why) = Refused why
+
+-- of one that counts the bytes that it took
+abbrev pub count_reply : Result ℕ IoFault → FileReply
+count_reply (Ok count) = Count count
+count_reply (Err why) = Refused why
+
+abbrev pub place_reply : Result ℕ IoFault → FileReply
+place_reply (Ok place) = Place place
+place_reply (Err why) = Refused why
+
+abbrev pub done_reply : Result (Unit {0}) IoFault → FileReply
+done_reply (Ok done) = Done
+done_reply (Err why) = Refused why
