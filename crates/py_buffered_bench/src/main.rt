@@ -1,15 +1,19 @@
-//! Times a buffered reader over a file: prints what came, and the best time of some rounds to standard error.
+//! Times a buffered reader or writer over a file: prints what came, and the best time of some rounds to standard error.
 //!
-//! `bench/buffered` makes the file, runs this program, and does the same by CPython and by Rust's std.
+//! `bench/buffered` makes the file that is read, runs this program, and does the same by CPython and by Rust's std.
 #![tactic(auto)]
 
+mod reading;
 mod task;
+mod writing;
 
-use py_buffered::BufferedReader;
+use py_buffered::{BufferedReader, BufferedWriter};
 use py_raw::{FileOpener, Opener};
+use reading::Reading;
 use std::time::{Duration, Instant};
 use std::{env, io};
 use task::{Counts, Task};
+use writing::write_short;
 
 /// What Python's `open` takes for its buffer.
 const BUFFER_SIZE: usize = 8192;
@@ -39,12 +43,28 @@ fn command_words(rt: &HostRuntime) -> io::Result<Option<Asked>> {
     }
 }
 
-/// Does a task once over a file that is opened for it; nothing where it can't be read.
-fn once(rt: &HostRuntime, task: Task, path: &str) -> Option<Counts> {
+/// Reads a file; nothing where it can't be read.
+fn read_file(rt: &HostRuntime, reading: Reading, path: &str) -> Option<Counts> {
     let mut opener = FileOpener::new(rt);
     let raw = opener.open_raw(rt.alloc(), path, "rb").ok()?;
     let mut reader = BufferedReader::new(rt.alloc(), raw, BUFFER_SIZE).ok()?;
-    task.run(rt.alloc(), &mut reader).ok()
+    reading.run(rt.alloc(), &mut reader).ok()
+}
+
+/// Writes a file; nothing where it can't be written.
+fn write_file(rt: &HostRuntime, path: &str) -> Option<Counts> {
+    let mut opener = FileOpener::new(rt);
+    let raw = opener.open_raw(rt.alloc(), path, "wb").ok()?;
+    let mut writer = BufferedWriter::new(rt.alloc(), raw, BUFFER_SIZE).ok()?;
+    write_short(&mut writer).ok()
+}
+
+/// Does a task once over a file that is opened for it; nothing where that failed.
+fn once(rt: &HostRuntime, task: Task, path: &str) -> Option<Counts> {
+    match task {
+        Task::Reads(reading) => read_file(rt, reading, path),
+        Task::Writes => write_file(rt, path),
+    }
 }
 
 /// Does a task over and over; answers what came at last, and the best time.
@@ -61,12 +81,12 @@ fn timed(rt: &HostRuntime, asked: &Asked) -> io::Result<(Option<Counts>, Duratio
 
 fn main(rt: HostRuntime) -> io::Result<()> {
     let Some(asked) = command_words(&rt)? else {
-        return rt.println("usage: py_buffered_bench lines|pieces|whole <path> <rounds>");
+        return rt.println("usage: py_buffered_bench lines|pieces|whole|writes <path> <rounds>");
     };
     let (counts, best) = timed(&rt, &asked)?;
     match counts {
         Some(counts) => println!(rt; "answers {} bytes {}", counts.answers, counts.bytes)?,
-        None => rt.println("the file was not read")?,
+        None => rt.println("the file was not read or written")?,
     }
     eprintln!(rt; "{}", best.as_micros())
 }

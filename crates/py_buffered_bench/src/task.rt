@@ -1,60 +1,44 @@
-use py_buffered::BufferedReader;
-use py_raw::{IoFault, RawStream};
-use std::alloc::Global;
+use crate::reading::Reading;
 
-/// How much a reader is asked for at once by `pieces`.
-const PIECE: usize = 65536;
-
-/// How many answers came that weren't empty, and their bytes together.
+/// How many calls answered with bytes, and those bytes together.
 #[derive(Clone, Copy, Debug, PartialEq, Eq)]
 pub(crate) struct Counts {
     pub answers: u64,
     pub bytes: u64,
 }
 
+impl Counts {
+    pub(crate) fn new() -> Self {
+        Counts {
+            answers: 0,
+            bytes: 0,
+        }
+    }
+
+    /// Counts one more answer.
+    pub(crate) fn add(&mut self, bytes: usize) {
+        self.answers = self.answers.saturating_add(1);
+        self.bytes = self.bytes.saturating_add(bytes as u64);
+    }
+}
+
 /// What is timed.
 #[derive(Clone, Copy, Debug, PartialEq, Eq)]
 pub(crate) enum Task {
-    Lines,
-    Pieces,
-    Whole,
+    /// A file is read to its end.
+    Reads(Reading),
+    /// A file is written anew.
+    Writes,
 }
 
 impl Task {
     pub(crate) fn from_word(word: &str) -> Option<Self> {
         match word {
-            "lines" => Some(Task::Lines),
-            "pieces" => Some(Task::Pieces),
-            "whole" => Some(Task::Whole),
+            "lines" => Some(Task::Reads(Reading::Lines)),
+            "pieces" => Some(Task::Reads(Reading::Pieces)),
+            "whole" => Some(Task::Reads(Reading::Whole)),
+            "writes" => Some(Task::Writes),
             _ => None,
         }
-    }
-
-    /// Reads to the end, and counts.
-    pub(crate) fn run<R: RawStream>(
-        self,
-        alloc: Global,
-        reader: &mut BufferedReader<R>,
-    ) -> Result<Counts, IoFault> {
-        let mut counts = Counts {
-            answers: 0,
-            bytes: 0,
-        };
-        for _ in 0..u64::MAX {
-            let answer = match self {
-                Task::Lines => reader.readline(alloc, None)?,
-                Task::Pieces => reader.read(alloc, Some(PIECE))?,
-                Task::Whole => reader.read(alloc, None)?,
-            };
-            let Some(bytes) = answer else {
-                continue;
-            };
-            if bytes.is_empty() {
-                break;
-            }
-            counts.answers = counts.answers.saturating_add(1);
-            counts.bytes = counts.bytes.saturating_add(bytes.len() as u64);
-        }
-        Ok(counts)
     }
 }

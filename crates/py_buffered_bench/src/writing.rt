@@ -1,0 +1,20 @@
+use crate::task::Counts;
+use py_buffered::BufferedWriter;
+use py_raw::{IoFault, RawStream};
+
+/// How many writes there are.
+const WRITES: u32 = 2_000_000;
+
+/// What each of them writes.
+const LINE: &[u8] = b"nine char\n";
+
+/// Makes many short writes, flushes and closes, and counts what was taken.
+pub(crate) fn write_short<R: RawStream>(writer: &mut BufferedWriter<R>) -> Result<Counts, IoFault> {
+    let mut counts = Counts::new();
+    for _ in 0..WRITES {
+        counts.add(writer.write(LINE)?);
+    }
+    writer.flush()?;
+    writer.close()?;
+    Ok(counts)
+}

@@ -1,0 +1,13 @@
+pub mod Joined
+pub mod Taking
+pub mod PassingOn
+pub mod FlushAnswers
+pub mod CloseAnswers
+pub mod HandingOver
+pub mod SeekAnswers
+pub mod Held
+pub mod Draining
+pub mod Flat
+pub mod WritingCalls
+pub mod WriteAnswers
+pub mod Putting

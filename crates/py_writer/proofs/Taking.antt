@@ -1,0 +1,245 @@
+-- What one step after another takes and passes on.
+use Rattle.std.proofs.Common.{◌≡◌, ℕ, ◌+◌, ◌<◌, ◌≤◌, IsTrue, List, [], ◌++◌, length, take, drop, refl, sym, ap, ◌∙◌, subst, arith, add-zero, append_assoc, length-append, length-drop}
+use Rattle.std.proofs.Math.Seq.{take-append-add, take-add}
+use Rattle.std.proofs.lemmas.List.{length-take-le, take-append-le, drop-append-le, drop-drop, append-nil}
+use Rattle.py_flat.specs.declared.life.Life.TheVariants as life
+use Rattle.py_flat.specs.Bytes.{lay}
+use Rattle.py_flat.specs.Causes.{Rose}
+use Rattle.py_flat.proofs.Laying.{lay_behind}
+use Rattle.py_raw.specs.RawStream.{NoFault, NoWait}
+use Rattle.py_writer.specs.Engine.{WriterView, IsWriter, KeepsWriter, Took, LaysFurther, FailsTaking, Lacks, StarvesTaking, FillsUp}
+
+-- Lists.
+
+-- a front of one list behind another
+pub take_behind : (front more : List ℕ) (count : ℕ) → take (length front + count) (front ++ more) ≡ front ++ take count more
+take_behind front more count = take-append-add front more count
+
+-- what is left of bytes after a first count of them, with more behind, and a second count of these
+pub drop_twice : (bytes more : List ℕ) (first second : ℕ) → first ≤ length bytes → drop second (drop first bytes ++ more) ≡ drop (first + second) (bytes ++ more)
+drop_twice bytes more first second within = ap (drop second) (sym (drop-append-le first bytes more within)) ∙ drop-drop second first (bytes ++ more)
+
+-- the first count of bytes laid, and then the next ones, right behind
+pub lay_twice : (raw : List ℕ) (place : ℕ) (bytes more : List ℕ) (first second : ℕ) → first ≤ length bytes → lay (lay raw place (take first bytes)) (place + first) (take second (drop first bytes ++ more)) ≡ lay raw place (take (first + second) (bytes ++ more))
+lay_twice raw place bytes more first second within =
+    let all : List ℕ = bytes ++ more in
+    let front : List ℕ = take first bytes in
+    let size : length front ≡ first = length-take-le first bytes within in
+    let same : front ≡ take first all = sym (take-append-le first bytes more within) in
+    ap (λ (xs : List ℕ). lay (lay raw place front) (place + first) (take second xs)) (sym (drop-append-le first bytes more within))
+    ∙ (ap (λ (n : ℕ). lay (lay raw place front) (place + n) (take second (drop first all))) (sym size)
+    ∙ (lay_behind raw place front (take second (drop first all))
+    ∙ (ap (λ (xs : List ℕ). lay raw place (xs ++ take second (drop first all))) same
+    ∙ ap (lay raw place) (sym (take-add first second all)))))
+
+-- Writers.
+
+pub keeps_self : (writer : WriterView) → IsWriter writer.raw writer.pending writer.life → KeepsWriter writer writer
+keeps_self writer is = record {
+  raw = record { tells = refl; readable = refl; writable = refl; seekable = refl; takes_memory = refl; counts_exactly = refl; faults = omega arith; waits = omega arith };
+  stays = refl;
+  size = refl;
+  short = refl;
+  is = is;
+}
+
+pub keeps_then : (old mid new : WriterView) → KeepsWriter old mid → KeepsWriter mid new → KeepsWriter old new
+keeps_then old mid new first second = record {
+  raw = record {
+    tells = second.raw.tells ∙ first.raw.tells;
+    readable = second.raw.readable ∙ first.raw.readable;
+    writable = second.raw.writable ∙ first.raw.writable;
+    seekable = second.raw.seekable ∙ first.raw.seekable;
+    takes_memory = second.raw.takes_memory ∙ first.raw.takes_memory;
+    counts_exactly = second.raw.counts_exactly ∙ first.raw.counts_exactly;
+    faults = omega (arith, first.raw.faults, second.raw.faults);
+    waits = omega (arith, first.raw.waits, second.raw.waits);
+  };
+  stays = second.stays ∙ first.stays;
+  size = second.size ∙ first.size;
+  short = second.short ∙ first.short;
+  is = second.is;
+}
+
+-- what two steps leave uncounted
+pub no_fault_then : (old mid new : WriterView) → KeepsWriter old mid → NoFault old.raw mid.raw → NoFault mid.raw new.raw → NoFault old.raw new.raw
+no_fault_then old mid new kept first second exact = second (kept.raw.counts_exactly ∙ exact) ∙ first exact
+
+pub no_wait_then : (old mid new : WriterView) → KeepsWriter old mid → NoWait old.raw mid.raw → NoWait mid.raw new.raw → NoWait old.raw new.raw
+no_wait_then old mid new kept first second exact = second (kept.raw.counts_exactly ∙ exact) ∙ first exact
+
+-- a count that rose in the second step rose in both
+pub waited_then : (old mid new : WriterView) → KeepsWriter old mid → Rose mid.raw.waits new.raw.waits → Rose old.raw.waits new.raw.waits
+waited_then old mid new kept rose = omega (arith, kept.raw.waits, rose)
+
+pub faulted_then : (old mid new : WriterView) → KeepsWriter old mid → Rose mid.raw.faults new.raw.faults → Rose old.raw.faults new.raw.faults
+faulted_then old mid new kept rose = omega (arith, kept.raw.faults, rose)
+
+-- a count that rose in the first step rose in both
+pub waited_before : (old mid new : WriterView) → KeepsWriter mid new → Rose old.raw.waits mid.raw.waits → Rose old.raw.waits new.raw.waits
+waited_before old mid new kept rose = omega (arith, kept.raw.waits, rose)
+
+-- Taking.
+
+-- a step that takes nothing and passes nothing on
+pub took_none : (writer : WriterView) → IsWriter writer.raw writer.pending writer.life → writer.life ≡ life.Live → Took writer [] writer
+took_none writer is live = record {
+  kept = keeps_self writer is;
+  live = live;
+  no_fault = λ exact. refl;
+  passed = 0;
+  within = omega arith;
+  place = sym (add-zero writer.pending.place);
+  owed = sym (append-nil writer.pending.bytes);
+  told = λ tells. refl;
+}
+
+-- what two steps leave owed
+owed_then : (owed mid new front more : List ℕ) (first second : ℕ) → first ≤ length owed + length front → mid ≡ drop first (owed ++ front) → new ≡ drop second (mid ++ more) → new ≡ drop (first + second) (owed ++ (front ++ more))
+owed_then owed mid new front more first second within one two =
+    two
+    ∙ (ap (λ (xs : List ℕ). drop second (xs ++ more)) one
+    ∙ (drop_twice (owed ++ front) more first second (omega (arith, length-append owed front))
+    ∙ ap (drop (first + second)) (append_assoc owed front more)))
+
+-- and how much they can pass on
+within_then : (owed mid front more : List ℕ) (first second : ℕ) → first ≤ length owed + length front → mid ≡ drop first (owed ++ front) → second ≤ length mid + length more → first + second ≤ length owed + length (front ++ more)
+within_then owed mid front more first second within one two = omega (arith, ap length one, length-drop first (owed ++ front), length-append owed front, length-append front more)
+
+-- and what they lay
+told_then : (raw after new : List ℕ) (place between : ℕ) (owed mid front more : List ℕ) (first second : ℕ) → first ≤ length owed + length front → mid ≡ drop first (owed ++ front) → between ≡ place + first → after ≡ lay raw place (take first (owed ++ front)) → new ≡ lay after between (take second (mid ++ more)) → new ≡ lay raw place (take (first + second) (owed ++ (front ++ more)))
+told_then raw after new place between owed mid front more first second within one moved laid two =
+    two
+    ∙ (ap (λ (xs : List ℕ). lay xs between (take second (mid ++ more))) laid
+    ∙ (ap (λ (p : ℕ). lay (lay raw place (take first (owed ++ front))) p (take second (mid ++ more))) moved
+    ∙ (ap (λ (xs : List ℕ). lay (lay raw place (take first (owed ++ front))) (place + first) (take second (xs ++ more))) one
+    ∙ (lay_twice raw place (owed ++ front) more first second (omega (arith, length-append owed front))
+    ∙ ap (λ (xs : List ℕ). lay raw place (take (first + second) xs)) (append_assoc owed front more)))))
+
+-- one step after another
+pub took_then : (old mid new : WriterView) (front more : List ℕ) → Took old front mid → Took mid more new → Took old (front ++ more) new
+took_then old mid new front more first second = record {
+  kept = keeps_then old mid new first.kept second.kept;
+  live = second.live;
+  no_fault = no_fault_then old mid new first.kept first.no_fault second.no_fault;
+  passed = first.passed + second.passed;
+  within = within_then old.pending.bytes mid.pending.bytes front more first.passed second.passed first.within first.owed second.within;
+  place = omega (arith, first.place, second.place);
+  owed = owed_then old.pending.bytes mid.pending.bytes new.pending.bytes front more first.passed second.passed first.within first.owed second.owed;
+  told = λ tells. told_then old.raw.bytes mid.raw.bytes new.raw.bytes old.pending.place mid.pending.place old.pending.bytes mid.pending.bytes front more first.passed second.passed first.within first.owed first.place (first.told tells) (second.told (subst IsTrue (sym first.kept.raw.tells) tells));
+}
+
+-- a step that takes nothing after another
+pub took_on : (old mid new : WriterView) (bytes : List ℕ) → Took old bytes mid → Took mid [] new → Took old bytes new
+took_on old mid new bytes first second = subst (λ (xs : List ℕ). Took old xs new) (append-nil bytes) (took_then old mid new bytes [] first second)
+
+-- Failing.
+
+-- what a failing lays behind what a step laid
+lays_then : (raw after new : List ℕ) (place between : ℕ) (owed mid front more : List ℕ) (first least taken : ℕ) → first ≤ length owed + length front → mid ≡ drop first (owed ++ front) → between ≡ place + first → after ≡ lay raw place (take first (owed ++ front)) → LaysFurther after between least (mid ++ more) (mid ++ take taken more) new → LaysFurther raw place (first + least) (owed ++ (front ++ more)) (owed ++ take (length front + taken) (front ++ more)) new
+lays_then raw after new place between owed mid front more first least taken within one moved laid lays =
+    let kept : List ℕ = take taken more in
+    let size : length (owed ++ take (length front + taken) (front ++ more)) ≡ length owed + (length front + length kept) = omega (arith, length-append owed (take (length front + taken) (front ++ more)), ap length (take_behind front more taken), length-append front kept) in
+    let middle : length (mid ++ kept) + first ≡ length owed + (length front + length kept) = omega (arith, within, length-append mid kept, ap length one, length-drop first (owed ++ front), length-append owed front) in
+    record {
+      laid = first + lays.laid;
+      least_is = omega (arith, lays.least_is);
+      most = omega (arith, within, lays.most, length-append mid more, ap length one, length-drop first (owed ++ front), length-append owed front, length-append owed (front ++ more), length-append front more);
+      owes = λ some. omega (arith, size, middle, lays.owes (omega (arith, size, middle, some)));
+      bytes = told_then raw after new place between owed mid front more first lays.laid within one moved laid lays.bytes;
+    }
+
+-- a failing behind a step
+pub fails_then : (old mid new : WriterView) (front more : List ℕ) → Took old front mid → FailsTaking mid more new → FailsTaking old (front ++ more) new
+fails_then old mid new front more first second = record {
+  kept = keeps_then old mid new first.kept second.kept;
+  failed = second.failed;
+  cause = faulted_then old mid new first.kept second.cause;
+  taken = length front + second.taken;
+  fits = omega (arith, second.fits, length-append front more);
+  passed = first.passed + second.passed;
+  within = omega (arith, first.within, second.within, ap length first.owed, length-drop first.passed (old.pending.bytes ++ front), length-append old.pending.bytes front);
+  place = omega (arith, first.place, second.place);
+  owed = owed_then old.pending.bytes mid.pending.bytes new.pending.bytes front (take second.taken more) first.passed second.passed first.within first.owed second.owed
+      ∙ ap (λ (xs : List ℕ). drop (first.passed + second.passed) (old.pending.bytes ++ xs)) (sym (take_behind front more second.taken));
+  told = λ tells. lays_then old.raw.bytes mid.raw.bytes new.raw.bytes old.pending.place mid.pending.place old.pending.bytes mid.pending.bytes front more first.passed second.passed second.taken first.within first.owed first.place (first.told tells) (second.told (subst IsTrue (sym first.kept.raw.tells) tells));
+}
+
+-- a failing with more bytes behind, that were never reached
+pub fails_more : (old new : WriterView) (bytes more : List ℕ) → FailsTaking old bytes new → FailsTaking old (bytes ++ more) new
+fails_more old new bytes more fails =
+    let same : take fails.taken (bytes ++ more) ≡ take fails.taken bytes = take-append-le fails.taken bytes more fails.fits in
+    record {
+      kept = fails.kept;
+      failed = fails.failed;
+      cause = fails.cause;
+      taken = fails.taken;
+      fits = omega (arith, fails.fits, length-append bytes more);
+      passed = fails.passed;
+      within = fails.within;
+      place = fails.place;
+      owed = fails.owed ∙ ap (λ (xs : List ℕ). drop fails.passed (old.pending.bytes ++ xs)) (sym same);
+      told = λ tells.
+          let lays = fails.told tells in
+          record {
+            laid = lays.laid;
+            least_is = lays.least_is;
+            most = omega (arith, lays.most, length-append old.pending.bytes bytes, length-append old.pending.bytes (bytes ++ more), length-append bytes more);
+            owes = subst (λ (xs : List ℕ). fails.passed < length (old.pending.bytes ++ xs) → lays.laid ≤ length (old.pending.bytes ++ xs)) (sym same) lays.owes;
+            bytes = lays.bytes ∙ ap (lay old.raw.bytes old.pending.place) (sym (take-append-le lays.laid (old.pending.bytes ++ bytes) more lays.most) ∙ ap (take lays.laid) (append_assoc old.pending.bytes bytes more));
+          };
+    }
+
+-- Want of memory, and a buffer that is full.
+
+pub lacks_then : (old mid new : WriterView) (front more : List ℕ) → Took old front mid → Lacks mid more new → Lacks old (front ++ more) new
+lacks_then old mid new front more first second = record {
+  takes = subst IsTrue first.kept.raw.takes_memory second.takes;
+  took = took_then old mid new front more first second.took;
+}
+
+pub starves_then : (old mid new : WriterView) (front more : List ℕ) (start : ℕ) → Took old front mid → StarvesTaking mid more start new → StarvesTaking old (front ++ more) start new
+starves_then old mid new front more start first second = record {
+  taken = length front + second.taken;
+  fits = omega (arith, second.fits, length-append front more);
+  between = second.between;
+  lacks = subst (λ (xs : List ℕ). Lacks old xs second.between) (sym (take_behind front more second.taken)) (lacks_then old mid second.between front (take second.taken more) first second.lacks);
+  starved = second.starved;
+}
+
+-- with more bytes behind, that were never reached
+pub starves_more : (old new : WriterView) (bytes more : List ℕ) (start : ℕ) → StarvesTaking old bytes start new → StarvesTaking old (bytes ++ more) start new
+starves_more old new bytes more start starves = record {
+  taken = starves.taken;
+  fits = omega (arith, starves.fits, length-append bytes more);
+  between = starves.between;
+  lacks = subst (λ (xs : List ℕ). Lacks old xs starves.between) (sym (take-append-le starves.taken bytes more starves.fits)) starves.lacks;
+  starved = starves.starved;
+}
+
+pub fills_then : (old mid new : WriterView) (front more : List ℕ) → Took old front mid → FillsUp mid more new → FillsUp old (front ++ more) new
+fills_then old mid new front more first second = record {
+  taken = length front + second.taken;
+  less = omega (arith, second.less, length-append front more);
+  took = subst (λ (xs : List ℕ). Took old xs new) (sym (take_behind front more second.taken)) (took_then old mid new front (take second.taken more) first second.took);
+  full = second.full;
+  waited = waited_then old mid new first.kept second.waited;
+}
+
+-- with more bytes behind, that were never reached
+pub fills_more : (old new : WriterView) (bytes more : List ℕ) → FillsUp old bytes new → FillsUp old (bytes ++ more) new
+fills_more old new bytes more fills = record {
+  taken = fills.taken;
+  less = omega (arith, fills.less, length-append bytes more);
+  took = subst (λ (xs : List ℕ). Took old xs new) (sym (take-append-le fills.taken bytes more (omega (arith, fills.less)))) fills.took;
+  full = fills.full;
+  waited = fills.waited;
+}
+
+-- Behind a step: a failing, or want of memory, of a step that takes nothing.
+
+pub fails_on : (old mid new : WriterView) (bytes : List ℕ) → Took old bytes mid → FailsTaking mid [] new → FailsTaking old bytes new
+fails_on old mid new bytes first second = subst (λ (xs : List ℕ). FailsTaking old xs new) (append-nil bytes) (fails_then old mid new bytes [] first second)
+
+pub lacks_on : (old mid new : WriterView) (bytes : List ℕ) → Took old bytes mid → Lacks mid [] new → Lacks old bytes new
+lacks_on old mid new bytes first second = subst (λ (xs : List ℕ). Lacks old xs new) (append-nil bytes) (lacks_then old mid new bytes [] first second)

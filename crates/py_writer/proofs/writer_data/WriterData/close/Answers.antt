@@ -1,0 +1,11 @@
+use Rattle.std.proofs.lemmas.Result.{err_from_is_err_and}
+use Rattle.py_writer.proofs.CloseAnswers.{close_stops, close_answers}
+use Rattle.py_writer.proofs.writer_data.WriterData.close.Goals as goal
+
+pub returns-in_err-pass_all_to_close : goal.returns-in_err-pass_all_to_close
+returns-in_err-pass_all_to_close g c =
+    let left = err_from_is_err_and c.from_residual-in_err-pass_all_to_close.result c.from_residual-in_err-pass_all_to_close.ensures.1 in
+    rw (left.1, left.2) (close_stops c.args.self.now c.begin.new.self c.pass_all_to_close.new.self c.in_err-pass_all_to_close.field-0.0 c.in_ok-begin.ensures c.in_err-pass_all_to_close.ensures)
+
+pub returns : goal.returns
+returns g c = close_answers c.args.self.now c.begin.new.self c.pass_all_to_close.new.self c.close_raw.new.self c.close_raw.result c.in_ok-begin.ensures c.in_ok-pass_all_to_close.ensures c.close_raw.ensures

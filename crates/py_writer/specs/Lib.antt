@@ -1,0 +1,3 @@
+pub mod Pending
+pub mod Engine
+pub mod Writer

@@ -1,0 +1,301 @@
+//! The writer, which is its engine or, once detached, what is left of it.
+ghost use Rattle.std.specs.Prelude.{◌≡◌, ◌≢◌, Some, None, false, vec_len, if◌then◌else◌};
+ghost use Rattle.py_flat.specs.Calls.{Write, WriteLines, Seek, Tell, Flush, Close};
+ghost use Rattle.py_flat.specs.ExactStep.{is_closed};
+ghost use Rattle.py_stream.specs.Stream.{writer_can};
+ghost use Rattle.py_stream.specs.Answers.{Answers};
+ghost use Rattle.py_stream.specs.Replies.{count_reply, place_reply, done_reply};
+ghost use Rattle.py_stream.specs.Opening.{StandsAtStart, MayOpen, NewOutcome};
+ghost use Rattle.py_stream.specs.Handing.{DetachOutcome, PartsOutcome, LendsRaw};
+ghost use Rattle.py_writer.specs.Writer.{BeginsDetach};
+
+use crate::pending::Pending;
+use crate::writer_data::WriterData;
+use py_raw::{IoFault, Life, Lines, RawError, RawStream};
+use py_stream::{Detached, NewRefused, first_place, refused_at_first};
+use std::alloc::Global;
+use std::marker::Model;
+
+/// A buffered writer over a raw stream, as Python's `io.BufferedWriter`.
+///
+/// It is seen as a `Stream`: what its raw shows, its place, what it can do, its life, the buffer's size, whether its last
+/// answer was short, and the bytes that it owes the raw, with the place of the first of them. Counts are bytes; places are
+/// bytes from the start of the stream, from 0 to 9223372036854775807. But for `new` no call takes memory of its own:
+/// `NoMemory` comes only of a raw that takes some.
+///
+/// Each call first answers by the life, with all as it was: `Failed` after a fault, or want of memory that failed it (a `detach`
+/// still works), `Closed` after a `close` (which may be called again), `Detached` after a `detach`. Else, where the raw failed in the call, it is
+/// `RawFault`: the writer is failed from then on (after `close` closed). Where the raw asked to wait, and there is no room
+/// for what is left, it is `WouldBlock`, which says how many bytes were taken. Whatever comes, no byte that was taken is
+/// lost: the raw has it, or it is still owed, and `detach` or `into_parts` hand it back (but what a large write gave the raw
+/// straight away is never owed: the place tells how far it came). What waits and faults leave is this project's choice
+/// (docs/DECISIONS.md), all else the rule of Python's `io` module.
+#[derive(Drop)]
+pub struct BufferedWriter<R: RawStream> {
+    data: Option<WriterData<R>>,
+    seekable: bool,
+    size: usize,
+}
+
+// A function's proof knows the invariant where the function uses a field: so some begin with `let _ = &self.data;`.
+impl<R: RawStream> Model for BufferedWriter<R> {
+    ghost use Rattle.py_stream.specs.Stream.{Stream};
+    ghost use Rattle.py_writer.specs.Writer.{writer_of, IsBufferedWriter};
+
+    ghost Value = { Stream };
+
+    ghost view = { λ w. writer_of w.data w.seekable w.size };
+
+    ghost invariant = { λ w. IsBufferedWriter w.data w.seekable w.size };
+}
+
+impl<R: RawStream> BufferedWriter<R> {
+    /// A writer to a raw stream, from where that stands, with a buffer of `buffer_size` bytes. A raw that can seek is asked
+    /// where it stands; one that can't stands at place 0.
+    ///
+    /// Refused, the raw is handed back with nothing written: `Closed` where it is closed, then `Unsupported` where it can't be
+    /// written to, `BadArgument` for a size of 0, `NoMemory`, and `RawFault` where it failed to say where it stands. But for
+    /// the last it is as it was.
+    pub fn new(alloc: Global, raw: R, buffer_size: usize) -> Result<Self, NewRefused<R>>
+        requires start { StandsAtStart (R.shows raw) }
+        ensures { NewOutcome R.shows (λ shown. shown.writable) writer_can raw buffer_size result }
+    {
+        if let Some(fault) = refused_at_first(&raw, raw.writable(), buffer_size) {
+            return Err(NewRefused { raw, fault });
+        }
+        match vec![in alloc; 0u8; buffer_size] {
+            Ok(buffer) => BufferedWriter::over(raw, buffer),
+            Err(_) => Err(NewRefused {
+                raw,
+                fault: IoFault::NoMemory,
+            }),
+        }
+    }
+
+    /// A writer with this buffer.
+    fn over(raw: R, buffer: Vec<u8>) -> Result<Self, NewRefused<R>>
+        requires start { StandsAtStart (R.shows raw) }
+        requires may { MayOpen (λ shown. shown.writable) (R.shows raw) (vec_len buffer) }
+        ensures { NewOutcome R.shows (λ shown. shown.writable) writer_can raw (vec_len buffer) result }
+    {
+        let mut raw = raw;
+        let seekable = raw.seekable();
+        let size = buffer.len();
+        match first_place(&mut raw) {
+            Ok(place) => Ok(BufferedWriter {
+                data: Some(WriterData::new(raw, Pending::new(buffer, place))),
+                seekable,
+                size,
+            }),
+            Err(RawError::Fault) => Err(NewRefused {
+                raw,
+                fault: IoFault::RawFault,
+            }),
+            Err(RawError::Memory) => Err(NewRefused {
+                raw,
+                fault: IoFault::NoMemory,
+            }),
+        }
+    }
+
+    /// Takes `bytes`, to be written at the place, and answers how many: all. What the buffer has no room for is passed on to the
+    /// raw; once nothing is owed, more than the buffer holds go there straight.
+    ///
+    /// `TooFar` where they would end past 9223372036854775807: all is as it was. `WouldBlock { taken }` where the raw asked to
+    /// wait and the rest has no room: the first `taken` bytes were taken, and the buffer is full; go on behind them.
+    /// `RawFault`: the writer is failed, and owes none of `bytes`: those that went straight to the raw are told by the place. `NoMemory`, of a raw that takes some, takes nothing, unless the raw has some of
+    /// `bytes` already: then the writer is failed.
+    pub fn write(&mut self, bytes: &[u8]) -> Result<usize, IoFault>
+        ensures { Answers self.old (Write bytes.now) (count_reply result) self.new }
+    {
+        match &mut self.data {
+            Some(data) => data.write(bytes),
+            None => Err(IoFault::Detached),
+        }
+    }
+
+    /// Takes lines as they are, as one `write` of them joined; refused as that is, with `taken` counted over all of them.
+    pub fn writelines(&mut self, lines: &Lines) -> Result<(), IoFault>
+        ensures { Answers self.old (WriteLines lines.now) (done_reply result) self.new }
+    {
+        match &mut self.data {
+            Some(data) => data.writelines(lines),
+            None => Err(IoFault::Detached),
+        }
+    }
+
+    /// Moves to `offset` bytes from the start (`whence` 0), the place (1) or the end (2), past the end too, and answers the new
+    /// place. What is owed is passed on before; nothing is owed then.
+    ///
+    /// `Unsupported` where the raw can't seek, `BadWhence` for another `whence`, `NegativeSeek` and `TooFar` for a target below
+    /// 0 or past 9223372036854775807: all is as it was. From the end, the raw is asked first where that is, and may fail.
+    /// `WouldBlock { taken: 0 }` and `NoMemory` leave the place, and what isn't passed on yet is still owed.
+    pub fn seek(&mut self, offset: i64, whence: i32) -> Result<u64, IoFault>
+        ensures { Answers self.old (Seek offset whence) (place_reply result) self.new }
+    {
+        match &mut self.data {
+            Some(data) => data.seek(offset, whence),
+            None => Err(IoFault::Detached),
+        }
+    }
+
+    /// The place. `Unsupported` where the raw can't seek; nothing else refuses it but the life. It calls no raw.
+    pub fn tell(&mut self) -> Result<u64, IoFault>
+        ensures { Answers self.old Tell (place_reply result) self.new }
+    {
+        match &mut self.data {
+            Some(data) => data.tell(),
+            None => Err(IoFault::Detached),
+        }
+    }
+
+    /// Passes on all that is owed: then the raw has it, and stands at the place.
+    ///
+    /// `WouldBlock { taken: 0 }` and `NoMemory` leave what isn't passed on yet owed; call it again. `RawFault`: the writer is
+    /// failed.
+    pub fn flush(&mut self) -> Result<(), IoFault>
+        ensures { Answers self.old Flush (done_reply result) self.new }
+    {
+        match &mut self.data {
+            Some(data) => data.flush(),
+            None => Err(IoFault::Detached),
+        }
+    }
+
+    /// Passes on all that is owed, and closes the raw. A closed writer may be closed again, which calls no raw.
+    ///
+    /// `WouldBlock { taken: 0 }` and `NoMemory` leave the writer live, and what isn't passed on yet owed; call it again. After
+    /// `RawFault` the writer is closed; where the raw failed to take what was owed it isn't asked to close, and `into_parts`
+    /// hands back what is owed.
+    pub fn close(&mut self) -> Result<(), IoFault>
+        ensures { Answers self.old Close (done_reply result) self.new }
+    {
+        match &mut self.data {
+            Some(data) => data.close(),
+            None => Err(IoFault::Detached),
+        }
+    }
+
+    /// Passes on all that is owed, and hands the raw back, with nothing unwritten, and the place (`None` where the raw can't
+    /// seek). Of a failed writer it hands back at once what is owed, and the place of the first byte of that: the raw isn't
+    /// called.
+    ///
+    /// Refused as `flush` is; a closed writer can't be detached.
+    pub fn detach(&mut self) -> Result<Detached<R>, IoFault>
+        ensures { DetachOutcome R.shows self.old result self.new }
+    {
+        begin_detach(&mut self.data)?;
+        match self.data.take() {
+            Some(engine) => Ok(hand_over(engine, self.seekable)),
+            None => Err(IoFault::Detached),
+        }
+    }
+
+    /// The raw, what is owed, and the place of the first byte of that, in every life; `None` exactly where the raw was handed
+    /// back already. It calls no raw and takes no memory.
+    pub fn into_parts(self) -> Option<Detached<R>>
+        ensures { PartsOutcome R.shows self result }
+    {
+        let BufferedWriter {
+            data,
+            seekable,
+            size: _,
+        } = self;
+        match data {
+            Some(data) => Some(hand_over(data, seekable)),
+            None => None,
+        }
+    }
+
+    /// Whether it reads: never, whatever its raw can.
+    pub fn readable(&self) -> bool
+        ensures { result ≡ self.now.can.readable }
+    {
+        let _ = &self.data;
+        false
+    }
+
+    /// Whether it writes: always.
+    pub fn writable(&self) -> bool
+        ensures { result ≡ self.now.can.writable }
+    {
+        let _ = &self.data;
+        true
+    }
+
+    /// Whether it can be moved: where its raw can.
+    pub fn seekable(&self) -> bool
+        ensures { result ≡ self.now.can.seekable }
+    {
+        self.seekable
+    }
+
+    /// Whether it was closed. A detached writer wasn't.
+    pub fn closed(&self) -> bool
+        ensures { result ≡ is_closed self.now.life }
+    {
+        matches!(self.life(), Life::Closed)
+    }
+
+    /// What became of it: live at first, failed by a fault, closed, or detached.
+    pub fn life(&self) -> Life
+        ensures { result ≡ self.now.life }
+    {
+        match &self.data {
+            Some(data) => data.life(),
+            None => Life::Detached,
+        }
+    }
+
+    /// How many bytes its buffer holds.
+    pub fn buffer_size(&self) -> usize
+        ensures { result ≡ self.now.size }
+    {
+        self.size
+    }
+
+    /// Whether a wait of the raw refused the last call.
+    pub fn short(&self) -> bool
+        ensures { result ≡ self.now.short }
+    {
+        match &self.data {
+            Some(data) => data.short(),
+            None => false,
+        }
+    }
+
+    /// The raw, lent; `None` exactly where it was handed back.
+    pub fn raw(&self) -> Option<&R>
+        ensures { LendsRaw R.shows self.now result }
+    {
+        match &self.data {
+            Some(data) => Some(data.raw()),
+            None => None,
+        }
+    }
+}
+
+/// Whether the raw may be handed back: of a live stream once nothing is owed, and of a failed one.
+fn begin_detach<R: RawStream>(engine: &mut Option<WriterData<R>>) -> Result<(), IoFault>
+    ensures { BeginsDetach engine.old result engine.new }
+{
+    match engine {
+        Some(engine) => engine.begin_detach(),
+        None => Err(IoFault::Detached),
+    }
+}
+
+/// What an engine hands back.
+fn hand_over<R: RawStream>(engine: WriterData<R>, seekable: bool) -> Detached<R>
+    ensures raw { R.shows result.raw ≡ engine.raw }
+    ensures unwritten { result.unwritten.items ≡ engine.pending.bytes }
+    ensures place { result.place ≡ (if seekable then Some engine.pending.place else None) }
+    ensures attached { engine.life ≢ Life.Detached }
+{
+    let (raw, unwritten, place) = engine.into_parts();
+    Detached {
+        raw,
+        unwritten,
+        place: if seekable { Some(place) } else { None },
+    }
+}

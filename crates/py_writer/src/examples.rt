@@ -1,0 +1,180 @@
+//! The examples of docs/FAULTS.md, run as tests.
+ghost use Rattle.std.specs.Prelude.{IfOk};
+ghost use Rattle.py_raw.specs.MemRaw.{shown};
+ghost use Rattle.py_stream.specs.Opening.{StandsAtStart};
+
+use crate::BufferedWriter;
+use py_raw::{Cut, IoFault, Life, MemRaw, RawFlags, RawStream};
+use std::alloc::{AllocError, Global};
+use std::test::Fail;
+
+/// A raw stream that holds some bytes, that moves, waits or breaks by a plan.
+fn raw_over(alloc: Global, bytes: &[u8], plan: &[Cut]) -> Result<MemRaw, AllocError>
+    ensures { IfOk result (λ raw. StandsAtStart (shown raw)) }
+{
+    let flags = RawFlags::able(false, true, true);
+    let bytes = bytes.to_vec(alloc)?;
+    let plan = plan.to_vec(alloc)?;
+    Ok(MemRaw::new(bytes, flags, plan, Vec::new(alloc)))
+}
+
+#[test]
+fn lines_are_collected_and_passed_on(rt: HostRuntime) -> Result<(), Fail> {
+    let alloc = rt.alloc();
+    let raw = raw_over(alloc, b"", &[])?;
+    let Ok(writer) = BufferedWriter::new(alloc, raw, 8192) else {
+        return Err(Fail::from("refused"));
+    };
+    let mut writer = writer;
+    assert_eq!(rt; writer.write(b"one\n"), Ok(4)); // in the buffer
+    assert_eq!(rt; writer.write(b"two\n"), Ok(4));
+    assert_eq!(rt; writer.tell(), Ok(8));
+    writer.flush()?; // the raw has all eight bytes
+    writer.close()?;
+    let Some(parts) = writer.into_parts() else {
+        return Err(Fail::from("detached"));
+    };
+    assert_eq!(rt; parts.raw.bytes_of(), &b"one\ntwo\n"[..]);
+    Ok(())
+}
+
+#[test]
+fn a_write_that_has_to_wait_goes_on_past_what_was_taken(rt: HostRuntime) -> Result<(), Fail> {
+    let alloc = rt.alloc();
+    // the raw takes three bytes, and then asks to wait
+    let raw = raw_over(alloc, b"", &[Cut::Take(3), Cut::Wait])?;
+    let Ok(writer) = BufferedWriter::new(alloc, raw, 4) else {
+        return Err(Fail::from("refused"));
+    };
+    let mut writer = writer;
+    assert_eq!(rt;
+        writer.write(b"0123456789"),
+        Err(IoFault::WouldBlock { taken: 7 })
+    );
+    assert!(rt; writer.short()); // a wait cut it short: three bytes went, and four fill the buffer
+    assert_eq!(rt; writer.write(b"789"), Ok(3)); // later: what is left of them
+    writer.flush()?;
+    let detached = writer.detach()?;
+    assert_eq!(rt; detached.raw.bytes_of(), &b"0123456789"[..]);
+    assert!(rt; detached.unwritten.is_empty());
+    Ok(())
+}
+
+#[test]
+fn a_flush_that_has_to_wait_is_called_again(rt: HostRuntime) -> Result<(), Fail> {
+    let alloc = rt.alloc();
+    // the raw takes two bytes, and then asks to wait
+    let raw = raw_over(alloc, b"", &[Cut::Take(2), Cut::Wait])?;
+    let Ok(writer) = BufferedWriter::new(alloc, raw, 8) else {
+        return Err(Fail::from("refused"));
+    };
+    let mut writer = writer;
+    assert_eq!(rt; writer.write(b"abcdef"), Ok(6));
+    assert_eq!(rt; writer.flush(), Err(IoFault::WouldBlock { taken: 0 })); // four bytes are still owed
+    assert_eq!(rt; writer.life(), Life::Live);
+    writer.flush()?; // later: now the raw has them
+    assert_eq!(rt; writer.tell(), Ok(6));
+    let detached = writer.detach()?;
+    assert_eq!(rt; detached.raw.bytes_of(), &b"abcdef"[..]);
+    Ok(())
+}
+
+#[test]
+fn what_a_fault_leaves_is_written_elsewhere(rt: HostRuntime) -> Result<(), Fail> {
+    let alloc = rt.alloc();
+    // the raw takes two bytes, and then fails
+    let raw = raw_over(alloc, b"", &[Cut::Take(2), Cut::Break(0)])?;
+    let Ok(writer) = BufferedWriter::new(alloc, raw, 8) else {
+        return Err(Fail::from("refused"));
+    };
+    let mut writer = writer;
+    assert_eq!(rt; writer.write(b"abcdef"), Ok(6));
+    assert_eq!(rt; writer.flush(), Err(IoFault::RawFault));
+    assert_eq!(rt; writer.life(), Life::Failed); // every call but `detach` is refused now
+    assert_eq!(rt; writer.write(b"g"), Err(IoFault::Failed));
+    let detached = writer.detach()?;
+    assert_eq!(rt; detached.unwritten.as_slice(), &b"cdef"[..]);
+    assert_eq!(rt; detached.place, Some(2));
+    // the stream is opened anew, and what wasn't written is written where it belongs
+    let raw = raw_over(alloc, detached.raw.bytes_of(), &[])?;
+    let Ok(writer) = BufferedWriter::new(alloc, raw, 8) else {
+        return Err(Fail::from("refused"));
+    };
+    let mut writer = writer;
+    writer.seek(2, 0)?;
+    assert_eq!(rt; writer.write(&detached.unwritten), Ok(4));
+    let detached = writer.detach()?;
+    assert_eq!(rt; detached.raw.bytes_of(), &b"abcdef"[..]);
+    Ok(())
+}
+
+#[test]
+fn a_write_whose_older_bytes_fail_is_made_again(rt: HostRuntime) -> Result<(), Fail> {
+    let alloc = rt.alloc();
+    let raw = raw_over(alloc, b"", &[Cut::Break(0)])?;
+    let Ok(writer) = BufferedWriter::new(alloc, raw, 4) else {
+        return Err(Fail::from("refused"));
+    };
+    let mut writer = writer;
+    assert_eq!(rt; writer.write(b"abc"), Ok(3));
+    assert_eq!(rt; writer.write(b"def"), Err(IoFault::RawFault)); // there was no room, and the raw failed
+    let detached = writer.detach()?;
+    assert_eq!(rt; detached.unwritten.as_slice(), &b"abc"[..]); // none of `def` was taken
+    assert_eq!(rt; detached.place, Some(0));
+    Ok(())
+}
+
+#[test]
+fn a_large_write_that_fails_tells_how_far_it_came(rt: HostRuntime) -> Result<(), Fail> {
+    let alloc = rt.alloc();
+    // the raw takes four bytes, and then fails
+    let raw = raw_over(alloc, b"", &[Cut::Take(4), Cut::Break(0)])?;
+    let Ok(writer) = BufferedWriter::new(alloc, raw, 4) else {
+        return Err(Fail::from("refused"));
+    };
+    let mut writer = writer;
+    assert_eq!(rt; writer.write(b"0123456789"), Err(IoFault::RawFault));
+    let detached = writer.detach()?;
+    assert!(rt; detached.unwritten.is_empty());
+    assert_eq!(rt; detached.place, Some(4)); // go on with the fifth byte
+    Ok(())
+}
+
+#[test]
+fn a_close_that_has_to_wait_is_called_again(rt: HostRuntime) -> Result<(), Fail> {
+    let alloc = rt.alloc();
+    let raw = raw_over(alloc, b"", &[Cut::Wait])?;
+    let Ok(writer) = BufferedWriter::new(alloc, raw, 8) else {
+        return Err(Fail::from("refused"));
+    };
+    let mut writer = writer;
+    assert_eq!(rt; writer.write(b"abc"), Ok(3));
+    assert_eq!(rt; writer.close(), Err(IoFault::WouldBlock { taken: 0 }));
+    assert_eq!(rt; writer.life(), Life::Live);
+    writer.close()?; // later
+    let Some(parts) = writer.into_parts() else {
+        return Err(Fail::from("detached"));
+    };
+    assert_eq!(rt; parts.raw.bytes_of(), &b"abc"[..]);
+    Ok(())
+}
+
+#[test]
+fn a_close_that_fails_gives_back_what_is_owed(rt: HostRuntime) -> Result<(), Fail> {
+    let alloc = rt.alloc();
+    let raw = raw_over(alloc, b"", &[Cut::Break(0)])?;
+    let Ok(writer) = BufferedWriter::new(alloc, raw, 8) else {
+        return Err(Fail::from("refused"));
+    };
+    let mut writer = writer;
+    assert_eq!(rt; writer.write(b"abc"), Ok(3));
+    assert_eq!(rt; writer.close(), Err(IoFault::RawFault));
+    assert_eq!(rt; writer.life(), Life::Closed);
+    let Some(parts) = writer.into_parts() else {
+        return Err(Fail::from("detached"));
+    };
+    assert!(rt; !parts.raw.closed()); // the raw wasn't asked to close
+    assert_eq!(rt; parts.unwritten.as_slice(), &b"abc"[..]);
+    assert_eq!(rt; parts.place, Some(0));
+    Ok(())
+}

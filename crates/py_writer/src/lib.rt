@@ -1,0 +1,14 @@
+//! A buffered writer over a raw stream: bytes are collected in one buffer, and passed on when that is full, or asked for.
+#![tactic(auto)]
+
+mod buffered_writer;
+#[cfg(test)]
+mod examples;
+mod pending;
+#[cfg(test)]
+mod table_tests;
+#[cfg(test)]
+mod tests;
+mod writer_data;
+
+pub use buffered_writer::BufferedWriter;
