@@ -1,6 +1,6 @@
 -- What follows from how the program ended, a status at a time: every path holds what it held.
 use Rattle.std.proofs.Common.{◌≡◌, ℕ, inl, inr, IsTrue, List, ap}
-use Rattle.py_raw.specs.Source.{SourceView}
+use Rattle.py_source_sink.specs.Source.{SourceView}
 use Rattle.py_raw.specs.Opener.{OpenerView, HoldsTheSame}
 use Rattle.py_open.specs.declared.call.Call.{Call}
 use Rattle.py_open.specs.declared.open_args.OpenArgs.{OpenArgs}

@@ -3,7 +3,7 @@ use Rattle.std.proofs.Common.{◌≡◌, ℕ, Bool, true, false, IsTrue, List, [
 use Rattle.std.proofs.lemmas.Bool.Decides.{nat_tests}
 use Rattle.py_flat.specs.Causes.{counted, rose}
 use Rattle.py_raw.specs.RawStream.{Raw}
-use Rattle.py_raw.specs.Source.{SourceView}
+use Rattle.py_source_sink.specs.Source.{SourceView}
 use Rattle.py_open.specs.declared.call.Call.{Call}
 use Rattle.py_open.specs.declared.reply.Reply.{Reply}
 use Rattle.py_open.specs.Session.{SessionFile, OfText, SessionView}

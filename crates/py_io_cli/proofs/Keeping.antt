@@ -2,7 +2,7 @@
 use Rattle.std.proofs.Common.{◌≡◌, ◌≢◌, ℕ, ◌⊎◌, Bool, true, false, inl, inr, IsTrue, List, [], Option, Some, None, codes, is_none, unwrap_or, bytes_eq, refl, sym, ◌∙◌, ap}
 use Rattle.std.proofs.lemmas.Slice.Eq.{bytes_eq-Decides}
 use Rattle.py_raw.specs.RawStream.{Raw}
-use Rattle.py_raw.specs.Sink.{SinkView}
+use Rattle.py_source_sink.specs.Sink.{SinkView}
 use Rattle.py_raw.specs.Opener.{OpenerView, HoldsTheSame, OthersHoldTheSame, OpensTold, PutsAway}
 use Rattle.py_open.specs.declared.call.Call.{Call}
 use Rattle.py_open.specs.declared.reply.Reply.{Reply}

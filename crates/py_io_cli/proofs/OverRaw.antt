@@ -3,7 +3,7 @@ use Rattle.std.proofs.Common.{◌≡◌, ℕ, ◌⊎◌, inl, inr, true, false, 
 use Rattle.py_flat.specs.declared.fault.IoFault.{IoFault}
 use Rattle.py_flat.specs.declared.fault.IoFault.TheVariants as fault
 use Rattle.py_raw.specs.RawStream.{Raw}
-use Rattle.py_raw.specs.Sink.{SinkView}
+use Rattle.py_source_sink.specs.Sink.{SinkView}
 use Rattle.py_raw.specs.Opener.{IsOpened}
 use Rattle.py_open.specs.declared.reply.Reply.{Reply}
 use Rattle.py_open.specs.Reader.{RefusesRaw, HandsRawBack}
@@ -19,7 +19,7 @@ use Rattle.py_io_cli.specs.Outcome.{Asked, closed_calls, RanCalls, RefusedRaw, R
 -- the raw as it was
 pub same_back : (raw : Raw) → HandsRawBack raw raw
 same_back raw = record {
-  keeps = record { tells = refl; readable = refl; writable = refl; seekable = refl; takes_memory = refl; faults = omega arith; waits = omega arith };
+  keeps = record { tells = refl; readable = refl; writable = refl; seekable = refl; takes_memory = refl; counts_exactly = refl; faults = omega arith; waits = omega arith };
   stays = refl;
   bytes = λ told. refl;
   untouched = λ told. omega arith;

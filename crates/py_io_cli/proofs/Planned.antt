@@ -4,7 +4,7 @@ use Rattle.py_flat.specs.declared.fault.IoFault.{IoFault}
 use Rattle.py_flat.specs.declared.fault.IoFault.TheVariants.{Unsupported}
 use Rattle.py_flat.specs.declared.mode_error.ParseModeError.{ParseModeError}
 use Rattle.py_raw.specs.RawMode.{raw_mode_text}
-use Rattle.py_raw.specs.Sink.{SinkView}
+use Rattle.py_source_sink.specs.Sink.{SinkView}
 use Rattle.py_raw.specs.Opener.{OpenerView}
 use Rattle.py_raw.specs.RawStream.{Raw}
 use Rattle.py_open.specs.declared.call.Call.{Call}

@@ -2,7 +2,7 @@
 use Rattle.std.specs.Prelude.{◌≡◌, ℕ, true, false, IsTrue, List, Option, Some, IsOk, IsErr}
 use Rattle.py_flat.specs.Causes.{rose}
 use Rattle.py_raw.specs.RawStream.{Raw}
-use Rattle.py_raw.specs.Source.{SourceView}
+use Rattle.py_source_sink.specs.Source.{SourceView}
 use Rattle.py_open.specs.declared.call.Call.{Call}
 use Rattle.py_open.specs.declared.reply.Reply.{Reply}
 use Rattle.py_open.specs.Session.{OfText}

@@ -3,14 +3,14 @@ use Rattle.std.specs.Prelude.{◌≡◌, ℕ, ◌⊎◌, IsTrue, IsFalse, List, 
 use Rattle.py_flat.specs.declared.fault.IoFault.TheVariants as fault
 use Rattle.py_flat.specs.Causes.{Rose}
 use Rattle.py_raw.specs.RawStream.{Raw}
-use Rattle.py_raw.specs.Source.{SourceView, SourceKeeps}
-use Rattle.py_raw.specs.Sink.{SinkView, SinkKeeps}
+use Rattle.py_source_sink.specs.Source.{SourceView, SourceKeeps}
+use Rattle.py_source_sink.specs.Sink.{SinkView, SinkKeeps}
 use Rattle.py_raw.specs.Opener.{OpenerView, OpenKeeps, Opens, OpenFaults, OpenLacksMemory, HoldsTheSame, DoneKeeps, PutsAway}
 use Rattle.py_open.specs.declared.call.Call.{Call}
 use Rattle.py_open.specs.declared.call.Call.TheVariants.{Close}
 use Rattle.py_open.specs.declared.reply.Reply.{Reply}
 use Rattle.py_open.specs.Reader.{RefusesRaw, HandsRawBack}
-use Rattle.py_buffered.specs.Reader.{StandsWhereItStood}
+use Rattle.py_stream.specs.Opening.{StandsWhereItStood}
 use Rattle.py_open.specs.Session.{SessionView}
 use Rattle.py_open.specs.Run.{RunsCalls}
 use Rattle.py_script.specs.ReplyLine.{reply_lines}

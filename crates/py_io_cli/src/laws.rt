@@ -1,6 +1,6 @@
 //! Laws of what the program's contract speaks of. No function here does anything; what it ensures is a law.
 ghost use Rattle.std.specs.Prelude.{◌≡◌, ℕ, IsTrue, List, Some};
-ghost use Rattle.py_raw.specs.Source.{SourceView};
+ghost use Rattle.py_source_sink.specs.Source.{SourceView};
 ghost use Rattle.py_open.specs.declared.open_args.OpenArgs.{OpenArgs};
 ghost use Rattle.py_script.specs.CommandWords.{Run, command_of};
 ghost use Rattle.py_io_cli.specs.Outcome.{Outside, Ends};

@@ -1,7 +1,7 @@
 //! The program: from its words to the lines that it prints and the status that it ends with.
 ghost use Rattle.std.specs.Prelude.{◌≡◌, ◌≢◌, ◌≤◌, ◌⊎◌, ℕ, IsTrue, List, Ok, Some, None, codes, MatchResult};
 ghost use Rattle.py_flat.specs.Causes.{Rose};
-ghost use Rattle.py_raw.specs.Sink.{SinkKeeps};
+ghost use Rattle.py_source_sink.specs.Sink.{SinkKeeps};
 ghost use Rattle.py_raw.specs.Opener.{HoldsTheSame, IsOpened};
 ghost use Rattle.py_open.specs.declared.plan.OpenPlan.{OpenPlan as Plan};
 ghost use Rattle.py_open.specs.Plan.{plan_of};

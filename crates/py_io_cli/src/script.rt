@@ -1,6 +1,6 @@
 //! Reading the script to its end.
 ghost use Rattle.std.specs.Prelude.{◌≡◌, ◌≤◌};
-ghost use Rattle.py_raw.specs.Source.{SourceKeeps};
+ghost use Rattle.py_source_sink.specs.Source.{SourceKeeps};
 ghost use Rattle.py_io_cli.specs.Outside.{ScriptOutcome, ReadOutcome};
 
 use crate::status::Status;

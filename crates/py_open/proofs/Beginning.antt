@@ -5,23 +5,29 @@ use Rattle.py_flat.specs.declared.fault.IoFault.TheVariants as fault
 use Rattle.py_flat.specs.declared.life.Life.TheVariants as life
 use Rattle.py_flat.specs.Calls.{Place, Tell}
 use Rattle.py_flat.specs.FlatFile.{Abilities}
-use Rattle.py_flat.specs.Owed.{Owed}
 use Rattle.py_raw.specs.RawStream.{Raw, Keeps, StaysOpen}
-use Rattle.py_buffered.specs.Stream.{Stream}
-use Rattle.py_buffered.specs.Answers.{Answers, refused_by}
-use Rattle.py_buffered.specs.Replies.{place_reply}
-use Rattle.py_buffered.specs.Reader.{OpensReader as Opens, RefusesRaw as Refuses, StandsWhereItStood}
+use Rattle.py_stream.specs.Stream.{Stream, reader_can}
+use Rattle.py_stream.specs.Answers.{Answers, refused_by}
+use Rattle.py_stream.specs.Replies.{place_reply}
+use Rattle.py_stream.specs.Opening.{Opens as OpensStream, RefusesRaw as RefusesStream, StandsWhereItStood}
 use Rattle.py_open.specs.Reader.{IsReader, IsNew, CountsPlace, OpensReader, HandsRawBack, RefusesRaw}
 use Rattle.py_open.proofs.Reading.{seen_at}
+
+-- the opening of a reader
+abbrev Opens : Raw → ℕ → Stream → Type 0
+Opens raw size stream = OpensStream (λ shown. shown.readable) reader_can raw size stream
+
+abbrev Refuses : Raw → ℕ → IoFault → Raw → Type 0
+Refuses raw size why back = RefusesStream (λ shown. shown.readable) raw size why back
 
 -- a reader that was opened is new
 pub opened_new : (raw : Raw) (size : ℕ) (stream : Stream) → Opens raw size stream → IsNew stream
 opened_new raw size stream opens = record {
-  reads = ap (λ (can : Abilities). can.readable) opens.can;
-  writes = ap (λ (can : Abilities). can.writable) opens.can;
+  reads = ap (λ (can : Abilities). can.readable) opens.can_do;
+  writes = ap (λ (can : Abilities). can.writable) opens.can_do;
   live = opens.life_is;
-  start = λ still. opens.start (sym (ap (λ (can : Abilities). can.seekable) opens.can) ∙ still);
-  owed = ap (λ (owed : Owed). owed.bytes) opens.owed;
+  start = λ still. opens.start (sym (ap (λ (can : Abilities). can.seekable) opens.can_do) ∙ still);
+  owed = opens.owed;
 }
 
 -- it can be asked where it stands
@@ -39,7 +45,7 @@ pub counts_told : (old new : Stream) (place : ℕ) → IsNew old → Answers old
 counts_told old new place is answers = record {
   is = answers.moves.place.0;
   at = answers.moves.place.1;
-  raw = (answers.idle refl is.writes).raw;
+  raw = (answers.idle refl).raw;
   can = answers.keeps.can;
   life_is = answers.moves.life_is;
   size = answers.keeps.size;
@@ -67,7 +73,7 @@ begins_reader raw size stream new place opens counts =
 pub opens_reader : (raw : Raw) (size : ℕ) (stream new : Stream) (place : ℕ) → Opens raw size stream → CountsPlace stream place new → OpensReader raw size (seen_at new place)
 opens_reader raw size stream new place opens counts = record {
   opened = opens.was_open;
-  reads = opens.reads;
+  reads = opens.is_able;
   keeps = subst (Keeps raw) (sym counts.raw) opens.untouched.keeps;
   stays = subst (StaysOpen raw) (sym counts.raw) opens.untouched.stays;
   untouched = λ tells. subst (λ (now : Raw). now.transfers ≤ raw.transfers) (sym counts.raw) (opens.untouched.transfers tells);
@@ -85,7 +91,7 @@ opens_reader raw size stream new place opens counts = record {
 
 same_back : (raw : Raw) → HandsRawBack raw raw
 same_back raw = record {
-  keeps = record { tells = refl; readable = refl; writable = refl; seekable = refl; takes_memory = refl; faults = omega arith; waits = omega arith };
+  keeps = record { tells = refl; readable = refl; writable = refl; seekable = refl; takes_memory = refl; counts_exactly = refl; faults = omega arith; waits = omega arith };
   stays = refl;
   bytes = λ tells. refl;
   untouched = λ tells. omega arith;
@@ -95,10 +101,10 @@ pub refuses_raw : (raw : Raw) (size : ℕ) (why : IoFault) (back : Raw) → 0 < 
 refuses_raw raw size fault.Closed back some refused = refused
 refuses_raw raw size fault.Unsupported back some refused = refused
 refuses_raw raw size fault.BadArgument back some refused = absurd (omega (arith, refused.2))
-refuses_raw raw size fault.NoMemory back some refused = (refused.0.is_open, refused.0.reads, subst (HandsRawBack raw) (sym refused.1) (same_back raw), subst (StandsWhereItStood raw) (sym refused.1) (λ tells. refl))
+refuses_raw raw size fault.NoMemory back some refused = (refused.0.is_open, refused.0.is_able, subst (HandsRawBack raw) (sym refused.1) (same_back raw), subst (StandsWhereItStood raw) (sym refused.1) (λ tells. refl))
 refuses_raw raw size fault.RawFault back some refused = (
   refused.0.is_open,
-  refused.0.reads,
+  refused.0.is_able,
   refused.2,
   record { keeps = refused.3.keeps; stays = refused.3.stays; bytes = refused.3.bytes; untouched = refused.3.transfers },
 )

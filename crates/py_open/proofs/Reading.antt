@@ -10,13 +10,14 @@ use Rattle.py_flat.specs.Limits.{greatest_place}
 use Rattle.py_flat.specs.Bytes.{left_at, lay}
 use Rattle.py_flat.specs.Calls.{FileCall, FileReply, Bytes, Done, Refused, Read1, Close}
 use Rattle.py_flat.specs.FlatFile.{FlatFile, Abilities}
+use Rattle.py_flat.specs.Owed.{Owed}
 use Rattle.py_flat.specs.ExactStep.{is_closed}
 use Rattle.py_flat.specs.Refusals.{life_fault, refusal}
 use Rattle.py_flat.specs.AllowedStep.{settled, waited_for, raw_faulted, out_of_memory}
 use Rattle.py_flat.specs.BinaryStep.{Transfers, BinaryStep, SettledBy}
-use Rattle.py_buffered.specs.Stream.{Stream, file_of}
-use Rattle.py_buffered.specs.Answers.{Answers, Leaves, refused_by}
-use Rattle.py_buffered.specs.Replies.{bytes_reply, done_reply}
+use Rattle.py_stream.specs.Stream.{Stream, file_of, nothing_owed}
+use Rattle.py_stream.specs.Answers.{Answers, Leaves, refused_by}
+use Rattle.py_stream.specs.Replies.{bytes_reply, done_reply}
 use Rattle.py_open.specs.Reader.{ReaderView, IsReader, KeepsReader, GivesTold, ReadFails, ChunkReadOutcome, ClosesRaw, ClosesIn, CloseOutcome}
 
 -- a reader with the place that is counted beside it, as the text sees it
@@ -75,7 +76,11 @@ abbrev pub counted_by : Result (Option (Vec ℕ Global)) IoFault → ℕ → ℕ
 counted_by (Ok (Some part)) place = place + length part.items
 counted_by result place = place
 
--- nothing is owed, so the flat bytes are the raw's
+-- no byte is owed
+none_owed : (reader : Stream) → reader.owed ≡ nothing_owed reader.place → reader.owed.bytes ≡ []
+none_owed reader none = ap (λ (owed : Owed). owed.bytes) none
+
+-- so the flat bytes are the raw's
 flat_bytes : (reader : Stream) → reader.owed.bytes ≡ [] → reader.raw.bytes ≡ (file_of reader).bytes
 flat_bytes reader none = sym (ap (λ (owed : List ℕ). lay reader.raw.bytes reader.owed.place owed) none)
 
@@ -85,14 +90,14 @@ reads_live old new place size (Ok (Some part)) is live answers = record {
   fits = answers.moves.within;
   live = answers.moves.life_is ∙ live;
   place = refl;
-  told = λ tells. transferred_told (file_of old) size part.items (file_of new) (seen_at old place) (flat_bytes old is.owed) (sym (is.at live)) (gave_told old new size part.items new.short false (accepts_reading old (Some size) live is.reads) (answers.told tells));
+  told = λ tells. transferred_told (file_of old) size part.items (file_of new) (seen_at old place) (flat_bytes old (none_owed old is.owed)) (sym (is.at live)) (gave_told old new size part.items new.short false (accepts_reading old (Some size) live is.reads) (answers.told tells));
 }
 reads_live old new place size (Ok None) is live answers =
     let short : IsTrue new.short = answers.shorts in
     record {
       cause = answers.causes.waits short;
       nothing = record { place = refl; life = answers.moves.life_is };
-      told = λ tells. answers.hides short refl (answers.spares is.writes is.owed).owed tells ∙ (answers.moves.place ∙ is.at live);
+      told = λ tells. (answers.near (answers.moves.life_is ∙ live)).stands (answers.keeps.raw.tells ∙ tells) ∙ (answers.hides short refl (none_owed new (answers.spares is.writes is.owed).owed) ∙ (answers.moves.place ∙ is.at live));
     }
 reads_live old new place size (Err fault.RawFault) is live answers = (answers.causes.faults refl, answers.moves.life_is)
 reads_live old new place size (Err fault.NoMemory) is live answers = record { place = refl; life = answers.moves.life_is }
@@ -126,7 +131,7 @@ keeps_reader old new call reply before after is answers = record {
   size = answers.keeps.size;
   raw = answers.keeps.raw;
   bytes = (answers.spares is.writes is.owed).bytes;
-  shut = answers.shut;
+  shut = answers.shut (none_owed new (answers.spares is.writes is.owed).owed);
 }
 
 -- the place that is counted is the reader's while that lives, which a reading keeps
@@ -134,7 +139,7 @@ still_there : (old new : Stream) (place size : ℕ) (result : Result (Option (Ve
 still_there old new place size (Ok (Some part)) is live answers lives = answers.moves.place ∙ ap (λ (n : ℕ). n + length part.items) (is.at live)
 still_there old new place size (Ok None) is live answers lives = answers.moves.place ∙ is.at live
 still_there old new place size (Err fault.RawFault) is live answers lives = absurd (let failed = answers.moves.life_is in cc)
-still_there old new place size (Err fault.NoMemory) is live answers lives = answers.moves.place lives ∙ is.at live
+still_there old new place size (Err fault.NoMemory) is live answers lives = answers.moves.place.0 lives ∙ is.at live
 still_there old new place size (Err other) is live answers lives = answers.moves.place ∙ is.at live
 
 still_attached : (call : FileCall) (before after : Life) → before ≢ life.Detached → after ≡ before → after ≢ life.Detached

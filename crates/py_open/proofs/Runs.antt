@@ -16,7 +16,7 @@ use Rattle.py_open.specs.declared.call.Call.{Call}
 use Rattle.py_open.specs.declared.reply.Reply.{Reply}
 use Rattle.py_open.specs.Calls.{text_call, said}
 use Rattle.py_flat.specs.ExactStep.{is_closed}
-use Rattle.py_buffered.specs.Answers.{ClosedWith}
+use Rattle.py_stream.specs.Answers.{ClosedWith}
 use Rattle.py_open.specs.Session.{SessionFile, OfText, SessionView, SessionStep, says_fault, AnswersText, AnswersFile, Answers}
 use Rattle.py_open.specs.Opening.{life_of}
 use Rattle.py_open.specs.Run.{Entry, IsRun, IsHistory, IsCalm, calls_of, IsSmooth, NoneLacksMemory, all_said, session_exact, exact_replies, exact_after}
@@ -31,7 +31,7 @@ one_reply_each before (call ∷ calls) [] after run = absurd run
 -- What every call keeps.
 
 keeps_self : (raw : Raw) → Keeps raw raw
-keeps_self raw = record { tells = refl; readable = refl; writable = refl; seekable = refl; takes_memory = refl; faults = omega arith; waits = omega arith }
+keeps_self raw = record { tells = refl; readable = refl; writable = refl; seekable = refl; takes_memory = refl; counts_exactly = refl; faults = omega arith; waits = omega arith }
 
 keeps_on : (first mid last : Raw) → Keeps first mid → Keeps mid last → Keeps first last
 keeps_on first mid last a b = record {
@@ -40,6 +40,7 @@ keeps_on first mid last a b = record {
   writable = b.writable ∙ a.writable;
   seekable = b.seekable ∙ a.seekable;
   takes_memory = b.takes_memory ∙ a.takes_memory;
+  counts_exactly = b.counts_exactly ∙ a.counts_exactly;
   faults = omega (arith, a.faults, b.faults);
   waits = omega (arith, a.waits, b.waits);
 }

@@ -11,9 +11,9 @@ use Rattle.py_flat.specs.Causes.{Rose}
 use Rattle.py_flat.specs.Refusals.{life_fault}
 use Rattle.py_flat.specs.BinaryStep.{IsFrontOf}
 use Rattle.py_raw.specs.RawStream.{Raw, Keeps, StaysOpen, WhereTold}
-use Rattle.py_buffered.specs.Stream.{Stream}
-use Rattle.py_buffered.specs.Answers.{ClosedWith}
-use Rattle.py_buffered.specs.Reader.{StandsWhereItStood}
+use Rattle.py_stream.specs.Stream.{Stream, nothing_owed}
+use Rattle.py_stream.specs.Answers.{ClosedWith}
+use Rattle.py_stream.specs.Opening.{StandsWhereItStood}
 use Rattle.py_open.specs.declared.open_refused.OpenRefused.{OpenRefused}
 
 -- the raw, the place of the next byte, the life, and the buffer's size
@@ -27,7 +27,7 @@ pub record ReaderView : Type 0 where
 pub record IsReader (reader : Stream) (place : ℕ) : Type 0 where
   pub reads : reader.can.readable ≡ true
   pub writes : reader.can.writable ≡ false
-  pub owed : reader.owed.bytes ≡ []
+  pub owed : reader.owed ≡ nothing_owed reader.place
   pub attached : reader.life ≢ life.Detached
   pub at : reader.life ≡ life.Live → reader.place ≡ place
   pub far : place ≤ greatest_place
@@ -109,7 +109,7 @@ pub record IsNew (reader : Stream) : Type 0 where
   pub writes : reader.can.writable ≡ false
   pub live : reader.life ≡ life.Live
   pub start : IsFalse reader.can.seekable → reader.place ≡ 0
-  pub owed : reader.owed.bytes ≡ []
+  pub owed : reader.owed ≡ nothing_owed reader.place
 
 -- its place was asked for, and nothing else of it changed
 pub record CountsPlace (old : Stream) (place : ℕ) (new : Stream) : Type 0 where
@@ -119,7 +119,7 @@ pub record CountsPlace (old : Stream) (place : ℕ) (new : Stream) : Type 0 wher
   pub can : new.can ≡ old.can
   pub life_is : new.life ≡ old.life
   pub size : new.size ≡ old.size
-  pub owed : new.owed.bytes ≡ []
+  pub owed : new.owed ≡ nothing_owed new.place
 
 -- told: the reader begins where the raw stood
 abbrev pub BeginsTold : Raw → ReaderView → Type 0

@@ -13,7 +13,7 @@ use Rattle.py_open.specs.declared.call.Call.{Call}
 use Rattle.py_open.specs.declared.reply.Reply.{Reply}
 use Rattle.py_open.specs.Calls.{text_call, said}
 use Rattle.py_flat.specs.ExactStep.{is_closed}
-use Rattle.py_buffered.specs.Answers.{ClosedWith}
+use Rattle.py_stream.specs.Answers.{ClosedWith}
 use Rattle.py_open.specs.Waiting.{ShowsAll}
 
 -- the flat file of a session, by its kind

@@ -1,12 +1,13 @@
 //! The bytes under a text, in chunks of a buffered reader.
 ghost use Rattle.std.specs.Prelude.{◌≡◌, ◌<◌};
-ghost use Rattle.py_buffered.specs.Reader.{StandsAtStart};
+ghost use Rattle.py_stream.specs.Opening.{StandsAtStart};
 ghost use Rattle.py_open.specs.Reader.{IsNew, CountsPlace, OpenOutcome, KeepsReader, MovesForth, ChunkReadOutcome, CloseOutcome};
 
 use crate::OpenRefused;
-use py_buffered::{BufferedReader, Detached, NewRefused};
 use py_flat::{IoFault, Life};
 use py_raw::RawStream;
+use py_reader::BufferedReader;
+use py_stream::{Detached, NewRefused};
 use std::alloc::Global;
 use std::marker::Model;
 

@@ -11,7 +11,7 @@ ghost use Rattle.py_plain.specs.TextStep.{TextCall, TextSettled, TextStep};
 ghost use Rattle.py_raw.specs.RawStream.{Keeps};
 ghost use Rattle.py_open.specs.declared.call.Call.{Call};
 ghost use Rattle.py_open.specs.declared.reply.Reply.{Reply};
-ghost use Rattle.py_buffered.specs.Answers.{ClosedWith};
+ghost use Rattle.py_stream.specs.Answers.{ClosedWith};
 ghost use Rattle.py_open.specs.Session.{SessionFile, SessionView};
 ghost use Rattle.py_open.specs.Opening.{life_of};
 ghost use Rattle.py_open.specs.Run.{Entry, IsRun, IsHistory, IsCalm, IsSmooth, NoneLacksMemory, all_said};

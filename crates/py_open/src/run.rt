@@ -1,6 +1,6 @@
 //! Runs: a session that is opened, and a list of calls that are made on it in order.
 ghost use Rattle.std.specs.Prelude.{◌≡◌, ◌<◌, MatchResult};
-ghost use Rattle.py_buffered.specs.Reader.{StandsAtStart};
+ghost use Rattle.py_stream.specs.Opening.{StandsAtStart};
 ghost use Rattle.py_open.specs.Run.{IsRun, OpenedOutcome, RunOutcome};
 
 use crate::{Call, Detached, OpenArgs, OpenRefused, Reply, Session, plan_open};

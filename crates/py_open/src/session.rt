@@ -1,7 +1,7 @@
 //! Sessions: each call is refused by life or kind, or answered by the text below.
 ghost use Rattle.std.specs.Prelude.{◌≡◌, ◌<◌, true, false, []};
 ghost use Rattle.py_plain.specs.TextStep.{Close, OtherKind};
-ghost use Rattle.py_buffered.specs.Reader.{StandsAtStart};
+ghost use Rattle.py_stream.specs.Opening.{StandsAtStart};
 ghost use Rattle.py_open.specs.Text.{call_of};
 ghost use Rattle.py_open.specs.Session.{Answers, AnswersAs};
 ghost use Rattle.py_open.specs.Opening.{SessionOutcome, life_of, handed_at};
@@ -9,9 +9,9 @@ ghost use Rattle.py_open.specs.Opening.{SessionOutcome, life_of, handed_at};
 use crate::chunk_reader::ChunkReader;
 use crate::text::{Answer, Text, Wanted};
 use crate::{Call, OpenRefused, Reply};
-use py_buffered::Detached;
 use py_flat::{IoFault, Life};
 use py_raw::RawStream;
+use py_stream::Detached;
 use std::alloc::Global;
 use std::marker::Model;
 

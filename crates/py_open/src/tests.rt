@@ -1,7 +1,7 @@
 //! Sessions over raws in memory, compared with worked examples and with the plain slow text.
 ghost use Rattle.std.specs.Prelude.{◌≡◌, ◌<◌, true, IfOk};
 ghost use Rattle.py_raw.specs.MemRaw.{shown};
-ghost use Rattle.py_buffered.specs.Reader.{StandsAtStart};
+ghost use Rattle.py_stream.specs.Opening.{StandsAtStart};
 
 use crate::run::run_opened;
 use crate::{Call, OpenArgs, OpenRefused, Reply, Run, run_session};

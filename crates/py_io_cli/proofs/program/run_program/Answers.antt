@@ -1,4 +1,4 @@
-use Rattle.py_raw.specs.Source.{SourceView}
+use Rattle.py_source_sink.specs.Source.{SourceView}
 use Rattle.py_io_cli.specs.Outside.{texts}
 use Rattle.py_io_cli.specs.Outcome.{Outside}
 use Rattle.py_io_cli.proofs.Ending.{paths_kept}

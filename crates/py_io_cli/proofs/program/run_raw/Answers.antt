@@ -1,7 +1,7 @@
 use Rattle.std.proofs.Common.{◌≡◌, Bool, true, List, ◌∷◌, ◌++◌, [], is_ok, unwrap_or, if◌then◌else◌, ap, ◌∙◌, subst}
 use Rattle.py_flat.specs.declared.fault.IoFault.{IoFault}
 use Rattle.py_raw.specs.RawStream.{Raw}
-use Rattle.py_raw.specs.Sink.{SinkView}
+use Rattle.py_source_sink.specs.Sink.{SinkView}
 use Rattle.py_open.specs.declared.call.Call.{Call}
 use Rattle.py_open.specs.declared.call.Call.TheVariants.{Close}
 use Rattle.py_open.specs.declared.reply.Reply.{Reply}

@@ -1,5 +1,5 @@
 use Rattle.std.proofs.Common.{◌≡◌, ◌≤◌, ◌++◌, ◌-◌, length, IsTrue}
-use Rattle.py_raw.specs.Source.{SourceKeeps}
+use Rattle.py_source_sink.specs.Source.{SourceKeeps}
 use Rattle.py_io_cli.specs.Outside.{script_limit}
 use Rattle.py_io_cli.proofs.script.read_bytes.Given as goal
 

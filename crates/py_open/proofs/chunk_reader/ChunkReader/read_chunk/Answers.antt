@@ -2,8 +2,8 @@ use Rattle.std.proofs.Common.{◌≡◌, ℕ, ◌+◌, Option, Some, Result, Ok,
 use Rattle.std.specs.declared.alloc.Global.{Global}
 use Rattle.py_flat.specs.declared.fault.IoFault.{IoFault}
 use Rattle.py_flat.specs.Calls.{Read1}
-use Rattle.py_buffered.specs.Answers.{Answers}
-use Rattle.py_buffered.specs.Replies.{bytes_reply}
+use Rattle.py_stream.specs.Answers.{Answers}
+use Rattle.py_stream.specs.Replies.{bytes_reply}
 use Rattle.py_open.specs.Reader.{ReaderView, Gives}
 use Rattle.py_open.proofs.Reading.{seen_at, reads_chunk}
 use Rattle.py_open.proofs.chunk_reader.ChunkReader.read_chunk.Goals as goal
