@@ -8,7 +8,7 @@ use Rattle.py_flat.specs.Lines.{Lf, lf, line_after, has_end_after, first_line, l
 use Rattle.py_flat.specs.Bytes.{first_of}
 use Rattle.py_flat.specs.BinaryStep.{IsFrontOf}
 use Rattle.py_lines.specs.Collecting.{LineView, line_wanted, limit_left, LineIsOpen, WithinLimit, FitsLimit, HasEnough, WantsMore, LinesView, all_lines, lines_collected, lines_wanted, IsOneLine, AreCut, HintLeaves, LinesAreOpen, AreEnough, AreEnoughIf, EndsLine}
-use Rattle.py_lines.proofs.Asking.{none_behind, line_asks, lines_ask}
+use Rattle.py_lines.proofs.Asking.{line_asks, lines_ask}
 use Rattle.py_lines.proofs.Lines.{line_behind, EndsAt, joined_more, joined_with_part, lines_of_cut, cut_more, within_ends, lines_go_on, lines_alone}
 
 -- One line.
@@ -276,6 +276,6 @@ lines_want_more old view new bytes rest used front is stays new_is cut =
           ∙ (append_assoc before (take used bytes) rest
           ∙ ap (λ (t : List ℕ). before ++ t) (ap (λ (t : List ℕ). take used bytes ++ t) is ∙ take-append-drop used bytes))));
       goes_on = λ more. subst (λ (h : Option ℕ). IsFrontOf (lines_collected new) (joined (lines_within h (lines_collected new ++ more)))) same (lines_go_on new cut opened more);
-      asks = λ more some. lines_ask old.hint (lines_collected new ++ more) (λ none. some (none_behind (lines_collected new) more none));
+      asks = λ more some. subst (λ (h : Option ℕ). length (lines_collected new) < length (joined (lines_within h (lines_collected new ++ more)))) same (lines_ask new more cut opened some);
       alone = subst (λ (h : Option ℕ). joined (lines_within h (lines_collected new)) ≡ lines_collected new) same (lines_alone new cut opened);
     }

@@ -63,11 +63,11 @@ found_in bytes n at none here =
 -- The lines of a list.
 
 -- some bytes before the first of some lines
-abbrev onto : List ℕ → List (List ℕ) → List (List ℕ)
+abbrev pub onto : List ℕ → List (List ℕ) → List (List ℕ)
 onto [] lines = lines
 onto (c ∷ cs) lines = onto_first c (onto cs lines)
 
-onto_line : (part line : List ℕ) (lines : List (List ℕ)) → onto part (line ∷ lines) ≡ (part ++ line) ∷ lines
+pub onto_line : (part line : List ℕ) (lines : List (List ℕ)) → onto part (line ∷ lines) ≡ (part ++ line) ∷ lines
 onto_line [] line lines = refl
 onto_line (c ∷ cs) line lines = ap (onto_first c) (onto_line cs line lines)
 
@@ -86,7 +86,7 @@ none_here true behind none = absurd (cc)
 none_here false behind none = (refl, none)
 
 -- bytes in which no line ends begin the first line of what comes behind
-lines_onto : (after_cr : Bool) (part more : List ℕ) → has_end_after Lf after_cr part ≡ false → lines_of (part ++ more) ≡ onto part (lines_of more)
+pub lines_onto : (after_cr : Bool) (part more : List ℕ) → has_end_after Lf after_cr part ≡ false → lines_of (part ++ more) ≡ onto part (lines_of more)
 lines_onto after_cr [] more none = refl
 lines_onto after_cr (c ∷ cs) more none =
     let parts = none_here (nat_eq c lf) (has_end_after Lf (nat_eq c cr) cs) none in
@@ -122,7 +122,7 @@ none_in_both after_cr (c ∷ cs) ys first second = none_both_at (nat_eq c lf) (h
 
 -- Lines that are ended, and a part behind them.
 
-joined_both : (lines more : List (List ℕ)) → joined (lines ++ more) ≡ joined lines ++ joined more
+pub joined_both : (lines more : List (List ℕ)) → joined (lines ++ more) ≡ joined lines ++ joined more
 joined_both [] more = refl
 joined_both (line ∷ lines) more = ap (λ (t : List ℕ). line ++ t) (joined_both lines more) ∙ sym (append_assoc line (joined lines) (joined more))
 
@@ -183,7 +183,7 @@ until_passes hint total (line ∷ lines) more fits =
     ∙ (until_passes hint here lines more (omega arith)
     ∙ ap (λ (n : ℕ). lines ++ until_above hint n more) same))
 
-until_first : (hint : ℕ) (lines more : List (List ℕ)) → length (joined lines) ≤ hint → until_above hint 0 (lines ++ more) ≡ lines ++ until_above hint (length (joined lines)) more
+pub until_first : (hint : ℕ) (lines more : List (List ℕ)) → length (joined lines) ≤ hint → until_above hint 0 (lines ++ more) ≡ lines ++ until_above hint (length (joined lines)) more
 until_first hint lines more fits =
     let none : 0 + length (joined lines) ≡ length (joined lines) = zero-add (length (joined lines)) in
     until_passes hint 0 lines more (omega arith) ∙ ap (λ (n : ℕ). lines ++ until_above hint n more) none
@@ -191,7 +191,7 @@ until_first hint lines more fits =
 until_ends : (hint total : ℕ) (line : List ℕ) (more : List (List ℕ)) → hint < total + length line → until_above hint total (line ∷ more) ≡ line ∷ []
 until_ends hint total line more above = ap (λ (t : List (List ℕ)). line ∷ t) (above_at hint (total + length line) (until_above hint (total + length line) more) above)
 
-within_some : (hint : ℕ) (bytes : List ℕ) → lines_within (Some (suc hint)) bytes ≡ until_above (suc hint) 0 (lines_of bytes)
+pub within_some : (hint : ℕ) (bytes : List ℕ) → lines_within (Some (suc hint)) bytes ≡ until_above (suc hint) 0 (lines_of bytes)
 within_some hint bytes =
     let some : nat_eq (suc hint) 0 ≡ false = grind (arith, nat_tests) in
     ap (λ (b : Bool). if b then lines_of bytes else until_above (suc hint) 0 (lines_of bytes)) some

@@ -14,11 +14,11 @@ pub record HasEnough (wanted : List ℕ → List ℕ) (before bytes : List ℕ) 
   pub exact : (more : List ℕ) → wanted (before ++ (bytes ++ more)) ≡ after
   pub alone : wanted after ≡ after
 
--- all was used, and what is wanted goes on behind it, if anything does
+-- all was used, and what is wanted goes on behind it, by some of whatever comes there
 pub record WantsMore (wanted : List ℕ → List ℕ) (before bytes after : List ℕ) : Type 0 where
   pub takes : after ≡ before ++ bytes
   pub goes_on : (more : List ℕ) → IsFrontOf after (wanted (after ++ more))
-  pub asks : (more : List ℕ) → more ≢ [] → wanted (after ++ more) ≢ []
+  pub asks : (more : List ℕ) → more ≢ [] → length after < length (wanted (after ++ more))
   pub alone : wanted after ≡ after
 
 -- what a piece comes to: enough, not yet enough, or want of memory

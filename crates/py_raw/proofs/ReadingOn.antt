@@ -6,7 +6,7 @@ use Rattle.std.proofs.lemmas.List.{nil_from_length, append-nil, length-take-le, 
 use Rattle.std.proofs.Math.Seq.{take-add}
 use Rattle.py_flat.specs.Bytes.{left_at}
 use Rattle.py_flat.specs.Causes.{counted}
-use Rattle.py_raw.specs.RawStream.{Raw, Keeps, NoFault, NoWait, LeavesCounts, AsksToWait, ReadBytes, ReadTold}
+use Rattle.py_raw.specs.RawStream.{Raw, Keeps, NoFault, NoWait, WaitsOnce, LeavesCounts, AnswersFor, AsksToWait, ReadBytes, ReadTold}
 use Rattle.py_raw.specs.ReadAll.{ReadOn, ReadSoFar, CameBy, ReadsAll, ReadAllOutcome}
 
 -- the bytes that were held, then what a transfer put in front of the room behind them
@@ -46,6 +46,12 @@ no_fault_then old mid new keeps first second exact = second (keeps.counts_exactl
 
 pub no_wait_then : (old mid new : Raw) → Keeps old mid → NoWait old mid → NoWait mid new → NoWait old new
 no_wait_then old mid new keeps first second exact = second (keeps.counts_exactly ∙ exact) ∙ first exact
+
+waits_then : (old mid new : Raw) → Keeps old mid → NoWait old mid → WaitsOnce mid new → WaitsOnce old new
+waits_then old mid new keeps first second exact = second (keeps.counts_exactly ∙ exact) ∙ ap (λ waits. counted waits 1) (first exact)
+
+unwritten_then : (old mid new : Raw) → Keeps old mid → AnswersFor 0 old mid → AnswersFor 0 mid new → AnswersFor 0 old new
+unwritten_then old mid new keeps first second tells = second (keeps.tells ∙ tells) ∙ first tells
 
 pub uncounted_then : (old mid new : Raw) → Keeps old mid → LeavesCounts old mid → LeavesCounts mid new → LeavesCounts old new
 uncounted_then old mid new keeps first second = record {
@@ -101,6 +107,7 @@ so_far_more old mid new start held before after count keeps was is some within =
       appended = ap (λ front. front ++ take count after) was.appended ∙ append_assoc start was.part (take count after);
       untouched = λ none. absurd (let whole = length-append was.part (take count after) in let none_is = ap length none in omega arith);
       counts = uncounted_then old mid new keeps was.counts is.counts;
+      written = unwritten_then old mid new keeps was.written is.written;
       told = λ tells. read_on old mid new was.part before after count (was.told tells) (is.told (keeps.tells ∙ tells)) within;
       transfers = λ tells _. let whole = length-append was.part (take count after) in came_by_more old mid new start held (length (was.part ++ take count after)) tells was (is.told (keeps.tells ∙ tells)).transfers (omega arith);
     }
@@ -114,6 +121,7 @@ reads_to_end old mid new start held before after none count keeps was is is_none
       appended = was.appended;
       counts = omega arith;
       no_fault = no_fault_then old mid new keeps was.counts.no_fault is.counts.no_fault;
+      written = unwritten_then old mid new keeps was.written is.written;
       told = λ tells. let last = is.told (keeps.tells ∙ tells) in let part = was.told tells in record {
         given = part.given;
         bytes = last.bytes ∙ part.bytes;
@@ -132,12 +140,13 @@ reads_to_wait old mid new start held count keeps was is some counts =
       appended = was.appended;
       counts = omega arith;
       no_fault = no_fault_then old mid new keeps was.counts.no_fault is.no_fault;
+      written = unwritten_then old mid new keeps was.written is.written;
       told = λ tells. let last = is.told (keeps.tells ∙ tells) in let part = was.told tells in record {
         given = part.given;
         bytes = last.bytes ∙ part.bytes;
         place = last.place ∙ part.place;
       };
-      stops = inr (omega arith, omega (arith, is.cause, keeps.waits));
+      stops = inr (omega arith, omega (arith, is.cause, keeps.waits), waits_then old mid new keeps was.counts.no_wait is.once);
       transfers = λ tells. came_by_more old mid new start held (count + 1) tells was (is.told (keeps.tells ∙ tells)).transfers (omega arith);
     }
 

@@ -18,6 +18,7 @@ shown raw = record {
   bytes = [];
   place = 0;
   transfers = 0;
+  written = 0;
   faults = raw.faults;
   waits = raw.waits;
   closed = raw.closed;

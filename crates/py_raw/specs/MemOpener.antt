@@ -48,6 +48,7 @@ opened_raw mode bytes = record {
   bytes = bytes;
   place = 0;
   transfers = 0;
+  written = 0;
   faults = 0;
   waits = 0;
   closed = false;

@@ -20,6 +20,7 @@ shown raw = record {
   bytes = raw.bytes.items;
   place = raw.place;
   transfers = raw.transfers;
+  written = raw.written;
   faults = raw.faults;
   waits = raw.waits;
   closed = raw.closed;
@@ -67,9 +68,13 @@ broken raw = called raw (record raw.shows { transfers = counted raw.shows.transf
 abbrev pub waited : MemRawView → MemRawView
 waited raw = called raw (record raw.shows { transfers = counted raw.shows.transfers 1; waits = counted raw.shows.waits 1 })
 
--- after a transfer that moved the place
+-- after a read that moved the place
 abbrev pub moved : MemRawView → ℕ → MemRawView
 moved raw count = called raw (record raw.shows { transfers = counted raw.shows.transfers 1; place = raw.shows.place + count })
+
+-- after a write that answered for so many bytes: the place moved behind them
+abbrev pub wrote : MemRawView → ℕ → MemRawView
+wrote raw count = called raw (record raw.shows { transfers = counted raw.shows.transfers 1; place = raw.shows.place + count; written = counted raw.shows.written count })
 
 -- with a piece laid on at the place
 abbrev pub laid : MemRawView → List ℕ → MemRawView
@@ -122,7 +127,7 @@ write_turn raw asked = if is_refused raw then Refuses else write_by (next_cut ra
 -- the state after a write by a turn; one that breaks off leaves the place
 abbrev pub after_write : MemRawView → List ℕ → Turn → MemRawView
 after_write raw piece Refuses = refused_once raw
-after_write raw piece (Moves count) = moved (laid raw (take count piece)) count
+after_write raw piece (Moves count) = wrote (laid raw (take count piece)) count
 after_write raw piece Stalls = broken raw
 after_write raw piece Waits = waited raw
 after_write raw piece (Breaks count) = broken (laid raw (take count piece))

@@ -6,13 +6,15 @@ use Rattle.py_flat.specs.Causes.{Rose, counted}
 use Rattle.py_raw.specs.declared.raw_error.RawError.{RawError}
 use Rattle.py_raw.specs.declared.raw_error.RawError.TheVariants.{Fault, Memory}
 
--- what a raw stream shows. Its bytes, its place and its number of transfers mean something only where it tells them. It
--- counts exactly where its counts rise in the calls alone that answer a fault, or ask to wait
+-- what a raw stream shows. Its bytes, its place, its number of transfers and the number of bytes that its writes answered for
+-- mean something only where it tells them. It counts exactly where its counts rise in the calls alone that answer a fault, or
+-- ask to wait
 pub record Raw : Type 0 where
   pub tells : Bool
   pub bytes : List ℕ
   pub place : ℕ
   pub transfers : ℕ
+  pub written : ℕ
   pub faults : ℕ
   pub waits : ℕ
   pub closed : Bool
@@ -47,7 +49,11 @@ NoFault old new = IsTrue old.counts_exactly → new.faults ≡ old.faults
 abbrev pub NoWait : Raw → Raw → Type 0
 NoWait old new = IsTrue old.counts_exactly → new.waits ≡ old.waits
 
--- neither
+-- and one wait, no more
+abbrev pub WaitsOnce : Raw → Raw → Type 0
+WaitsOnce old new = IsTrue old.counts_exactly → new.waits ≡ counted old.waits 1
+
+-- no fault was counted, and no wait
 pub record LeavesCounts (old new : Raw) : Type 0 where
   pub no_fault : NoFault old new
   pub no_wait : NoWait old new
@@ -62,21 +68,28 @@ pub record StandsStill (more : ℕ) (old new : Raw) : Type 0 where
 abbrev pub WhereTold : Raw → Type 0 → Type 0
 WhereTold raw Fact = IsTrue raw.tells → Fact
 
+-- told: it answered for so many bytes more, as far as a count can tell
+abbrev pub AnswersFor : ℕ → Raw → Raw → Type 0
+AnswersFor more old new = WhereTold old (counted new.written 0 ≡ counted old.written more)
+
 -- want of memory leaves all as it was, and comes only of a stream that takes memory
 pub record LacksMemory (old new : Raw) : Type 0 where
   pub takes : IsTrue old.takes_memory
   pub same : new ≡ old
 
--- not ready: the waits rose, and nothing moved
+-- not ready: the waits rose, by one alone where the stream counts exactly, and nothing moved
 pub record AsksToWait (old new : Raw) : Type 0 where
   pub cause : Rose old.waits new.waits
+  pub once : WaitsOnce old new
   pub no_fault : NoFault old new
+  pub written : AnswersFor 0 old new
   pub told : WhereTold old (StandsStill 1 old new)
 
 -- a fault that leaves the bytes as they were; at most so many transfers more are counted
 pub record FailsWithout (most : ℕ) (old new : Raw) : Type 0 where
   pub cause : Rose old.faults new.faults
   pub no_wait : NoWait old new
+  pub written : AnswersFor 0 old new
   pub told : WhereTold old (new.bytes ≡ old.bytes)
   pub transfers : WhereTold old ((old.transfers ≤ new.transfers) × (new.transfers ≤ counted old.transfers most))
 
@@ -94,6 +107,7 @@ pub record ReadTold (old : Raw) (before : List ℕ) (count : ℕ) (after : List 
 pub record ReadBytes (old : Raw) (before : List ℕ) (count : ℕ) (after : List ℕ) (new : Raw) : Type 0 where
   pub fits : count ≤ length before
   pub counts : LeavesCounts old new
+  pub written : AnswersFor 0 old new
   pub told : WhereTold old (ReadTold old before count after new)
 
 -- `before` and `after` are the buffer's bytes
@@ -121,12 +135,14 @@ pub record WritesBytes (old : Raw) (piece : List ℕ) (count : ℕ) (new : Raw) 
   pub none : count ≡ 0 → piece ≢ [] → Rose old.faults new.faults
   pub no_fault : (count ≡ 0 → piece ≡ []) → NoFault old new
   pub no_wait : NoWait old new
+  pub written : AnswersFor count old new
   pub told : WhereTold old (WriteTold old piece count new)
 
--- a fault of a write may have laid on a front of the piece
+-- a fault of a write may have laid on a front of the piece, but answers for none of it
 pub record FailsWriting (old : Raw) (piece : List ℕ) (new : Raw) : Type 0 where
   pub cause : Rose old.faults new.faults
   pub no_wait : NoWait old new
+  pub written : AnswersFor 0 old new
   pub told : WhereTold old ((count : ℕ) × (count ≤ length piece) × (new.bytes ≡ lay old.bytes old.place (take count piece)))
   pub transfers : WhereTold old ((old.transfers ≤ new.transfers) × (new.transfers ≤ counted old.transfers 1))
 
@@ -146,6 +162,7 @@ pub record Moved (old : Raw) (place : ℕ) (new : Raw) : Type 0 where
 
 pub record Seeks (old : Raw) (place : ℕ) (new : Raw) : Type 0 where
   pub counts : LeavesCounts old new
+  pub written : AnswersFor 0 old new
   pub told : WhereTold old (Moved old place new)
 
 abbrev pub SeekOutcome : Raw → ℕ → Result (Unit {0}) RawError → Raw → Type 0
@@ -157,6 +174,7 @@ SeekOutcome old place (Err Memory) new = LacksMemory old new
 pub record Answers (old : Raw) (told answer : ℕ) (new : Raw) : Type 0 where
   pub within : answer ≤ greatest_place
   pub counts : LeavesCounts old new
+  pub written : AnswersFor 0 old new
   pub value : WhereTold old (answer ≡ told)
   pub still : WhereTold old (StandsStill 0 old new)
 
@@ -183,11 +201,13 @@ pub record Resized (old : Raw) (size : ℕ) (new : Raw) : Type 0 where
 pub record FailsResizing (old : Raw) (size : ℕ) (new : Raw) : Type 0 where
   pub cause : Rose old.faults new.faults
   pub no_wait : NoWait old new
+  pub written : AnswersFor 0 old new
   pub told : WhereTold old ((new.bytes ≡ old.bytes) ⊎ (new.bytes ≡ resized old.bytes size))
   pub transfers : WhereTold old (new.transfers ≡ old.transfers)
 
 pub record Truncates (old : Raw) (size : ℕ) (new : Raw) : Type 0 where
   pub counts : LeavesCounts old new
+  pub written : AnswersFor 0 old new
   pub told : WhereTold old (Resized old size new)
 
 abbrev pub TruncateOutcome : Raw → ℕ → Result (Unit {0}) RawError → Raw → Type 0
@@ -201,6 +221,7 @@ TruncateOutcome old size (Err Memory) new = LacksMemory old new
 pub record Closes (old new : Raw) : Type 0 where
   pub closed : new.closed ≡ true
   pub no_wait : NoWait old new
+  pub written : AnswersFor 0 old new
   pub told : WhereTold old ((new.bytes ≡ old.bytes) × (new.transfers ≡ old.transfers))
 
 abbrev pub CloseOutcome : Raw → Result (Unit {0}) RawError → Raw → Type 0

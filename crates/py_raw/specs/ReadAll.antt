@@ -5,7 +5,7 @@ use Rattle.py_flat.specs.Bytes.{left_at}
 use Rattle.py_flat.specs.Causes.{Rose, counted}
 use Rattle.py_raw.specs.declared.raw_error.RawError.{RawError}
 use Rattle.py_raw.specs.declared.raw_error.RawError.TheVariants.{Fault, Memory}
-use Rattle.py_raw.specs.RawStream.{Raw, Keeps, WhereTold, NoFault, NoWait, LeavesCounts, AsksToWait, FailsWithout}
+use Rattle.py_raw.specs.RawStream.{Raw, Keeps, WhereTold, NoFault, NoWait, WaitsOnce, LeavesCounts, AnswersFor, AsksToWait, FailsWithout}
 
 -- told: a part is the next bytes of the stream
 abbrev pub IsNext : Raw → List ℕ → Type 0
@@ -23,6 +23,7 @@ pub record ReadOn (old : Raw) (part : List ℕ) (new : Raw) : Type 0 where
 pub record ReadsOnce (old : Raw) (size : ℕ) (bytes : List ℕ) (new : Raw) : Type 0 where
   pub fits : length bytes ≤ size
   pub counts : LeavesCounts old new
+  pub written : AnswersFor 0 old new
   pub told : WhereTold old (ReadOn old bytes new)
   pub end : WhereTold old (length bytes ≡ 0 → size ≢ 0 → length old.bytes ≤ old.place)
   pub transfers : WhereTold old (new.transfers ≡ counted old.transfers 1)
@@ -49,12 +50,13 @@ pub record ReadSoFar (old : Raw) (before after : List ℕ) (new : Raw) : Type 0 
   pub appended : after ≡ before ++ part
   pub untouched : part ≡ [] → new ≡ old
   pub counts : LeavesCounts old new
+  pub written : AnswersFor 0 old new
   pub told : WhereTold old (ReadOn old part new)
   pub transfers : WhereTold old (part ≢ [] → CameBy (length part) old.transfers new.transfers)
 
--- why a reading up to the end stops: the end was reached, or the stream asked to wait after some bytes
+-- why a reading up to the end stops: the end was reached, or the stream asked to wait after some bytes, once
 abbrev pub Stops : Raw → ℕ → Raw → Type 0
-Stops old count new = (NoWait old new × WhereTold old (length old.bytes ≤ new.place)) ⊎ ((1 ≤ count) × Rose old.waits new.waits)
+Stops old count new = (NoWait old new × WhereTold old (length old.bytes ≤ new.place)) ⊎ ((1 ≤ count) × Rose old.waits new.waits × WaitsOnce old new)
 
 -- so many bytes were read and appended; one transfer more found that no more come
 pub record ReadsAll (old : Raw) (before : List ℕ) (count : ℕ) (after : List ℕ) (new : Raw) : Type 0 where
@@ -62,6 +64,7 @@ pub record ReadsAll (old : Raw) (before : List ℕ) (count : ℕ) (after : List 
   pub appended : after ≡ before ++ part
   pub counts : count ≡ length part
   pub no_fault : NoFault old new
+  pub written : AnswersFor 0 old new
   pub told : WhereTold old (ReadOn old part new)
   pub stops : Stops old count new
   pub transfers : WhereTold old (CameBy (count + 1) old.transfers new.transfers)

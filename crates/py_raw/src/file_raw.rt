@@ -47,6 +47,7 @@ impl<F> FileRaw<F> {
           bytes = [];
           place = 0;
           transfers = 0;
+          written = 0;
           faults = 0;
           waits = 0;
           closed = false;

@@ -24,11 +24,13 @@ pub struct MemRaw {
     refused: Vec<u64>,
     calls: u64,
     transfers: u64,
+    written: u64,
     faults: u64,
     waits: u64,
     closed: bool,
     ghost place_fits: { place ≤ greatest_place },
     ghost transfers_fit: { transfers ≤ greatest_count },
+    ghost written_fits: { written ≤ greatest_count },
     ghost faults_fit: { faults ≤ greatest_count },
     ghost waits_fit: { waits ≤ greatest_count },
 }

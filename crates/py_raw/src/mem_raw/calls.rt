@@ -56,7 +56,7 @@ impl RawStream for MemRaw {
         match self.write_turn(piece.len()) {
             Turn::Moves(count) => {
                 self.lay(&piece[..count])?;
-                self.advance(count);
+                self.count_written(count);
                 Ok(Some(count))
             }
             Turn::Stalls => {

@@ -2,7 +2,7 @@ ghost use Rattle.std.specs.Prelude.{◌≡◌, ◌+◌, ◌≤◌, true, false, 
 ghost use Rattle.py_flat.specs.Bytes.{left_at};
 ghost use Rattle.py_flat.specs.Limits.{greatest_place};
 ghost use Rattle.py_raw.specs.Flags.{can_read, can_write, can_seek};
-ghost use Rattle.py_raw.specs.MemRaw.{shown, view_of, is_refused, next_cut, read_turn, write_turn, called, refused_once, broken, waited, moved, laid, cut_to};
+ghost use Rattle.py_raw.specs.MemRaw.{shown, view_of, is_refused, next_cut, read_turn, write_turn, called, refused_once, broken, waited, moved, wrote, laid, cut_to};
 
 use super::MemRaw;
 use crate::cut::{Turn, read_by, write_by};
@@ -19,6 +19,7 @@ impl MemRaw {
             bytes = bytes.items;
             place = 0;
             transfers = 0;
+            written = 0;
             faults = 0;
             waits = 0;
             closed = false;
@@ -41,6 +42,7 @@ impl MemRaw {
             refused: faults,
             calls: 0,
             transfers: 0,
+            written: 0,
             faults: 0,
             waits: 0,
             closed: false,
@@ -141,7 +143,7 @@ impl MemRaw {
         self.faults = self.faults.saturating_add(1);
     }
 
-    /// Counts a transfer of so many bytes, and moves the place behind them.
+    /// Counts a read of so many bytes, and moves the place behind them.
     pub(super) fn advance(&mut self, count: usize)
         requires { self.old.place + count ≤ greatest_place }
         ensures { view_of self.new ≡ moved (view_of self.old) count }
@@ -149,6 +151,15 @@ impl MemRaw {
         self.calls = self.calls.saturating_add(1);
         self.transfers = self.transfers.saturating_add(1);
         self.place += count as u64;
+    }
+
+    /// Counts a write that answers for so many bytes, and moves the place behind them.
+    pub(super) fn count_written(&mut self, count: usize)
+        requires { self.old.place + count ≤ greatest_place }
+        ensures { view_of self.new ≡ wrote (view_of self.old) count }
+    {
+        self.advance(count);
+        self.written = self.written.saturating_add(count as u64);
     }
 
     /// Lays a part of a piece on at the place, or lacks memory and leaves all as it was.

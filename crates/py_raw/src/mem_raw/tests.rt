@@ -186,10 +186,11 @@ fn a_single_reading_gives_what_one_transfer_does(rt: HostRuntime) {
 #[test]
 fn a_reading_up_to_the_end_keeps_what_came_before_a_fault(rt: HostRuntime) {
     let one = Cut::Take(1);
-    let table: [(&[Cut], &[u64], Result<Option<usize>, RawError>, &[u8]); 5] = [
+    let table: [(&[Cut], &[u64], Result<Option<usize>, RawError>, &[u8]); 6] = [
         (&[], &[], Ok(Some(5)), b".abcde"),
         (&[one, one, one, one, one], &[], Ok(Some(5)), b".abcde"),
         (&[one, one, Cut::Wait], &[], Ok(Some(2)), b".ab"),
+        (&[one, Cut::Wait, one], &[], Ok(Some(1)), b".a"),
         (&[one, one], &[2], Err(RawError::Fault), b".ab"),
         (&[Cut::Take(2), one], &[2], Err(RawError::Fault), b".abc"),
     ];

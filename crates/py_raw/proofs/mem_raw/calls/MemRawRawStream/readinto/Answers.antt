@@ -1,5 +1,6 @@
 use Rattle.std.proofs.Common.{◌≡◌, ◌≤◌, min, length, arith, sym, ap, ◌∙◌}
 use Rattle.py_flat.specs.Bytes.{left_at}
+use Rattle.py_flat.specs.Causes.{counted}
 use Rattle.py_raw.specs.MemRaw.{MemRawView, view_of}
 use Rattle.py_raw.proofs.ReadParts.{MovesOf, moves_in_turn, front_given, end_reached}
 use Rattle.py_raw.proofs.mem_raw.calls.MemRawRawStream.readinto.Goals as goal
@@ -14,6 +15,7 @@ returns-in-Moves-clause-outcome c =
     record {
       fits = omega arith;
       counts = record { no_fault = λ _. ap (λ (view : MemRawView). view.shows.faults) c.advance.ensures; no_wait = λ _. ap (λ (view : MemRawView). view.shows.waits) c.advance.ensures };
+      written = λ _. ap (λ (view : MemRawView). counted view.shows.written 0) c.advance.ensures;
       told = λ _. record {
         left = within;
         given = front_given left c.args.buf.now c.fill_front.new.buf c.in-Moves.count within cc;
