@@ -1,5 +1,5 @@
 -- What a call answers doesn't hang on whether the answer before was short.
-use Rattle.std.proofs.Common.{◌≡◌, ℕ, ℤ, pos, suc, zero, true, false, IsTrue, List, Option, Some, None}
+use Rattle.std.proofs.Common.{◌≡◌, ℕ, ℤ, pos, suc, zero, Bool, true, false, IsTrue, List, Option, Some, None}
 use Rattle.py_flat.specs.declared.fault.IoFault.{IoFault}
 use Rattle.py_flat.specs.declared.fault.IoFault.TheVariants as fault
 use Rattle.py_flat.specs.Refusals.{moved_by, target_refusal}
@@ -7,107 +7,161 @@ use Rattle.py_flat.specs.Calls.{FileCall, Write, Seek, Truncate, Flush, Close, D
 use Rattle.py_flat.specs.BinaryStep.{payload}
 use Rattle.py_raw.specs.RawStream.{WhereTold}
 use Rattle.py_stream.specs.Stream.{Stream}
-use Rattle.py_stream.specs.Kinds.{is_writing}
-use Rattle.py_stream.specs.Writing.{OwesUpTo, Takes, LaysInOrder, PassedOn, PassesOn, OwesNoneOfIts, Writes}
-use Rattle.py_stream.specs.Answers.{Answers, Leaves, SeeksTo, SeeksFromEnd, EndMoves, SeeksByEnd, closes_again}
+use Rattle.py_stream.specs.Kinds.{is_writing, has_room}
+use Rattle.py_stream.specs.Writing.{OwesUpTo, Takes, PassesFront, LaysInOrder, PassedOn, PassesOn, OwesOld, OwesNoneOfIts, Writes}
+use Rattle.py_stream.specs.Answers.{Answers, AnswersWith, Leaves, SeeksTo, SeeksFromEnd, EndMoves, SeeksByEnd, closes_again}
 
--- a stream whose last answer wasn't short
+-- a stream whose last answer was short, or wasn't
+abbrev pub seen : Bool → Stream → Stream
+seen short stream = record stream { short = short }
+
+-- one whose last answer wasn't
 abbrev pub whole : Stream → Stream
-whole stream = record stream { short = false }
+whole stream = seen false stream
 
-leaves : (before after : Stream) (expected reply : FileReply) → Leaves (whole before) expected reply after → Leaves before expected reply after
-leaves before after expected reply left = record { says = left.says; same = left.same }
+module _ (short : Bool) where
+  leaves : (before after : Stream) (expected reply : FileReply) → Leaves (seen short before) expected reply after → Leaves before expected reply after
+  leaves before after expected reply left = record { says = left.says; same = left.same }
 
-seeks_to : (before after : Stream) (target : Option ℕ) (refused : Option IoFault) (reply : FileReply) → SeeksTo (whole before) target refused reply after → SeeksTo before target refused reply after
-seeks_to before after (Some target) None reply sought = sought
-seeks_to before after (Some target) (Some why) reply sought = leaves before _ (Refused why) reply sought
-seeks_to before after None (Some why) reply sought = leaves before _ (Refused why) reply sought
-seeks_to before after None None reply sought = absurd sought
+  seeks_to : (before after : Stream) (target : Option ℕ) (refused : Option IoFault) (reply : FileReply) → SeeksTo (seen short before) target refused reply after → SeeksTo before target refused reply after
+  seeks_to before after (Some target) None reply sought = sought
+  seeks_to before after (Some target) (Some why) reply sought = leaves before _ (Refused why) reply sought
+  seeks_to before after None (Some why) reply sought = leaves before _ (Refused why) reply sought
+  seeks_to before after None None reply sought = absurd sought
 
-from_end : (before after : Stream) (offset : ℤ) (reply : FileReply) → SeeksFromEnd (whole before) offset reply after → SeeksFromEnd before offset reply after
-from_end before after offset reply sought = record {
-  end = sought.end;
-  within = sought.within;
-  target = seeks_to before after (moved_by sought.end offset) (target_refusal (moved_by sought.end offset)) reply sought.target;
-}
+  from_end : (before after : Stream) (offset : ℤ) (reply : FileReply) → SeeksFromEnd (seen short before) offset reply after → SeeksFromEnd before offset reply after
+  from_end before after offset reply sought = record {
+    end = sought.end;
+    within = sought.within;
+    target = seeks_to before after (moved_by sought.end offset) (target_refusal (moved_by sought.end offset)) reply sought.target;
+  }
 
-end_moves : (before after : Stream) (offset : ℤ) (reply : FileReply) → EndMoves (whole before) offset reply after → EndMoves before offset reply after
-end_moves before after offset (Refused fault.RawFault) moves = tt
-end_moves before after offset (Refused (fault.WouldBlock taken)) moves = tt
-end_moves before after offset (Refused fault.NoMemory) moves = tt
-end_moves before after offset reply moves = from_end before after offset reply moves
+  end_moves : (before after : Stream) (offset : ℤ) (reply : FileReply) → EndMoves (seen short before) offset reply after → EndMoves before offset reply after
+  end_moves before after offset (Refused fault.RawFault) moves = tt
+  end_moves before after offset (Refused (fault.WouldBlock taken)) moves = tt
+  end_moves before after offset (Refused fault.NoMemory) moves = tt
+  end_moves before after offset reply moves = from_end before after offset reply moves
 
-by_end : (before after : Stream) (call : FileCall) (reply : FileReply) → SeeksByEnd (whole before) call reply after → SeeksByEnd before call reply after
-by_end before after (Seek offset (pos (suc (suc zero)))) reply seeks = λ asks. end_moves before after offset reply (seeks asks)
-by_end before after call reply seeks = tt
+  by_end : (before after : Stream) (call : FileCall) (reply : FileReply) → SeeksByEnd (seen short before) call reply after → SeeksByEnd before call reply after
+  by_end before after (Seek offset (pos (suc (suc zero)))) reply seeks = λ asks. end_moves before after offset reply (seeks asks)
+  by_end before after call reply seeks = tt
 
-again : (before after : Stream) (call : FileCall) (reply : FileReply) → (closes_again (whole before) call ≡ true → Leaves (whole before) Done reply after) → closes_again before call ≡ true → Leaves before Done reply after
-again before after Close reply closed closes = leaves before after Done reply (closed closes)
-again before after call reply closed closes = absurd (cc)
+  again : (before after : Stream) (call : FileCall) (reply : FileReply) → (closes_again (seen short before) call ≡ true → Leaves (seen short before) Done reply after) → closes_again before call ≡ true → Leaves before Done reply after
+  again before after Close reply closed closes = leaves before after Done reply (closed closes)
+  again before after call reply closed closes = absurd (cc)
 
-taken : (before after : Stream) (call : FileCall) → (IsTrue (is_writing call) → OwesUpTo before.owed before.place → Takes (whole before) (payload call) after) → IsTrue (is_writing call) → OwesUpTo before.owed before.place → Takes before (payload call) after
-taken before after call takes writing up_to = let is = takes writing up_to in record { taken = is.taken; within = is.within; place = is.place; passed = is.passed; owed = is.owed; up_to = is.up_to; told = is.told }
+  taken : (before after : Stream) (call : FileCall) → (IsTrue (is_writing call) → OwesUpTo before.owed before.place → Takes (seen short before) (payload call) after) → IsTrue (is_writing call) → OwesUpTo before.owed before.place → Takes before (payload call) after
+  taken before after call takes writing up_to = let is = takes writing up_to in record { taken = is.taken; within = is.within; place = is.place; passed = is.passed; most = is.most; answered = is.answered; owed = is.owed; up_to = is.up_to; told = is.told }
 
-lays_whole : (before : Stream) (call : FileCall) (bytes : List ℕ) → LaysInOrder (whole before) call bytes → LaysInOrder before call bytes
-lays_whole before (Truncate size) bytes is = tt
-lays_whole before call bytes is = record { owed = is.owed; more = is.more; order = is.order; bytes = is.bytes }
+  front_passed : (before after : Stream) → PassesFront (seen short before) after → PassesFront before after
+  front_passed before after is = record { passed = is.passed; most = is.most; answered = is.answered; bytes = is.bytes; place = is.place }
 
-laid : (before : Stream) (call : FileCall) (bytes : List ℕ) → WhereTold before.raw (LaysInOrder (whole before) call bytes) → WhereTold before.raw (LaysInOrder before call bytes)
-laid before call bytes is tells = lays_whole before call bytes (is tells)
+  lays_whole : (before : Stream) (call : FileCall) (bytes : List ℕ) → LaysInOrder (seen short before) call bytes → LaysInOrder before call bytes
+  lays_whole before (Truncate size) bytes is = tt
+  lays_whole before call bytes is = record { owed = is.owed; more = is.more; order = is.order; bytes = is.bytes }
 
-passed_on : (before after : Stream) → PassedOn (whole before) after → PassedOn before after
-passed_on before after is = record { none = is.none; holds = is.holds }
+  laid : (before : Stream) (call : FileCall) (bytes : List ℕ) → WhereTold before.raw (LaysInOrder (seen short before) call bytes) → WhereTold before.raw (LaysInOrder before call bytes)
+  laid before call bytes is tells = lays_whole before call bytes (is tells)
 
-passed : (before after : Stream) (call : FileCall) (reply : FileReply) → PassesOn (whole before) call reply after → PassesOn before call reply after
-passed before after Flush Done is = (passed_on before after is.0, is.1)
-passed before after Close Done is = λ live. passed_on before after (is live)
-passed before after Detach (Unwritten bytes place) is = λ live. (passed_on before after (is live).0, (is live).1)
-passed before after (Seek offset whence) (Place place) is = is
-passed before after (Seek offset whence) reply is = is
-passed before after call reply is = is
+  passed_on : (before after : Stream) → PassedOn (seen short before) after → PassedOn before after
+  passed_on before after is = record { none = is.none; holds = is.holds }
 
-straight_whole : (before after : Stream) (call : FileCall) (reply : FileReply) → OwesNoneOfIts (whole before) call reply after → OwesNoneOfIts before call reply after
-straight_whole before after (Write bytes) (Refused fault.RawFault) is = is
-straight_whole before after (Write bytes) reply is = is
-straight_whole before after call reply is = is
+  passed : (before after : Stream) (call : FileCall) (reply : FileReply) → PassesOn (seen short before) call reply after → PassesOn before call reply after
+  passed before after Flush Done is = (passed_on before after is.0, is.1)
+  passed before after Close Done is = λ live. passed_on before after (is live)
+  passed before after Detach (Unwritten bytes place) is = λ live. (passed_on before after (is live).0, (is live).1, (is live).2)
+  passed before after (Seek offset whence) (Place place) is = is
+  passed before after (Seek offset whence) reply is = is
+  passed before after call reply is = is
+
+  old_owed : (before after : Stream) → OwesOld (seen short before) after → OwesOld before after
+  old_owed before after is = record { rest = is.rest; stands = is.stands; moved = is.moved }
+
+  straight_whole : (before after : Stream) (call : FileCall) (reply : FileReply) → OwesNoneOfIts (seen short before) call reply after → OwesNoneOfIts before call reply after
+  straight_whole before after (Write bytes) (Refused fault.RawFault) is = old_owed before after is
+  straight_whole before after (Write bytes) (Refused fault.NoMemory) is = λ failed. old_owed before after (is failed)
+  straight_whole before after (Write bytes) reply is = is
+  straight_whole before after call reply is = is
+
+  writes_seen : (before after : Stream) (call : FileCall) (reply : FileReply) → Writes (seen short before) call reply after → Writes before call reply after
+  writes_seen before after call reply written = record {
+    takes = taken before after call written.takes;
+    leaves = λ spares. front_passed before after (written.leaves spares);
+    lays = laid before call after.raw.bytes written.lays;
+    passes = passed before after call reply written.passes;
+    full = written.full;
+    starves = λ wants failed. let took = written.starves wants failed in record { further = took.further; stands = took.stands; answered = took.answered };
+    straight = straight_whole before after call reply written.straight;
+    settles = written.settles;
+    unclosed = written.unclosed;
+    rests = written.rests;
+  }
+
+  -- a call of a stream, as of one whose last answer was short, or wasn't
+  answers_as : (room : FileCall → Bool) (before after : Stream) (call : FileCall) (reply : FileReply) → AnswersWith room (seen short before) call reply after → AnswersWith room before call reply after
+  answers_as room before after call reply answers = record {
+    keeps = record { buffer = answers.keeps.buffer; can = answers.keeps.can; raw = answers.keeps.raw };
+    refused = λ why refuses. leaves before after (Refused why) reply (answers.refused why refuses);
+    again = again before after call reply answers.again;
+    shut = answers.shut;
+    causes = answers.causes;
+    counted = answers.counted;
+    shorts = answers.shorts;
+    moves = record { life_is = answers.moves.life_is; place = answers.moves.place; far = answers.moves.far; within = answers.moves.within };
+    ends = by_end before after call reply answers.ends;
+    wants = answers.wants;
+    starves = λ wanting reads. let starved = answers.starves wanting reads in record { unmoved = starved.unmoved; moved = starved.moved; told = starved.told };
+    first = answers.first;
+    nothing = λ asks. let none = answers.nothing asks in record { raw = none.raw; fault = none.fault };
+    idle = λ keeps. let still = answers.idle keeps in record { raw = still.raw; fault = still.fault; memory = still.memory };
+    single = answers.single;
+    held = λ reads apart one. let none = answers.held reads apart one in record { raw = none.raw; fault = none.fault };
+    spares = λ reads none. let spared = answers.spares reads none in record { bytes = spared.bytes; owed = spared.owed };
+    writes = λ can. writes_seen before after call reply (answers.writes can);
+    answer = answers.answer;
+    complete = answers.complete;
+    told = answers.told;
+    reach = answers.reach;
+    near = answers.near;
+    hides = answers.hides;
+  }
 
 pub writes_whole : (before after : Stream) (call : FileCall) (reply : FileReply) → Writes (whole before) call reply after → Writes before call reply after
-writes_whole before after call reply written = record {
-  takes = taken before after call written.takes;
-  leaves = written.leaves;
-  lays = laid before call after.raw.bytes written.lays;
-  passes = passed before after call reply written.passes;
-  full = written.full;
-  starves = written.starves;
-  straight = straight_whole before after call reply written.straight;
-  settles = written.settles;
-  unclosed = written.unclosed;
-  rests = written.rests;
-}
+writes_whole before after call reply written = writes_seen false before after call reply written
 
 -- a call of a stream, as of one whose last answer wasn't short
 pub answers_whole : (before after : Stream) (call : FileCall) (reply : FileReply) → Answers (whole before) call reply after → Answers before call reply after
-answers_whole before after call reply answers = record {
-  keeps = record { size = answers.keeps.size; can = answers.keeps.can; raw = answers.keeps.raw };
-  refused = λ why refuses. leaves before after (Refused why) reply (answers.refused why refuses);
-  again = again before after call reply answers.again;
+answers_whole before after call reply answers = answers_as false has_room before after call reply answers
+
+-- and the other way, as of one whose last answer was short, or wasn't
+pub answers_seen : (short : Bool) (room : FileCall → Bool) (before after : Stream) (call : FileCall) (reply : FileReply) → AnswersWith room before call reply after → AnswersWith room (seen short before) call reply after
+answers_seen short room before after call reply answers = answers_as before.short room (seen short before) after call reply answers
+
+-- where fewer calls are said to have their room
+pub answers_with : (room less : FileCall → Bool) (before after : Stream) (call : FileCall) (reply : FileReply) → (IsTrue (less call) → IsTrue (room call)) → AnswersWith room before call reply after → AnswersWith less before call reply after
+answers_with room less before after call reply fewer answers = record {
+  keeps = answers.keeps;
+  refused = answers.refused;
+  again = answers.again;
   shut = answers.shut;
   causes = answers.causes;
   counted = answers.counted;
   shorts = answers.shorts;
-  moves = record { life_is = answers.moves.life_is; place = answers.moves.place; far = answers.moves.far; within = answers.moves.within };
-  ends = by_end before after call reply answers.ends;
-  wants = answers.wants;
-  starves = λ wanting reads. let starved = answers.starves wanting reads in record { unmoved = starved.unmoved; moved = starved.moved; told = starved.told };
+  moves = answers.moves;
+  ends = answers.ends;
+  wants = λ wanting has. answers.wants wanting (fewer has);
+  starves = answers.starves;
   first = answers.first;
-  nothing = λ asks. let none = answers.nothing asks in record { raw = none.raw; fault = none.fault };
-  idle = λ keeps. let still = answers.idle keeps in record { raw = still.raw; fault = still.fault; memory = still.memory };
+  nothing = answers.nothing;
+  idle = answers.idle;
   single = answers.single;
-  spares = λ reads none. let spared = answers.spares reads none in record { bytes = spared.bytes; owed = spared.owed };
-  writes = λ can. writes_whole before after call reply (answers.writes can);
+  held = answers.held;
+  spares = answers.spares;
+  writes = answers.writes;
   answer = answers.answer;
   complete = answers.complete;
   told = answers.told;
+  reach = answers.reach;
   near = answers.near;
   hides = answers.hides;
 }

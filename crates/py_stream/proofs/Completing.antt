@@ -1,5 +1,5 @@
 -- Answers that are complete where nothing went wrong.
-use Rattle.std.proofs.Common.{◌≡◌, ℕ, Bool, true, false, IsTrue, refl}
+use Rattle.std.proofs.Common.{◌≡◌, ℕ, Option, Bool, true, false, IsTrue, refl}
 use Rattle.std.proofs.lemmas.Bool.{le-leb}
 use Rattle.py_flat.specs.declared.fault.IoFault.TheVariants as fault
 use Rattle.py_flat.specs.Causes.{Rose, rose, counted}
@@ -16,11 +16,11 @@ blocked : (call : FileCall) (taken : ℕ) (short : Bool) → IsShort call (Refus
 blocked (Read1 size) taken short is = is
 blocked call taken short is = is
 
-answers_whole : (writes : Bool) (call : FileCall) (reply : FileReply) (short : Bool) → IsReplyTo writes call reply → IsShort call reply short → short ≡ false → says_fault reply ≡ false → IsAnswerTo call reply
-answers_whole writes call NotReady short answers shorts whole sound = absurd (let waits = not_ready call short shorts in cc)
-answers_whole writes call (Refused (fault.WouldBlock taken)) short answers shorts whole sound = absurd (let waits = blocked call taken short shorts in cc)
-answers_whole writes call (Refused fault.RawFault) short answers shorts whole sound = absurd (cc)
-answers_whole writes call reply short answers shorts whole sound = answers
+answers_whole : (buffer : Option ℕ) (writes : Bool) (call : FileCall) (reply : FileReply) (short : Bool) → IsReplyTo buffer writes call reply → IsShort call reply short → short ≡ false → says_fault reply ≡ false → IsAnswerTo call reply
+answers_whole buffer writes call NotReady short answers shorts whole sound = absurd (let waits = not_ready call short shorts in cc)
+answers_whole buffer writes call (Refused (fault.WouldBlock taken)) short answers shorts whole sound = absurd (let waits = blocked call taken short shorts in cc)
+answers_whole buffer writes call (Refused fault.RawFault) short answers shorts whole sound = absurd (cc)
+answers_whole buffer writes call reply short answers shorts whole sound = answers
 
 -- a test that what has its cause in a count that rose didn't come about
 uncaused : (old new : ℕ) (came : Bool) → (IsTrue came → Rose old new) → rose old new ≡ false → came ≡ false
@@ -28,7 +28,7 @@ uncaused old new true caused calm = absurd (let rises : rose old new ≡ true = 
 uncaused old new false caused calm = refl
 
 -- an answer to an accepted call is complete where neither the waits nor the faults of the raw rose
-pub completes : (old new : Raw) (writes : Bool) (call : FileCall) (reply : FileReply) (short : Bool) → HasCauses old reply new short → IsShort call reply short → IsReplyTo writes call reply → rose old.waits new.waits ≡ false → rose old.faults new.faults ≡ false → IsAnswerTo call reply × (short ≡ false)
-completes old new writes call reply short causes shorts answers calm sound =
+pub completes : (old new : Raw) (buffer : Option ℕ) (writes : Bool) (call : FileCall) (reply : FileReply) (short : Bool) → HasCauses old reply new short → IsShort call reply short → IsReplyTo buffer writes call reply → rose old.waits new.waits ≡ false → rose old.faults new.faults ≡ false → IsAnswerTo call reply × (short ≡ false)
+completes old new buffer writes call reply short causes shorts answers calm sound =
     let whole : short ≡ false = uncaused old.waits new.waits short causes.waits calm in
-    (answers_whole writes call reply short answers shorts whole (uncaused old.faults new.faults (says_fault reply) causes.faults sound), whole)
+    (answers_whole buffer writes call reply short answers shorts whole (uncaused old.faults new.faults (says_fault reply) causes.faults sound), whole)

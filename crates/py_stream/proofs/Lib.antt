@@ -3,3 +3,4 @@ pub mod Refusing
 pub mod Completing
 pub mod Begun
 pub mod Returning
+pub mod Joined

@@ -1,5 +1,5 @@
 -- A stream whose raw was handed back, and what a call leaves that is refused.
-use Rattle.std.proofs.Common.{◌≡◌, ℕ, suc, zero, pos, Bool, true, false, IsTrue, Option, Some, None, Result, Ok, Err, if◌then◌else◌, refl, sym, ap, ◌∙◌, arith}
+use Rattle.std.proofs.Common.{◌≡◌, ℕ, suc, zero, pos, Bool, true, false, Option, Some, None, unwrap_or, if◌then◌else◌, refl, sym, ap, ◌∙◌, arith}
 use Rattle.std.proofs.lemmas.List.{append-nil}
 use Rattle.py_flat.specs.declared.fault.IoFault.{IoFault}
 use Rattle.py_flat.specs.declared.fault.IoFault.TheVariants as fault
@@ -9,29 +9,15 @@ use Rattle.py_flat.specs.Calls.{FileCall, Read1, Write, WriteLines, Truncate, Se
 use Rattle.py_flat.specs.FlatFile.{Abilities}
 use Rattle.py_flat.specs.Refusals.{is_getter, is_other_getter, or_else, refused_if, refusal}
 use Rattle.py_flat.specs.BinaryStep.{asks_end}
-use Rattle.py_raw.specs.declared.raw_error.RawError.{RawError}
-use Rattle.py_raw.specs.declared.raw_error.RawError.TheVariants as raw_error
-use Rattle.py_raw.specs.RawStream.{Raw, Keeps, TellOutcome}
+use Rattle.py_raw.specs.RawStream.{Raw, Keeps}
 use Rattle.py_stream.specs.Stream.{Stream, file_of, no_raw, detached_stream}
 use Rattle.py_stream.specs.Kinds.{says_no_memory}
 use Rattle.py_stream.specs.Writing.{LaysInOrder, PassesOn, BlocksFull, OwesNoneOfIts, Writes}
 use Rattle.py_stream.specs.Answers.{LifeMoves, PlaceMoves, GivesWithin, IsShort, SeeksByEnd, closes_again, refused_by, Answers}
-use Rattle.py_stream.specs.Opening.{PlaceOutcome}
 
 -- a raw that wasn't called
 pub keeps_same : (raw : Raw) → Keeps raw raw
 keeps_same raw = record { tells = refl; readable = refl; writable = refl; seekable = refl; takes_memory = refl; counts_exactly = refl; faults = omega arith; waits = omega arith }
-
--- the place that a raw that can seek answers
-pub told_place : (old new : Raw) (result : Result ℕ RawError) → IsTrue old.seekable → TellOutcome old result new → PlaceOutcome old result new
-told_place old new (Ok place) can told = record {
-  within = told.within;
-  counts = told.counts;
-  start = λ cannot. absurd (cc (can, cannot));
-  told = λ tells. ((told.still tells).bytes, (told.still tells).place, (λ _. told.value tells), omega (arith, (told.still tells).transfers));
-}
-told_place old new (Err raw_error.Fault) can told = (can, told)
-told_place old new (Err raw_error.Memory) can told = told
 
 -- A call that is refused, and leaves all.
 
@@ -61,6 +47,7 @@ nothing_blocked after call why own = tt
 
 none_of_its : (before after : Stream) (call : FileCall) (why : IoFault) → is_own why ≡ true → OwesNoneOfIts before call (Refused why) after
 none_of_its before after (Write bytes) fault.RawFault own = absurd (cc)
+none_of_its before after (Write bytes) fault.NoMemory own = absurd (cc)
 none_of_its before after (Write bytes) why own = tt
 none_of_its before after call why own = tt
 
@@ -71,8 +58,8 @@ wants_none why own = refl
 -- what a refused call does with the bytes of a stream that writes
 pub leaves_all : (before : Stream) (call : FileCall) (why : IoFault) → is_own why ≡ true → before.short ≡ false → Writes before call (Refused why) before
 leaves_all before call why own whole = record {
-  takes = λ writing up_to. record { taken = 0; within = omega arith; place = omega arith; passed = 0; owed = sym (append-nil before.owed.bytes); up_to = up_to; told = λ tells. (0, omega arith, omega arith, refl) };
-  leaves = λ _. record { passed = 0; bytes = refl; place = λ _. omega arith };
+  takes = λ writing up_to. record { taken = 0; within = omega arith; place = omega arith; passed = 0; most = omega arith; answered = λ tells. refl; owed = sym (append-nil before.owed.bytes); up_to = up_to; told = λ tells. (0, omega arith, omega arith, refl) };
+  leaves = λ _. record { passed = 0; most = omega arith; answered = λ tells. refl; bytes = refl; place = λ _. omega arith };
   lays = λ tells. nothing_laid before call;
   passes = nothing_passed before before call why;
   full = nothing_blocked before call why own;
@@ -85,15 +72,15 @@ leaves_all before call why own whole = record {
 
 -- A stream whose raw was handed back.
 
-life_stays : (call : FileCall) (current : Life) → LifeMoves call (Refused fault.Detached) current current
-life_stays Close current = refl
-life_stays Detach current = refl
-life_stays call current = refl
+life_stays : (buffer : Option ℕ) (call : FileCall) (current : Life) → LifeMoves buffer call (Refused fault.Detached) current current
+life_stays buffer Close current = refl
+life_stays buffer Detach current = refl
+life_stays buffer call current = refl
 
-place_stays : (call : FileCall) (current : Life) (place : ℕ) → PlaceMoves call (Refused fault.Detached) current place place
-place_stays (Write bytes) current place = refl
-place_stays (WriteLines lines) current place = refl
-place_stays call current place = refl
+place_stays : (buffer : Option ℕ) (call : FileCall) (current : Life) (place : ℕ) → PlaceMoves buffer call (Refused fault.Detached) current place place
+place_stays buffer (Write bytes) current place = refl
+place_stays buffer (WriteLines lines) current place = refl
+place_stays buffer call current place = refl
 
 is_whole : (call : FileCall) → IsShort call (Refused fault.Detached) false
 is_whole (Read1 size) = refl
@@ -104,50 +91,52 @@ gives_nothing size (Read1 None) = tt
 gives_nothing size (Read1 (Some bytes)) = tt
 gives_nothing size call = tt
 
-asks_no_end : (can : Abilities) (size : ℕ) (call : FileCall) → asks_end (file_of (detached_stream can size)) call ≡ false
-asks_no_end can size (Seek offset (pos (suc (suc zero)))) = refl
-asks_no_end can size call = refl
+asks_no_end : (can : Abilities) (buffer : Option ℕ) (call : FileCall) → asks_end (file_of (detached_stream can buffer)) call ≡ false
+asks_no_end can buffer (Seek offset (pos (suc (suc zero)))) = refl
+asks_no_end can buffer call = refl
 
-seeks_no_end : (can : Abilities) (size : ℕ) (call : FileCall) → SeeksByEnd (detached_stream can size) call (Refused fault.Detached) (detached_stream can size)
-seeks_no_end can size (Seek offset (pos (suc (suc zero)))) = λ asks. absurd (cc)
-seeks_no_end can size call = tt
+seeks_no_end : (can : Abilities) (buffer : Option ℕ) (call : FileCall) → SeeksByEnd (detached_stream can buffer) call (Refused fault.Detached) (detached_stream can buffer)
+seeks_no_end can buffer (Seek offset (pos (suc (suc zero)))) = λ asks. absurd (cc)
+seeks_no_end can buffer call = tt
 
-never_closes : (can : Abilities) (size : ℕ) (call : FileCall) → closes_again (detached_stream can size) call ≡ false
-never_closes can size Close = refl
-never_closes can size call = refl
+never_closes : (can : Abilities) (buffer : Option ℕ) (call : FileCall) → closes_again (detached_stream can buffer) call ≡ false
+never_closes can buffer Close = refl
+never_closes can buffer call = refl
 
-refuses_all : (can : Abilities) (size : ℕ) (call : FileCall) → is_getter call ≡ false → is_other_getter call ≡ false → refusal (file_of (detached_stream can size)) call ≡ Some fault.Detached
-refuses_all can size call asks known =
+refuses_all : (can : Abilities) (buffer : Option ℕ) (call : FileCall) → is_getter call ≡ false → is_other_getter call ≡ false → refusal (file_of (detached_stream can buffer)) call ≡ Some fault.Detached
+refuses_all can buffer call asks known =
     let refused : Bool → Bool → Option IoFault = λ (getter other : Bool). if getter then None else or_else (refused_if other fault.Unsupported) (Some fault.Detached) in
     ap (λ (getter : Bool). refused getter (is_other_getter call)) asks ∙ ap (refused false) known
 
 -- a call of such a stream: it is refused, and the stream stays as it is
-pub detached_answers : (can : Abilities) (size : ℕ) (call : FileCall) → is_getter call ≡ false → is_other_getter call ≡ false → Answers (detached_stream can size) call (Refused fault.Detached) (detached_stream can size)
-detached_answers can size call asks known =
-    let stream : Stream = detached_stream can size in
-    let refuses : refusal (file_of stream) call ≡ Some fault.Detached = refuses_all can size call asks known in
-    let by : refused_by stream call ≡ Some fault.Detached = ap (λ (end : Bool). if end then None else refusal (file_of stream) call) (asks_no_end can size call) ∙ refuses in
+pub detached_answers : (can : Abilities) (buffer : Option ℕ) (call : FileCall) → is_getter call ≡ false → is_other_getter call ≡ false → Answers (detached_stream can buffer) call (Refused fault.Detached) (detached_stream can buffer)
+detached_answers can buffer call asks known =
+    let stream : Stream = detached_stream can buffer in
+    let refuses : refusal (file_of stream) call ≡ Some fault.Detached = refuses_all can buffer call asks known in
+    let by : refused_by stream call ≡ Some fault.Detached = ap (λ (end : Bool). if end then None else refusal (file_of stream) call) (asks_no_end can buffer call) ∙ refuses in
     record {
-      keeps = record { size = refl; can = refl; raw = keeps_same no_raw };
+      keeps = record { buffer = refl; can = refl; raw = keeps_same no_raw };
       refused = λ why refused. record { says = let same : Some fault.Detached ≡ Some why = sym by ∙ refused in cc; same = refl };
-      again = λ closes. absurd (let never : closes_again stream call ≡ false = never_closes can size call in cc);
+      again = λ closes. absurd (let never : closes_again stream call ≡ false = never_closes can buffer call in cc);
       shut = λ none shut. shut;
       causes = record { waits = λ short. absurd (cc); faults = λ faults. absurd (cc) };
       counted = λ exact. absurd (cc);
       shorts = is_whole call;
-      moves = record { life_is = life_stays call life.Detached; place = place_stays call life.Detached 0; far = omega arith; within = gives_nothing size call };
-      ends = seeks_no_end can size call;
+      moves = record { life_is = life_stays buffer call life.Detached; place = place_stays buffer call life.Detached 0; far = omega arith; within = gives_nothing (unwrap_or buffer 0) call };
+      ends = seeks_no_end can buffer call;
       wants = λ wants. absurd (cc);
       starves = λ wants. absurd (cc);
       first = λ wants. absurd (cc);
       nothing = λ _. record { raw = refl; fault = refl };
       idle = λ _. record { raw = refl; fault = refl; memory = refl };
       single = λ _ tells. absurd (cc);
+      held = λ _ _ _. record { raw = refl; fault = refl };
       spares = λ _ _. record { bytes = λ _. refl; owed = refl };
       writes = λ _. leaves_all stream call fault.Detached refl refl;
       answer = λ accepted. absurd (let wrong : Some fault.Detached ≡ None = sym by ∙ accepted in cc);
       complete = λ accepted. absurd (let wrong : Some fault.Detached ≡ None = sym by ∙ accepted in cc);
       told = λ tells. absurd (cc);
+      reach = λ reads tells. absurd (cc);
       near = λ live. absurd (cc);
       hides = λ short. absurd (cc);
     }

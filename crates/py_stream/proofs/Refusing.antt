@@ -6,34 +6,34 @@ use Rattle.py_flat.specs.declared.fault.IoFault.TheVariants as fault
 use Rattle.py_flat.specs.declared.life.Life.{Life}
 use Rattle.py_flat.specs.declared.life.Life.TheVariants as life
 use Rattle.py_flat.specs.Calls.{FileCall, Read1, Write, WriteLines, Seek, Close, Detach, FileReply, Refused}
-use Rattle.py_flat.specs.FlatFile.{FlatFile, Buffered}
+use Rattle.py_flat.specs.FlatFile.{FlatFile, Buffering}
 use Rattle.py_flat.specs.Refusals.{refusal, is_getter, is_other_getter, lets_through, life_fault, life_refusal, or_else, refused_if, lacks, argument_refusal}
 use Rattle.py_flat.specs.Limits.{greatest_place}
 use Rattle.py_flat.specs.ExactStep.{is_closed}
 use Rattle.py_flat.specs.BinaryStep.{asks_end, is_live, SettledBy}
 use Rattle.py_flat.specs.AllowedStep.{settled}
-use Rattle.py_stream.specs.Stream.{Stream, file_of}
+use Rattle.py_stream.specs.Stream.{Stream, size_of, buffering_of, file_of}
 use Rattle.py_stream.specs.Kinds.{says_fault, says_no_memory}
 use Rattle.py_stream.specs.Writing.{Writes}
 use Rattle.py_stream.specs.Answers.{Answers, LifeMoves, PlaceMoves, IsShort, IsNear, SeeksByEnd, GivesWithin, closes_again, refused_by}
 use Rattle.py_stream.proofs.Refused.{is_own, keeps_same, leaves_all}
 use Rattle.py_stream.proofs.Begun.{writes_whole}
 
-life_stays : (call : FileCall) (why : IoFault) (current : Life) → is_own why ≡ true → LifeMoves call (Refused why) current current
-life_stays call fault.RawFault current own = absurd (cc)
-life_stays call fault.NoMemory current own = absurd (cc)
-life_stays Close why current own = refl
-life_stays Detach why current own = refl
-life_stays call why current own = refl
+life_stays : (buffer : Option ℕ) (call : FileCall) (why : IoFault) (current : Life) → is_own why ≡ true → LifeMoves buffer call (Refused why) current current
+life_stays buffer call fault.RawFault current own = absurd (cc)
+life_stays buffer call fault.NoMemory current own = absurd (cc)
+life_stays buffer Close why current own = refl
+life_stays buffer Detach why current own = refl
+life_stays buffer call why current own = refl
 
-place_stays : (call : FileCall) (why : IoFault) (current : Life) (place : ℕ) → is_own why ≡ true → PlaceMoves call (Refused why) current place place
-place_stays call fault.RawFault current place own = absurd (cc)
-place_stays call fault.NoMemory current place own = absurd (cc)
-place_stays (Write bytes) (fault.WouldBlock taken) current place own = absurd (cc)
-place_stays (WriteLines lines) (fault.WouldBlock taken) current place own = absurd (cc)
-place_stays (Write bytes) why current place own = refl
-place_stays (WriteLines lines) why current place own = refl
-place_stays call why current place own = refl
+place_stays : (buffer : Option ℕ) (call : FileCall) (why : IoFault) (current : Life) (place : ℕ) → is_own why ≡ true → PlaceMoves buffer call (Refused why) current place place
+place_stays buffer call fault.RawFault current place own = absurd (cc)
+place_stays buffer call fault.NoMemory current place own = absurd (cc)
+place_stays buffer (Write bytes) (fault.WouldBlock taken) current place own = absurd (cc)
+place_stays buffer (WriteLines lines) (fault.WouldBlock taken) current place own = absurd (cc)
+place_stays buffer (Write bytes) why current place own = refl
+place_stays buffer (WriteLines lines) why current place own = refl
+place_stays buffer call why current place own = refl
 
 never_short : (call : FileCall) (why : IoFault) → is_own why ≡ true → IsShort call (Refused why) false
 never_short call (fault.WouldBlock taken) own = absurd (cc)
@@ -73,18 +73,18 @@ refused_with before after call why is refuses alone own first same =
     let by : refused_by before call ≡ Some why = refused_alone before call alone ∙ refuses in
     let writes : Writes left call (Refused why) left = leaves_all left call why own refl in
     let answers : Answers before call (Refused why) left = record {
-      keeps = record { size = refl; can = refl; raw = keeps_same before.raw };
+      keeps = record { buffer = refl; can = refl; raw = keeps_same before.raw };
       refused = λ other refused. record { says = let same_why : Some why ≡ Some other = sym by ∙ refused in cc; same = refl };
       again = λ closes. absurd (cc);
       shut = λ none closed. closed;
       causes = record { waits = λ short. absurd (cc); faults = λ faulted. absurd (cc (no_fault why own)) };
-      counted = λ exact. record { faults = λ sound. refl; waits = λ short writes. refl };
+      counted = λ exact. record { faults = λ sound. refl; waits = λ short writes. refl; once = λ short. absurd (cc) };
       shorts = never_short call why own;
       moves = record {
-        life_is = life_stays call why before.life own;
-        place = place_stays call why before.life before.place own;
+        life_is = life_stays before.buffer call why before.life own;
+        place = place_stays before.buffer call why before.life before.place own;
         far = is.far;
-        within = gives_nothing before.size call why;
+        within = gives_nothing (size_of before) call why;
       };
       ends = no_end before call (Refused why) left alone;
       wants = λ wanting room. absurd (cc (no_want why own));
@@ -93,11 +93,13 @@ refused_with before after call why is refuses alone own first same =
       nothing = λ asks. record { raw = refl; fault = no_fault why own };
       idle = λ keeps. record { raw = refl; fault = no_fault why own; memory = no_want why own };
       single = λ single tells. omega arith;
+      held = λ _ _ _. record { raw = refl; fault = no_fault why own };
       spares = λ reads none. record { bytes = λ tells. refl; owed = none };
       writes = λ can. writes_whole before left call (Refused why) writes;
       answer = λ accepted. absurd (let wrong : Some why ≡ None = sym by ∙ accepted in cc);
       complete = λ accepted calm sound. absurd (let wrong : Some why ≡ None = sym by ∙ accepted in cc);
       told = λ tells. settled (subst (λ (refused : Option IoFault). SettledBy (file_of before) call refused (Refused why) (file_of left)) (sym refuses) (refl, refl));
+      reach = λ reads tells. omega arith;
       near = λ live. let near = is.near live in record { ahead = near.ahead; behind = near.behind; stands = near.stands };
       hides = λ short. absurd (cc);
     } in
@@ -119,12 +121,12 @@ asks_no_end : (file : FlatFile) (call : FileCall) → is_live file.life ≡ fals
 asks_no_end file (Seek offset (pos (suc (suc zero)))) dead = ap (λ (lives : Bool). lives && not (lacks file (Seek offset (pos 2)))) dead
 asks_no_end file call dead = refl
 
-close_refused : (current : Life) (size : ℕ) → lets_through current (Buffered size) Close ≡ false → is_closed current ≡ false
-close_refused life.Closed size stopped = absurd (cc)
-close_refused current size stopped = refl
+close_refused : (current : Life) (buffering : Buffering) → lets_through current buffering Close ≡ false → is_closed current ≡ false
+close_refused life.Closed buffering stopped = absurd (cc)
+close_refused current buffering stopped = refl
 
-closes_no_more : (stream : Stream) (call : FileCall) → lets_through stream.life (Buffered stream.size) call ≡ false → closes_again stream call ≡ false
-closes_no_more stream Close stopped = close_refused stream.life stream.size stopped
+closes_no_more : (stream : Stream) (call : FileCall) → lets_through stream.life (buffering_of stream.buffer) call ≡ false → closes_again stream call ≡ false
+closes_no_more stream Close stopped = close_refused stream.life (buffering_of stream.buffer) stopped
 closes_no_more stream call stopped = refl
 
 -- what a file refuses by its life
@@ -138,7 +140,7 @@ life_refuses file call why works own stopped by =
     ∙ ap (λ (refused : Option IoFault). or_else refused ability) by
 
 -- A call that the life doesn't let through.
-pub refused_by_life : (before after : Stream) (call : FileCall) (why : IoFault) → IsPlaced before → is_getter call ≡ false → is_other_getter call ≡ false → lets_through before.life (Buffered before.size) call ≡ false → life_fault before.life ≡ Some why → after ≡ record before { short = false } → Answers before call (Refused why) after
+pub refused_by_life : (before after : Stream) (call : FileCall) (why : IoFault) → IsPlaced before → is_getter call ≡ false → is_other_getter call ≡ false → lets_through before.life (buffering_of before.buffer) call ≡ false → life_fault before.life ≡ Some why → after ≡ record before { short = false } → Answers before call (Refused why) after
 refused_by_life before after call why is works own stopped fails same =
     let file : FlatFile = file_of before in
     refused_with before after call why is (life_refuses file call why works own stopped fails) (asks_no_end file call (not_live before.life why fails)) (own_of_life before.life why fails) (closes_no_more before call stopped) same

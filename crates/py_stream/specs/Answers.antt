@@ -1,26 +1,26 @@
--- The one clause of all calls of a buffered stream: what a call may answer and leave, over any raw.
-use Rattle.std.specs.Prelude.{◌≡◌, ◌≢◌, ℕ, ◌+◌, ◌<◌, ◌≤◌, ◌⊎◌, ℤ, pos, suc, zero, Bool, true, false, ◌&&◌, ◌||◌, not, IsTrue, List, [], length, Option, Some, None, if◌then◌else◌}
+-- The one clause of all calls of a binary stream: what a call may answer and leave, over any raw.
+use Rattle.std.specs.Prelude.{◌≡◌, ◌≢◌, ℕ, ◌+◌, ◌<◌, ◌≤◌, ◌⊎◌, ℤ, pos, suc, zero, Bool, true, false, ◌&&◌, not, IsTrue, List, [], length, max, Option, Some, None, if◌then◌else◌}
 use Rattle.py_flat.specs.declared.fault.IoFault.{IoFault}
 use Rattle.py_flat.specs.declared.fault.IoFault.TheVariants as fault
 use Rattle.py_flat.specs.declared.life.Life.{Life}
 use Rattle.py_flat.specs.declared.life.Life.TheVariants as life
 use Rattle.py_flat.specs.Limits.{greatest_place}
 use Rattle.py_flat.specs.Lines.{Lf, first_line, lines_within, joined}
-use Rattle.py_flat.specs.Causes.{Rose, rose}
+use Rattle.py_flat.specs.Causes.{Rose, rose, counted}
 use Rattle.py_flat.specs.Calls.{FileCall, Read, Read1, ReadLine, ReadLines, Peek, ReadInto, ReadInto1, Write, WriteLines, Seek, Tell, Truncate, Flush, Close, Detach, FileReply, Bytes, Lines, Count, Place, Done, NotReady, Unwritten, Refused}
-use Rattle.py_flat.specs.Refusals.{refusal, moved_by, target_refusal}
+use Rattle.py_flat.specs.Refusals.{is_getter, is_other_getter, lets_through, lacks, refusal, moved_by, target_refusal}
 use Rattle.py_flat.specs.ExactStep.{is_closed}
 use Rattle.py_flat.specs.BinaryStep.{asks_end, BinaryStep}
 use Rattle.py_raw.specs.RawStream.{Raw, Keeps, WhereTold}
-use Rattle.py_stream.specs.Stream.{Stream, file_of, nothing_owed}
-use Rattle.py_stream.specs.Kinds.{is_reading, reads_on, is_single, has_room, takes_space_first, asks_nothing, is_writing, keeps_raw, says_wait, says_fault, says_no_memory}
+use Rattle.py_stream.specs.Stream.{Stream, size_of, buffering_of, file_of, nothing_owed}
+use Rattle.py_stream.specs.Kinds.{is_reading, reads_on, goes_on, makes_one, has_room, takes_space_first, asks_none, calls_none, waits_unready, outlasts, says_wait, says_fault, says_no_memory}
 use Rattle.py_stream.specs.Writing.{Writes}
 
 -- What every call keeps.
 
--- the size and what the stream can do stay; so does what the raw can do, and its counts never fall
+-- the buffer's size and what the stream can do stay; so does what the raw can do, and its counts never fall
 pub record KeepsStream (before after : Stream) : Type 0 where
-  pub size : after.size ≡ before.size
+  pub buffer : after.buffer ≡ before.buffer
   pub can : after.can ≡ before.can
   pub raw : Keeps before.raw after.raw
 
@@ -64,12 +64,12 @@ IsAnswerTo call (Refused fault.NoMemory) = Unit {0}
 IsAnswerTo call reply = ⊥
 
 -- and where its raw asked to wait, or failed
-abbrev pub IsReplyTo : Bool → FileCall → FileReply → Type 0
-IsReplyTo writes call NotReady = IsTrue (is_reading call)
-IsReplyTo writes call (Refused (fault.WouldBlock taken)) = IsTrue (writes && not (is_reading call))
-IsReplyTo writes Tell (Refused fault.RawFault) = ⊥
-IsReplyTo writes call (Refused fault.RawFault) = Unit {0}
-IsReplyTo writes call reply = IsAnswerTo call reply
+abbrev pub IsReplyTo : Option ℕ → Bool → FileCall → FileReply → Type 0
+IsReplyTo buffer writes call NotReady = IsTrue (waits_unready buffer call)
+IsReplyTo buffer writes call (Refused (fault.WouldBlock taken)) = IsTrue (writes && not (waits_unready buffer call))
+IsReplyTo buffer writes Tell (Refused fault.RawFault) = ⊥
+IsReplyTo buffer writes call (Refused fault.RawFault) = Unit {0}
+IsReplyTo buffer writes call reply = IsAnswerTo call reply
 
 -- Causes.
 
@@ -78,11 +78,12 @@ pub record HasCauses (old : Raw) (reply : FileReply) (new : Raw) (short : Bool) 
   pub waits : IsTrue short → Rose old.waits new.waits
   pub faults : IsTrue (says_fault reply) → Rose old.faults new.faults
 
--- over a raw that counts exactly: each fault is answered, and each wait but of a write, which may have room for all that it
--- was given
-pub record IsCounted (old : Raw) (call : FileCall) (reply : FileReply) (new : Raw) (short : Bool) : Type 0 where
+-- over a raw that counts exactly: each fault is answered, and each wait ends the call, but of a write into a buffer, which may
+-- have room for what is left
+pub record IsCounted (buffer : Option ℕ) (old : Raw) (call : FileCall) (reply : FileReply) (new : Raw) (short : Bool) : Type 0 where
   pub faults : says_fault reply ≡ false → new.faults ≡ old.faults
-  pub waits : short ≡ false → is_writing call ≡ false → new.waits ≡ old.waits
+  pub waits : short ≡ false → outlasts buffer call ≡ false → new.waits ≡ old.waits
+  pub once : IsTrue short → outlasts buffer call ≡ false → new.waits ≡ counted old.waits 1
 
 -- what is short: each reply that says by itself that the raw asked to wait, always; some bytes, never none; nothing else
 abbrev pub IsShort : FileCall → FileReply → Bool → Type 0
@@ -95,21 +96,18 @@ IsShort call reply short = short ≡ says_wait reply
 
 -- Life and place, whether the raw tells or not.
 
--- want of memory fails a reading that goes on, or a write, once bytes moved between raw and call
-abbrev pub may_starve : FileCall → Bool
-may_starve call = reads_on call || is_writing call
-
+-- want of memory fails a call that goes on, once bytes moved between raw and call
 abbrev pub StarvesTo : Bool → Life → Life → Type 0
 StarvesTo true before after = (after ≡ before) ⊎ (after ≡ life.Failed)
 StarvesTo false before after = after ≡ before
 
-abbrev pub LifeMoves : FileCall → FileReply → Life → Life → Type 0
-LifeMoves Close Done before after = after ≡ life.Closed
-LifeMoves Close (Refused fault.RawFault) before after = after ≡ life.Closed
-LifeMoves Detach (Unwritten bytes place) before after = after ≡ life.Detached
-LifeMoves call (Refused fault.RawFault) before after = after ≡ life.Failed
-LifeMoves call (Refused fault.NoMemory) before after = StarvesTo (may_starve call) before after
-LifeMoves call reply before after = after ≡ before
+abbrev pub LifeMoves : Option ℕ → FileCall → FileReply → Life → Life → Type 0
+LifeMoves buffer Close Done before after = after ≡ life.Closed
+LifeMoves buffer Close (Refused fault.RawFault) before after = after ≡ life.Closed
+LifeMoves buffer Detach (Unwritten bytes place) before after = after ≡ life.Detached
+LifeMoves buffer call (Refused fault.RawFault) before after = after ≡ life.Failed
+LifeMoves buffer call (Refused fault.NoMemory) before after = StarvesTo (goes_on buffer call) before after
+LifeMoves buffer call reply before after = after ≡ before
 
 -- where an answered seek goes: so far from the start, or from the place; one from the end goes by what the raw answered
 abbrev pub SeekGoes : ℕ → ℤ → ℤ → ℕ → Type 0
@@ -117,24 +115,48 @@ SeekGoes before offset (pos zero) place = moved_by 0 offset ≡ Some place
 SeekGoes before offset (pos (suc zero)) place = moved_by before offset ≡ Some place
 SeekGoes before offset whence place = Unit {0}
 
--- a fault leaves the place, or moves it forth, of a call that may move bytes by several transfers
-abbrev pub PlaceFails : Bool → ℕ → ℕ → Type 0
-PlaceFails true before after = before ≤ after
-PlaceFails false before after = after ≡ before
+-- the most bytes that a call may move the place by, where its argument says how many
+abbrev pub moves_most : FileCall → Option ℕ
+moves_most (Read size) = size
+moves_most (ReadInto size) = Some size
+moves_most (ReadLine limit) = limit
+moves_most (Write bytes) = Some (length bytes)
+moves_most (WriteLines lines) = Some (length (joined lines))
+moves_most call = None
 
-abbrev pub PlaceMoves : FileCall → FileReply → Life → ℕ → ℕ → Type 0
-PlaceMoves Peek (Bytes part) current before after = after ≡ before
-PlaceMoves call (Bytes part) current before after = after ≡ before + length part
-PlaceMoves call (Lines lines) current before after = after ≡ before + length (joined lines)
-PlaceMoves (Seek offset whence) (Place place) current before after = (after ≡ place) × SeekGoes before offset whence place
-PlaceMoves Tell (Place place) current before after = (place ≡ before) × (after ≡ before)
-PlaceMoves call (Refused fault.RawFault) current before after = PlaceFails (reads_on call || is_writing call) before after
-PlaceMoves call (Refused fault.NoMemory) current before after = ((current ≡ life.Live) → after ≡ before) × (before ≤ after)
-PlaceMoves (Write bytes) (Count count) current before after = (count ≡ length bytes) × (after ≡ before + count)
-PlaceMoves (Write bytes) (Refused (fault.WouldBlock taken)) current before after = (taken < length bytes) × (after ≡ before + taken)
-PlaceMoves (WriteLines lines) Done current before after = after ≡ before + length (joined lines)
-PlaceMoves (WriteLines lines) (Refused (fault.WouldBlock taken)) current before after = (taken < length (joined lines)) × (after ≡ before + taken)
-PlaceMoves call reply current before after = after ≡ before
+-- the place moved forth, by no more than that
+abbrev pub MovesForth : Option ℕ → ℕ → ℕ → Type 0
+MovesForth None before after = before ≤ after
+MovesForth (Some most) before after = (before ≤ after) × (after ≤ before + most)
+
+-- a fault leaves the place, or moves it forth, of a call that may move bytes by several transfers
+abbrev pub PlaceFails : Bool → Option ℕ → ℕ → ℕ → Type 0
+PlaceFails true most before after = MovesForth most before after
+PlaceFails false most before after = after ≡ before
+
+-- want of memory leaves the place, but of a call that it failed
+abbrev pub PlaceStarves : Life → Option ℕ → ℕ → ℕ → Type 0
+PlaceStarves life.Live most before after = after ≡ before
+PlaceStarves current most before after = MovesForth most before after
+
+-- a write takes all that it is given; without a buffer some, none only of nothing
+abbrev pub TakesOf : Option ℕ → List ℕ → ℕ → Type 0
+TakesOf (Some size) bytes count = count ≡ length bytes
+TakesOf None bytes count = (count ≤ length bytes) × (count ≡ 0 → bytes ≡ [])
+
+abbrev pub PlaceMoves : Option ℕ → FileCall → FileReply → Life → ℕ → ℕ → Type 0
+PlaceMoves buffer Peek (Bytes part) current before after = after ≡ before
+PlaceMoves buffer call (Bytes part) current before after = after ≡ before + length part
+PlaceMoves buffer call (Lines lines) current before after = after ≡ before + length (joined lines)
+PlaceMoves buffer (Seek offset whence) (Place place) current before after = (after ≡ place) × SeekGoes before offset whence place
+PlaceMoves buffer Tell (Place place) current before after = (place ≡ before) × (after ≡ before)
+PlaceMoves buffer call (Refused fault.RawFault) current before after = PlaceFails (goes_on buffer call) (moves_most call) before after
+PlaceMoves buffer call (Refused fault.NoMemory) current before after = PlaceStarves current (moves_most call) before after
+PlaceMoves buffer (Write bytes) (Count count) current before after = TakesOf buffer bytes count × (after ≡ before + count)
+PlaceMoves buffer (Write bytes) (Refused (fault.WouldBlock taken)) current before after = (taken < length bytes) × (after ≡ before + taken)
+PlaceMoves buffer (WriteLines lines) Done current before after = after ≡ before + length (joined lines)
+PlaceMoves buffer (WriteLines lines) (Refused (fault.WouldBlock taken)) current before after = (taken < length (joined lines)) × (after ≡ before + taken)
+PlaceMoves buffer call reply current before after = after ≡ before
 
 -- no more is given than is asked for: a size in bytes; one line, and no byte behind its end; lines up to the hint
 abbrev pub Within : Option ℕ → List ℕ → Type 0
@@ -154,15 +176,19 @@ GivesWithin buffer call reply = Unit {0}
 
 -- what a call moves
 pub record Moves (before : Stream) (call : FileCall) (reply : FileReply) (after : Stream) : Type 0 where
-  pub life_is : LifeMoves call reply before.life after.life
-  pub place : PlaceMoves call reply after.life before.place after.place
+  pub life_is : LifeMoves before.buffer call reply before.life after.life
+  pub place : PlaceMoves before.buffer call reply after.life before.place after.place
   pub far : after.place ≤ greatest_place
-  pub within : GivesWithin before.size call reply
+  pub within : GivesWithin (size_of before) call reply
 
 -- What refuses a call, as far as the stream itself can tell: a seek from the end has to ask the raw where that is.
 
 abbrev pub refused_by : Stream → FileCall → Option IoFault
 refused_by stream call = if asks_end (file_of stream) call then None else refusal (file_of stream) call
+
+-- a call that a stream refuses without a look at its argument: by its life, or since it lacks what the call needs
+abbrev pub RefusesAlone : Stream → FileCall → Type 0
+RefusesAlone stream call = (is_getter call ≡ false) × (is_other_getter call ≡ false) × ((lets_through stream.life (buffering_of stream.buffer) call ≡ false) ⊎ (lacks (file_of stream) call ≡ true))
 
 -- what the end, as the raw told it, makes of a seek: the target, or the refusal, which leaves all but the raw as it was
 abbrev pub SeeksTo : Stream → Option ℕ → Option IoFault → FileReply → Stream → Type 0
@@ -190,8 +216,8 @@ SeeksByEnd before call reply after = Unit {0}
 -- Memory.
 
 -- a call that has its room wants memory only where its raw takes some
-abbrev pub WantsMemory : FileCall → FileReply → Raw → Type 0
-WantsMemory call reply raw = IsTrue (says_no_memory reply) → IsTrue (has_room call) → IsTrue raw.takes_memory
+abbrev pub WantsMemory : Bool → FileReply → Raw → Type 0
+WantsMemory room reply raw = IsTrue (says_no_memory reply) → IsTrue room → IsTrue raw.takes_memory
 
 -- want of memory leaves a reading that goes on as it was, its raw too, or fails it; that only where bytes left the raw in
 -- this call
@@ -225,8 +251,8 @@ AtMostOne before after = WhereTold before.raw (after.raw.transfers ≤ before.ra
 
 -- a live stream's place and its raw's differ by at most the size of the buffer; told, the raw stands where the stream counts
 pub record IsNear (stream : Stream) : Type 0 where
-  pub ahead : stream.raw_place ≤ stream.place + stream.size
-  pub behind : stream.place ≤ stream.raw_place + stream.size
+  pub ahead : stream.raw_place ≤ stream.place + size_of stream
+  pub behind : stream.place ≤ stream.raw_place + size_of stream
   pub stands : WhereTold stream.raw (stream.raw.place ≡ stream.raw_place)
 
 -- the raw's bytes are as they were, and nothing is owed, at the place
@@ -234,31 +260,38 @@ pub record SparesBytes (before after : Stream) : Type 0 where
   pub bytes : WhereTold before.raw (after.raw.bytes ≡ before.raw.bytes)
   pub owed : after.owed ≡ nothing_owed after.place
 
--- One call of a stream: what it keeps; what the life, the stream or an argument refuses; a close of a closed stream; that the
--- raw is closed with a stream that owes nothing then; causes, and that no fault and no wait goes unanswered; what is short; life and place; a seek
--- from the end; memory; which calls call no raw, and which make at most one transfer; that a stream that doesn't write spares
--- the raw's bytes; what one that writes does with those that it took; completeness; where the raw tells, the step of the model; how near the raw stands; and that a wait hides
--- nothing
-pub record Answers (before : Stream) (call : FileCall) (reply : FileReply) (after : Stream) : Type 0 where
+-- One call of a stream, by which calls have their room: what it keeps; what the life, the stream or an argument refuses; a
+-- close of a closed stream; that the raw is closed with a stream that owes nothing then; causes, and that no fault and no wait
+-- goes unanswered; what is short; life and place; a seek from the end; memory; which calls call no raw, and which make at most
+-- one transfer, or none where bytes are held, as the raw stands further on; that a stream that doesn't write spares the raw's bytes; what one that writes does with those that it took;
+-- completeness; where the raw tells, the step of the model, and that no reading moves the place past the end; how near the raw
+-- stands; and that a wait hides nothing
+pub record AnswersWith (room : FileCall → Bool) (before : Stream) (call : FileCall) (reply : FileReply) (after : Stream) : Type 0 where
   pub keeps : KeepsStream before after
   pub refused : (why : IoFault) → refused_by before call ≡ Some why → Leaves before (Refused why) reply after
   pub again : closes_again before call ≡ true → Leaves before Done reply after
   pub shut : after.owed.bytes ≡ [] → ClosedWith before.life before.raw → ClosedWith after.life after.raw
   pub causes : HasCauses before.raw reply after.raw after.short
-  pub counted : IsTrue before.raw.counts_exactly → IsCounted before.raw call reply after.raw after.short
+  pub counted : IsTrue before.raw.counts_exactly → IsCounted before.buffer before.raw call reply after.raw after.short
   pub shorts : IsShort call reply after.short
   pub moves : Moves before call reply after
   pub ends : SeeksByEnd before call reply after
-  pub wants : WantsMemory call reply before.raw
+  pub wants : WantsMemory (room call) reply before.raw
   pub starves : IsTrue (says_no_memory reply) → IsTrue (reads_on call) → Starves before after
   pub first : StarvesFirst before call reply after
-  pub nothing : IsTrue (asks_nothing call) → AsksNothing before reply after
-  pub idle : IsTrue (keeps_raw before.can.writable call) → IsIdle before reply after
-  pub single : IsTrue (is_single call) → AtMostOne before after
+  pub nothing : IsTrue (asks_none before.buffer call) → AsksNothing before reply after
+  pub idle : IsTrue (calls_none before.buffer before.can.writable call) → IsIdle before reply after
+  pub single : IsTrue (makes_one before.buffer call) → AtMostOne before after
+  pub held : before.can.writable ≡ false → before.raw_place ≢ before.place → IsTrue (makes_one before.buffer call) → AsksNothing before reply after
   pub spares : before.can.writable ≡ false → before.owed ≡ nothing_owed before.place → SparesBytes before after
   pub writes : before.can.writable ≡ true → Writes before call reply after
-  pub answer : refused_by before call ≡ None → IsReplyTo before.can.writable call reply
+  pub answer : refused_by before call ≡ None → IsReplyTo before.buffer before.can.writable call reply
   pub complete : refused_by before call ≡ None → rose before.raw.waits after.raw.waits ≡ false → rose before.raw.faults after.raw.faults ≡ false → IsAnswerTo call reply × (after.short ≡ false)
   pub told : WhereTold before.raw (BinaryStep (file_of before) call reply after.short (says_fault reply) (file_of after))
+  pub reach : IsTrue (is_reading call) → WhereTold before.raw (after.place ≤ max before.place (length before.raw.bytes))
   pub near : after.life ≡ life.Live → IsNear after
   pub hides : IsTrue after.short → IsTrue (is_reading call) → after.owed.bytes ≡ [] → after.raw_place ≡ after.place
+
+-- of a stream of the library, whose room is taken at its opening
+abbrev pub Answers : Stream → FileCall → FileReply → Stream → Type 0
+Answers before call reply after = AnswersWith has_room before call reply after

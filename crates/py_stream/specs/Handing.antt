@@ -21,7 +21,7 @@ handed_over stream raw owed = record stream { raw = raw; owed = owed; life = lif
 
 -- what stays behind
 abbrev pub left_behind : Stream → Stream
-left_behind stream = detached_stream stream.can stream.size
+left_behind stream = detached_stream stream.can stream.buffer
 
 -- what a `detach` leaves owed: nothing of a live stream, and all of a failed one
 abbrev pub owed_then : Life → Stream → Owed

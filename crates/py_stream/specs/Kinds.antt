@@ -1,5 +1,5 @@
 -- What kinds of calls and replies there are.
-use Rattle.std.specs.Prelude.{Bool, true, false, not, zero, Some}
+use Rattle.std.specs.Prelude.{ℕ, Bool, true, false, ◌||◌, not, zero, Option, Some, None}
 use Rattle.py_flat.specs.declared.fault.IoFault.TheVariants as fault
 use Rattle.py_flat.specs.Calls.{FileCall, Read, Read1, ReadLine, ReadLines, Peek, ReadInto, ReadInto1, Write, WriteLines, Seek, Tell, Truncate, Flush, Close, Detach, FileReply, NotReady, Refused}
 
@@ -72,6 +72,47 @@ keeps_raw writes Tell = true
 keeps_raw writes Flush = not writes
 keeps_raw writes Detach = not writes
 keeps_raw writes call = false
+
+-- Calls by the buffer's size: `None` is of a stream without one, whose reads of a size, `readinto` and `write` make one
+-- transfer each.
+
+-- calls that may make several transfers
+abbrev pub goes_on : Option ℕ → FileCall → Bool
+goes_on (Some size) call = reads_on call || is_writing call
+goes_on None (Read (Some size)) = false
+goes_on None (ReadInto size) = false
+goes_on None (Write bytes) = false
+goes_on None call = reads_on call || is_writing call
+
+-- calls that make at most one
+abbrev pub makes_one : Option ℕ → FileCall → Bool
+makes_one (Some size) call = is_single call
+makes_one None (Read (Some size)) = true
+makes_one None (ReadInto size) = true
+makes_one None (Write bytes) = true
+makes_one None call = is_single call
+
+-- calls that make none, as they ask for no byte
+abbrev pub asks_none : Option ℕ → FileCall → Bool
+asks_none (Some size) call = asks_nothing call
+asks_none None (ReadLine (Some zero)) = true
+asks_none None call = false
+
+-- calls that call no raw, by whether the stream writes: without a buffer there is nothing to flush
+abbrev pub calls_none : Option ℕ → Bool → FileCall → Bool
+calls_none (Some size) writes call = keeps_raw writes call
+calls_none None writes call = keeps_raw false call
+
+-- calls that answer a wait with not ready
+abbrev pub waits_unready : Option ℕ → FileCall → Bool
+waits_unready (Some size) call = is_reading call
+waits_unready None (Write bytes) = true
+waits_unready None call = is_reading call
+
+-- calls that may go on over a wait, as the buffer has room
+abbrev pub outlasts : Option ℕ → FileCall → Bool
+outlasts (Some size) call = is_writing call
+outlasts None call = false
 
 -- Replies.
 

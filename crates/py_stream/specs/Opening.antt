@@ -1,5 +1,5 @@
 -- Opening a stream over a raw one.
-use Rattle.std.specs.Prelude.{◌≡◌, ℕ, ◌<◌, ◌≤◌, Bool, true, false, IsTrue, IsFalse, not, nat_eq, Option, Result, Ok, Err}
+use Rattle.std.specs.Prelude.{◌≡◌, ℕ, zero, ◌≢◌, ◌≤◌, Bool, true, false, IsTrue, IsFalse, not, length, Option, Some, Result, Ok, Err, if◌then◌else◌}
 use Rattle.py_flat.specs.declared.fault.IoFault.{IoFault}
 use Rattle.py_flat.specs.declared.fault.IoFault.TheVariants as fault
 use Rattle.py_flat.specs.declared.life.Life.TheVariants as life
@@ -9,7 +9,7 @@ use Rattle.py_flat.specs.FlatFile.{Abilities}
 use Rattle.py_flat.specs.Refusals.{or_else, refused_if}
 use Rattle.py_raw.specs.declared.raw_error.RawError.{RawError}
 use Rattle.py_raw.specs.declared.raw_error.RawError.TheVariants as raw_error
-use Rattle.py_raw.specs.RawStream.{Raw, Keeps, StaysOpen, WhereTold, LeavesCounts, FailsWithout, LacksMemory}
+use Rattle.py_raw.specs.RawStream.{Raw, Keeps, StaysOpen, WhereTold, LeavesCounts}
 use Rattle.py_stream.specs.declared.new_refused.NewRefused.{NewRefused}
 use Rattle.py_stream.specs.Stream.{Stream, nothing_owed}
 
@@ -28,57 +28,74 @@ pub record Untouched (old new : Raw) : Type 0 where
 abbrev pub StandsWhereItStood : Raw → Raw → Type 0
 StandsWhereItStood old new = WhereTold old (new.place ≡ old.place)
 
+-- where a stream begins, by whether it appends: where the raw stands; or at the end, where the raw can seek
+abbrev pub begins_at : Bool → Raw → ℕ
+begins_at true raw = if raw.seekable then length raw.bytes else raw.place
+begins_at false raw = raw.place
+
 -- a new stream, over a raw that is able to do what it needs: the raw was open; nothing was read or written; it begins where
--- the raw stands, at 0 where that can't seek
-pub record Opens (able : Raw → Bool) (can : Bool → Abilities) (raw : Raw) (size : ℕ) (stream : Stream) : Type 0 where
+-- the raw stands, one that appends at the end, and at 0 where the raw can't seek
+pub record Opens (able : Raw → Bool) (can : Bool → Abilities) (raw : Raw) (buffer : Option ℕ) (stream : Stream) : Type 0 where
   pub was_open : raw.closed ≡ false
   pub is_able : able raw ≡ true
-  pub some : 0 < size
+  pub some : buffer ≢ Some 0
   pub untouched : Untouched raw stream.raw
   pub counts : LeavesCounts raw stream.raw
-  pub stands : StandsWhereItStood raw stream.raw
-  pub place : WhereTold raw (stream.place ≡ raw.place)
+  pub stands : WhereTold raw (stream.raw.place ≡ begins_at (can raw.seekable).appending raw)
+  pub place : WhereTold raw (stream.place ≡ begins_at (can raw.seekable).appending raw)
   pub start : IsFalse raw.seekable → stream.place ≡ 0
   pub within : stream.place ≤ greatest_place
   pub raw_place : stream.raw_place ≡ stream.place
   pub can_do : stream.can ≡ can raw.seekable
   pub life_is : stream.life ≡ life.Live
-  pub size_is : stream.size ≡ size
+  pub buffer_is : stream.buffer ≡ buffer
   pub whole : stream.short ≡ false
   pub owed : stream.owed ≡ nothing_owed stream.place
 
 -- the raw is open, is able, and the size isn't 0
-pub record MayOpen (able : Raw → Bool) (raw : Raw) (size : ℕ) : Type 0 where
+pub record MayOpen (able : Raw → Bool) (raw : Raw) (buffer : Option ℕ) : Type 0 where
   pub is_open : raw.closed ≡ false
   pub is_able : able raw ≡ true
-  pub some : 0 < size
+  pub some : buffer ≢ Some 0
+
+-- a buffer that holds nothing
+abbrev pub holds_none : Option ℕ → Bool
+holds_none (Some zero) = true
+holds_none buffer = false
 
 -- what refuses a raw before it is asked for anything
-abbrev pub first_refusal : Bool → Raw → ℕ → Option IoFault
-first_refusal able raw size = or_else (refused_if raw.closed fault.Closed) (or_else (refused_if (not able) fault.Unsupported) (refused_if (nat_eq size 0) fault.BadArgument))
+abbrev pub first_refusal : Bool → Raw → Option ℕ → Option IoFault
+first_refusal able raw buffer = or_else (refused_if raw.closed fault.Closed) (or_else (refused_if (not able) fault.Unsupported) (refused_if (holds_none buffer) fault.BadArgument))
 
--- where a raw stands: told, that place, and no place of one that can't seek but 0; no transfer is counted
-pub record PlaceOf (old : Raw) (place : ℕ) (new : Raw) : Type 0 where
+-- where a stream begins on a raw that is asked for it, and stands there then: 0 of one that can't seek
+pub record PlaceOf (appends : Bool) (old : Raw) (place : ℕ) (new : Raw) : Type 0 where
   pub within : place ≤ greatest_place
+  pub untouched : Untouched old new
   pub counts : LeavesCounts old new
   pub start : IsFalse old.seekable → place ≡ 0
-  pub told : WhereTold old ((new.bytes ≡ old.bytes) × (new.place ≡ old.place) × (IsTrue old.seekable → place ≡ old.place) × (new.transfers ≤ old.transfers))
+  pub stands : WhereTold old (new.place ≡ begins_at appends old)
+  pub told : WhereTold old (IsTrue old.seekable → place ≡ begins_at appends old)
 
-abbrev pub PlaceOutcome : Raw → Result ℕ RawError → Raw → Type 0
-PlaceOutcome old (Ok place) new = PlaceOf old place new
-PlaceOutcome old (Err raw_error.Fault) new = IsTrue old.seekable × FailsWithout 0 old new
-PlaceOutcome old (Err raw_error.Memory) new = LacksMemory old new
+-- want of memory leaves a raw as it was; one that was to be moved to its end may have been asked where that is
+abbrev pub Lacking : Bool → Raw → Raw → Type 0
+Lacking true raw back = Untouched raw back × StandsWhereItStood raw back
+Lacking false raw back = back ≡ raw
 
--- why a raw is refused, in this order: it is closed; it isn't able; the size is 0; want of memory; it failed when it was asked
--- where it stands, which may have moved it
-abbrev pub RefusesRaw : (Raw → Bool) → Raw → ℕ → IoFault → Raw → Type 0
-RefusesRaw able raw size fault.Closed back = (raw.closed ≡ true) × (back ≡ raw)
-RefusesRaw able raw size fault.Unsupported back = (raw.closed ≡ false) × (able raw ≡ false) × (back ≡ raw)
-RefusesRaw able raw size fault.BadArgument back = (raw.closed ≡ false) × (able raw ≡ true) × (size ≡ 0) × (back ≡ raw)
-RefusesRaw able raw size fault.NoMemory back = MayOpen able raw size × (back ≡ raw)
-RefusesRaw able raw size fault.RawFault back = MayOpen able raw size × IsTrue raw.seekable × Rose raw.faults back.faults × Untouched raw back
-RefusesRaw able raw size other back = ⊥
+abbrev pub PlaceOutcome : Bool → Raw → Result ℕ RawError → Raw → Type 0
+PlaceOutcome appends old (Ok place) new = PlaceOf appends old place new
+PlaceOutcome appends old (Err raw_error.Fault) new = IsTrue old.seekable × Rose old.faults new.faults × Untouched old new
+PlaceOutcome appends old (Err raw_error.Memory) new = IsTrue old.takes_memory × Lacking appends old new
 
-abbrev pub NewOutcome : {R : Type 0} → (R → Raw) → (Raw → Bool) → (Bool → Abilities) → R → ℕ → Result Stream (NewRefused R) → Type 0
-NewOutcome shows able can raw size (Ok stream) = Opens able can (shows raw) size stream
-NewOutcome shows able can raw size (Err refused) = RefusesRaw able (shows raw) size refused.fault (shows refused.raw)
+-- why a raw is refused, in this order: it is closed; it isn't able; the buffer's size is 0; want of memory; it failed when it
+-- was asked where it stands or ends, or was moved, which may have moved it
+abbrev pub RefusesRaw : (Raw → Bool) → Bool → Raw → Option ℕ → IoFault → Raw → Type 0
+RefusesRaw able appends raw buffer fault.Closed back = (raw.closed ≡ true) × (back ≡ raw)
+RefusesRaw able appends raw buffer fault.Unsupported back = (raw.closed ≡ false) × (able raw ≡ false) × (back ≡ raw)
+RefusesRaw able appends raw buffer fault.BadArgument back = (raw.closed ≡ false) × (able raw ≡ true) × (buffer ≡ Some 0) × (back ≡ raw)
+RefusesRaw able appends raw buffer fault.NoMemory back = MayOpen able raw buffer × Lacking appends raw back
+RefusesRaw able appends raw buffer fault.RawFault back = MayOpen able raw buffer × IsTrue raw.seekable × Rose raw.faults back.faults × Untouched raw back
+RefusesRaw able appends raw buffer other back = ⊥
+
+abbrev pub NewOutcome : {R : Type 0} → (R → Raw) → (Raw → Bool) → (Bool → Abilities) → R → Option ℕ → Result Stream (NewRefused R) → Type 0
+NewOutcome shows able can raw buffer (Ok stream) = Opens able can (shows raw) buffer stream
+NewOutcome shows able can raw buffer (Err refused) = RefusesRaw able (can (shows raw).seekable).appending (shows raw) buffer refused.fault (shows refused.raw)

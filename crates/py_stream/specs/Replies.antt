@@ -1,5 +1,5 @@
 -- What the answers of the calls say, in the model's words.
-use Rattle.std.specs.Prelude.{◌≡◌, ◌≢◌, ℕ, ◌≤◌, length, Bool, true, false, List, take, Option, Some, None, Result, Ok, Err, Vec}
+use Rattle.std.specs.Prelude.{◌≡◌, ◌≢◌, ℕ, ◌≤◌, length, Bool, true, false, List, take, drop, Option, Some, None, Result, Ok, Err, Vec}
 use denote.Bor.{Bor}
 use Rattle.std.specs.declared.alloc.Global.{Global}
 use Rattle.py_flat.specs.declared.fault.IoFault.{IoFault}
@@ -28,9 +28,9 @@ CountFits result buffer = Unit {0}
 abbrev pub KeepsBuffer : Life → List ℕ → List ℕ → Type 0
 KeepsBuffer current before after = current ≢ life.Live → after ≡ before
 
--- an answer without bytes leaves the caller's buffer as it was
+-- the caller's buffer is as it was behind the bytes that were given, and all of it where none were
 abbrev pub KeepsUnread : Result (Option ℕ) IoFault → List ℕ → List ℕ → Type 0
-KeepsUnread (Ok (Some count)) before after = Unit {0}
+KeepsUnread (Ok (Some count)) before after = drop count after ≡ drop count before
 KeepsUnread result before after = after ≡ before
 
 -- of one that lends bytes
@@ -54,6 +54,12 @@ lines_reply (Err why) = Refused why
 abbrev pub count_reply : Result ℕ IoFault → FileReply
 count_reply (Ok count) = Count count
 count_reply (Err why) = Refused why
+
+-- of one transfer that counts the bytes that it took, or waits
+abbrev pub taken_reply : Result (Option ℕ) IoFault → FileReply
+taken_reply (Ok (Some count)) = Count count
+taken_reply (Ok None) = NotReady
+taken_reply (Err why) = Refused why
 
 abbrev pub place_reply : Result ℕ IoFault → FileReply
 place_reply (Ok place) = Place place

@@ -1,24 +1,32 @@
--- A buffered stream: what it is seen as.
-use Rattle.std.specs.Prelude.{ℕ, Bool, true, false, []}
+-- A binary stream over a raw one: what it is seen as.
+use Rattle.std.specs.Prelude.{ℕ, Bool, true, false, [], Option, Some, None, unwrap_or}
 use Rattle.py_flat.specs.declared.life.Life.{Life}
 use Rattle.py_flat.specs.declared.life.Life.TheVariants as life
 use Rattle.py_flat.specs.Bytes.{lay}
-use Rattle.py_flat.specs.FlatFile.{Abilities, Buffered, FlatFile}
+use Rattle.py_flat.specs.FlatFile.{Abilities, Buffering, Unbuffered, Buffered, FlatFile}
 use Rattle.py_flat.specs.Owed.{Owed}
 use Rattle.py_raw.specs.RawStream.{Raw}
 
 -- what the raw under it shows; its own place; where the raw stands, as the stream itself counts while it lives; what it can
--- do; its life; the size of its buffer in bytes; whether a wait of the raw cut the last answer short; and the bytes that it
--- has taken from callers and not passed on
+-- do; its life; the size of its buffer in bytes, none of a stream that has no buffer; whether a wait of the raw cut the last
+-- answer short; and the bytes that it has taken from callers and not passed on
 pub record Stream : Type 0 where
   pub raw : Raw
   pub place : ℕ
   pub raw_place : ℕ
   pub can : Abilities
   pub life : Life
-  pub size : ℕ
+  pub buffer : Option ℕ
   pub short : Bool
   pub owed : Owed
+
+-- how many bytes its buffer holds: without one, none
+abbrev pub size_of : Stream → ℕ
+size_of stream = unwrap_or stream.buffer 0
+
+abbrev pub buffering_of : Option ℕ → Buffering
+buffering_of (Some size) = Buffered size
+buffering_of None = Unbuffered
 
 -- the flat file that a stream stands for: the raw's bytes, with the owed ones laid at their place
 abbrev pub file_of : Stream → FlatFile
@@ -26,7 +34,7 @@ file_of stream = record {
   bytes = lay stream.raw.bytes stream.owed.place stream.owed.bytes;
   place = stream.place;
   can = stream.can;
-  buffering = Buffered stream.size;
+  buffering = buffering_of stream.buffer;
   life = stream.life;
 }
 
@@ -34,9 +42,9 @@ file_of stream = record {
 abbrev pub reader_can : Bool → Abilities
 reader_can seekable = record { readable = true; writable = false; seekable = seekable; appending = false }
 
--- and a writer: it writes, and never reads
-abbrev pub writer_can : Bool → Abilities
-writer_can seekable = record { readable = false; writable = true; seekable = seekable; appending = false }
+-- and a writer: it writes, and never reads; one that appends begins at the end, and is never moved
+abbrev pub writer_can : Bool → Bool → Abilities
+writer_can appending seekable = record { readable = false; writable = true; seekable = seekable; appending = appending }
 
 -- nothing is owed, behind a place
 abbrev pub nothing_owed : ℕ → Owed
@@ -49,6 +57,7 @@ no_raw = record {
   bytes = [];
   place = 0;
   transfers = 0;
+  written = 0;
   faults = 0;
   waits = 0;
   closed = false;
@@ -60,14 +69,14 @@ no_raw = record {
 }
 
 -- what is left of a stream whose raw was handed back
-abbrev pub detached_stream : Abilities → ℕ → Stream
-detached_stream can size = record {
+abbrev pub detached_stream : Abilities → Option ℕ → Stream
+detached_stream can buffer = record {
   raw = no_raw;
   place = 0;
   raw_place = 0;
   can = can;
   life = life.Detached;
-  size = size;
+  buffer = buffer;
   short = false;
   owed = nothing_owed 0;
 }

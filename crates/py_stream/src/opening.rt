@@ -6,28 +6,41 @@ ghost use Rattle.py_stream.specs.Opening.{first_refusal, PlaceOutcome};
 use py_raw::{IoFault, RawError, RawStream};
 
 /// Why a raw stream is refused before it is asked for anything: `Closed` where it is closed, then `Unsupported` where it isn't
-/// `able` to do what is needed, then `BadArgument` for a buffer of 0 bytes. `None` where nothing refuses it.
-pub fn refused_at_first<R: RawStream>(raw: &R, able: bool, buffer_size: usize) -> Option<IoFault>
+/// `able` to do what is needed, then `BadArgument` for a buffer of 0 bytes; a stream without a buffer gives no size. `None`
+/// where nothing refuses it.
+pub fn refused_at_first<R: RawStream>(
+    raw: &R,
+    able: bool,
+    buffer_size: Option<usize>,
+) -> Option<IoFault>
     ensures { result ≡ first_refusal able (R.shows raw.now) buffer_size }
 {
     if raw.closed() {
         Some(IoFault::Closed)
     } else if !able {
         Some(IoFault::Unsupported)
-    } else if buffer_size == 0 {
+    } else if buffer_size == Some(0) {
         Some(IoFault::BadArgument)
     } else {
         None
     }
 }
 
-/// Where a raw stream stands, in bytes from the start: it is asked where it can seek, and stands at 0 where it can't. After an
-/// error its bytes are unchanged.
-pub fn first_place<R: RawStream>(raw: &mut R) -> Result<u64, RawError>
+/// Where a stream begins on a raw one, in bytes from the start: where that stands; or, of a stream that `appends`, at the end, to
+/// which it is moved. One that can't seek isn't asked: it stands at 0. After an error the bytes are unchanged.
+pub fn first_place<R: RawStream>(raw: &mut R, appends: bool) -> Result<u64, RawError>
     requires open { (R.shows raw.old).closed ≡ false }
     ensures keeps { Keeps (R.shows raw.old) (R.shows raw.new) }
     ensures open { StaysOpen (R.shows raw.old) (R.shows raw.new) }
-    ensures outcome { PlaceOutcome (R.shows raw.old) result (R.shows raw.new) }
+    ensures outcome { PlaceOutcome appends (R.shows raw.old) result (R.shows raw.new) }
 {
-    if raw.seekable() { raw.tell() } else { Ok(0) }
+    if !raw.seekable() {
+        Ok(0)
+    } else if appends {
+        let end = raw.end()?;
+        raw.seek(end)?;
+        Ok(end)
+    } else {
+        raw.tell()
+    }
 }
