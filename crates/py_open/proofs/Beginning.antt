@@ -1,5 +1,5 @@
 -- What the buffered reader's opening says of the bytes under a text.
-use Rattle.std.proofs.Common.{◌≡◌, ℕ, ◌<◌, ◌≤◌, Bool, true, ◌&&◌, IsTrue, IsFalse, IsOk, None, Result, Ok, Err, sym, ap, ◌∙◌, subst, refl, arith}
+use Rattle.std.proofs.Common.{◌≡◌, ℕ, ◌<◌, ◌≤◌, Bool, true, false, ◌&&◌, IsTrue, IsFalse, IsOk, not, Option, Some, None, unwrap_or, Result, Ok, Err, sym, ap, ◌∙◌, subst, refl, arith}
 use Rattle.py_flat.specs.declared.fault.IoFault.{IoFault}
 use Rattle.py_flat.specs.declared.fault.IoFault.TheVariants as fault
 use Rattle.py_flat.specs.declared.life.Life.TheVariants as life
@@ -7,6 +7,7 @@ use Rattle.py_flat.specs.Calls.{Place, Tell}
 use Rattle.py_flat.specs.FlatFile.{Abilities}
 use Rattle.py_raw.specs.RawStream.{Raw, Keeps, StaysOpen}
 use Rattle.py_stream.specs.Stream.{Stream, reader_can}
+use Rattle.py_stream.specs.Kinds.{calls_none, waits_unready}
 use Rattle.py_stream.specs.Answers.{Answers, refused_by}
 use Rattle.py_stream.specs.Replies.{place_reply}
 use Rattle.py_stream.specs.Opening.{Opens as OpensStream, RefusesRaw as RefusesStream, StandsWhereItStood}
@@ -15,16 +16,17 @@ use Rattle.py_open.proofs.Reading.{seen_at}
 
 -- the opening of a reader
 abbrev Opens : Raw → ℕ → Stream → Type 0
-Opens raw size stream = OpensStream (λ shown. shown.readable) reader_can raw size stream
+Opens raw size stream = OpensStream (λ shown. shown.readable) reader_can raw (Some size) stream
 
 abbrev Refuses : Raw → ℕ → IoFault → Raw → Type 0
-Refuses raw size why back = RefusesStream (λ shown. shown.readable) raw size why back
+Refuses raw size why back = RefusesStream (λ shown. shown.readable) false raw (Some size) why back
 
 -- a reader that was opened is new
 pub opened_new : (raw : Raw) (size : ℕ) (stream : Stream) → Opens raw size stream → IsNew stream
 opened_new raw size stream opens = record {
   reads = ap (λ (can : Abilities). can.readable) opens.can_do;
   writes = ap (λ (can : Abilities). can.writable) opens.can_do;
+  buffered = (size, opens.buffer_is);
   live = opens.life_is;
   start = λ still. opens.start (sym (ap (λ (can : Abilities). can.seekable) opens.can_do) ∙ still);
   owed = opens.owed;
@@ -37,24 +39,29 @@ accepts_tell reader live can = rw live (rw can refl)
 -- so the asking is never refused
 pub tells_place : (old new : Stream) (result : Result ℕ IoFault) → IsNew old → old.can.seekable ≡ true → Answers old Tell (place_reply result) new → IsOk result
 tells_place old new (Ok place) is can answers = refl
-tells_place old new (Err (fault.WouldBlock taken)) is can answers = absurd (let never = subst (λ (writes : Bool). IsTrue (writes && true)) is.writes (answers.answer (accepts_tell old is.live can)) in cc)
+tells_place old new (Err (fault.WouldBlock taken)) is can answers = absurd (let never = subst (λ (writes : Bool). IsTrue (writes && not (waits_unready old.buffer Tell))) is.writes (answers.answer (accepts_tell old is.live can)) in cc)
 tells_place old new (Err other) is can answers = absurd (answers.answer (accepts_tell old is.live can))
+
+-- a `tell` calls no raw
+tell_calls_none : (buffer : Option ℕ) (writes : Bool) → calls_none buffer writes Tell ≡ true
+tell_calls_none None writes = refl
+tell_calls_none (Some size) writes = refl
 
 -- and answers the place, with all but what is owed as it was
 pub counts_told : (old new : Stream) (place : ℕ) → IsNew old → Answers old Tell (Place place) new → CountsPlace old place new
 counts_told old new place is answers = record {
   is = answers.moves.place.0;
   at = answers.moves.place.1;
-  raw = (answers.idle refl).raw;
+  raw = (answers.idle (tell_calls_none old.buffer old.can.writable)).raw;
   can = answers.keeps.can;
   life_is = answers.moves.life_is;
-  size = answers.keeps.size;
+  buffer = answers.keeps.buffer;
   owed = (answers.spares is.writes is.owed).owed;
 }
 
 -- what can't seek stands at 0, as it was
 pub counts_start : (old : Stream) → IsNew old → IsFalse old.can.seekable → CountsPlace old 0 old
-counts_start old is still = record { is = sym (is.start still); at = refl; raw = refl; can = refl; life_is = refl; size = refl; owed = is.owed }
+counts_start old is still = record { is = sym (is.start still); at = refl; raw = refl; can = refl; life_is = refl; buffer = refl; owed = is.owed }
 
 -- the invariant of a reader with its place
 pub begins_reader : (raw : Raw) (size : ℕ) (stream new : Stream) (place : ℕ) → Opens raw size stream → CountsPlace stream place new → IsReader new place
@@ -63,6 +70,7 @@ begins_reader raw size stream new place opens counts =
     record {
       reads = ap (λ (can : Abilities). can.readable) counts.can ∙ is.reads;
       writes = ap (λ (can : Abilities). can.writable) counts.can ∙ is.writes;
+      buffered = (size, counts.buffer ∙ opens.buffer_is);
       owed = counts.owed;
       attached = λ detached. let live = counts.life_is ∙ is.live in absurd (cc);
       at = λ live. counts.at ∙ sym counts.is;
@@ -78,7 +86,7 @@ opens_reader raw size stream new place opens counts = record {
   stays = subst (StaysOpen raw) (sym counts.raw) opens.untouched.stays;
   untouched = λ tells. subst (λ (now : Raw). now.transfers ≤ raw.transfers) (sym counts.raw) (opens.untouched.transfers tells);
   life = counts.life_is ∙ opens.life_is;
-  size_is = counts.size ∙ opens.size_is;
+  size_is = ap (λ (buffer : Option ℕ). unwrap_or buffer 0) (counts.buffer ∙ opens.buffer_is);
   start = λ still. counts.is ∙ opens.start still;
   told = λ tells. (
     ap (λ (now : Raw). now.bytes) counts.raw ∙ opens.untouched.bytes tells,
@@ -100,7 +108,7 @@ same_back raw = record {
 pub refuses_raw : (raw : Raw) (size : ℕ) (why : IoFault) (back : Raw) → 0 < size → Refuses raw size why back → RefusesRaw raw why back
 refuses_raw raw size fault.Closed back some refused = refused
 refuses_raw raw size fault.Unsupported back some refused = refused
-refuses_raw raw size fault.BadArgument back some refused = absurd (omega (arith, refused.2))
+refuses_raw raw size fault.BadArgument back some refused = absurd (let none : Some size ≡ Some 0 = refused.2 in let zero_is : size ≡ 0 = cc in omega (arith, some, zero_is))
 refuses_raw raw size fault.NoMemory back some refused = (refused.0.is_open, refused.0.is_able, subst (HandsRawBack raw) (sym refused.1) (same_back raw), subst (StandsWhereItStood raw) (sym refused.1) (λ tells. refl))
 refuses_raw raw size fault.RawFault back some refused = (
   refused.0.is_open,

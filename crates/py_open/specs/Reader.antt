@@ -27,6 +27,7 @@ pub record ReaderView : Type 0 where
 pub record IsReader (reader : Stream) (place : ℕ) : Type 0 where
   pub reads : reader.can.readable ≡ true
   pub writes : reader.can.writable ≡ false
+  pub buffered : (size : ℕ) × (reader.buffer ≡ Some size)
   pub owed : reader.owed ≡ nothing_owed reader.place
   pub attached : reader.life ≢ life.Detached
   pub at : reader.life ≡ life.Live → reader.place ≡ place
@@ -107,6 +108,7 @@ Untouched old new = WhereTold old (new.transfers ≤ old.transfers)
 pub record IsNew (reader : Stream) : Type 0 where
   pub reads : reader.can.readable ≡ true
   pub writes : reader.can.writable ≡ false
+  pub buffered : (size : ℕ) × (reader.buffer ≡ Some size)
   pub live : reader.life ≡ life.Live
   pub start : IsFalse reader.can.seekable → reader.place ≡ 0
   pub owed : reader.owed ≡ nothing_owed reader.place
@@ -118,7 +120,7 @@ pub record CountsPlace (old : Stream) (place : ℕ) (new : Stream) : Type 0 wher
   pub raw : new.raw ≡ old.raw
   pub can : new.can ≡ old.can
   pub life_is : new.life ≡ old.life
-  pub size : new.size ≡ old.size
+  pub buffer : new.buffer ≡ old.buffer
   pub owed : new.owed ≡ nothing_owed new.place
 
 -- told: the reader begins where the raw stood

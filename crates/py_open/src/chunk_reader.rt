@@ -19,11 +19,12 @@ pub(crate) struct ChunkReader<R: RawStream> {
 }
 
 impl<R: RawStream> Model for ChunkReader<R> {
+    ghost use Rattle.py_stream.specs.Stream.{size_of};
     ghost use Rattle.py_open.specs.Reader.{ReaderView, IsReader};
 
     ghost Value = { ReaderView };
 
-    ghost view = { λ r. record { raw = r.reader.raw; place = r.place; life = r.reader.life; size = r.reader.size } };
+    ghost view = { λ r. record { raw = r.reader.raw; place = r.place; life = r.reader.life; size = size_of r.reader } };
 
     ghost invariant = { λ r. IsReader r.reader r.place };
 }

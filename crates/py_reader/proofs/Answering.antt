@@ -1,12 +1,12 @@
 -- The answers of readings that go on until they have all that they want.
 use Rattle.std.proofs.Common.{◌≡◌, ◌≢◌, ℕ, zero, suc, ◌+◌, ◌<◌, ◌≤◌, inl, inr, Bool, true, false, ◌&&◌, ◌||◌, not, IsTrue, List, [], length, take, Option, Some, None, is_none, Ok, Err, if◌then◌else◌, refl, sym, ap, ◌∙◌, subst, arith}
-use Rattle.std.proofs.lemmas.List.{length-take}
+use Rattle.std.proofs.lemmas.List.{length-take, length-drop}
 use Rattle.py_flat.specs.declared.fault.IoFault.{IoFault}
 use Rattle.py_flat.specs.declared.fault.IoFault.TheVariants as fault
 use Rattle.py_flat.specs.declared.life.Life.{Life}
 use Rattle.py_flat.specs.declared.life.Life.TheVariants as life
 use Rattle.py_flat.specs.Bytes.{left_at, first_of}
-use Rattle.py_flat.specs.Lines.{Lf, first_line, lines_of, lines_within, joined}
+use Rattle.py_flat.specs.Lines.{Lf, line_after, first_line, lines_of, lines_within, joined}
 use Rattle.py_flat.specs.Causes.{Rose}
 use Rattle.py_flat.specs.Calls.{FileCall, Read, Read1, ReadLine, ReadLines, Peek, ReadInto, ReadInto1, Write, WriteLines, Truncate, Seek, Tell, Flush, Close, Detach, Readable, Writable, Seekable, Closed, OtherGetter, FileReply, Bytes, Lines, NotReady, Refused}
 use Rattle.py_flat.specs.FlatFile.{FlatFile, Buffering, Buffered}
@@ -15,15 +15,15 @@ use Rattle.py_flat.specs.ExactStep.{is_closed, rest, after_read, gives}
 use Rattle.py_flat.specs.AllowedStep.{settled, waited_for, raw_faulted, out_of_memory}
 use Rattle.py_flat.specs.BinaryStep.{BinaryStep, IsFrontOf, if_unbuffered, CarriedOut, asks_end, reaches_raw, is_live, is_tell, does_work, payload, Fails, GivesPart, WaitedBy, FaultedBy, StarvedBy, Accepted, SettledBy}
 use Rattle.py_flat.proofs.Cutting.{joined_lines}
-use Rattle.py_raw.specs.RawStream.{WhereTold, NoWait, LeavesCounts}
+use Rattle.py_raw.specs.RawStream.{WhereTold, NoWait, WaitsOnce, LeavesCounts}
 use Rattle.py_reader.specs.declared.data.Stop.{Stop}
 use Rattle.py_reader.specs.declared.data.Stop.TheVariants as stops
 use Rattle.py_stream.specs.Stream.{Stream, file_of, reader_can}
 use Rattle.py_stream.specs.Kinds.{asks_nothing, takes_space_first, is_reading, is_writing, reads_on, has_room, is_single, says_fault, says_no_memory, keeps_raw}
-use Rattle.py_stream.specs.Answers.{Answers, IsReplyTo, IsShort, LifeMoves, PlaceMoves, PlaceFails, StarvesTo, may_starve, GivesWithin, WantsMemory, Starves, SeeksByEnd, HasCauses, IsCounted, StarvesFirst, AsksNothing, refused_by, closes_again}
+use Rattle.py_stream.specs.Answers.{Answers, IsReplyTo, IsShort, LifeMoves, PlaceMoves, PlaceFails, PlaceStarves, MovesForth, moves_most, StarvesTo, GivesWithin, WantsMemory, Starves, SeeksByEnd, HasCauses, IsCounted, StarvesFirst, AsksNothing, refused_by, closes_again}
 use Rattle.py_reader.specs.Window.{place_of, end_of}
-use Rattle.py_reader.specs.Engine.{EngineView, stream_of, IsEngine, BeginOutcome, KeepsEngine, Gives, FailsInReading, StopOutcome, has_answer, answered_at}
-use Rattle.py_reader.specs.Reading.{Gathers}
+use Rattle.py_reader.specs.Engine.{EngineView, stream_of, IsEngine, BeginOutcome, KeepsEngine, Reaches, Gives, FailsInReading, FailsMoved, StarvesAt, StopOutcome, has_answer, answered_at}
+use Rattle.py_reader.specs.Reading.{Gathers, MovesWithin}
 use Rattle.py_lines.proofs.Lines.{lines_left}
 use Rattle.py_stream.proofs.Completing.{completes}
 use Rattle.py_reader.proofs.Refusing.{refused_by_life, near, within_window}
@@ -119,18 +119,20 @@ pub record Comes (old : EngineView) (call : FileCall) (reply : FileReply) (short
   pub kept : KeepsEngine old new
   pub is_open : is_closed new.life ≡ false
   pub causes : HasCauses old.raw reply new.raw short
-  pub counted : IsTrue old.raw.counts_exactly → IsCounted old.raw call reply new.raw short
+  pub counted : IsTrue old.raw.counts_exactly → IsCounted (Some old.window.size) old.raw call reply new.raw short
   pub shorts : IsShort call reply short
-  pub life_is : LifeMoves call reply old.life new.life
-  pub place : PlaceMoves call reply new.life (place_of old.window) (place_of new.window)
+  pub life_is : LifeMoves (Some old.window.size) call reply old.life new.life
+  pub place : PlaceMoves (Some old.window.size) call reply new.life (place_of old.window) (place_of new.window)
   pub within : GivesWithin old.window.size call reply
-  pub wants : WantsMemory call reply old.raw
+  pub wants : WantsMemory (has_room call) reply old.raw
   pub starves : IsTrue (says_no_memory reply) → IsTrue (reads_on call) → Starves (stream_of old) (stream_of (record new { short = short }))
   pub first : StarvesFirst (stream_of old) call reply (stream_of (record new { short = short }))
   pub nothing : IsTrue (asks_nothing call) → AsksNothing (stream_of old) reply (stream_of (record new { short = short }))
   pub one : IsTrue (is_single call) → WhereTold old.raw (new.raw.transfers ≤ old.raw.transfers + 1)
-  pub answers : IsReplyTo false call reply
+  pub held : end_of old.window ≢ place_of old.window → IsTrue (is_single call) → AsksNothing (stream_of old) reply (stream_of (record new { short = short }))
+  pub answers : IsReplyTo (Some old.window.size) false call reply
   pub told : WhereTold old.raw (BinaryStep (file_of (stream_of old)) call reply short (says_fault reply) (file_of (stream_of new)))
+  pub reach : Reaches old new
   pub hides : IsTrue short → end_of new.window ≡ place_of new.window
 
 pub answers_coming : (old new : EngineView) (call : FileCall) (reply : FileReply) (short : Bool) → is_reading call ≡ true → old.life ≡ life.Live → Comes old call reply short new → Answers (stream_of old) call reply (stream_of (record new { short = short }))
@@ -138,7 +140,7 @@ answers_coming old new call reply short reads live comes =
     let unrefused : refused_by (stream_of old) call ≡ None = refused_alone (stream_of old) call (no_end (file_of (stream_of old)) call reads) ∙ accepted old call reads live in
     let left : EngineView = record new { short = short } in
     record {
-      keeps = record { size = comes.kept.size; can = ap reader_can comes.kept.raw.seekable; raw = comes.kept.raw };
+      keeps = record { buffer = ap Some comes.kept.size; can = ap reader_can comes.kept.raw.seekable; raw = comes.kept.raw };
       refused = λ why refuses. absurd (let wrong : None ≡ Some why = sym unrefused ∙ refuses in cc);
       again = λ closes. absurd (cc (not_closing (stream_of old) call reads));
       shut = λ none closed. comes.kept.stays ∙ closed ∙ ap is_closed live ∙ sym comes.is_open;
@@ -154,10 +156,12 @@ answers_coming old new call reply short reads live comes =
       writes = λ can. absurd (cc);
       idle = λ keeps. absurd (cc (uses_raw call reads));
       single = comes.one;
+      held = λ reads apart one. comes.held apart one;
       spares = λ writes none. record { bytes = comes.kept.bytes; owed = refl };
       answer = λ accepts. comes.answers;
-      complete = λ accepts calm sound. completes old.raw new.raw false call reply short comes.causes comes.shorts comes.answers calm sound;
+      complete = λ accepts calm sound. completes old.raw new.raw (Some old.window.size) false call reply short comes.causes comes.shorts comes.answers calm sound;
       told = comes.told;
+      reach = λ reading. comes.reach;
       near = λ lives. near left comes.kept.is lives;
       hides = λ shortened reading none. comes.hides shortened;
     }
@@ -259,19 +263,19 @@ short_part (ReadLines hint) part short on some = λ shortened. some_lines part (
 short_part (ReadInto size) part short on some = some
 short_part call part short on some = absurd (cc)
 
-part_keeps_life : (call : FileCall) (part : List ℕ) (before after : Life) → reads_on call ≡ true → after ≡ before → LifeMoves call (reply_by call part) before after
-part_keeps_life (Read size) part before after on same = same
-part_keeps_life (ReadLine limit) part before after on same = same
-part_keeps_life (ReadLines hint) part before after on same = same
-part_keeps_life (ReadInto size) part before after on same = same
-part_keeps_life call part before after on same = absurd (cc)
+part_keeps_life : (size : ℕ) (call : FileCall) (part : List ℕ) (before after : Life) → reads_on call ≡ true → after ≡ before → LifeMoves (Some size) call (reply_by call part) before after
+part_keeps_life size (Read most) part before after on same = same
+part_keeps_life size (ReadLine limit) part before after on same = same
+part_keeps_life size (ReadLines hint) part before after on same = same
+part_keeps_life size (ReadInto most) part before after on same = same
+part_keeps_life size call part before after on same = absurd (cc)
 
-part_moves : (call : FileCall) (part : List ℕ) (current : Life) (before after : ℕ) → reads_on call ≡ true → after ≡ before + length part → PlaceMoves call (reply_by call part) current before after
-part_moves (Read size) part current before after on is = is
-part_moves (ReadLine limit) part current before after on is = is
-part_moves (ReadLines hint) part current before after on is = is ∙ ap (λ (bytes : List ℕ). before + length bytes) (sym (joined_lines part))
-part_moves (ReadInto size) part current before after on is = is
-part_moves call part current before after on is = absurd (cc)
+part_moves : (size : ℕ) (call : FileCall) (part : List ℕ) (current : Life) (before after : ℕ) → reads_on call ≡ true → after ≡ before + length part → PlaceMoves (Some size) call (reply_by call part) current before after
+part_moves size (Read most) part current before after on is = is
+part_moves size (ReadLine limit) part current before after on is = is
+part_moves size (ReadLines hint) part current before after on is = is ∙ ap (λ (bytes : List ℕ). before + length bytes) (sym (joined_lines part))
+part_moves size (ReadInto most) part current before after on is = is
+part_moves size call part current before after on is = absurd (cc)
 
 part_within : (size : ℕ) (call : FileCall) (part : List ℕ) → reads_on call ≡ true → wanted_by call part ≡ part → GivesWithin size call (reply_by call part)
 part_within size (Read None) part on alone = tt
@@ -281,12 +285,12 @@ part_within size (ReadLine limit) part on alone = alone
 part_within size (ReadLines hint) part on alone = ap (lines_within hint) (joined_lines part) ∙ lines_left hint part (lines_of part) (cut_again part) (alone ∙ sym (joined_lines part))
 part_within size call part on alone = absurd (cc)
 
-part_answers : (call : FileCall) (part : List ℕ) → reads_on call ≡ true → IsReplyTo false call (reply_by call part)
-part_answers (Read size) part on = tt
-part_answers (ReadLine limit) part on = tt
-part_answers (ReadLines hint) part on = tt
-part_answers (ReadInto size) part on = tt
-part_answers call part on = absurd (cc)
+part_answers : (size : ℕ) (call : FileCall) (part : List ℕ) → reads_on call ≡ true → IsReplyTo (Some size) false call (reply_by call part)
+part_answers size (Read most) part on = tt
+part_answers size (ReadLine limit) part on = tt
+part_answers size (ReadLines hint) part on = tt
+part_answers size (ReadInto most) part on = tt
+part_answers size call part on = absurd (cc)
 
 part_waited : (file : FlatFile) (call : FileCall) (part : List ℕ) (after : FlatFile) → reads_on call ≡ true → GivesPart file (wanted_by call (rest file)) part after → WaitedBy file call (reply_by call part) after
 part_waited file (Read size) part after on gives_part = inr (part, refl, gives_part)
@@ -295,23 +299,23 @@ part_waited file (ReadLines hint) part after on gives_part = inr (part, refl, gi
 part_waited file (ReadInto size) part after on gives_part = inr (part, refl, gives_part)
 part_waited file call part after on gives_part = absurd (cc)
 
-unready_keeps_life : (call : FileCall) (before after : Life) → reads_on call ≡ true → after ≡ before → LifeMoves call NotReady before after
-unready_keeps_life (Read size) before after on same = same
-unready_keeps_life (ReadLine limit) before after on same = same
-unready_keeps_life (ReadLines hint) before after on same = same
-unready_keeps_life (ReadInto size) before after on same = same
-unready_keeps_life call before after on same = absurd (cc)
+unready_keeps_life : (size : ℕ) (call : FileCall) (before after : Life) → reads_on call ≡ true → after ≡ before → LifeMoves (Some size) call NotReady before after
+unready_keeps_life size (Read most) before after on same = same
+unready_keeps_life size (ReadLine limit) before after on same = same
+unready_keeps_life size (ReadLines hint) before after on same = same
+unready_keeps_life size (ReadInto most) before after on same = same
+unready_keeps_life size call before after on same = absurd (cc)
 
 unready_short : (call : FileCall) → IsShort call NotReady true
 unready_short (Read1 size) = refl
 unready_short call = refl
 
-unready_stays : (call : FileCall) (current : Life) (before after : ℕ) → reads_on call ≡ true → after ≡ before → PlaceMoves call NotReady current before after
-unready_stays (Read size) current before after on same = same
-unready_stays (ReadLine limit) current before after on same = same
-unready_stays (ReadLines hint) current before after on same = same
-unready_stays (ReadInto size) current before after on same = same
-unready_stays call current before after on same = absurd (cc)
+unready_stays : (size : ℕ) (call : FileCall) (current : Life) (before after : ℕ) → reads_on call ≡ true → after ≡ before → PlaceMoves (Some size) call NotReady current before after
+unready_stays size (Read most) current before after on same = same
+unready_stays size (ReadLine limit) current before after on same = same
+unready_stays size (ReadLines hint) current before after on same = same
+unready_stays size (ReadInto most) current before after on same = same
+unready_stays size call current before after on same = absurd (cc)
 
 unready_within : (size : ℕ) (call : FileCall) → reads_on call ≡ true → GivesWithin size call NotReady
 unready_within size (Read1 bytes) on = absurd (cc)
@@ -324,6 +328,11 @@ unready_waited file (ReadLines hint) after on same = inl (refl, same)
 unready_waited file (ReadInto size) after on same = inl (refl, same)
 unready_waited file call after on same = absurd (cc)
 
+-- told, the bytes that came next move the place no further than the end
+pub reaches_given : (old new : EngineView) (part : List ℕ) → Gives old part new → Reaches old new
+reaches_given old new part given tells =
+    omega (arith, given.place, ap length (given.told tells), length-take (length part) (left_at old.raw.bytes (place_of old.window)), length-drop (place_of old.window) old.raw.bytes)
+
 -- A reading that had enough, or all that was left.
 pub answers_all : (old new : EngineView) (call : FileCall) (part : List ℕ) → reads_on call ≡ true → old.life ≡ life.Live → Gives old part new → NoWait old.raw new.raw → (IsTrue (asks_nothing call) → new.raw ≡ old.raw) → wanted_by call part ≡ part → WhereTold old.raw (wanted_by call (left_at old.raw.bytes (place_of old.window)) ≡ part) → Answers (stream_of old) call (reply_by call part) (stream_of (record new { short = false }))
 answers_all old new call part on live given no_wait idle alone exact =
@@ -333,42 +342,45 @@ answers_all old new call part on live given no_wait idle alone exact =
       kept = given.kept;
       is_open = ap is_closed given.live;
       causes = record { waits = λ short. absurd (cc); faults = λ faulted. absurd (cc (said call part)) };
-      counted = λ exactly. record { faults = λ sound. given.no_fault exactly; waits = λ whole writes. no_wait exactly };
+      counted = λ exactly. record { faults = λ sound. given.no_fault exactly; waits = λ whole writes. no_wait exactly; once = λ short. absurd (cc) };
       shorts = short_part call part false on (λ short. absurd (cc));
-      life_is = part_keeps_life call part old.life new.life on same;
-      place = part_moves call part new.life (place_of old.window) (place_of new.window) on given.place;
+      life_is = part_keeps_life old.window.size call part old.life new.life on same;
+      place = part_moves old.window.size call part new.life (place_of old.window) (place_of new.window) on given.place;
       within = part_within old.window.size call part on alone;
       wants = λ wanting room. absurd (cc (gave_bytes call part));
       starves = λ wanting reads. absurd (cc (gave_bytes call part));
       first = λ wanting takes none. absurd (cc (gave_bytes call part));
       nothing = λ asks. record { raw = idle asks; fault = said call part };
       one = λ single. absurd (cc (many call on));
-      answers = part_answers call part on;
+      held = λ apart single. absurd (cc (many call on));
+      answers = part_answers old.window.size call part on;
       told = λ tells. settled (subst (λ (refused : Option IoFault). SettledBy file call refused (reply_by call part) (file_of (stream_of new))) (sym (accepted old call (reading_on call on) live))
           (carried file old.window.size call part (file_of (stream_of new)) refl on (exact tells) (file_after old new (length part) given.kept same given.place tells)));
+      reach = reaches_given old new part given;
       hides = λ short. absurd (cc);
     })
 
 -- A reading that a wait of the raw cut short.
-pub answers_part : (old new : EngineView) (call : FileCall) (part : List ℕ) → reads_on call ≡ true → old.life ≡ life.Live → Gives old part new → Rose old.raw.waits new.raw.waits → end_of new.window ≡ place_of new.window → part ≢ [] → wanted_by call part ≡ part → WhereTold old.raw (IsFrontOf part (wanted_by call (left_at old.raw.bytes (place_of old.window)))) → Answers (stream_of old) call (reply_by call part) (stream_of (record new { short = true }))
-answers_part old new call part on live given waits hides some alone front =
+pub answers_part : (old new : EngineView) (call : FileCall) (part : List ℕ) → reads_on call ≡ true → old.life ≡ life.Live → Gives old part new → Rose old.raw.waits new.raw.waits → end_of new.window ≡ place_of new.window → WaitsOnce old.raw new.raw → part ≢ [] → wanted_by call part ≡ part → WhereTold old.raw (IsFrontOf part (wanted_by call (left_at old.raw.bytes (place_of old.window)))) → Answers (stream_of old) call (reply_by call part) (stream_of (record new { short = true }))
+answers_part old new call part on live given waits hides once some alone front =
     let file : FlatFile = file_of (stream_of old) in
     let same : new.life ≡ old.life = given.live ∙ sym live in
     answers_coming old new call (reply_by call part) true (reading_on call on) live (record {
       kept = given.kept;
       is_open = ap is_closed given.live;
       causes = record { waits = λ short. waits; faults = λ faulted. absurd (cc (said call part)) };
-      counted = λ exactly. record { faults = λ sound. given.no_fault exactly; waits = λ whole writes. absurd (cc) };
+      counted = λ exactly. record { faults = λ sound. given.no_fault exactly; waits = λ whole writes. absurd (cc); once = λ short writes. once exactly };
       shorts = short_part call part true on (λ short. some);
-      life_is = part_keeps_life call part old.life new.life on same;
-      place = part_moves call part new.life (place_of old.window) (place_of new.window) on given.place;
+      life_is = part_keeps_life old.window.size call part old.life new.life on same;
+      place = part_moves old.window.size call part new.life (place_of old.window) (place_of new.window) on given.place;
       within = part_within old.window.size call part on alone;
       wants = λ wanting room. absurd (cc (gave_bytes call part));
       starves = λ wanting reads. absurd (cc (gave_bytes call part));
       first = λ wanting takes none. absurd (cc (gave_bytes call part));
       nothing = λ asks. absurd (some (sym alone ∙ wants_nothing call on asks part));
       one = λ single. absurd (cc (many call on));
-      answers = part_answers call part on;
+      held = λ apart single. absurd (cc (many call on));
+      answers = part_answers old.window.size call part on;
       told = λ tells. waited_for refl (
         works old call (reading_on call on) live,
         part_waited file call part (file_of (stream_of new)) on (record {
@@ -377,46 +389,110 @@ answers_part old new call part on live given waits hides some alone front =
           leaves = file_after old new (length part) given.kept same given.place tells;
         }),
       );
+      reach = reaches_given old new part given;
       hides = λ short. hides;
     })
 
 -- One that the raw made wait before anything came.
-pub answers_unready : (old new : EngineView) (call : FileCall) → reads_on call ≡ true → old.life ≡ life.Live → Gives old [] new → Rose old.raw.waits new.raw.waits → end_of new.window ≡ place_of new.window → (IsTrue (asks_nothing call) → new.raw ≡ old.raw) → Answers (stream_of old) call NotReady (stream_of (record new { short = true }))
-answers_unready old new call on live given waits hides idle =
+pub answers_unready : (old new : EngineView) (call : FileCall) → reads_on call ≡ true → old.life ≡ life.Live → Gives old [] new → Rose old.raw.waits new.raw.waits → end_of new.window ≡ place_of new.window → WaitsOnce old.raw new.raw → (IsTrue (asks_nothing call) → new.raw ≡ old.raw) → Answers (stream_of old) call NotReady (stream_of (record new { short = true }))
+answers_unready old new call on live given waits hides once idle =
     let file : FlatFile = file_of (stream_of old) in
     let same : new.life ≡ old.life = given.live ∙ sym live in
     answers_coming old new call NotReady true (reading_on call on) live (record {
       kept = given.kept;
       is_open = ap is_closed given.live;
       causes = record { waits = λ short. waits; faults = λ faulted. absurd (cc) };
-      counted = λ exactly. record { faults = λ sound. given.no_fault exactly; waits = λ whole writes. absurd (cc) };
+      counted = λ exactly. record { faults = λ sound. given.no_fault exactly; waits = λ whole writes. absurd (cc); once = λ short writes. once exactly };
       shorts = unready_short call;
-      life_is = unready_keeps_life call old.life new.life on same;
-      place = unready_stays call new.life (place_of old.window) (place_of new.window) on (omega (arith, given.place));
+      life_is = unready_keeps_life old.window.size call old.life new.life on same;
+      place = unready_stays old.window.size call new.life (place_of old.window) (place_of new.window) on (omega (arith, given.place));
       within = unready_within old.window.size call on;
       wants = λ wanting room. absurd (cc);
       starves = λ wanting reads. absurd (cc);
       first = λ wanting takes none. absurd (cc);
       nothing = λ asks. record { raw = idle asks; fault = refl };
       one = λ single. absurd (cc (many call on));
+      held = λ apart single. absurd (cc (many call on));
       answers = reading_on call on;
       told = λ tells. waited_for refl (works old call (reading_on call on) live, unready_waited file call (file_of (stream_of new)) on (file_same old new given.kept same (omega (arith, given.place)) tells));
+      reach = reaches_given old new [] given;
       hides = λ short. hides;
     })
 
+-- How far a refusal moves the place.
+
+-- a place moved forth, and no further than so many bytes
+forth_within : (most before after : ℕ) → before ≤ after → after ≤ before + most → MovesForth (Some most) before after
+forth_within most before after forth within = (forth, within)
+
+-- a failed reading that moved no further than so many bytes
+pub fails_within : (most : ℕ) (old new : EngineView) → FailsInReading None old new → place_of new.window ≤ place_of old.window + most → FailsInReading (Some most) old new
+fails_within most old new fails within = record {
+  kept = fails.kept;
+  cause = fails.cause;
+  no_wait = fails.no_wait;
+  failed = fails.failed;
+  place = forth_within most (place_of old.window) (place_of new.window) fails.place within;
+  reach = fails.reach;
+}
+
+-- and one that wanted memory
+pub moved_within : (most : ℕ) (old new : EngineView) → FailsMoved None old new → place_of new.window ≤ place_of old.window + most → FailsMoved (Some most) old new
+moved_within most old new fails within = record {
+  kept = fails.kept;
+  counts = fails.counts;
+  failed = fails.failed;
+  place = forth_within most (place_of old.window) (place_of new.window) fails.place within;
+  reach = fails.reach;
+  forth = fails.forth;
+  told = fails.told;
+  some = fails.some;
+}
+
+-- or was left as it was
+pub starves_within : (most : ℕ) (old new : EngineView) → StarvesAt None old new → place_of new.window ≤ place_of old.window + most → StarvesAt (Some most) old new
+starves_within most old new (inl same) within = inl same
+starves_within most old new (inr fails) within = inr (moved_within most old new fails within)
+
+-- no part that a call wants is longer than the call says
+pub wanted_within : (call : FileCall) (most : ℕ) → reads_on call ≡ true → moves_most call ≡ Some most → (part : List ℕ) → wanted_by call part ≡ part → length part ≤ most
+wanted_within (Read None) most on is part alone = absurd (cc)
+wanted_within (Read (Some size)) most on is part alone = let same : size ≡ most = cc in omega (arith, same, taken_within size part alone)
+wanted_within (ReadInto size) most on is part alone = let same : size ≡ most = cc in omega (arith, same, taken_within size part alone)
+wanted_within (ReadLine None) most on is part alone = absurd (cc)
+wanted_within (ReadLine (Some limit)) most on is part alone = let same : limit ≡ most = cc in omega (arith, same, ap length alone, length-take limit (line_after Lf false part))
+wanted_within (ReadLines hint) most on is part alone = absurd (cc)
+wanted_within call most on is part alone = absurd (cc)
+
+-- the same by a bound where there is one
+fails_up_to : (most : Option ℕ) (old new : EngineView) → FailsInReading None old new → ((bound : ℕ) → most ≡ Some bound → place_of new.window ≤ place_of old.window + bound) → FailsInReading most old new
+fails_up_to None old new fails within = fails
+fails_up_to (Some most) old new fails within = fails_within most old new fails (within most refl)
+
+starves_up_to : (most : Option ℕ) (old new : EngineView) → StarvesAt None old new → ((bound : ℕ) → most ≡ Some bound → place_of new.window ≤ place_of old.window + bound) → StarvesAt most old new
+starves_up_to None old new starves within = starves
+starves_up_to (Some most) old new starves within = starves_within most old new starves (within most refl)
+
+-- and by what a call wants: a refusal moves no further than the call says
+pub fails_by_call : (old new : EngineView) (call : FileCall) (why : IoFault) → reads_on call ≡ true → MovesWithin (wanted_by call) old (Err why) new → FailsInReading None old new → FailsInReading (moves_most call) old new
+fails_by_call old new call why on within fails = fails_up_to (moves_most call) old new fails (λ bound is. within bound (wanted_within call bound on is))
+
+pub starves_by_call : (old new : EngineView) (call : FileCall) (why : IoFault) → reads_on call ≡ true → MovesWithin (wanted_by call) old (Err why) new → StarvesAt None old new → StarvesAt (moves_most call) old new
+starves_by_call old new call why on within starves = starves_up_to (moves_most call) old new starves (λ bound is. within bound (wanted_within call bound on is))
+
 -- Where the raw failed.
 
-fault_fails : (call : FileCall) (before after : Life) → is_reading call ≡ true → after ≡ life.Failed → LifeMoves call (Refused fault.RawFault) before after
-fault_fails Close before after reads failed = absurd (cc)
-fault_fails call before after reads failed = failed
+fault_fails : (size : ℕ) (call : FileCall) (before after : Life) → is_reading call ≡ true → after ≡ life.Failed → LifeMoves (Some size) call (Refused fault.RawFault) before after
+fault_fails size Close before after reads failed = absurd (cc)
+fault_fails size call before after reads failed = failed
 
-fault_moves : (call : FileCall) (current : Life) (before after : ℕ) → PlaceFails (reads_on call || is_writing call) before after → PlaceMoves call (Refused fault.RawFault) current before after
-fault_moves (Write bytes) current before after goes = goes
-fault_moves call current before after goes = goes
+fault_moves : (size : ℕ) (call : FileCall) (current : Life) (before after : ℕ) → PlaceFails (reads_on call || is_writing call) (moves_most call) before after → PlaceMoves (Some size) call (Refused fault.RawFault) current before after
+fault_moves size (Write bytes) current before after goes = goes
+fault_moves size call current before after goes = goes
 
 -- a reading that goes on may leave the place further on
-pub fails_further : (call : FileCall) (before after : ℕ) → reads_on call ≡ true → before ≤ after → PlaceFails (reads_on call || is_writing call) before after
-fails_further call before after on forth = subst (λ (further : Bool). PlaceFails (further || is_writing call) before after) (sym on) forth
+pub fails_further : (call : FileCall) (before after : ℕ) → reads_on call ≡ true → MovesForth (moves_most call) before after → PlaceFails (reads_on call || is_writing call) (moves_most call) before after
+fails_further call before after on forth = subst (λ (further : Bool). PlaceFails (further || is_writing call) (moves_most call) before after) (sym on) forth
 
 fault_within : (size : ℕ) (call : FileCall) → GivesWithin size call (Refused fault.RawFault)
 fault_within size (Read1 None) = tt
@@ -427,9 +503,9 @@ fault_short : (call : FileCall) → IsShort call (Refused fault.RawFault) false
 fault_short (Read1 size) = refl
 fault_short call = refl
 
-fault_answers : (call : FileCall) → is_reading call ≡ true → IsReplyTo false call (Refused fault.RawFault)
-fault_answers Tell reads = absurd (cc)
-fault_answers call reads = tt
+fault_answers : (size : ℕ) (call : FileCall) → is_reading call ≡ true → IsReplyTo (Some size) false call (Refused fault.RawFault)
+fault_answers size Tell reads = absurd (cc)
+fault_answers size call reads = tt
 
 no_payload : (call : FileCall) → is_reading call ≡ true → payload call ≡ []
 no_payload (Write bytes) reads = absurd (cc)
@@ -451,26 +527,28 @@ file_fails old new kept failed tells = record {
 }
 
 -- a call that the raw failed
-pub answers_faulted : (old new : EngineView) (call : FileCall) → is_reading call ≡ true → old.life ≡ life.Live → old.short ≡ false → FailsInReading old new → PlaceFails (reads_on call || is_writing call) (place_of old.window) (place_of new.window) → asks_nothing call ≡ false → (IsTrue (is_single call) → WhereTold old.raw (new.raw.transfers ≤ old.raw.transfers + 1)) → Answers (stream_of old) call (Refused fault.RawFault) (stream_of new)
-answers_faulted old new call reads live whole fails goes asks_some one =
+pub answers_faulted : (old new : EngineView) (call : FileCall) → is_reading call ≡ true → old.life ≡ life.Live → old.short ≡ false → FailsInReading (moves_most call) old new → PlaceFails (reads_on call || is_writing call) (moves_most call) (place_of old.window) (place_of new.window) → asks_nothing call ≡ false → (IsTrue (is_single call) → WhereTold old.raw (new.raw.transfers ≤ old.raw.transfers + 1)) → (IsTrue (is_single call) → end_of old.window ≡ place_of old.window) → Answers (stream_of old) call (Refused fault.RawFault) (stream_of new)
+answers_faulted old new call reads live whole fails goes asks_some one stands =
     let short : new.short ≡ false = fails.kept.short ∙ whole in
     let file : FlatFile = file_of (stream_of old) in
     answers_coming old new call (Refused fault.RawFault) new.short reads live (record {
       kept = fails.kept;
       is_open = ap is_closed fails.failed;
       causes = record { waits = λ shortened. absurd (cc); faults = λ faulted. fails.cause };
-      counted = λ exactly. record { faults = λ sound. absurd (cc); waits = λ unshortened writes. fails.no_wait exactly };
+      counted = λ exactly. record { faults = λ sound. absurd (cc); waits = λ unshortened writes. fails.no_wait exactly; once = λ shortened. absurd (cc) };
       shorts = subst (IsShort call (Refused fault.RawFault)) (sym short) (fault_short call);
-      life_is = fault_fails call old.life new.life reads fails.failed;
-      place = fault_moves call new.life (place_of old.window) (place_of new.window) goes;
+      life_is = fault_fails old.window.size call old.life new.life reads fails.failed;
+      place = fault_moves old.window.size call new.life (place_of old.window) (place_of new.window) goes;
       within = fault_within old.window.size call;
       wants = λ wanting room. absurd (cc);
       starves = λ wanting on. absurd (cc);
       first = λ wanting takes none. absurd (cc);
       nothing = λ asks. absurd (cc);
       one = one;
-      answers = fault_answers call reads;
+      held = λ apart single. absurd (apart (stands single));
+      answers = fault_answers old.window.size call reads;
       told = λ tells. raw_faulted refl refl (reaches file call (works old call reads live), faulted_by file call (file_of (stream_of new)) reads (file_fails old new fails.kept fails.failed tells));
+      reach = fails.reach;
       hides = λ shortened. absurd (cc);
     })
 
@@ -485,14 +563,24 @@ want_within size (Read1 None) = tt
 want_within size (Read1 (Some bytes)) = tt
 want_within size call = tt
 
-want_answers : (call : FileCall) → is_reading call ≡ true → IsReplyTo false call (Refused fault.NoMemory)
-want_answers Tell reads = absurd (cc)
-want_answers (Seek offset whence) reads = absurd (cc)
-want_answers call reads = tt
+want_answers : (size : ℕ) (call : FileCall) → is_reading call ≡ true → IsReplyTo (Some size) false call (Refused fault.NoMemory)
+want_answers size Tell reads = absurd (cc)
+want_answers size (Seek offset whence) reads = absurd (cc)
+want_answers size call reads = tt
 
-want_place : (call : FileCall) (current : Life) (before after : ℕ) → (current ≡ life.Live → after ≡ before) → before ≤ after → PlaceMoves call (Refused fault.NoMemory) current before after
-want_place (Write bytes) current before after same forth = (same, forth)
-want_place call current before after same forth = (same, forth)
+-- a place that stayed moved forth, by however much it might
+pub stays_forth : (most : Option ℕ) (before after : ℕ) → after ≡ before → MovesForth most before after
+stays_forth None before after same = omega (arith, same)
+stays_forth (Some most) before after same = (omega (arith, same), omega (arith, same))
+
+-- want of memory leaves the place of a stream that lives on
+want_leaves : (most : Option ℕ) (current : Life) (before after : ℕ) → (current ≡ life.Live → after ≡ before) → MovesForth most before after → PlaceStarves current most before after
+want_leaves most life.Live before after same forth = same refl
+want_leaves most current before after same forth = forth
+
+want_place : (size : ℕ) (call : FileCall) (current : Life) (before after : ℕ) → (current ≡ life.Live → after ≡ before) → MovesForth (moves_most call) before after → PlaceMoves (Some size) call (Refused fault.NoMemory) current before after
+want_place size (Write bytes) current before after same forth = want_leaves (moves_most (Write bytes)) current before after same forth
+want_place size call current before after same forth = want_leaves (moves_most call) current before after same forth
 
 -- only a reading that goes on takes its space first
 space_first : (call : FileCall) → IsTrue (takes_space_first call) → IsTrue (reads_on call)
@@ -503,9 +591,9 @@ starving_stays : (may : Bool) (before after : Life) → after ≡ before → Sta
 starving_stays true before after same = inl same
 starving_stays false before after same = same
 
-want_keeps_life : (call : FileCall) (before after : Life) → is_reading call ≡ true → after ≡ before → LifeMoves call (Refused fault.NoMemory) before after
-want_keeps_life Close before after reads same = absurd (cc)
-want_keeps_life call before after reads same = starving_stays (may_starve call) before after same
+want_keeps_life : (size : ℕ) (call : FileCall) (before after : Life) → is_reading call ≡ true → after ≡ before → LifeMoves (Some size) call (Refused fault.NoMemory) before after
+want_keeps_life size Close before after reads same = absurd (cc)
+want_keeps_life size call before after reads same = starving_stays (reads_on call || is_writing call) before after same
 
 starved_by_none : (file : FlatFile) (call : FileCall) (after : FlatFile) → is_reading call ≡ true → after ≡ file → StarvedBy file call after
 starved_by_none file (Read size) after reads same = inl same
@@ -517,8 +605,8 @@ starved_by_none file (WriteLines lines) after reads same = absurd (cc)
 starved_by_none file call after reads same = same
 
 -- a call that wanted memory, and left the stream where it was
-pub answers_wanting : (old new : EngineView) (call : FileCall) → is_reading call ≡ true → old.life ≡ life.Live → old.short ≡ false → KeepsEngine old new → new.life ≡ life.Live → place_of new.window ≡ place_of old.window → LeavesCounts old.raw new.raw → (IsTrue (asks_nothing call) → new.raw ≡ old.raw) → (IsTrue (has_room call) → IsTrue old.raw.takes_memory) → (IsTrue (reads_on call) → new ≡ old) → (IsTrue (is_single call) → WhereTold old.raw (new.raw.transfers ≤ old.raw.transfers + 1)) → Answers (stream_of old) call (Refused fault.NoMemory) (stream_of new)
-answers_wanting old new call reads live whole kept lives place counts idle wants unmoved one =
+pub answers_wanting : (old new : EngineView) (call : FileCall) → is_reading call ≡ true → old.life ≡ life.Live → old.short ≡ false → KeepsEngine old new → new.life ≡ life.Live → place_of new.window ≡ place_of old.window → LeavesCounts old.raw new.raw → (IsTrue (asks_nothing call) → new.raw ≡ old.raw) → (IsTrue (has_room call) → IsTrue old.raw.takes_memory) → (IsTrue (reads_on call) → new ≡ old) → (IsTrue (is_single call) → WhereTold old.raw (new.raw.transfers ≤ old.raw.transfers + 1)) → (IsTrue (is_single call) → end_of old.window ≢ place_of old.window → new.raw ≡ old.raw) → Answers (stream_of old) call (Refused fault.NoMemory) (stream_of new)
+answers_wanting old new call reads live whole kept lives place counts idle wants unmoved one still =
     let short : new.short ≡ false = kept.short ∙ whole in
     let same : new.life ≡ old.life = lives ∙ sym live in
     let file : FlatFile = file_of (stream_of old) in
@@ -527,10 +615,10 @@ answers_wanting old new call reads live whole kept lives place counts idle wants
       kept = kept;
       is_open = ap is_closed lives;
       causes = record { waits = λ shortened. absurd (cc); faults = λ faulted. absurd (cc) };
-      counted = λ exactly. record { faults = λ sound. counts.no_fault exactly; waits = λ unshortened writes. counts.no_wait exactly };
+      counted = λ exactly. record { faults = λ sound. counts.no_fault exactly; waits = λ unshortened writes. counts.no_wait exactly; once = λ shortened. absurd (cc) };
       shorts = subst (IsShort call (Refused fault.NoMemory)) (sym short) (want_short call);
-      life_is = want_keeps_life call old.life new.life reads same;
-      place = want_place call new.life (place_of old.window) (place_of new.window) (λ living. place) (omega (arith, place));
+      life_is = want_keeps_life old.window.size call old.life new.life reads same;
+      place = want_place old.window.size call new.life (place_of old.window) (place_of new.window) (λ living. place) (stays_forth (moves_most call) (place_of old.window) (place_of new.window) place);
       within = want_within old.window.size call;
       wants = λ wanting room. wants room;
       starves = λ wanting on. record {
@@ -541,17 +629,19 @@ answers_wanting old new call reads live whole kept lives place counts idle wants
       first = λ wanting takes none. stays (space_first call takes);
       nothing = λ asks. record { raw = idle asks; fault = refl };
       one = one;
-      answers = want_answers call reads;
+      held = λ apart single. record { raw = still single apart; fault = refl };
+      answers = want_answers old.window.size call reads;
       told = λ tells. out_of_memory refl (reaches file call (works old call reads live), starved_by_none file call (file_of (stream_of new)) reads (file_same old new kept same place tells));
+      reach = λ tells. omega (arith, place);
       hides = λ shortened. absurd (cc);
     })
 
-want_fails : (call : FileCall) (before after : Life) → reads_on call ≡ true → after ≡ life.Failed → LifeMoves call (Refused fault.NoMemory) before after
-want_fails (Read size) before after on failed = inr failed
-want_fails (ReadLine limit) before after on failed = inr failed
-want_fails (ReadLines hint) before after on failed = inr failed
-want_fails (ReadInto size) before after on failed = inr failed
-want_fails call before after on failed = absurd (cc)
+want_fails : (size : ℕ) (call : FileCall) (before after : Life) → reads_on call ≡ true → after ≡ life.Failed → LifeMoves (Some size) call (Refused fault.NoMemory) before after
+want_fails size (Read most) before after on failed = inr failed
+want_fails size (ReadLine limit) before after on failed = inr failed
+want_fails size (ReadLines hint) before after on failed = inr failed
+want_fails size (ReadInto most) before after on failed = inr failed
+want_fails size call before after on failed = absurd (cc)
 
 starved_by_failing : (file : FlatFile) (call : FileCall) (after : FlatFile) → reads_on call ≡ true → wanted_by call (rest file) ≢ [] → Fails file life.Failed file.bytes after → StarvedBy file call after
 starved_by_failing file (Read size) after on some fails = inr (some, fails)
@@ -565,7 +655,8 @@ pub record FailsWanting (old : EngineView) (call : FileCall) (new : EngineView) 
   pub kept : KeepsEngine old new
   pub counts : LeavesCounts old.raw new.raw
   pub failed : new.life ≡ life.Failed
-  pub place : place_of old.window ≤ place_of new.window
+  pub place : MovesForth (moves_most call) (place_of old.window) (place_of new.window)
+  pub reach : Reaches old new
   pub forth : end_of old.window < end_of new.window
   pub forth_told : WhereTold old.raw (old.raw.place < new.raw.place)
   pub idle : IsTrue (asks_nothing call) → new.raw ≡ old.raw
@@ -579,10 +670,10 @@ answers_failing old new call on live whole wants first fails =
       kept = fails.kept;
       is_open = ap is_closed fails.failed;
       causes = record { waits = λ shortened. absurd (cc); faults = λ faulted. absurd (cc) };
-      counted = λ exactly. record { faults = λ sound. fails.counts.no_fault exactly; waits = λ unshortened writes. fails.counts.no_wait exactly };
+      counted = λ exactly. record { faults = λ sound. fails.counts.no_fault exactly; waits = λ unshortened writes. fails.counts.no_wait exactly; once = λ shortened. absurd (cc) };
       shorts = subst (IsShort call (Refused fault.NoMemory)) (sym short) (want_short call);
-      life_is = want_fails call old.life new.life on fails.failed;
-      place = want_place call new.life (place_of old.window) (place_of new.window) (λ living. absurd (let both : life.Failed ≡ life.Live = sym fails.failed ∙ living in cc)) fails.place;
+      life_is = want_fails old.window.size call old.life new.life on fails.failed;
+      place = want_place old.window.size call new.life (place_of old.window) (place_of new.window) (λ living. absurd (let both : life.Failed ≡ life.Live = sym fails.failed ∙ living in cc)) fails.place;
       within = want_within old.window.size call;
       wants = λ wanting room. wants room;
       starves = λ wanting reads. record {
@@ -593,8 +684,10 @@ answers_failing old new call on live whole wants first fails =
       first = λ wanting takes none. absurd (let takes_some : old.raw.takes_memory ≡ true = first takes in cc);
       nothing = λ asks. record { raw = fails.idle asks; fault = refl };
       one = λ single. absurd (cc (many call on));
-      answers = want_answers call (reading_on call on);
+      held = λ apart single. absurd (cc (many call on));
+      answers = want_answers old.window.size call (reading_on call on);
       told = λ tells. out_of_memory refl (reaches file call (works old call (reading_on call on) live), starved_by_failing file call (file_of (stream_of new)) on (fails.some tells) (file_fails old new fails.kept fails.failed tells));
+      reach = fails.reach;
       hides = λ shortened. absurd (cc);
     })
 
@@ -608,7 +701,7 @@ answers_stopped old mid new call part stops.End empty on live outcome gathered i
     subst (λ (engine : EngineView). Answers (stream_of old) call (reply_by call part) (stream_of engine)) (sym is) (answers_all old mid call part on live outcome.0 outcome.1 idle gathered.alone gathered.exact)
 answers_stopped old mid new call part stops.Waits true on live outcome gathered idle some answered is = absurd (cc)
 answers_stopped old mid new call part stops.Waits false on live outcome gathered idle some answered is =
-    subst (λ (engine : EngineView). Answers (stream_of old) call (reply_by call part) (stream_of engine)) (sym is) (answers_part old mid call part on live outcome.0 outcome.1 outcome.2 (some refl) gathered.alone gathered.front)
+    subst (λ (engine : EngineView). Answers (stream_of old) call (reply_by call part) (stream_of engine)) (sym is) (answers_part old mid call part on live outcome.0 outcome.1 outcome.2 outcome.3 (some refl) gathered.alone gathered.front)
 
 -- and one without
 pub unready_stopped : (old mid new : EngineView) (call : FileCall) (part : List ℕ) (stop : Stop) (empty : Bool) → reads_on call ≡ true → old.life ≡ life.Live → StopOutcome old part (Ok stop) mid → (IsTrue (asks_nothing call) → mid.raw ≡ old.raw) → (empty ≡ true → part ≡ []) → has_answer stop empty ≡ false → new ≡ answered_at stop mid → Answers (stream_of old) call NotReady (stream_of new)
@@ -616,4 +709,4 @@ unready_stopped old mid new call part stops.Enough empty on live outcome idle no
 unready_stopped old mid new call part stops.End empty on live outcome idle none unready is = absurd (cc)
 unready_stopped old mid new call part stops.Waits false on live outcome idle none unready is = absurd (cc)
 unready_stopped old mid new call part stops.Waits true on live outcome idle none unready is =
-    subst (λ (engine : EngineView). Answers (stream_of old) call NotReady (stream_of engine)) (sym is) (answers_unready old mid call on live (subst (λ (bytes : List ℕ). Gives old bytes mid) (none refl) outcome.0) outcome.1 outcome.2 idle)
+    subst (λ (engine : EngineView). Answers (stream_of old) call NotReady (stream_of engine)) (sym is) (answers_unready old mid call on live (subst (λ (bytes : List ℕ). Gives old bytes mid) (none refl) outcome.0) outcome.1 outcome.2 outcome.3 idle)

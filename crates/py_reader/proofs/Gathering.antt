@@ -8,14 +8,13 @@ use Rattle.py_flat.specs.declared.life.Life.TheVariants as life
 use Rattle.py_flat.specs.Bytes.{left_at}
 use Rattle.py_flat.specs.Causes.{Rose}
 use Rattle.py_flat.specs.BinaryStep.{IsFrontOf}
-use Rattle.py_raw.specs.RawStream.{WhereTold, NoWait}
+use Rattle.py_raw.specs.RawStream.{WhereTold, NoWait, WaitsOnce}
 use Rattle.py_reader.specs.declared.data.Stop.TheVariants as stop
 use Rattle.py_reader.specs.Window.{place_of, end_of, ahead_of, advanced}
 use Rattle.py_reader.specs.Engine.{EngineView, IsEngine, KeepsEngine, UsesUp, IsLast, Fills, FillsOutcome, StarvesWith, ComesNext, Took, Gives}
 use Rattle.py_reader.specs.Reading.{GathersEnough, GatherOutcome}
 use Rattle.py_lines.specs.Collecting.{HasEnough, WantsMore}
-use Rattle.py_lines.proofs.Asking.{none_behind}
-use Rattle.py_reader.proofs.Transfers.{more_taken, next_behind, held_next, keeps_then, keeps_advanced, no_fault_then, no_wait_then}
+use Rattle.py_reader.proofs.Transfers.{more_taken, next_behind, within_end, held_next, keeps_then, keeps_advanced, no_fault_then, no_wait_then, waits_once_then}
 
 -- these bytes were collected, up to the cursor; where no byte was moved yet, all is as it was
 pub record GatheredTo (old : EngineView) (part : List ℕ) (moved : Bool) (now : EngineView) : Type 0 where
@@ -29,22 +28,32 @@ pub record GatheredTo (old : EngineView) (part : List ℕ) (moved : Bool) (now :
 abbrev pub WantsNothing : (List ℕ → List ℕ) → Type 0
 WantsNothing wanted = (left : List ℕ) → wanted left ≡ []
 
--- where bytes were moved, something is wanted; some were left, and some of them are wanted
-pub record MovedSome (wanted : List ℕ → List ℕ) (old : EngineView) (moved : Bool) : Type 0 where
+-- where bytes were moved, something is wanted, and all of what was collected; some were left, and some of them are wanted
+pub record MovedSome (wanted : List ℕ → List ℕ) (old : EngineView) (part : List ℕ) (moved : Bool) : Type 0 where
   pub wants : moved ≡ true → WantsNothing wanted → ⊥
+  pub alone : moved ≡ true → wanted part ≡ part
   pub left : moved ≡ true → WhereTold old.raw (left_at old.raw.bytes (place_of old.window) ≢ [])
   pub asked : moved ≡ true → WhereTold old.raw (wanted (left_at old.raw.bytes (place_of old.window)) ≢ [])
 
 -- where nothing is wanted, no byte was moved
-unmoved_for_nothing : (old now : EngineView) (part : List ℕ) (moved : Bool) (wanted : List ℕ → List ℕ) → GatheredTo old part moved now → MovedSome wanted old moved → WantsNothing wanted → now ≡ old
+unmoved_for_nothing : (old now : EngineView) (part : List ℕ) (moved : Bool) (wanted : List ℕ → List ℕ) → GatheredTo old part moved now → MovedSome wanted old part moved → WantsNothing wanted → now ≡ old
 unmoved_for_nothing old now part true wanted gathered some nothing = absurd (some.wants refl nothing)
 unmoved_for_nothing old now part false wanted gathered some nothing = gathered.unmoved refl
+
+-- what stands behind some bytes is nothing where all is
+none_behind : (xs ys : List ℕ) → xs ++ ys ≡ [] → ys ≡ []
+none_behind [] ys none = none
+none_behind (x ∷ xs) ys none = absurd (cc)
+
+-- a collector that took all of a piece wants some of whatever comes
+still_asks : (wanted : List ℕ → List ℕ) (before piece after behind : List ℕ) → WantsMore wanted before piece after → behind ≢ [] → wanted (after ++ behind) ≢ []
+still_asks wanted before piece after behind more some none = absurd (let longer : length after < length (wanted (after ++ behind)) = more.asks behind some in omega (arith, ap length none))
 
 -- a collector that took all of a piece wants something
 wants_something : (wanted first : List ℕ → List ℕ) (before piece after : List ℕ) → ((rest : List ℕ) → wanted rest ≡ first rest) → WantsMore wanted before piece after → WantsNothing first → ⊥
 wants_something wanted first before piece after same more nothing =
     let longer : List ℕ = after ++ (0 ∷ []) in
-    more.asks (0 ∷ []) (λ none. absurd (cc)) (same longer ∙ nothing longer)
+    still_asks wanted before piece after (0 ∷ []) more (λ none. absurd (cc)) (same longer ∙ nothing longer)
 
 -- What comes next.
 
@@ -100,7 +109,7 @@ module _ (old now : EngineView) (part : List ℕ) (moved : Bool) (gathered : Gat
             ∙ enough.exact behind);
       }
 
-  pub stops_enough : (new : EngineView) (wanted first : List ℕ → List ℕ) (used : ℕ) (after : List ℕ) → ((rest : List ℕ) → wanted rest ≡ first rest) → MovedSome first old moved → record now { window = advanced used now.window } ≡ new → HasEnough wanted part (ahead_of now.window) used after → GatherOutcome first old (Ok stop.Enough) after new
+  pub stops_enough : (new : EngineView) (wanted first : List ℕ → List ℕ) (used : ℕ) (after : List ℕ) → ((rest : List ℕ) → wanted rest ≡ first rest) → MovedSome first old part moved → record now { window = advanced used now.window } ≡ new → HasEnough wanted part (ahead_of now.window) used after → GatherOutcome first old (Ok stop.Enough) after new
   stops_enough new wanted first used after same some is enough =
       let raw : new.raw ≡ now.raw = sym (ap (λ (engine : EngineView). engine.raw) is) in (
         (
@@ -110,6 +119,7 @@ module _ (old now : EngineView) (part : List ℕ) (moved : Bool) (gathered : Gat
         gathers_enough wanted first used after same enough,
         tt,
         λ nothing. (raw ∙ ap (λ (engine : EngineView). engine.raw) (unmoved_for_nothing old now part moved first gathered some nothing), λ fails. absurd (cc)),
+        tt,
       )
 
   -- the collector took all that is held
@@ -194,14 +204,16 @@ module _ (old now : EngineView) (part : List ℕ) (moved : Bool) (took : Took ol
     },
     tt,
     λ nothing. absurd (wants nothing),
+    tt,
   )
 
-  waits_at : (new : EngineView) (first : List ℕ → List ℕ) → first part ≡ part → ((more : List ℕ) → IsFrontOf part (first (part ++ more))) → (WantsNothing first → ⊥) → UsesUp now new → Rose now.raw.waits new.raw.waits → GatherOutcome first old (Ok stop.Waits) part new
-  waits_at new first alone goes_on wants used waits = (
+  waits_at : (new : EngineView) (first : List ℕ → List ℕ) → first part ≡ part → ((more : List ℕ) → IsFrontOf part (first (part ++ more))) → (WantsNothing first → ⊥) → UsesUp now new → Rose now.raw.waits new.raw.waits → WaitsOnce now.raw new.raw → GatherOutcome first old (Ok stop.Waits) part new
+  waits_at new first alone goes_on wants used waits once = (
     (
       gives_all new used,
       omega (arith, took.kept.raw.waits, waits),
       used.end ∙ sym used.place,
+      waits_once_then old now new took.kept took.counts.no_wait once,
     ),
     record {
       alone = alone;
@@ -209,6 +221,7 @@ module _ (old now : EngineView) (part : List ℕ) (moved : Bool) (took : Took ol
     },
     tt,
     λ nothing. absurd (wants nothing),
+    tt,
   )
 
 -- A piece of which all was taken.
@@ -220,7 +233,7 @@ module _ (old now : EngineView) (part after piece : List ℕ) (moved : Bool) (ga
   pub goes_on : (count : ℕ) → Fills now count new → GatheredTo old after true new
   goes_on count fills = filled_on old now after moved took_piece new count fills
 
-  pub moved_some : (first : List ℕ → List ℕ) (count : ℕ) → ((rest : List ℕ) → wanted rest ≡ first rest) → Fills now count new → MovedSome first old true
+  pub moved_some : (first : List ℕ → List ℕ) (count : ℕ) → ((rest : List ℕ) → wanted rest ≡ first rest) → Fills now count new → MovedSome first old after true
   moved_some first count same fills =
       let place : ℕ = place_of old.window in
       let behind : List ℕ = left_at old.raw.bytes (place + length after) in
@@ -228,17 +241,18 @@ module _ (old now : EngineView) (part after piece : List ℕ) (moved : Bool) (ga
       let some : WhereTold old.raw (behind ≢ []) = some_behind old now after moved took_piece new count fills in
       record {
         wants = λ is. wants_something wanted first part piece after same more;
+        alone = λ is. sym (same after) ∙ more.alone;
         left = λ is tells none. some tells (none_behind after behind (sym (parts tells) ∙ none));
-        asked = λ is tells none. more.asks behind (some tells) (ap wanted (sym (parts tells)) ∙ (same (left_at old.raw.bytes place) ∙ none));
+        asked = λ is tells none. still_asks wanted part piece after behind more (some tells) (ap wanted (sym (parts tells)) ∙ (same (left_at old.raw.bytes place) ∙ none));
       }
 
   pub stops_at_end : (first : List ℕ → List ℕ) → ((rest : List ℕ) → wanted rest ≡ first rest) → UsesUp now new → IsLast now → NoWait now.raw new.raw → GatherOutcome first old (Ok stop.End) after new
   stops_at_end first same used last no_wait = ends_at_last old now after moved took_piece new first (sym (same after) ∙ more.alone)
       (wants_something wanted first part piece after same more) used last no_wait
 
-  pub stops_waiting : (first : List ℕ → List ℕ) → ((rest : List ℕ) → wanted rest ≡ first rest) → UsesUp now new → Rose now.raw.waits new.raw.waits → GatherOutcome first old (Ok stop.Waits) after new
-  stops_waiting first same used waits = waits_at old now after moved took_piece new first (sym (same after) ∙ more.alone)
-      (λ rest. subst (IsFrontOf after) (same (after ++ rest)) (more.goes_on rest)) (wants_something wanted first part piece after same more) used waits
+  pub stops_waiting : (first : List ℕ → List ℕ) → ((rest : List ℕ) → wanted rest ≡ first rest) → UsesUp now new → Rose now.raw.waits new.raw.waits → WaitsOnce now.raw new.raw → GatherOutcome first old (Ok stop.Waits) after new
+  stops_waiting first same used waits once = waits_at old now after moved took_piece new first (sym (same after) ∙ more.alone)
+      (λ rest. subst (IsFrontOf after) (same (after ++ rest)) (more.goes_on rest)) (wants_something wanted first part piece after same more) used waits once
 
 -- Where it ends without enough.
 
@@ -260,12 +274,13 @@ keeps_failed engine is = record {
 }
 
 -- memory was wanting
-pub starves_so_far : (old now new : EngineView) (part after : List ℕ) (moved : Bool) (first : List ℕ → List ℕ) → GatheredTo old part moved now → MovedSome first old moved → StarvesWith moved now new → GatherOutcome first old (Err fault.NoMemory) after new
+pub starves_so_far : (old now new : EngineView) (part after : List ℕ) (moved : Bool) (first : List ℕ → List ℕ) → GatheredTo old part moved now → MovedSome first old part moved → StarvesWith moved now new → GatherOutcome first old (Err fault.NoMemory) after new
 starves_so_far old now new part after false first gathered some starves = (
   inl (starves ∙ gathered.unmoved refl),
   tt,
   λ failed. absurd (let both : life.Failed ≡ life.Live = sym failed ∙ (ap (λ (engine : EngineView). engine.life) starves ∙ gathered.given.live) in cc),
   λ nothing. (ap (λ (engine : EngineView). engine.raw) (starves ∙ gathered.unmoved refl), λ fails. absurd (cc)),
+  λ most bound. omega (arith, ap (λ (engine : EngineView). place_of engine.window) (starves ∙ gathered.unmoved refl)),
 )
 starves_so_far old now new part after true first gathered some starves =
     subst (GatherOutcome first old (Err fault.NoMemory) after) (sym starves) (
@@ -274,6 +289,7 @@ starves_so_far old now new part after true first gathered some starves =
         counts = record { no_fault = gathered.given.no_fault; no_wait = gathered.no_wait };
         failed = refl;
         place = omega (arith, gathered.given.place);
+        reach = λ tells. omega (arith, gathered.given.place, within_end old.raw.bytes part (place_of old.window) (length part) (gathered.given.told tells) refl);
         forth = gathered.forth refl;
         told = gathered.forth_told refl;
         some = some.left refl;
@@ -281,21 +297,25 @@ starves_so_far old now new part after true first gathered some starves =
       tt,
       λ failed. some.asked refl,
       λ nothing. absurd (some.wants refl nothing),
+      λ most bound. omega (arith, gathered.given.place, bound part (some.alone refl)),
     )
 
 -- or the raw failed, which is called only where something is wanted
-pub fails_so_far : (old now new : EngineView) (part after : List ℕ) (moved : Bool) (wanted first : List ℕ → List ℕ) (piece : List ℕ) (why : IoFault) → GatheredTo old part moved now → MovedSome first old moved → ((rest : List ℕ) → wanted rest ≡ first rest) → WantsMore wanted part piece after → FillsOutcome now moved (Err why) new → GatherOutcome first old (Err why) after new
-fails_so_far old now new part after moved wanted first piece fault.RawFault gathered some same more fails = (
-  record {
-    kept = keeps_then old now new gathered.given.kept fails.kept;
-    cause = omega (arith, gathered.given.kept.raw.faults, fails.cause);
-    no_wait = no_wait_then old now new gathered.given.kept gathered.no_wait fails.no_wait;
-    failed = fails.failed;
-    place = omega (arith, gathered.given.place, gathered.given.kept.is.window_is.cursor, fails.place);
-  },
-  tt,
-  tt,
-  λ nothing. absurd (wants_something wanted first part piece after same more nothing),
-)
-fails_so_far old now new part after moved wanted first piece fault.NoMemory gathered some same more fails = starves_so_far old now new part after moved first gathered some fails.1
-fails_so_far old now new part after moved wanted first piece why gathered some same more fails = absurd fails
+pub fails_so_far : (old now new : EngineView) (part after : List ℕ) (moved : Bool) (wanted first : List ℕ → List ℕ) (piece : List ℕ) (why : IoFault) → GatheredTo old part moved now → MovedSome first old part moved → piece ≡ ahead_of now.window → ((rest : List ℕ) → wanted rest ≡ first rest) → WantsMore wanted part piece after → FillsOutcome now moved (Err why) new → GatherOutcome first old (Err why) after new
+fails_so_far old now new part after moved wanted first piece fault.RawFault gathered some lent same more fails =
+    let took : Took old after moved now = takes_all old now part moved gathered after (more.takes ∙ ap (λ (t : List ℕ). part ++ t) lent) in (
+      record {
+        kept = keeps_then old now new gathered.given.kept fails.kept;
+        cause = omega (arith, gathered.given.kept.raw.faults, fails.cause);
+        no_wait = no_wait_then old now new gathered.given.kept gathered.no_wait fails.no_wait;
+        failed = fails.failed;
+        place = omega (arith, took.end, fails.place);
+        reach = λ tells. omega (arith, took.end, fails.place, within_end old.raw.bytes after (place_of old.window) (length after) (took.told tells) refl);
+      },
+      tt,
+      tt,
+      λ nothing. absurd (wants_something wanted first part piece after same more nothing),
+      λ most bound. omega (arith, took.end, fails.place, bound after (sym (same after) ∙ more.alone)),
+    )
+fails_so_far old now new part after moved wanted first piece fault.NoMemory gathered some lent same more fails = starves_so_far old now new part after moved first gathered some fails.1
+fails_so_far old now new part after moved wanted first piece why gathered some lent same more fails = absurd fails

@@ -7,4 +7,5 @@ pub mod Answering
 pub mod ReadingOn
 pub mod Single
 pub mod Moving
+pub mod Lacking
 pub mod Outer

@@ -20,7 +20,7 @@ use Rattle.py_stream.specs.Replies.{done_reply}
 use Rattle.py_stream.specs.Moving.{MovedBy}
 use Rattle.py_reader.specs.Moving.{FailsMoving, AsksEnd, TargetFrom, TargetFromEnd, TargetOutcome, GoesTo, GoOutcome}
 use Rattle.py_stream.specs.Kinds.{says_fault}
-use Rattle.py_stream.specs.Answers.{refused_by, Leaves, IsShort, LifeMoves, SeekGoes, PlaceMoves, GivesWithin, SeeksTo, SeeksFromEnd, SeeksByEnd, WantsMemory, IsAnswerTo, IsReplyTo, Answers}
+use Rattle.py_stream.specs.Answers.{refused_by, Leaves, IsShort, LifeMoves, SeekGoes, PlaceStarves, PlaceMoves, GivesWithin, SeeksTo, SeeksFromEnd, SeeksByEnd, WantsMemory, IsAnswerTo, IsReplyTo, Answers}
 use Rattle.py_reader.proofs.Transfers.{keeps_self, keeps_then, no_wait_then, uncounted, uncounted_then}
 use Rattle.py_reader.proofs.Refusing.{near, refused_with, refused_by_life}
 use Rattle.py_stream.proofs.Refused.{is_own}
@@ -33,7 +33,7 @@ begun engine = record engine { short = false }
 -- What a life lets through.
 
 -- a life that refuses anything lets nothing through but a close, and a detaching
-shut_by_life : (current : Life) (size : ℕ) (call : FileCall) (why : IoFault) → is_close call ≡ false → is_detach call ≡ false → life_fault current ≡ Some why → lets_through current (Buffered size) call ≡ false
+pub shut_by_life : (current : Life) (size : ℕ) (call : FileCall) (why : IoFault) → is_close call ≡ false → is_detach call ≡ false → life_fault current ≡ Some why → lets_through current (Buffered size) call ≡ false
 shut_by_life life.Live size call why closes detaches by = absurd (cc)
 shut_by_life life.Failed size call why closes detaches by = ap (λ (detaching : Bool). detaching && true) detaches
 shut_by_life life.Closed size call why closes detaches by = closes
@@ -56,12 +56,12 @@ flush_is_done : (old : EngineView) → IsEngine old.raw old.window old.life → 
 flush_is_done old is live =
     let none : refused_by (stream_of old) Flush ≡ None = flush_passes old live in
     record {
-      keeps = record { size = refl; can = refl; raw = keeps_same old.raw };
+      keeps = record { buffer = refl; can = refl; raw = keeps_same old.raw };
       refused = λ why refused. not_refused (stream_of old) Flush (Refused why) Done (stream_of (begun old)) why none refused;
       again = λ again. absurd (cc);
       shut = λ none shut. shut;
       causes = record { waits = λ short. absurd (cc); faults = λ faults. absurd (cc) };
-      counted = λ _. record { faults = λ _. refl; waits = λ _ _. refl };
+      counted = λ _. record { faults = λ _. refl; waits = λ _ _. refl; once = λ short. absurd (cc) };
       shorts = refl;
       moves = record { life_is = refl; place = refl; far = omega (arith, is.window_is); within = tt };
       ends = tt;
@@ -71,11 +71,13 @@ flush_is_done old is live =
       nothing = λ asks. absurd (cc);
       idle = λ _. record { raw = refl; fault = refl; memory = refl };
       single = λ single. absurd (cc);
+      held = λ reads apart single. absurd (cc);
       spares = λ _ _. record { bytes = λ _. refl; owed = refl };
       writes = λ can. absurd (cc);
       answer = λ _. tt;
       complete = λ _ _ _. (tt, refl);
       told = λ _. settled (subst (λ (refused : Option IoFault). SettledBy (file_of (stream_of old)) Flush refused Done (file_of (stream_of old))) (sym none) refl);
+      reach = λ reads. absurd (cc);
       near = near (begun old) is;
       hides = λ short. absurd (cc);
     }
@@ -110,12 +112,12 @@ pub record SeekTells (old : EngineView) (call : FileCall) (reply : FileReply) (n
   pub no_fault : IsTrue old.raw.counts_exactly → says_fault reply ≡ false → new.raw.faults ≡ old.raw.faults
   pub no_wait : NoWait old.raw new.raw
   pub shorts : IsShort call reply false
-  pub life_is : LifeMoves call reply old.life new.life
-  pub place : PlaceMoves call reply new.life (place_of old.window) (place_of new.window)
+  pub life_is : LifeMoves (Some old.window.size) call reply old.life new.life
+  pub place : PlaceMoves (Some old.window.size) call reply new.life (place_of old.window) (place_of new.window)
   pub within : GivesWithin old.window.size call reply
   pub ends : SeeksByEnd (stream_of old) call reply (stream_of new)
-  pub wants : WantsMemory call reply old.raw
-  pub answer : IsReplyTo false call reply
+  pub wants : WantsMemory true reply old.raw
+  pub answer : IsReplyTo (Some old.window.size) false call reply
   pub complete : rose old.raw.faults new.raw.faults ≡ false → IsAnswerTo call reply
   pub told : WhereTold old.raw (BinaryStep (file_of (stream_of old)) call reply false (says_fault reply) (file_of (stream_of new)))
 
@@ -126,12 +128,12 @@ goes_on current (inr failed) = ap is_closed failed
 
 seek_tells : (old new : EngineView) (offset whence : ℤ) (reply : FileReply) → MaySeek old → KeepsEngine (begun old) new → (new.life ≡ life.Live) ⊎ (new.life ≡ life.Failed) → SeekTells old (Seek offset whence) reply new → Answers (stream_of old) (Seek offset whence) reply (stream_of new)
 seek_tells old new offset whence reply may kept goes tells = record {
-  keeps = record { size = kept.size; can = ap reader_can kept.raw.seekable; raw = kept.raw };
+  keeps = record { buffer = ap Some kept.size; can = ap reader_can kept.raw.seekable; raw = kept.raw };
   refused = λ why refused. not_refused (stream_of old) (Seek offset whence) (Refused why) reply (stream_of new) why tells.passes refused;
   again = λ again. absurd (cc);
   shut = λ none shut. kept.stays ∙ may.is.is_open may.live ∙ sym (goes_on new.life goes);
   causes = record { waits = λ short. absurd (cc (sym short ∙ kept.short)); faults = tells.cause };
-  counted = λ exact. record { faults = tells.no_fault exact; waits = λ _ _. tells.no_wait exact };
+  counted = λ exact. record { faults = tells.no_fault exact; waits = λ _ _. tells.no_wait exact; once = λ short. absurd (cc (sym short ∙ kept.short)) };
   shorts = subst (IsShort (Seek offset whence) reply) (sym kept.short) tells.shorts;
   moves = record { life_is = tells.life_is; place = tells.place; far = omega (arith, kept.is.window_is); within = tells.within };
   ends = tells.ends;
@@ -141,11 +143,13 @@ seek_tells old new offset whence reply may kept goes tells = record {
   nothing = λ asks. absurd (cc);
   idle = λ keeps. absurd (cc);
   single = λ single. absurd (cc);
+  held = λ reads apart single. absurd (cc);
   spares = λ _ _. record { bytes = kept.bytes; owed = refl };
   writes = λ can. absurd (cc);
   answer = λ _. tells.answer;
   complete = λ _ _ sound. (tells.complete sound, kept.short);
   told = λ tell. subst (λ (short : Bool). BinaryStep (file_of (stream_of old)) (Seek offset whence) reply short (says_fault reply) (file_of (stream_of new))) (sym kept.short) (tells.told tell);
+  reach = λ reads. absurd (cc);
   near = λ live. near new kept.is live;
   hides = λ _ reads. absurd (cc);
 }
@@ -169,7 +173,7 @@ end_reaches old offset may =
     ap (λ (asks : Bool). works || asks) (asks_where_it_ends old offset may) ∙ or_true works
 
 -- a seek that goes to the raw: it isn't refused, and may blame the raw
-pub record Reaches (old : EngineView) (offset whence : ℤ) : Type 0 where
+pub record ReachesRaw (old : EngineView) (offset whence : ℤ) : Type 0 where
   pub passes : refused_by (stream_of old) (Seek offset whence) ≡ None
   pub reaches : reaches_raw (file_of (stream_of old)) (Seek offset whence) ≡ true
 
@@ -188,7 +192,7 @@ want_answers offset whence = tt
 calm : (old new : ℕ) → Rose old new → rose old new ≡ false → ⊥
 calm old new risen none = let risen : rose old new ≡ true = le-leb (counted old 1) new risen in cc
 
-pub seek_faults : (old new : EngineView) (offset whence : ℤ) → MaySeek old → Reaches old offset whence → FailsMoving (begun old) new → Answers (stream_of old) (Seek offset whence) (Refused fault.RawFault) (stream_of new)
+pub seek_faults : (old new : EngineView) (offset whence : ℤ) → MaySeek old → ReachesRaw old offset whence → FailsMoving (begun old) new → Answers (stream_of old) (Seek offset whence) (Refused fault.RawFault) (stream_of new)
 seek_faults old new offset whence may asks fails = seek_tells old new offset whence (Refused fault.RawFault) may fails.kept (inr fails.failed) (record {
   passes = asks.passes;
   cause = λ _. fails.cause;
@@ -227,7 +231,7 @@ same_file old new kept same tell =
     ∙ ap (λ (bytes : List ℕ). record (file_of (stream_of old)) { bytes = bytes; can = reader_can new.raw.seekable }) (kept.bytes tell)
     ∙ ap (λ (seekable : Bool). record (file_of (stream_of old)) { can = reader_can seekable }) kept.raw.seekable
 
-pub seek_wants : (old new : EngineView) (offset whence : ℤ) → MaySeek old → Reaches old offset whence → KeepsEngine (begun old) new → LeavesCounts old.raw new.raw → Same old new → IsTrue old.raw.takes_memory → Answers (stream_of old) (Seek offset whence) (Refused fault.NoMemory) (stream_of new)
+pub seek_wants : (old new : EngineView) (offset whence : ℤ) → MaySeek old → ReachesRaw old offset whence → KeepsEngine (begun old) new → LeavesCounts old.raw new.raw → Same old new → IsTrue old.raw.takes_memory → Answers (stream_of old) (Seek offset whence) (Refused fault.NoMemory) (stream_of new)
 seek_wants old new offset whence may asks kept counts same takes =
     let life_is : new.life ≡ old.life = ap (λ (engine : EngineView). engine.life) same in
     let place : place_of new.window ≡ place_of old.window = ap (λ (engine : EngineView). place_of engine.window) same in
@@ -238,7 +242,7 @@ seek_wants old new offset whence may asks kept counts same takes =
       no_wait = counts.no_wait;
       shorts = refl;
       life_is = life_is;
-      place = (λ _. place, omega (arith, place));
+      place = subst (λ (current : Life). PlaceStarves current None (place_of old.window) (place_of new.window)) (sym (life_is ∙ may.live)) place;
       within = tt;
       ends = want_needs_no_end (stream_of old) offset whence (stream_of new);
       wants = λ _ _. takes;
@@ -299,12 +303,12 @@ end_refuses old new offset why end may asks refuses =
       no_fault = λ exact _. asks.counts.no_fault exact;
       no_wait = asks.counts.no_wait;
       shorts = at_bad_place (λ (fault : IoFault). IsShort call (Refused fault) false) refl refl why at;
-      life_is = at_bad_place (λ (fault : IoFault). LifeMoves call (Refused fault) old.life new.life) life_is life_is why at;
-      place = at_bad_place (λ (fault : IoFault). PlaceMoves call (Refused fault) new.life (place_of old.window) (place_of new.window)) place place why at;
+      life_is = at_bad_place (λ (fault : IoFault). LifeMoves (Some old.window.size) call (Refused fault) old.life new.life) life_is life_is why at;
+      place = at_bad_place (λ (fault : IoFault). PlaceMoves (Some old.window.size) call (Refused fault) new.life (place_of old.window) (place_of new.window)) place place why at;
       within = tt;
       ends = at_bad_place (λ (fault : IoFault). SeeksFromEnd (stream_of old) offset (Refused fault) (stream_of new) → SeeksByEnd (stream_of old) call (Refused fault) (stream_of new)) (λ found _. found) (λ found _. found) why at seeks;
-      wants = at_bad_place (λ (fault : IoFault). WantsMemory call (Refused fault) old.raw) (λ wants. absurd (cc)) (λ wants. absurd (cc)) why at;
-      answer = at_bad_place (λ (fault : IoFault). IsReplyTo false call (Refused fault)) tt tt why at;
+      wants = at_bad_place (λ (fault : IoFault). WantsMemory true (Refused fault) old.raw) (λ wants. absurd (cc)) (λ wants. absurd (cc)) why at;
+      answer = at_bad_place (λ (fault : IoFault). IsReplyTo (Some old.window.size) false call (Refused fault)) tt tt why at;
       complete = λ _. answers;
       told = λ tell.
           let by : refusal (file_of (stream_of old)) call ≡ Some why = seek_refusal_is old offset (pos 2) may ∙ ap (λ (base : ℕ). target_refusal (moved_by base offset)) (sym (asks.told tell)) ∙ refuses in
@@ -339,7 +343,7 @@ pub record Finds (old : EngineView) (offset whence : ℤ) (target : ℕ) (found 
   pub kept : KeepsEngine (begun old) found
   pub counts : LeavesCounts old.raw found.raw
   pub same : Same old found
-  pub asks : Reaches old offset whence
+  pub asks : ReachesRaw old offset whence
   pub ends : (after : Stream) → SeeksByEnd (stream_of old) (Seek offset whence) (Place target) after
   pub goes : SeekGoes (place_of old.window) offset whence target
   pub lies : WhereTold old.raw ((seek_target (file_of (stream_of old)) offset whence ≡ target) × (refusal (file_of (stream_of old)) (Seek offset whence) ≡ None))

@@ -1,6 +1,6 @@
 -- Readings into a buffer, and of all that is left.
-use Rattle.std.proofs.Common.{◌≡◌, ◌≢◌, ℕ, zero, suc, ◌<◌, ◌≤◌, ◌⊎◌, inl, inr, Bool, true, false, IsTrue, List, [], ◌∷◌, ◌++◌, length, take, drop, Option, Some, None, Result, Ok, Err, refl, sym, ap, ◌∙◌, subst, arith}
-use Rattle.std.proofs.lemmas.List.{nil_from_length, length-take-le, length-drop, take_all, take-take, take-append-drop}
+use Rattle.std.proofs.Common.{◌≡◌, ◌≢◌, ℕ, zero, suc, ◌+◌, ◌<◌, ◌≤◌, ◌⊎◌, inl, inr, Bool, true, false, IsTrue, List, [], ◌∷◌, ◌++◌, length, take, drop, replicate, Option, Some, None, Result, Ok, Err, refl, sym, ap, ◌∙◌, subst, arith}
+use Rattle.std.proofs.lemmas.List.{nil_from_length, length-take-le, length-drop, length-replicate, take_all, take-take, take-append-drop}
 use Rattle.std.proofs.Math.Seq.{take-append_seam}
 use Rattle.std.proofs.lemmas.Bool.{eqb-true}
 use Rattle.std.specs.Bool.{◌==◌}
@@ -16,13 +16,13 @@ use Rattle.py_reader.specs.declared.data.Stop.{Stop}
 use Rattle.py_reader.specs.declared.data.Stop.TheVariants as stops
 use Rattle.py_reader.specs.declared.data.reading.Progress.{Progress}
 use Rattle.py_stream.specs.Kinds.{reads_on, has_room, asks_nothing, takes_space_first}
-use Rattle.py_stream.specs.Answers.{Answers}
+use Rattle.py_stream.specs.Answers.{moves_most, Answers}
 use Rattle.py_reader.specs.Window.{place_of}
-use Rattle.py_reader.specs.Engine.{EngineView, stream_of, IsEngine, StarvesAt, StopOutcome}
-use Rattle.py_reader.specs.Reading.{Gathers, FailsStarved, ReadsInto, ReadIntoOutcome, ReadAllOutcome, StarvesWanting, IdleWanting, GatherOutcome}
+use Rattle.py_reader.specs.Engine.{EngineView, stream_of, IsEngine, FailsInReading, StarvesAt, StopOutcome}
+use Rattle.py_reader.specs.Reading.{Gathers, FailsStarved, ReadsInto, ReadIntoOutcome, ReadAllOutcome, StarvesWanting, IdleWanting, MovesWithin, GatherOutcome}
 use Rattle.py_lines.specs.Collecting.{LineView, LinesView, line_wanted, lines_wanted}
 use Rattle.py_reader.proofs.Transfers.{keeps_self, uncounted}
-use Rattle.py_reader.proofs.Answering.{wanted_by, reading_on, wants_nothing, fails_further, many, answers_faulted, answers_wanting, answers_failing}
+use Rattle.py_reader.proofs.Answering.{wanted_by, reading_on, wants_nothing, fails_by_call, starves_by_call, fails_further, many, answers_faulted, answers_wanting, answers_failing}
 
 -- Whether there are any.
 
@@ -41,10 +41,10 @@ some_counted items count empty size is some none =
 unmoved : (old new : EngineView) (call : FileCall) → reads_on call ≡ true → old.life ≡ life.Live → old.short ≡ false → IsEngine old.raw old.window old.life → (IsTrue (has_room call) → IsTrue old.raw.takes_memory) → new ≡ old → Answers (stream_of old) call (Refused fault.NoMemory) (stream_of new)
 unmoved old new call on live whole is wants same =
     subst (λ (engine : EngineView). Answers (stream_of old) call (Refused fault.NoMemory) (stream_of engine)) (sym same)
-    (answers_wanting old old call (reading_on call on) live whole (keeps_self old is) live refl (uncounted old.raw old.raw refl) (λ asks. refl) wants (λ reads. refl) (λ single. absurd (cc (many call on))))
+    (answers_wanting old old call (reading_on call on) live whole (keeps_self old is) live refl (uncounted old.raw old.raw refl) (λ asks. refl) wants (λ reads. refl) (λ single. absurd (cc (many call on))) (λ single. absurd (cc (many call on))))
 
 -- or after bytes had left the raw
-starved : (old new : EngineView) (call : FileCall) → reads_on call ≡ true → has_room call ≡ false → takes_space_first call ≡ false → old.life ≡ life.Live → old.short ≡ false → IsEngine old.raw old.window old.life → StarvesAt old new → (IsTrue (asks_nothing call) → new.raw ≡ old.raw) → (new.life ≡ life.Failed → WhereTold old.raw (wanted_by call (left_at old.raw.bytes (place_of old.window)) ≢ [])) → Answers (stream_of old) call (Refused fault.NoMemory) (stream_of new)
+starved : (old new : EngineView) (call : FileCall) → reads_on call ≡ true → has_room call ≡ false → takes_space_first call ≡ false → old.life ≡ life.Live → old.short ≡ false → IsEngine old.raw old.window old.life → StarvesAt (moves_most call) old new → (IsTrue (asks_nothing call) → new.raw ≡ old.raw) → (new.life ≡ life.Failed → WhereTold old.raw (wanted_by call (left_at old.raw.bytes (place_of old.window)) ≢ [])) → Answers (stream_of old) call (Refused fault.NoMemory) (stream_of new)
 starved old new call on room later live whole is (inl same) idle some = unmoved old new call on live whole is (λ has. absurd (cc)) same
 starved old new call on room later live whole is (inr fails) idle some =
     answers_failing old new call on live whole (λ has. absurd (cc)) (λ takes. absurd (cc)) (record {
@@ -52,6 +52,7 @@ starved old new call on room later live whole is (inr fails) idle some =
       counts = fails.counts;
       failed = fails.failed;
       place = fails.place;
+      reach = fails.reach;
       forth = fails.forth;
       forth_told = fails.told;
       idle = idle;
@@ -71,11 +72,12 @@ not_asked : (asks : Bool) → (IsTrue asks → ⊥) → asks ≡ false
 not_asked true none = absurd (none refl)
 not_asked false none = refl
 
-pub refused_stop : (old new : EngineView) (call : FileCall) (part : List ℕ) (why : IoFault) → reads_on call ≡ true → has_room call ≡ false → takes_space_first call ≡ false → old.life ≡ life.Live → old.short ≡ false → IsEngine old.raw old.window old.life → StopOutcome old part (Err why) new → IdleNothing call old why new → WantsSome call old why new → Answers (stream_of old) call (Refused why) (stream_of new)
-refused_stop old new call part fault.RawFault on room later live whole is outcome idle some =
-    answers_faulted old new call (reading_on call on) live whole outcome (fails_further call (place_of old.window) (place_of new.window) on outcome.place) (not_asked (asks_nothing call) (λ asks. (idle asks).1 refl)) (λ single. absurd (cc (many call on)))
-refused_stop old new call part fault.NoMemory on room later live whole is outcome idle some = starved old new call on room later live whole is outcome (λ asks. (idle asks).0) some
-refused_stop old new call part why on room later live whole is outcome idle some = absurd outcome
+pub refused_stop : (old new : EngineView) (call : FileCall) (part : List ℕ) (why : IoFault) → reads_on call ≡ true → has_room call ≡ false → takes_space_first call ≡ false → old.life ≡ life.Live → old.short ≡ false → IsEngine old.raw old.window old.life → StopOutcome old part (Err why) new → MovesWithin (wanted_by call) old (Err why) new → IdleNothing call old why new → WantsSome call old why new → Answers (stream_of old) call (Refused why) (stream_of new)
+refused_stop old new call part fault.RawFault on room later live whole is outcome moves idle some =
+    let fails : FailsInReading (moves_most call) old new = fails_by_call old new call fault.RawFault on moves outcome in
+    answers_faulted old new call (reading_on call on) live whole fails (fails_further call (place_of old.window) (place_of new.window) on fails.place) (not_asked (asks_nothing call) (λ asks. (idle asks).1 refl)) (λ single. absurd (cc (many call on))) (λ single. absurd (cc (many call on)))
+refused_stop old new call part fault.NoMemory on room later live whole is outcome moves idle some = starved old new call on room later live whole is (starves_by_call old new call fault.NoMemory on moves outcome) (λ asks. (idle asks).0) some
+refused_stop old new call part why on room later live whole is outcome moves idle some = absurd outcome
 
 -- All that is left.
 
@@ -84,8 +86,12 @@ left_wanted old new part fault.NoMemory live (inl same) = λ failed. absurd (let
 left_wanted old new part fault.NoMemory live (inr fails) = λ failed. fails.some
 left_wanted old new part why live outcome = tt
 
+-- however much that is, no bound holds of it
+rest_moves : (old new : EngineView) (why : IoFault) → MovesWithin (wanted_by (Read None)) old (Err why) new
+rest_moves old new why most bound = absurd (omega (arith, bound (replicate (most + 1) 0) refl, length-replicate {A = ℕ} (most + 1) 0))
+
 pub refused_rest : (old new : EngineView) (part : List ℕ) (why : IoFault) → old.life ≡ life.Live → old.short ≡ false → IsEngine old.raw old.window old.life → ReadAllOutcome old (Err why) part new → Answers (stream_of old) (Read None) (Refused why) (stream_of new)
-refused_rest old new part why live whole is outcome = refused_stop old new (Read None) part why refl refl refl live whole is outcome (λ asks. absurd (cc)) (left_wanted old new part why live outcome)
+refused_rest old new part why live whole is outcome = refused_stop old new (Read None) part why refl refl refl live whole is outcome (rest_moves old new why) (λ asks. absurd (cc)) (left_wanted old new part why live outcome)
 
 -- what comes next, where as much is left
 comes_all : (left part : List ℕ) → take (length part) left ≡ part → length left ≤ length part → left ≡ part
@@ -155,7 +161,7 @@ gathers_size old new call size count buffer stops.Waits wants long fits full out
 pub gathers_into : (old new : EngineView) (call : FileCall) (size : ℕ) (progress : Progress) (buffer : List ℕ) → WantsSize call size → length buffer ≡ size → ReadsInto old progress buffer new → Gathers (wanted_by call) old (take progress.count buffer) (Ok progress.stop)
 gathers_into old new call size progress buffer wants long read = gathers_size old new call size progress.count buffer progress.stop wants long read.fits read.full read.stops
 
-starved_into : (old new : EngineView) (call : FileCall) (size : ℕ) → reads_on call ≡ true → WantsSize call size → 0 < size → old.life ≡ life.Live → old.short ≡ false → IsEngine old.raw old.window old.life → IsTrue old.raw.takes_memory → ((false ≡ false) × (new ≡ old)) ⊎ FailsStarved old false new → Answers (stream_of old) call (Refused fault.NoMemory) (stream_of new)
+starved_into : (old new : EngineView) (call : FileCall) (size : ℕ) → reads_on call ≡ true → WantsSize call size → 0 < size → old.life ≡ life.Live → old.short ≡ false → IsEngine old.raw old.window old.life → IsTrue old.raw.takes_memory → ((false ≡ false) × (new ≡ old)) ⊎ FailsStarved (moves_most call) old false new → Answers (stream_of old) call (Refused fault.NoMemory) (stream_of new)
 starved_into old new call size on wants asks live whole is takes (inl same) = unmoved old new call on live whole is (λ has. takes) same.1
 starved_into old new call size on wants asks live whole is takes (inr fails) =
     answers_failing old new call on live whole (λ has. takes) (λ first. takes) (record {
@@ -163,17 +169,21 @@ starved_into old new call size on wants asks live whole is takes (inr fails) =
       counts = fails.counts;
       failed = fails.failed;
       place = fails.place;
+      reach = fails.reach;
       forth = fails.further refl;
       forth_told = fails.further_told refl;
       idle = λ none. absurd (let some : asks_nothing call ≡ false = asks_some call size on wants asks in cc);
       some = λ tells. subst (λ (part : List ℕ). part ≢ []) (sym (wants (left_at old.raw.bytes (place_of old.window)))) (some_taken size (left_at old.raw.bytes (place_of old.window)) asks (fails.some refl tells));
     })
 
-pub refused_into : (old new : EngineView) (call : FileCall) (size : ℕ) (buffer : List ℕ) (why : IoFault) → reads_on call ≡ true → WantsSize call size → length buffer ≡ size → old.life ≡ life.Live → old.short ≡ false → IsEngine old.raw old.window old.life → ReadIntoOutcome old false (Err why) buffer new → Answers (stream_of old) call (Refused why) (stream_of new)
-refused_into old new call size buffer fault.RawFault on wants long live whole is outcome =
-    answers_faulted old new call (reading_on call on) live whole outcome.0 (fails_further call (place_of old.window) (place_of new.window) on outcome.0.place) (asks_some call size on wants (subst (λ (n : ℕ). 0 < n) long outcome.1)) (λ single. absurd (cc (many call on)))
-refused_into old new call size buffer fault.NoMemory on wants long live whole is outcome = starved_into old new call size on wants (subst (λ (n : ℕ). 0 < n) long outcome.1) live whole is outcome.0.0 outcome.0.1
-refused_into old new call size buffer why on wants long live whole is outcome = absurd outcome
+pub refused_into : (old new : EngineView) (call : FileCall) (size : ℕ) (buffer : List ℕ) (why : IoFault) → reads_on call ≡ true → WantsSize call size → moves_most call ≡ Some size → length buffer ≡ size → old.life ≡ life.Live → old.short ≡ false → IsEngine old.raw old.window old.life → ReadIntoOutcome old false (Err why) buffer new → Answers (stream_of old) call (Refused why) (stream_of new)
+refused_into old new call size buffer fault.RawFault on wants moves long live whole is outcome =
+    let fails : FailsInReading (moves_most call) old new = subst (λ (most : Option ℕ). FailsInReading most old new) (ap Some long ∙ sym moves) outcome.0 in
+    answers_faulted old new call (reading_on call on) live whole fails (fails_further call (place_of old.window) (place_of new.window) on fails.place) (asks_some call size on wants (subst (λ (n : ℕ). 0 < n) long outcome.1)) (λ single. absurd (cc (many call on))) (λ single. absurd (cc (many call on)))
+refused_into old new call size buffer fault.NoMemory on wants moves long live whole is outcome =
+    starved_into old new call size on wants (subst (λ (n : ℕ). 0 < n) long outcome.1) live whole is outcome.0.0
+    (subst (λ (most : Option ℕ). ((false ≡ false) × (new ≡ old)) ⊎ FailsStarved most old false new) (ap Some long ∙ sym moves) outcome.0.1)
+refused_into old new call size buffer why on wants moves long live whole is outcome = absurd outcome
 
 -- what a vector has whose front was read into, and which was cut to what came
 pub cut_to : (buffer more : List ℕ) (count size : ℕ) → length buffer ≡ size → take count (take size (buffer ++ more)) ≡ take count buffer
@@ -197,7 +207,7 @@ pub idle_gathered : (call : FileCall) (old new : EngineView) (result : Result St
 idle_gathered call old new result on idle asks = (idle (wants_nothing call on asks)).0
 
 pub refused_gather : (old new : EngineView) (call : FileCall) (part : List ℕ) (why : IoFault) → reads_on call ≡ true → has_room call ≡ false → takes_space_first call ≡ false → old.life ≡ life.Live → old.short ≡ false → IsEngine old.raw old.window old.life → GatherOutcome (wanted_by call) old (Err why) part new → Answers (stream_of old) call (Refused why) (stream_of new)
-refused_gather old new call part why on room later live whole is outcome = refused_stop old new call part why on room later live whole is outcome.0 (idle_refused call old new why on outcome.3) (wanting call old new why outcome.2)
+refused_gather old new call part why on room later live whole is outcome = refused_stop old new call part why on room later live whole is outcome.0 outcome.4 (idle_refused call old new why on outcome.3) (wanting call old new why outcome.2)
 
 -- what a line, or lines, were gathered by
 pub line_gathered : (view : LineView) (limit : Option ℕ) (old new : EngineView) (result : Result Stop IoFault) (part : List ℕ) → view ≡ record { line = []; limit = limit } → GatherOutcome (line_wanted view) old result part new → GatherOutcome (wanted_by (ReadLine limit)) old result part new

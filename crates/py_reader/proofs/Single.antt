@@ -1,7 +1,7 @@
 -- The answers of readings by at most one transfer.
-use Rattle.std.proofs.Common.{◌≡◌, ◌≢◌, ℕ, suc, zero, ◌+◌, ◌<◌, ◌≤◌, Bool, true, false, ◌||◌, IsTrue, List, [], ◌∷◌, ◌++◌, length, take, drop, min, Option, Some, None, unwrap_or, Ok, Err, if◌then◌else◌, refl, sym, ap, ◌∙◌, subst, arith}
+use Rattle.std.proofs.Common.{◌≡◌, ◌≢◌, ℕ, suc, zero, ◌+◌, ◌<◌, ◌≤◌, Bool, true, false, ◌||◌, IsTrue, List, [], ◌∷◌, ◌++◌, length, take, drop, min, max, Option, Some, None, unwrap_or, Ok, Err, if◌then◌else◌, refl, sym, ap, ◌∙◌, subst, arith}
 use Rattle.std.proofs.lemmas.Bool.{ne_eqb}
-use Rattle.std.proofs.lemmas.List.{length-take, length-drop, take_all, take_min, take-append-drop, drop_all}
+use Rattle.std.proofs.lemmas.List.{length-append, length-take, length-drop, take_all, take_min, take-append-drop, drop_all}
 use Rattle.py_flat.specs.declared.fault.IoFault.{IoFault}
 use Rattle.py_flat.specs.declared.fault.IoFault.TheVariants as fault
 use Rattle.py_flat.specs.declared.life.Life.{Life}
@@ -13,19 +13,19 @@ use Rattle.py_flat.specs.FlatFile.{FlatFile}
 use Rattle.py_flat.specs.ExactStep.{is_closed}
 use Rattle.py_flat.specs.AllowedStep.{settled, waited_for}
 use Rattle.py_flat.specs.BinaryStep.{IsFrontOf, Transfers, Accepted, SettledBy, WaitedBy}
-use Rattle.py_raw.specs.RawStream.{WhereTold, LeavesCounts}
+use Rattle.py_raw.specs.RawStream.{WhereTold, WaitsOnce, LeavesCounts}
 use Rattle.py_reader.specs.declared.data.Stop.{Stop}
 use Rattle.py_reader.specs.declared.data.Stop.TheVariants as stops
 use Rattle.py_stream.specs.Stream.{file_of}
 use Rattle.py_stream.specs.Kinds.{is_reading, reads_on, is_single, is_writing, has_room, asks_nothing}
-use Rattle.py_stream.specs.Answers.{Answers, IsReplyTo, IsShort, LifeMoves, PlaceFails, PlaceMoves, GivesWithin}
+use Rattle.py_stream.specs.Answers.{Answers, IsReplyTo, IsShort, LifeMoves, PlaceFails, PlaceMoves, moves_most, GivesWithin}
 use Rattle.py_reader.specs.Window.{WindowView, IsWindow, place_of, end_of, ahead_of, advanced}
 use Rattle.py_reader.specs.Engine.{EngineView, stream_of, IsEngine, KeepsEngine, BeginOutcome, Transferred, has_answer, answered_at}
 use Rattle.py_reader.specs.Reading.{ReadyOutcome}
 use Rattle.py_stream.specs.Replies.{look_reply}
 use Rattle.py_reader.proofs.Transfers.{ahead_told, keeps_self, keeps_then, keeps_advanced, uncounted}
 use Rattle.py_reader.proofs.Begun.{answers_begun}
-use Rattle.py_reader.proofs.Answering.{reading_refused, accepted, works, answers_coming, answers_faulted, answers_wanting, file_after, file_same}
+use Rattle.py_reader.proofs.Answering.{reading_refused, accepted, works, answers_coming, stays_forth, answers_faulted, answers_wanting, file_after, file_same}
 
 -- what holds of an engine, by the one value that it is seen as
 abbrev pub IsSeen : EngineView → Type 0
@@ -86,17 +86,17 @@ once_short (ReadInto1 size) part single = refl
 once_short Peek part single = refl
 once_short call part single = absurd (cc)
 
-once_lives : (call : FileCall) (part : List ℕ) (before after : Life) → is_single call ≡ true → after ≡ before → LifeMoves call (Bytes part) before after
-once_lives (Read1 size) part before after single same = same
-once_lives (ReadInto1 size) part before after single same = same
-once_lives Peek part before after single same = same
-once_lives call part before after single same = absurd (cc)
+once_lives : (size : ℕ) (call : FileCall) (part : List ℕ) (before after : Life) → is_single call ≡ true → after ≡ before → LifeMoves (Some size) call (Bytes part) before after
+once_lives size (Read1 bytes) part before after single same = same
+once_lives size (ReadInto1 bytes) part before after single same = same
+once_lives size Peek part before after single same = same
+once_lives size call part before after single same = absurd (cc)
 
-once_moves : (call : FileCall) (part : List ℕ) (current : Life) (before after : ℕ) → is_single call ≡ true → after ≡ before + moves_by call (length part) → PlaceMoves call (Bytes part) current before after
-once_moves (Read1 size) part current before after single is = is
-once_moves (ReadInto1 size) part current before after single is = is
-once_moves Peek part current before after single is = omega (arith, is)
-once_moves call part current before after single is = absurd (cc)
+once_moves : (size : ℕ) (call : FileCall) (part : List ℕ) (current : Life) (before after : ℕ) → is_single call ≡ true → after ≡ before + moves_by call (length part) → PlaceMoves (Some size) call (Bytes part) current before after
+once_moves size (Read1 bytes) part current before after single is = is
+once_moves size (ReadInto1 bytes) part current before after single is = is
+once_moves size Peek part current before after single is = omega (arith, is)
+once_moves size call part current before after single is = absurd (cc)
 
 once_within : (size : ℕ) (call : FileCall) (part : List ℕ) → is_single call ≡ true → length part ≤ asks_for size call → GivesWithin size call (Bytes part)
 once_within size (Read1 None) part single most = most
@@ -105,23 +105,29 @@ once_within size (ReadInto1 bytes) part single most = most
 once_within size Peek part single most = most
 once_within size call part single most = absurd (cc)
 
-once_answers : (call : FileCall) (part : List ℕ) → is_single call ≡ true → IsReplyTo false call (Bytes part)
-once_answers (Read1 size) part single = tt
-once_answers (ReadInto1 size) part single = tt
-once_answers Peek part single = tt
-once_answers call part single = absurd (cc)
+once_answers : (size : ℕ) (call : FileCall) (part : List ℕ) → is_single call ≡ true → IsReplyTo (Some size) false call (Bytes part)
+once_answers size (Read1 bytes) part single = tt
+once_answers size (ReadInto1 bytes) part single = tt
+once_answers size Peek part single = tt
+once_answers size call part single = absurd (cc)
 
 -- some first part of what is asked was given: nothing only where nothing is asked or left
 pub record GivesOnce (old : EngineView) (call : FileCall) (part : List ℕ) (new : EngineView) : Type 0 where
   pub kept : KeepsEngine old new
   pub counts : LeavesCounts old.raw new.raw
   pub idle : IsTrue (asks_nothing call) → new.raw ≡ old.raw
+  pub still : end_of old.window ≢ place_of old.window → new.raw ≡ old.raw
   pub live : new.life ≡ life.Live
   pub place : place_of new.window ≡ place_of old.window + moves_by call (length part)
   pub most : length part ≤ asks_for old.window.size call
   pub transfers : WhereTold old.raw (new.raw.transfers ≤ old.raw.transfers + 1)
   pub front : WhereTold old.raw (IsFrontOf part (take (asks_for old.window.size call) (left_at old.raw.bytes (place_of old.window))))
   pub some : WhereTold old.raw (part ≡ [] → take (asks_for old.window.size call) (left_at old.raw.bytes (place_of old.window)) ≡ [])
+
+-- a front of what is left moves the place no further than the end
+front_reaches : (wanted part bytes : List ℕ) (before after : ℕ) → length wanted ≤ length (left_at bytes before) → IsFrontOf part wanted → after ≤ before + length part → after ≤ max before (length bytes)
+front_reaches wanted part bytes before after left front moved =
+    omega (arith, moved, left, length-drop before bytes, ap length front.1, length-append part front.0)
 
 -- what a buffer that has a size is filled from
 buffer_of : (size : ℕ) (bytes : List ℕ) → 0 < size → take size bytes ≡ first_or_all size bytes
@@ -166,18 +172,20 @@ answers_once old new call part single live some gives =
       kept = gives.kept;
       is_open = ap is_closed gives.live;
       causes = record { waits = λ short. absurd (cc); faults = λ faulted. absurd (cc) };
-      counted = λ exact. record { faults = λ sound. gives.counts.no_fault exact; waits = λ short writes. gives.counts.no_wait exact };
+      counted = λ exact. record { faults = λ sound. gives.counts.no_fault exact; waits = λ short writes. gives.counts.no_wait exact; once = λ short. absurd (cc) };
       shorts = once_short call part single;
-      life_is = once_lives call part old.life new.life single same;
-      place = once_moves call part new.life (place_of old.window) (place_of new.window) single gives.place;
+      life_is = once_lives old.window.size call part old.life new.life single same;
+      place = once_moves old.window.size call part new.life (place_of old.window) (place_of new.window) single gives.place;
       within = once_within old.window.size call part single gives.most;
       wants = λ wanting room. absurd (cc);
       starves = λ wanting reads. absurd (cc);
       first = λ wanting takes none. absurd (cc);
       nothing = λ asks. record { raw = gives.idle asks; fault = refl };
       one = λ single. gives.transfers;
-      answers = once_answers call part single;
+      held = λ apart single. record { raw = gives.still apart; fault = refl };
+      answers = once_answers old.window.size call part single;
       told = λ tells. settled (subst (λ (refused : Option IoFault). SettledBy file call refused (Bytes part) (file_of (stream_of new))) (sym (accepted old call (reading_once call single) live)) (once_carried old new call part single some same gives tells));
+      reach = λ tells. front_reaches (take (asks_for old.window.size call) (left_at old.raw.bytes (place_of old.window))) part old.raw.bytes (place_of old.window) (place_of new.window) (omega (arith, length-take (asks_for old.window.size call) (left_at old.raw.bytes (place_of old.window)))) (gives.front tells) (omega (arith, gives.place, moves_within call (length part)));
       hides = λ short. absurd (cc);
     })
 
@@ -203,8 +211,8 @@ ahead_next old mid kept live place tells =
     ∙ (ap (λ (at : ℕ). take count (left_at mid.raw.bytes at)) (sym place)
     ∙ ahead_told mid.raw mid.window kept.is.window_is.cursor (kept.is.told (kept.raw.tells ∙ tells) live))
 
-gives_held : (old mid : EngineView) (call : FileCall) → asks_nothing call ≡ false → Transferred old mid → LeavesCounts old.raw mid.raw → place_of mid.window ≡ place_of old.window → WhereTold old.raw (take (asks_for old.window.size call) (ahead_of mid.window) ≡ [] → take (asks_for old.window.size call) (left_at old.raw.bytes (place_of old.window)) ≡ []) → GivesOnce old call (take (asks_for old.window.size call) (ahead_of mid.window)) (record mid { window = advanced (moves_by call (length (take (asks_for old.window.size call) (ahead_of mid.window)))) mid.window })
-gives_held old mid call asks moved counts place some =
+gives_held : (old mid : EngineView) (call : FileCall) → asks_nothing call ≡ false → Transferred old mid → LeavesCounts old.raw mid.raw → place_of mid.window ≡ place_of old.window → (end_of old.window ≢ place_of old.window → mid.raw ≡ old.raw) → WhereTold old.raw (take (asks_for old.window.size call) (ahead_of mid.window) ≡ [] → take (asks_for old.window.size call) (left_at old.raw.bytes (place_of old.window)) ≡ []) → GivesOnce old call (take (asks_for old.window.size call) (ahead_of mid.window)) (record mid { window = advanced (moves_by call (length (take (asks_for old.window.size call) (ahead_of mid.window)))) mid.window })
+gives_held old mid call asks moved counts place still some =
     let asked : ℕ = asks_for old.window.size call in
     let part : List ℕ = take asked (ahead_of mid.window) in
     let size : length part ≡ min asked (length (ahead_of mid.window)) = length-take asked (ahead_of mid.window) in
@@ -213,6 +221,7 @@ gives_held old mid call asks moved counts place some =
       kept = keeps_then old mid new moved.kept (keeps_advanced mid (moves_by call (length part)) moved.kept.is (omega (arith, moves_within call (length part), size)));
       counts = counts;
       idle = λ none. absurd (cc);
+      still = still;
       live = moved.live;
       place = omega (arith, place);
       most = omega (arith, size);
@@ -223,11 +232,11 @@ gives_held old mid call asks moved counts place some =
 
 -- What the raw made wait.
 
-unready_lives : (call : FileCall) (before after : Life) → is_single call ≡ true → after ≡ before → LifeMoves call NotReady before after
-unready_lives (Read1 size) before after single same = same
-unready_lives (ReadInto1 size) before after single same = same
-unready_lives Peek before after single same = same
-unready_lives call before after single same = absurd (cc)
+unready_lives : (size : ℕ) (call : FileCall) (before after : Life) → is_single call ≡ true → after ≡ before → LifeMoves (Some size) call NotReady before after
+unready_lives size (Read1 bytes) before after single same = same
+unready_lives size (ReadInto1 bytes) before after single same = same
+unready_lives size Peek before after single same = same
+unready_lives size call before after single same = absurd (cc)
 
 unready_short : (call : FileCall) → is_single call ≡ true → IsShort call NotReady true
 unready_short (Read1 size) single = refl
@@ -235,11 +244,11 @@ unready_short (ReadInto1 size) single = refl
 unready_short Peek single = refl
 unready_short call single = absurd (cc)
 
-unready_stays : (call : FileCall) (current : Life) (before after : ℕ) → is_single call ≡ true → after ≡ before → PlaceMoves call NotReady current before after
-unready_stays (Read1 size) current before after single same = same
-unready_stays (ReadInto1 size) current before after single same = same
-unready_stays Peek current before after single same = same
-unready_stays call current before after single same = absurd (cc)
+unready_stays : (size : ℕ) (call : FileCall) (current : Life) (before after : ℕ) → is_single call ≡ true → after ≡ before → PlaceMoves (Some size) call NotReady current before after
+unready_stays size (Read1 bytes) current before after single same = same
+unready_stays size (ReadInto1 bytes) current before after single same = same
+unready_stays size Peek current before after single same = same
+unready_stays size call current before after single same = absurd (cc)
 
 unready_within : (size : ℕ) (call : FileCall) → is_single call ≡ true → GivesWithin size call NotReady
 unready_within size (Read1 None) single = tt
@@ -258,26 +267,28 @@ unready_waited file call after single same = absurd (cc)
 used_up_stands : (window : WindowView) → IsWindow window → ahead_of window ≡ [] → end_of window ≡ place_of window
 used_up_stands window is none = omega (arith, is.cursor, ap length none, length-drop window.cursor window.held)
 
-unready_once : (old new : EngineView) (call : FileCall) → is_single call ≡ true → asks_nothing call ≡ false → old.life ≡ life.Live → Transferred old new → place_of new.window ≡ place_of old.window → ahead_of new.window ≡ [] → Rose old.raw.waits new.raw.waits → Answers (stream_of old) call NotReady (stream_of (record new { short = true }))
-unready_once old new call single asks live moved place none waits =
+unready_once : (old new : EngineView) (call : FileCall) → is_single call ≡ true → asks_nothing call ≡ false → old.life ≡ life.Live → Transferred old new → place_of new.window ≡ place_of old.window → ahead_of new.window ≡ [] → Rose old.raw.waits new.raw.waits → WaitsOnce old.raw new.raw → end_of old.window ≡ place_of old.window → Answers (stream_of old) call NotReady (stream_of (record new { short = true }))
+unready_once old new call single asks live moved place none waits once stands =
     let file : FlatFile = file_of (stream_of old) in
     let same : new.life ≡ old.life = moved.live ∙ sym live in
     answers_coming old new call NotReady true (reading_once call single) live (record {
       kept = moved.kept;
       is_open = ap is_closed moved.live;
       causes = record { waits = λ short. waits; faults = λ faulted. absurd (cc) };
-      counted = λ exact. record { faults = λ sound. moved.no_fault exact; waits = λ short writes. absurd (cc) };
+      counted = λ exact. record { faults = λ sound. moved.no_fault exact; waits = λ short writes. absurd (cc); once = λ short writes. once exact };
       shorts = unready_short call single;
-      life_is = unready_lives call old.life new.life single same;
-      place = unready_stays call new.life (place_of old.window) (place_of new.window) single place;
+      life_is = unready_lives old.window.size call old.life new.life single same;
+      place = unready_stays old.window.size call new.life (place_of old.window) (place_of new.window) single place;
       within = unready_within old.window.size call single;
       wants = λ wanting room. absurd (cc);
       starves = λ wanting reads. absurd (cc);
       first = λ wanting takes none. absurd (cc);
       nothing = λ none. absurd (cc);
       one = λ single. moved.transfers;
+      held = λ apart single. absurd (apart stands);
       answers = reading_once call single;
       told = λ tells. waited_for refl (works old call (reading_once call single) live, unready_waited file call (file_of (stream_of new)) single (file_same old new moved.kept same place tells));
+      reach = λ tells. omega (arith, place);
       hides = λ short. used_up_stands new.window moved.kept.is.window_is none;
     })
 
@@ -297,6 +308,12 @@ ready_counts : (old mid : EngineView) (stop : Stop) → ReadyOutcome old (Ok sto
 ready_counts old mid stops.Enough ready answered = record { no_fault = ready.0.no_fault; no_wait = ready.3 }
 ready_counts old mid stops.End ready answered = record { no_fault = ready.0.no_fault; no_wait = ready.4 }
 ready_counts old mid stops.Waits ready answered = absurd (cc)
+
+-- where bytes were held, the raw wasn't called
+ready_still : (old mid : EngineView) (stop : Stop) → ReadyOutcome old (Ok stop) mid → end_of old.window ≢ place_of old.window → mid.raw ≡ old.raw
+ready_still old mid stops.Enough ready apart = ready.4 apart
+ready_still old mid stops.End ready apart = absurd (apart ready.5)
+ready_still old mid stops.Waits ready apart = absurd (apart ready.5)
 
 -- nothing of the bytes held is given only where nothing is asked or left
 nothing_left : (old mid : EngineView) (asked : ℕ) (stop : Stop) → ReadyOutcome old (Ok stop) mid → has_answer stop true ≡ true → WhereTold old.raw (take asked (ahead_of mid.window) ≡ [] → take asked (left_at old.raw.bytes (place_of old.window)) ≡ [])
@@ -321,6 +338,7 @@ once_nothing first begun call single is began none =
       kept = keeps_self begun begun_engine;
       counts = uncounted begun.raw begun.raw refl;
       idle = λ asks. refl;
+      still = λ apart. refl;
       live = live;
       place = omega (arith, moves_none call);
       most = omega arith;
@@ -342,7 +360,7 @@ once_held first begun mid answered new call stop part single asks is began ready
     let left : EngineView = record mid { window = advanced (moves_by call (length gave)) mid.window; short = false } in
     let left_is : new ≡ left = new_is ∙ (ap (λ (bytes : List ℕ). record answered { window = advanced (moves_by call (length bytes)) answered.window }) given ∙ ap (λ (engine : EngineView). record engine { window = advanced (moves_by call (length gave)) engine.window }) same) in
     let moved : Transferred begun mid × (place_of mid.window ≡ place_of begun.window) = moved_to_ready begun mid stop ready in
-    let all : Answers (stream_of begun) call (Bytes gave) (stream_of left) = answers_once begun (record mid { window = advanced (moves_by call (length gave)) mid.window }) call gave single live begun_engine.window_is.some (gives_held begun mid call asks moved.0 (ready_counts begun mid stop ready answers) moved.1 (nothing_left begun mid asked stop ready answers)) in
+    let all : Answers (stream_of begun) call (Bytes gave) (stream_of left) = answers_once begun (record mid { window = advanced (moves_by call (length gave)) mid.window }) call gave single live begun_engine.window_is.some (gives_held begun mid call asks moved.0 (ready_counts begun mid stop ready answers) moved.1 (ready_still begun mid stop ready) (nothing_left begun mid asked stop ready answers)) in
     answers_begun first begun call (Bytes part) (stream_of new) began.1
     (subst (λ (bytes : List ℕ). Answers (stream_of begun) call (Bytes bytes) (stream_of new)) (sym given)
     (subst (λ (engine : EngineView). Answers (stream_of begun) call (Bytes gave) (stream_of engine)) (sym left_is) all))
@@ -365,10 +383,10 @@ once_unready first begun mid new call stops.End single asks began ready unready 
 once_unready first begun mid new call stops.Waits single asks began ready unready new_is =
     let live : begun.life ≡ life.Live = ap (λ (engine : EngineView). engine.life) began.1 ∙ began.0 in
     answers_begun first begun call NotReady (stream_of new) began.1
-    (subst (λ (engine : EngineView). Answers (stream_of begun) call NotReady (stream_of engine)) (sym new_is) (unready_once begun mid call single asks live ready.0 ready.1 ready.2 ready.3))
+    (subst (λ (engine : EngineView). Answers (stream_of begun) call NotReady (stream_of engine)) (sym new_is) (unready_once begun mid call single asks live ready.0 ready.1 ready.2 ready.3 ready.4 ready.5))
 
 -- a place that stays
-stays_once : (call : FileCall) (before after : ℕ) → is_single call ≡ true → after ≡ before → PlaceFails (reads_on call || is_writing call) before after
+stays_once : (call : FileCall) (before after : ℕ) → is_single call ≡ true → after ≡ before → PlaceFails (reads_on call || is_writing call) (moves_most call) before after
 stays_once (Read1 size) before after single same = same
 stays_once (ReadInto1 size) before after single same = same
 stays_once Peek before after single same = same
@@ -380,14 +398,14 @@ once_failed first begun new call fault.RawFault single asks is began fails =
     let live : begun.life ≡ life.Live = ap (λ (engine : EngineView). engine.life) began.1 ∙ began.0 in
     let short : begun.short ≡ false = ap (λ (engine : EngineView). engine.short) began.1 in
     answers_begun first begun call (Refused fault.RawFault) (stream_of new) began.1
-    (answers_faulted begun new call (reading_once call single) live short (record { kept = fails.0.kept; cause = fails.0.cause; no_wait = fails.0.no_wait; failed = fails.0.failed; place = omega (arith, fails.1) }) (stays_once call (place_of begun.window) (place_of new.window) single fails.1) asks (λ once. fails.0.transfers))
+    (answers_faulted begun new call (reading_once call single) live short (record { kept = fails.0.kept; cause = fails.0.cause; no_wait = fails.0.no_wait; failed = fails.0.failed; place = stays_forth (moves_most call) (place_of begun.window) (place_of new.window) fails.1; reach = λ tells. omega (arith, fails.1) }) (stays_once call (place_of begun.window) (place_of new.window) single fails.1) asks (λ once. fails.0.transfers) (λ once. fails.2))
 once_failed first begun new call fault.NoMemory single asks is began wants =
     let begun_engine : IsSeen begun = begun_is first begun is began.1 in
     let live : begun.life ≡ life.Live = ap (λ (engine : EngineView). engine.life) began.1 ∙ began.0 in
     let short : begun.short ≡ false = ap (λ (engine : EngineView). engine.short) began.1 in
     answers_begun first begun call (Refused fault.NoMemory) (stream_of new) began.1
     (subst (λ (engine : EngineView). Answers (stream_of begun) call (Refused fault.NoMemory) (stream_of engine)) (sym wants.1)
-    (answers_wanting begun begun call (reading_once call single) live short (keeps_self begun begun_engine) live refl (uncounted begun.raw begun.raw refl) (λ none. refl) (λ room. wants.0) (λ on. refl) (λ once tells. omega arith)))
+    (answers_wanting begun begun call (reading_once call single) live short (keeps_self begun begun_engine) live refl (uncounted begun.raw begun.raw refl) (λ none. refl) (λ room. wants.0) (λ on. refl) (λ once tells. omega arith) (λ once apart. refl)))
 once_failed first begun new call why single asks is began wants = absurd wants
 
 -- a call that wanted memory of its own, once bytes were held
@@ -400,7 +418,7 @@ once_wanting first begun mid answered new call stop single asks room began ready
     let left_is : new ≡ mid = new_is ∙ (answered_is ∙ (whole_answer stop mid answers ∙ sym same)) in
     answers_begun first begun call (Refused fault.NoMemory) (stream_of new) began.1
     (subst (λ (engine : EngineView). Answers (stream_of begun) call (Refused fault.NoMemory) (stream_of engine)) (sym left_is)
-    (answers_wanting begun mid call (reading_once call single) live short moved.0.kept moved.0.live moved.1 (ready_counts begun mid stop ready answers) (λ none. absurd (cc)) (λ has. absurd (cc)) (λ on. absurd (cc (not_on call single))) (λ once. moved.0.transfers)))
+    (answers_wanting begun mid call (reading_once call single) live short moved.0.kept moved.0.live moved.1 (ready_counts begun mid stop ready answers) (λ none. absurd (cc)) (λ has. absurd (cc)) (λ on. absurd (cc (not_on call single))) (λ once. moved.0.transfers) (λ once. ready_still begun mid stop ready)))
 
 -- the bytes held are shown, or the raw made the call wait
 pub once_look : (first begun mid new : EngineView) (stop : Stop) (shown : Bool) → IsSeen first → BeginOutcome first (Ok tt) begun → ReadyOutcome begun (Ok stop) mid → shown ≡ has_answer stop true → new ≡ answered_at stop mid → Answers (stream_of first) Peek (look_reply (Ok shown) (ahead_of new.window)) (stream_of new)

@@ -12,7 +12,7 @@ use Rattle.py_reader.specs.declared.data.reading.Step.TheVariants as step
 use Rattle.py_reader.specs.Window.{place_of, end_of, ahead_of, advanced}
 use Rattle.py_reader.specs.Engine.{EngineView, IsEngine, KeepsEngine, UsesUp, Gives}
 use Rattle.py_reader.specs.Reading.{StepsOn, StepOutcome, ReadsInto, ReadsMore, ReadAllOutcome}
-use Rattle.py_reader.proofs.Transfers.{more_taken, next_behind, held_next, keeps_self, keeps_then, keeps_advanced, no_fault_then, no_wait_then, uncounted, uncounted_then}
+use Rattle.py_reader.proofs.Transfers.{more_taken, next_behind, held_next, keeps_self, keeps_then, keeps_advanced, no_fault_then, no_wait_then, waits_once_then, uncounted, uncounted_then}
 
 -- a buffer after what is left of it was written
 pub end_written : (count : ℕ) (buffer rest : List ℕ) → count < length buffer → length rest ≡ length (take (length buffer - count) (drop count buffer)) → put_mid count (length buffer - count) buffer rest ≡ take count buffer ++ rest
@@ -162,6 +162,7 @@ reads_none old was count buffer moved now rest new stop.Waits other some reads o
     reads_given old was count buffer moved now rest new reads outcome.1,
     omega (arith, reads.kept.raw.waits, outcome.2),
     outcome.1.end ∙ sym outcome.1.place,
+    waits_once_then old now new reads.kept reads.counts.no_wait outcome.3,
   );
 }
 
@@ -173,7 +174,7 @@ reads_stopped old was count buffer moved now more stop.End rest new some reads o
     subst (λ (n : ℕ). ReadsInto old (record { count = n; stop = stop.End }) (take count buffer ++ rest) new) same (reads_none old was count buffer moved now rest new stop.End (λ (e : stop.End ≡ stop.Enough). cc) some reads (refl, outcome.1, outcome.2, outcome.3))
 reads_stopped old was count buffer moved now more stop.Waits rest new some reads outcome =
     let same : count ≡ count + more = omega (arith, outcome.0) in
-    subst (λ (n : ℕ). ReadsInto old (record { count = n; stop = stop.Waits }) (take count buffer ++ rest) new) same (reads_none old was count buffer moved now rest new stop.Waits (λ (e : stop.Waits ≡ stop.Enough). cc) some reads (refl, outcome.1, outcome.2))
+    subst (λ (n : ℕ). ReadsInto old (record { count = n; stop = stop.Waits }) (take count buffer ++ rest) new) same (reads_none old was count buffer moved now rest new stop.Waits (λ (e : stop.Waits ≡ stop.Enough). cc) some reads (refl, outcome.1, outcome.2, outcome.3))
 
 -- all that was asked for so far has come: nothing was, at first; then as much as is asked for next
 pub record ReadsAll (old : EngineView) (bytes : List ℕ) (more : ℕ) (moved : Bool) (now : EngineView) : Type 0 where
@@ -238,4 +239,5 @@ all_read old bytes more moved now stop.Waits after new other reads brings = (
   subst (λ (xs : List ℕ). Gives old xs new) (sym brings.behind) (gives_then old now new bytes brings.part reads.gives brings.stops.0),
   omega (arith, reads.gives.kept.raw.waits, brings.stops.1),
   brings.stops.2,
+  waits_once_then old now new reads.gives.kept reads.no_wait brings.stops.3,
 )

@@ -1,10 +1,11 @@
 -- What an engine holds, and what stays of it from transfer to transfer.
-use Rattle.std.proofs.Common.{◌≡◌, ℕ, ◌+◌, ◌≤◌, Bool, IsTrue, List, ◌++◌, length, take, drop, refl, sym, ap, ◌∙◌, subst, arith}
-use Rattle.std.proofs.lemmas.List.{length-drop, take-append-drop, take-take, drop-take, drop-drop}
+use Rattle.std.proofs.Common.{◌≡◌, ℕ, ◌+◌, ◌≤◌, Bool, IsTrue, List, ◌++◌, length, take, drop, max, refl, sym, ap, ◌∙◌, subst, arith}
+use Rattle.std.proofs.lemmas.List.{length-take, length-drop, take-append-drop, take-take, drop-take, drop-drop}
 use Rattle.std.proofs.Math.Seq.{take-append-add}
 use Rattle.py_flat.specs.Bytes.{left_at}
+use Rattle.py_flat.specs.Causes.{counted}
 use Rattle.py_flat.specs.declared.life.Life.{Life}
-use Rattle.py_raw.specs.RawStream.{Raw, NoFault, NoWait, LeavesCounts}
+use Rattle.py_raw.specs.RawStream.{Raw, NoFault, NoWait, WaitsOnce, LeavesCounts}
 use Rattle.py_reader.specs.Window.{WindowView, IsWindow, place_of, ahead_of, advanced}
 use Rattle.py_reader.specs.Engine.{EngineView, IsEngine, HoldsTold, KeepsEngine}
 
@@ -23,6 +24,10 @@ next_behind bytes front rest place n m long next behind =
     ∙ (ap (λ (xs : List ℕ). front ++ take m xs) (drop-drop n place bytes)
     ∙ (ap (λ (xs : List ℕ). front ++ xs) behind
     ∙ sym (more_taken n m front rest long))))
+
+-- so many bytes that came next lie before the end
+pub within_end : (bytes part : List ℕ) (place count : ℕ) → take count (left_at bytes place) ≡ part → length part ≡ count → place + count ≤ max place (length bytes)
+within_end bytes part place count next long = omega (arith, length-take count (left_at bytes place), length-drop place bytes, ap length next, long)
 
 -- Engines.
 
@@ -81,6 +86,10 @@ uncounted_then old mid new kept first second = record {
   no_fault = no_fault_then old mid new kept first.no_fault second.no_fault;
   no_wait = no_wait_then old mid new kept first.no_wait second.no_wait;
 }
+
+-- a wait behind steps that counted none is the only one
+pub waits_once_then : (old mid new : EngineView) → KeepsEngine old mid → NoWait old.raw mid.raw → WaitsOnce mid.raw new.raw → WaitsOnce old.raw new.raw
+waits_once_then old mid new kept first second exact = second (kept.raw.counts_exactly ∙ exact) ∙ ap (λ (waits : ℕ). counted waits 1) (first exact)
 
 -- a raw that isn't called counts nothing
 pub uncounted : (old new : Raw) → new ≡ old → LeavesCounts old new

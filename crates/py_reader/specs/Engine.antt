@@ -1,5 +1,5 @@
 -- The engine of the buffered streams: what it is seen as, and what its steps do.
-use Rattle.std.specs.Prelude.{◌≡◌, ◌≢◌, ℕ, ◌+◌, ◌<◌, ◌≤◌, ◌⊎◌, Bool, true, false, ◌&&◌, not, IsTrue, List, [], length, take, Some, Result, Ok, Err}
+use Rattle.std.specs.Prelude.{◌≡◌, ◌≢◌, ℕ, ◌+◌, ◌<◌, ◌≤◌, ◌⊎◌, Bool, true, false, ◌&&◌, not, IsTrue, List, [], length, take, max, Option, Some, None, Result, Ok, Err}
 use Rattle.py_flat.specs.declared.fault.IoFault.{IoFault}
 use Rattle.py_flat.specs.declared.fault.IoFault.TheVariants as fault
 use Rattle.py_flat.specs.declared.life.Life.{Life}
@@ -7,12 +7,13 @@ use Rattle.py_flat.specs.declared.life.Life.TheVariants as life
 use Rattle.py_flat.specs.Bytes.{left_at}
 use Rattle.py_flat.specs.Causes.{Rose}
 use Rattle.py_flat.specs.Refusals.{life_fault}
-use Rattle.py_raw.specs.RawStream.{Raw, Keeps, StaysOpen, WhereTold, NoFault, NoWait, LeavesCounts}
+use Rattle.py_raw.specs.RawStream.{Raw, Keeps, StaysOpen, WhereTold, NoFault, NoWait, WaitsOnce, LeavesCounts}
 use Rattle.py_reader.specs.declared.window.Filled.{Filled}
 use Rattle.py_reader.specs.declared.window.Filled.TheVariants as filled
 use Rattle.py_reader.specs.declared.data.Stop.{Stop}
 use Rattle.py_reader.specs.declared.data.Stop.TheVariants as stop
 use Rattle.py_stream.specs.Stream.{Stream, reader_can, nothing_owed}
+use Rattle.py_stream.specs.Answers.{MovesForth}
 use Rattle.py_reader.specs.Window.{WindowView, IsWindow, place_of, end_of, ahead_of, emptied_at, HoldsNew}
 
 -- the raw, the window on its bytes, what became of the stream, and whether a wait cut its last answer short
@@ -30,7 +31,7 @@ stream_of engine = record {
   raw_place = end_of engine.window;
   can = reader_can engine.raw.seekable;
   life = engine.life;
-  size = engine.window.size;
+  buffer = Some engine.window.size;
   short = engine.short;
   owed = nothing_owed (place_of engine.window);
 }
@@ -69,6 +70,10 @@ BeginDetach old (Err why) new = (old.life ≡ life.Closed) × (why ≡ fault.Clo
 
 -- Failing.
 
+-- told: the place is no further than the end, or than where it was
+abbrev pub Reaches : EngineView → EngineView → Type 0
+Reaches old new = WhereTold old.raw (place_of new.window ≤ max (place_of old.window) (length old.raw.bytes))
+
 -- the raw failed, and the stream with it
 pub record FailsByRaw (old new : EngineView) : Type 0 where
   pub kept : KeepsEngine old new
@@ -78,27 +83,29 @@ pub record FailsByRaw (old new : EngineView) : Type 0 where
   pub place : place_of new.window ≡ end_of old.window
   pub transfers : WhereTold old.raw (new.raw.transfers ≤ old.raw.transfers + 1)
 
--- the same of a reading that may have made many transfers
-pub record FailsInReading (old new : EngineView) : Type 0 where
+-- the same of a reading that may have made many transfers, for no more than so many bytes, where it knows how many
+pub record FailsInReading (most : Option ℕ) (old new : EngineView) : Type 0 where
   pub kept : KeepsEngine old new
   pub cause : Rose old.raw.faults new.raw.faults
   pub no_wait : NoWait old.raw new.raw
   pub failed : new.life ≡ life.Failed
-  pub place : place_of old.window ≤ place_of new.window
+  pub place : MovesForth most (place_of old.window) (place_of new.window)
+  pub reach : Reaches old new
 
 -- memory was wanting once bytes had left the raw, so some were left of the stream
-pub record FailsMoved (old new : EngineView) : Type 0 where
+pub record FailsMoved (most : Option ℕ) (old new : EngineView) : Type 0 where
   pub kept : KeepsEngine old new
   pub counts : LeavesCounts old.raw new.raw
   pub failed : new.life ≡ life.Failed
-  pub place : place_of old.window ≤ place_of new.window
+  pub place : MovesForth most (place_of old.window) (place_of new.window)
+  pub reach : Reaches old new
   pub forth : end_of old.window < end_of new.window
   pub told : WhereTold old.raw (old.raw.place < new.raw.place)
   pub some : WhereTold old.raw (left_at old.raw.bytes (place_of old.window) ≢ [])
 
 -- memory was wanting: nothing changed, or bytes had left the raw
-abbrev pub StarvesAt : EngineView → EngineView → Type 0
-StarvesAt old new = (new ≡ old) ⊎ FailsMoved old new
+abbrev pub StarvesAt : Option ℕ → EngineView → EngineView → Type 0
+StarvesAt most old new = (new ≡ old) ⊎ FailsMoved most old new
 
 -- One transfer.
 
@@ -142,7 +149,7 @@ pub record Fills (old : EngineView) (count : ℕ) (new : EngineView) : Type 0 wh
 abbrev pub FillsOutcome : EngineView → Bool → Result Filled IoFault → EngineView → Type 0
 FillsOutcome old moved (Ok (filled.More count)) new = Fills old count new
 FillsOutcome old moved (Ok filled.End) new = UsesUp old new × IsLast old × NoWait old.raw new.raw
-FillsOutcome old moved (Ok filled.Waits) new = UsesUp old new × Rose old.raw.waits new.raw.waits
+FillsOutcome old moved (Ok filled.Waits) new = UsesUp old new × Rose old.raw.waits new.raw.waits × WaitsOnce old.raw new.raw
 FillsOutcome old moved (Err fault.RawFault) new = FailsByRaw old new
 FillsOutcome old moved (Err fault.NoMemory) new = RawStarves moved old new
 FillsOutcome old moved (Err other) new = ⊥
@@ -160,7 +167,7 @@ pub record Passes (old : EngineView) (count : ℕ) (buffer : List ℕ) (new : En
 abbrev pub PassesOutcome : EngineView → Bool → Result Filled IoFault → List ℕ → EngineView → Type 0
 PassesOutcome old moved (Ok (filled.More count)) buffer new = Passes old count buffer new
 PassesOutcome old moved (Ok filled.End) buffer new = UsesUp old new × IsLast old × NoWait old.raw new.raw
-PassesOutcome old moved (Ok filled.Waits) buffer new = UsesUp old new × Rose old.raw.waits new.raw.waits
+PassesOutcome old moved (Ok filled.Waits) buffer new = UsesUp old new × Rose old.raw.waits new.raw.waits × WaitsOnce old.raw new.raw
 PassesOutcome old moved (Err fault.RawFault) buffer new = FailsByRaw old new
 PassesOutcome old moved (Err fault.NoMemory) buffer new = RawStarves moved old new
 PassesOutcome old moved (Err other) buffer new = ⊥
@@ -195,9 +202,9 @@ pub record Gives (old : EngineView) (part : List ℕ) (new : EngineView) : Type 
 abbrev pub StopOutcome : EngineView → List ℕ → Result Stop IoFault → EngineView → Type 0
 StopOutcome old part (Ok stop.Enough) new = Gives old part new × NoWait old.raw new.raw
 StopOutcome old part (Ok stop.End) new = Gives old part new × NoWait old.raw new.raw × WhereTold old.raw (length old.raw.bytes ≤ place_of new.window)
-StopOutcome old part (Ok stop.Waits) new = Gives old part new × Rose old.raw.waits new.raw.waits × (end_of new.window ≡ place_of new.window)
-StopOutcome old part (Err fault.RawFault) new = FailsInReading old new
-StopOutcome old part (Err fault.NoMemory) new = StarvesAt old new
+StopOutcome old part (Ok stop.Waits) new = Gives old part new × Rose old.raw.waits new.raw.waits × (end_of new.window ≡ place_of new.window) × WaitsOnce old.raw new.raw
+StopOutcome old part (Err fault.RawFault) new = FailsInReading None old new
+StopOutcome old part (Err fault.NoMemory) new = StarvesAt None old new
 StopOutcome old part (Err other) new = ⊥
 
 -- what the stops mean for the answer

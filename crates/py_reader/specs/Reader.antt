@@ -14,7 +14,7 @@ use Rattle.py_reader.specs.Engine.{EngineView, stream_of, BeginDetach}
 -- by its engine; of a detached one only what it could do and the buffer's size are left
 abbrev pub reader_of : Option EngineView → Bool → ℕ → Stream
 reader_of (Some engine) seekable size = stream_of engine
-reader_of None seekable size = detached_stream (reader_can seekable) size
+reader_of None seekable size = detached_stream (reader_can seekable) (Some size)
 
 -- what is kept beside the engine is the engine's own
 abbrev pub IsReader : Option EngineView → Bool → ℕ → Type 0

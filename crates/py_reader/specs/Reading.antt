@@ -1,5 +1,5 @@
 -- The steps of readings into a caller's buffer, of single transfers, and of gathering lines.
-use Rattle.std.specs.Prelude.{◌≡◌, ◌≢◌, ℕ, ◌+◌, ◌<◌, ◌≤◌, ◌⊎◌, Bool, false, IsTrue, List, [], ◌++◌, length, take, Result, Ok, Err, Vec}
+use Rattle.std.specs.Prelude.{◌≡◌, ◌≢◌, ℕ, ◌+◌, ◌<◌, ◌≤◌, ◌⊎◌, Bool, false, IsTrue, List, [], ◌++◌, length, take, Option, Some, None, Result, Ok, Err, Vec}
 use Rattle.std.specs.declared.alloc.Global.{Global}
 use Rattle.py_flat.specs.declared.fault.IoFault.{IoFault}
 use Rattle.py_flat.specs.declared.fault.IoFault.TheVariants as fault
@@ -7,14 +7,15 @@ use Rattle.py_flat.specs.declared.life.Life.TheVariants as life
 use Rattle.py_flat.specs.Bytes.{left_at}
 use Rattle.py_flat.specs.Causes.{Rose}
 use Rattle.py_flat.specs.BinaryStep.{IsFrontOf}
-use Rattle.py_raw.specs.RawStream.{WhereTold, NoWait, LeavesCounts}
+use Rattle.py_raw.specs.RawStream.{WhereTold, NoWait, WaitsOnce, LeavesCounts}
+use Rattle.py_stream.specs.Answers.{MovesForth}
 use Rattle.py_reader.specs.declared.data.Stop.{Stop}
 use Rattle.py_reader.specs.declared.data.Stop.TheVariants as stop
 use Rattle.py_reader.specs.declared.data.reading.Progress.{Progress}
 use Rattle.py_reader.specs.declared.data.reading.Step.{Step}
 use Rattle.py_reader.specs.declared.data.reading.Step.TheVariants as step
 use Rattle.py_reader.specs.Window.{place_of, end_of, ahead_of, advanced}
-use Rattle.py_reader.specs.Engine.{EngineView, KeepsEngine, FailsByRaw, FailsInReading, StarvesWith, RawStarves, UsesUp, IsLast, StopOutcome, Transferred}
+use Rattle.py_reader.specs.Engine.{EngineView, KeepsEngine, Reaches, FailsByRaw, FailsInReading, StarvesWith, RawStarves, UsesUp, IsLast, StopOutcome, Transferred}
 
 -- Into a caller's buffer.
 
@@ -34,25 +35,26 @@ abbrev pub StepOutcome : EngineView → Bool → Result Step IoFault → List �
 StepOutcome old moved (Ok (step.On count)) rest new = StepsOn old count rest new × (count < length rest) × (end_of new.window ≡ end_of old.window + count)
 StepOutcome old moved (Ok (step.Stopped count stop.Enough)) rest new = StepsOn old count rest new × (count ≡ length rest) × (place_of new.window ≡ end_of old.window + count)
 StepOutcome old moved (Ok (step.Stopped count stop.End)) rest new = (count ≡ 0) × UsesUp old new × IsLast old × NoWait old.raw new.raw
-StepOutcome old moved (Ok (step.Stopped count stop.Waits)) rest new = (count ≡ 0) × UsesUp old new × Rose old.raw.waits new.raw.waits
+StepOutcome old moved (Ok (step.Stopped count stop.Waits)) rest new = (count ≡ 0) × UsesUp old new × Rose old.raw.waits new.raw.waits × WaitsOnce old.raw new.raw
 StepOutcome old moved (Err fault.RawFault) rest new = FailsByRaw old new
 StepOutcome old moved (Err fault.NoMemory) rest new = RawStarves moved old new
 StepOutcome old moved (Err other) rest new = ⊥
 
 -- the raw's want of memory: all is as it was where no byte had moved in this call; else the stream fails
-pub record FailsStarved (old : EngineView) (moved : Bool) (new : EngineView) : Type 0 where
+pub record FailsStarved (most : Option ℕ) (old : EngineView) (moved : Bool) (new : EngineView) : Type 0 where
   pub kept : KeepsEngine old new
   pub counts : LeavesCounts old.raw new.raw
   pub failed : new.life ≡ life.Failed
-  pub place : place_of old.window ≤ place_of new.window
+  pub place : MovesForth most (place_of old.window) (place_of new.window)
+  pub reach : Reaches old new
   pub forth : end_of old.window ≤ end_of new.window
   pub further : moved ≡ false → end_of old.window < end_of new.window
   pub forth_told : WhereTold old.raw (old.raw.place ≤ new.raw.place)
   pub further_told : moved ≡ false → WhereTold old.raw (old.raw.place < new.raw.place)
   pub some : moved ≡ false → WhereTold old.raw (left_at old.raw.bytes (place_of old.window) ≢ [])
 
-abbrev pub StarvesIn : EngineView → Bool → EngineView → Type 0
-StarvesIn old moved new = IsTrue old.raw.takes_memory × (((moved ≡ false) × (new ≡ old)) ⊎ FailsStarved old moved new)
+abbrev pub StarvesIn : Option ℕ → EngineView → Bool → EngineView → Type 0
+StarvesIn most old moved new = IsTrue old.raw.takes_memory × (((moved ≡ false) × (new ≡ old)) ⊎ FailsStarved most old moved new)
 
 -- so many bytes came into the front of the buffer; all of it where there are enough; for none the raw isn't called
 pub record ReadsInto (old : EngineView) (progress : Progress) (buffer : List ℕ) (new : EngineView) : Type 0 where
@@ -63,8 +65,8 @@ pub record ReadsInto (old : EngineView) (progress : Progress) (buffer : List ℕ
 
 abbrev pub ReadIntoOutcome : EngineView → Bool → Result Progress IoFault → List ℕ → EngineView → Type 0
 ReadIntoOutcome old moved (Ok progress) buffer new = ReadsInto old progress buffer new
-ReadIntoOutcome old moved (Err fault.RawFault) buffer new = FailsInReading old new × (0 < length buffer)
-ReadIntoOutcome old moved (Err fault.NoMemory) buffer new = StarvesIn old moved new × (0 < length buffer)
+ReadIntoOutcome old moved (Err fault.RawFault) buffer new = FailsInReading (Some (length buffer)) old new × (0 < length buffer)
+ReadIntoOutcome old moved (Err fault.NoMemory) buffer new = StarvesIn (Some (length buffer)) old moved new × (0 < length buffer)
 ReadIntoOutcome old moved (Err other) buffer new = ⊥
 
 -- so many bytes more were asked for, and some of them came behind what a vector had; all of them where there are enough
@@ -76,8 +78,8 @@ pub record ReadsMore (old : EngineView) (before : List ℕ) (more : ℕ) (where_
 
 abbrev pub ReadMoreOutcome : EngineView → Bool → List ℕ → ℕ → Result Stop IoFault → List ℕ → EngineView → Type 0
 ReadMoreOutcome old moved before more (Ok where_stopped) after new = ReadsMore old before more where_stopped after new
-ReadMoreOutcome old moved before more (Err fault.RawFault) after new = FailsInReading old new
-ReadMoreOutcome old moved before more (Err fault.NoMemory) after new = StarvesWith moved old new ⊎ FailsStarved old moved new
+ReadMoreOutcome old moved before more (Err fault.RawFault) after new = FailsInReading None old new
+ReadMoreOutcome old moved before more (Err fault.NoMemory) after new = StarvesWith moved old new ⊎ FailsStarved None old moved new
 ReadMoreOutcome old moved before more (Err other) after new = ⊥
 
 -- all that is left came: never just enough
@@ -87,12 +89,13 @@ ReadAllOutcome old result bytes new = StopOutcome old bytes result new
 
 -- One transfer.
 
--- the window has some bytes ahead, without a transfer or after one; or it is used up, and nothing comes; or the raw waits
+-- the window has some bytes ahead, without a call of the raw where it held some; or it is used up, and nothing comes; or the raw
+-- waits
 abbrev pub ReadyOutcome : EngineView → Result Stop IoFault → EngineView → Type 0
-ReadyOutcome old (Ok stop.Enough) new = Transferred old new × (place_of new.window ≡ place_of old.window) × (0 < length (ahead_of new.window)) × NoWait old.raw new.raw
-ReadyOutcome old (Ok stop.End) new = Transferred old new × (place_of new.window ≡ place_of old.window) × (ahead_of new.window ≡ []) × WhereTold old.raw (length old.raw.bytes ≤ place_of old.window) × NoWait old.raw new.raw
-ReadyOutcome old (Ok stop.Waits) new = Transferred old new × (place_of new.window ≡ place_of old.window) × (ahead_of new.window ≡ []) × Rose old.raw.waits new.raw.waits
-ReadyOutcome old (Err fault.RawFault) new = FailsByRaw old new × (place_of new.window ≡ place_of old.window)
+ReadyOutcome old (Ok stop.Enough) new = Transferred old new × (place_of new.window ≡ place_of old.window) × (0 < length (ahead_of new.window)) × NoWait old.raw new.raw × (end_of old.window ≢ place_of old.window → new.raw ≡ old.raw)
+ReadyOutcome old (Ok stop.End) new = Transferred old new × (place_of new.window ≡ place_of old.window) × (ahead_of new.window ≡ []) × WhereTold old.raw (length old.raw.bytes ≤ place_of old.window) × NoWait old.raw new.raw × (end_of old.window ≡ place_of old.window)
+ReadyOutcome old (Ok stop.Waits) new = Transferred old new × (place_of new.window ≡ place_of old.window) × (ahead_of new.window ≡ []) × Rose old.raw.waits new.raw.waits × WaitsOnce old.raw new.raw × (end_of old.window ≡ place_of old.window)
+ReadyOutcome old (Err fault.RawFault) new = FailsByRaw old new × (place_of new.window ≡ place_of old.window) × (end_of old.window ≡ place_of old.window)
 ReadyOutcome old (Err fault.NoMemory) new = IsTrue old.raw.takes_memory × (new ≡ old)
 ReadyOutcome old (Err other) new = ⊥
 
@@ -127,5 +130,10 @@ StarvesWanting wanted old result new = Unit {0}
 abbrev pub IdleWanting : (List ℕ → List ℕ) → EngineView → Result Stop IoFault → EngineView → Type 0
 IdleWanting wanted old result new = ((left : List ℕ) → wanted left ≡ []) → (new.raw ≡ old.raw) × (result ≢ Err fault.RawFault)
 
+-- a refusal moves the place no further than a part reaches that may be wanted
+abbrev pub MovesWithin : (List ℕ → List ℕ) → EngineView → Result Stop IoFault → EngineView → Type 0
+MovesWithin wanted old (Err refused) new = (most : ℕ) → ((part : List ℕ) → wanted part ≡ part → length part ≤ most) → place_of new.window ≤ place_of old.window + most
+MovesWithin wanted old result new = Unit {0}
+
 abbrev pub GatherOutcome : (List ℕ → List ℕ) → EngineView → Result Stop IoFault → List ℕ → EngineView → Type 0
-GatherOutcome wanted old result part new = StopOutcome old part result new × Gathers wanted old part result × StarvesWanting wanted old result new × IdleWanting wanted old result new
+GatherOutcome wanted old result part new = StopOutcome old part result new × Gathers wanted old part result × StarvesWanting wanted old result new × IdleWanting wanted old result new × MovesWithin wanted old result new

@@ -2,9 +2,9 @@
 ghost use Rattle.std.specs.Prelude.{◌≡◌, ◌≢◌, Some, None, [], false, length, vec_len, if◌then◌else◌};
 ghost use types.Logic.{sem};
 ghost use Rattle.std.specs.Io.BufRead.{Rests};
-ghost use Rattle.py_flat.specs.Calls.{Read, Read1, ReadLine, ReadLines, Peek, ReadInto, ReadInto1, Seek, Tell, Flush, Close};
+ghost use Rattle.py_flat.specs.Calls.{FileCall, Read, Read1, ReadLine, ReadLines, Peek, ReadInto, ReadInto1, Seek, Tell, Flush, Close, Refused};
 ghost use Rattle.py_flat.specs.ExactStep.{is_closed};
-ghost use Rattle.py_stream.specs.Answers.{Answers};
+ghost use Rattle.py_stream.specs.Answers.{Answers, RefusesAlone};
 ghost use Rattle.py_stream.specs.Replies.{bytes_reply, into_reply, CountFits, KeepsBuffer, KeepsUnread, lent_reply, lines_reply, place_reply, done_reply};
 ghost use Rattle.py_stream.specs.Stream.{reader_can};
 ghost use Rattle.py_stream.specs.Opening.{StandsAtStart, MayOpen, NewOutcome};
@@ -62,9 +62,9 @@ impl<R: RawStream> BufferedReader<R> {
     /// the last it is as it was.
     pub fn new(alloc: Global, raw: R, buffer_size: usize) -> Result<Self, NewRefused<R>>
         requires start { StandsAtStart (R.shows raw) }
-        ensures { NewOutcome R.shows (λ shown. shown.readable) reader_can raw buffer_size result }
+        ensures { NewOutcome R.shows (λ shown. shown.readable) reader_can raw (Some buffer_size) result }
     {
-        if let Some(fault) = refused_at_first(&raw, raw.readable(), buffer_size) {
+        if let Some(fault) = refused_at_first(&raw, raw.readable(), Some(buffer_size)) {
             return Err(NewRefused { raw, fault });
         }
         match vec![in alloc; 0u8; buffer_size] {
@@ -79,13 +79,13 @@ impl<R: RawStream> BufferedReader<R> {
     /// A reader with this buffer.
     fn over(raw: R, buffer: Vec<u8>) -> Result<Self, NewRefused<R>>
         requires start { StandsAtStart (R.shows raw) }
-        requires may { MayOpen (λ shown. shown.readable) (R.shows raw) (vec_len buffer) }
-        ensures { NewOutcome R.shows (λ shown. shown.readable) reader_can raw (vec_len buffer) result }
+        requires may { MayOpen (λ shown. shown.readable) (R.shows raw) (Some (vec_len buffer)) }
+        ensures { NewOutcome R.shows (λ shown. shown.readable) reader_can raw (Some (vec_len buffer)) result }
     {
         let mut raw = raw;
         let seekable = raw.seekable();
         let size = buffer.len();
-        match first_place(&mut raw) {
+        match first_place(&mut raw, false) {
             Ok(place) => Ok(BufferedReader {
                 data: Some(BufferedData::new(raw, Window::new(buffer, place))),
                 seekable,
@@ -160,7 +160,8 @@ impl<R: RawStream> BufferedReader<R> {
     }
 
     /// Reads some of the next bytes into the front of `buffer`, by at most one transfer of the raw, and answers how many. No
-    /// bytes come only where `buffer` is empty or nothing is left. `None` and refusals leave `buffer` as it was.
+    /// bytes come only where `buffer` is empty or nothing is left. What `buffer` has behind them stays as it was; `None` and
+    /// refusals leave all of it.
     ///
     /// It takes no memory: `NoMemory` comes only of a raw that takes some, and leaves place and life as they were.
     pub fn readinto1(&mut self, buffer: &mut [u8]) -> Result<Option<usize>, IoFault>
@@ -231,6 +232,17 @@ impl<R: RawStream> BufferedReader<R> {
         match &mut self.data {
             Some(data) => data.tell(),
             None => Err(IoFault::Detached),
+        }
+    }
+
+    /// The refusal of a call that a reader lacks (one that writes, or that moves what can't seek), or that the life doesn't let
+    /// through: by the life, else `Unsupported`, with all as it was. It calls no raw. It is for those who take calls as values.
+    pub fn refuse(&mut self) -> IoFault
+        ensures { (call : FileCall) → RefusesAlone self.old call → Answers self.old call (Refused result) self.new }
+    {
+        match &mut self.data {
+            Some(data) => data.refuse(),
+            None => IoFault::Detached,
         }
     }
 
@@ -326,7 +338,7 @@ impl<R: RawStream> BufferedReader<R> {
 
     /// How many bytes its buffer holds.
     pub fn buffer_size(&self) -> usize
-        ensures { result ≡ self.now.size }
+        ensures { self.now.buffer ≡ Some result }
     {
         self.size
     }

@@ -65,6 +65,17 @@ fn the_place_handed_back_is_the_stream_s_own(rt: HostRuntime) -> Result<(), Fail
 }
 
 #[test]
+fn what_a_reader_lacks_is_refused_by_life_and_kind(rt: HostRuntime) -> Result<(), Fail> {
+    let alloc = rt.alloc();
+    let raw = raw_of(alloc, b"abc", Vec::new(alloc), &[])?;
+    let mut reader = reader_of(&rt, alloc, raw, 2);
+    assert_eq!(rt; reader.refuse(), IoFault::Unsupported);
+    assert_eq!(rt; reader.close(), Ok(()));
+    assert_eq!(rt; reader.refuse(), IoFault::Closed);
+    Ok(())
+}
+
+#[test]
 fn a_reader_answers_each_of_its_calls(rt: HostRuntime) -> Result<(), Fail> {
     let alloc = rt.alloc();
     let raw = raw_of(alloc, b"abcdefgh\nij", Vec::new(alloc), &[])?;

@@ -1,5 +1,5 @@
 -- The answers of `close`.
-use Rattle.std.proofs.Common.{◌≡◌, ◌<◌, true, false, [], length, Option, Result, Ok, Err, refl, sym, ap, ◌∙◌, subst, arith}
+use Rattle.std.proofs.Common.{◌≡◌, ◌<◌, Bool, true, false, [], length, Option, Some, Result, Ok, Err, refl, sym, ap, ◌∙◌, subst, arith}
 use Rattle.py_flat.specs.declared.fault.IoFault.{IoFault}
 use Rattle.py_flat.specs.declared.fault.IoFault.TheVariants as fault
 use Rattle.py_flat.specs.declared.life.Life.TheVariants as life
@@ -11,15 +11,15 @@ use Rattle.py_flat.specs.ExactStep.{is_closed, in_life}
 use Rattle.py_flat.specs.AllowedStep.{settled, raw_faulted}
 use Rattle.py_flat.specs.BinaryStep.{SettledBy}
 use Rattle.py_raw.specs.RawStream.{Raw, Keeps, WhereTold, NoFault, NoWait}
-use Rattle.py_stream.specs.Stream.{file_of, writer_can}
+use Rattle.py_stream.specs.Stream.{buffering_of, file_of, writer_can}
 use Rattle.py_stream.specs.Replies.{done_reply}
-use Rattle.py_stream.specs.Writing.{OwesRest, LaidInOrder}
+use Rattle.py_stream.specs.Writing.{PassesFront, LaidInOrder}
 use Rattle.py_stream.specs.Answers.{Answers, KeepsStream}
 use Rattle.py_stream.proofs.Begun.{answers_whole}
 use Rattle.py_writer.specs.Pending.{PendingView, end_of}
 use Rattle.py_writer.specs.Engine.{WriterView, stream_of, BeginOutcome, Took, FailsTaking, PassAllOutcome, ClosingOutcome, ClosesRaw, CloseRawOutcome}
-use Rattle.py_writer.proofs.Taking.{no_wait_then}
-use Rattle.py_writer.proofs.PassingOn.{begun, Stands, PassesSome, Asked, took_passes, passing_keeps_place, passing_owes, passing_lays, passed_all, works_answers, close_accepts, fault_closes, failing_works, waiting_answers, lacking_answers, rested}
+use Rattle.py_writer.proofs.Taking.{no_wait_then, answers_still}
+use Rattle.py_writer.proofs.PassingOn.{begun, Stands, PassesSome, Asked, took_passes, passing_keeps_place, passing_lays, passed_all, works_answers, close_accepts, fault_closes, failing_works, waiting_answers, lacking_answers, rested}
 
 -- What stops the passing on.
 
@@ -60,7 +60,7 @@ record ShutsDown (old new : WriterView) : Type 0 where
   pub place : end_of new.pending ≡ end_of old.pending
   pub far : Stands new
   pub short : new.short ≡ false
-  pub leaves : OwesRest (stream_of old).owed (stream_of new).owed
+  pub leaves : PassesFront (stream_of old) (stream_of new)
   pub lays : WhereTold old.raw (LaidInOrder (stream_of old) [] new.raw.bytes)
   pub holds : WhereTold old.raw (new.raw.bytes ≡ lay old.raw.bytes old.pending.place old.pending.bytes)
 
@@ -71,8 +71,8 @@ shuts_down old mid new whole passed closes =
     let still : new.pending ≡ mid.pending = closes.still in
     record {
       keeps = record {
-        size = ap (λ (pending : PendingView). pending.size) still ∙ took.kept.size;
-        can = ap writer_can (closes.keeps.seekable ∙ took.kept.raw.seekable);
+        buffer = ap (λ (pending : PendingView). Some pending.size) still ∙ ap Some took.kept.size;
+        can = ap (λ (appending : Bool). writer_can appending new.raw.seekable) (closes.appending ∙ took.kept.appending) ∙ ap (writer_can old.appending) (closes.keeps.seekable ∙ took.kept.raw.seekable);
         raw = raw_keeps_then old.raw mid.raw new.raw took.kept.raw closes.keeps;
       };
       closed = closes.closed;
@@ -82,7 +82,13 @@ shuts_down old mid new whole passed closes =
       place = ap end_of still ∙ passing_keeps_place old mid passes;
       far = closes.is;
       short = closes.short ∙ took.kept.short ∙ whole;
-      leaves = subst (λ (pending : PendingView). OwesRest (stream_of old).owed (record { bytes = pending.bytes; place = pending.place })) (sym still) (passing_owes old mid passes);
+      leaves = record {
+        passed = passes.passed;
+        most = passes.within;
+        answered = answers_still old.raw mid.raw new.raw passes.passed took.kept.raw passes.answered closes.answered;
+        bytes = ap (λ (pending : PendingView). pending.bytes) still ∙ passes.owed;
+        place = λ some. ap (λ (pending : PendingView). pending.place) still ∙ passes.place;
+      };
       lays = λ tells. subst (LaidInOrder (stream_of old) []) (sym (closes.bytes (took.kept.raw.tells ∙ tells))) (passing_lays old mid passes tells);
       holds = λ tells. closes.bytes (took.kept.raw.tells ∙ tells) ∙ passed_all old mid passes passed.2 tells;
     }
@@ -95,8 +101,8 @@ closed_file : (old new : WriterView) → ShutsDown old new → WhereTold old.raw
 closed_file old new shuts tells =
     let bytes : lay new.raw.bytes new.pending.place new.pending.bytes ≡ lay old.raw.bytes old.pending.place old.pending.bytes = shut_file old new shuts tells in
     let place : end_of new.pending ≡ end_of old.pending = shuts.place in
-    let can : writer_can new.raw.seekable ≡ writer_can old.raw.seekable = shuts.keeps.can in
-    let buffering : Buffered new.pending.size ≡ Buffered old.pending.size = ap Buffered shuts.keeps.size in
+    let can : writer_can new.appending new.raw.seekable ≡ writer_can old.appending old.raw.seekable = shuts.keeps.can in
+    let buffering : Buffered new.pending.size ≡ Buffered old.pending.size = ap buffering_of shuts.keeps.buffer in
     let dead : new.life ≡ life.Closed = shuts.life_is in
     cc
 
@@ -111,6 +117,7 @@ closed_well old new live shuts no_fault =
       causes = record { waits = λ waited. absurd (cc (shuts.short)); faults = λ faults. absurd (cc) };
       no_fault = λ _. no_fault;
       no_wait = λ _. shuts.no_wait;
+      once = λ waited. absurd (cc (shuts.short));
       shorts = shuts.short;
       life_is = shuts.life_is;
       place = shuts.place;
@@ -141,6 +148,7 @@ closed_badly old new live shuts rose =
       causes = record { waits = λ waited. absurd (cc (shuts.short)); faults = λ _. rose };
       no_fault = λ sound. absurd (cc);
       no_wait = λ _. shuts.no_wait;
+      once = λ waited. absurd (cc (shuts.short));
       shorts = shuts.short;
       life_is = shuts.life_is;
       place = shuts.place;
@@ -156,7 +164,7 @@ closed_badly old new live shuts rose =
       unclosed = λ some. absurd (some shuts.none);
       rests = rested old new.raw live;
       answer = tt;
-      told = λ tells. raw_faulted refl refl (asked.reaches, record { life_is = shuts.life_is; bytes_are = shut_file old new shuts tells; can = shuts.keeps.can; buffering = ap Buffered shuts.keeps.size });
+      told = λ tells. raw_faulted refl refl (asked.reaches, record { life_is = shuts.life_is; bytes_are = shut_file old new shuts tells; can = shuts.keeps.can; buffering = ap buffering_of shuts.keeps.buffer });
       near = λ lives. absurd (let dead : life.Closed ≡ life.Live = sym shuts.life_is ∙ lives in cc);
     })
 

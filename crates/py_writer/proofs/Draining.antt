@@ -8,10 +8,10 @@ use Rattle.py_flat.specs.Causes.{Rose}
 use Rattle.py_flat.specs.Bytes.{lay}
 use Rattle.py_raw.specs.declared.raw_error.RawError.{RawError}
 use Rattle.py_raw.specs.declared.raw_error.RawError.TheVariants as raw_error
-use Rattle.py_raw.specs.RawStream.{Raw, Keeps, StaysOpen, WhereTold, NoWait, WritesBytes, FailsWriting, WriteOutcome}
+use Rattle.py_raw.specs.RawStream.{Raw, Keeps, StaysOpen, WhereTold, NoWait, AnswersFor, WritesBytes, FailsWriting, WriteOutcome}
 use Rattle.py_writer.specs.declared.writer_data.Passed.TheVariants as passing
 use Rattle.py_writer.specs.Engine.{WriterView, IsWriter, Took, FailsTaking, Lacks, DrainOutcome, FlushOutcome}
-use Rattle.py_writer.proofs.Taking.{no_wait_then, waited_then, took_none, took_on, fails_on}
+use Rattle.py_writer.proofs.Taking.{no_wait_then, waits_once_then, waited_then, took_none, took_on, fails_on}
 
 -- Passing all on.
 
@@ -30,7 +30,7 @@ passes_more old now new so drained = record {
 }
 
 pub passes_waiting : (old now new : WriterView) → PassesSoFar old now → DrainOutcome now (Ok passing.Waits) new → FlushOutcome old (Ok passing.Waits) new
-passes_waiting old now new so drained = (took_on old now new [] so.took drained.0, waited_then old now new so.took.kept drained.2)
+passes_waiting old now new so drained = (took_on old now new [] so.took drained.0, waited_then old now new so.took.kept drained.2, waits_once_then old now new so.took.kept so.no_wait drained.3)
 
 pub passes_all : (old now : WriterView) → PassesSoFar old now → now.pending.bytes ≡ [] → FlushOutcome old (Ok passing.All) now
 passes_all old now so none = (so.took, so.no_wait, none)
@@ -49,6 +49,8 @@ passes_refused old now new why so refused = absurd refused
 -- what is known of the raw where it failed while it was given bytes, or took none of them
 pub record FaultsWriting (old : Raw) (piece : List ℕ) (new : Raw) : Type 0 where
   pub cause : Rose old.faults new.faults
+  pub no_wait : NoWait old new
+  pub written : AnswersFor 0 old new
   pub told : WhereTold old ((count : ℕ) × (count ≤ length piece) × (new.bytes ≡ lay old.bytes old.place (take count piece)))
 
 pub faults_taking_none : (old new : Raw) (piece : List ℕ) (result : Result (Option ℕ) RawError) → 0 < length piece → result ≡ Ok (Some 0) → WriteOutcome old piece result new → FaultsWriting old piece new
@@ -56,21 +58,24 @@ faults_taking_none old new piece result some is outcome =
     let writes : WritesBytes old piece 0 new = subst (λ (r : Result (Option ℕ) RawError). WriteOutcome old piece r new) is outcome in
     record {
       cause = writes.none refl (λ none. absurd (omega (arith, some, ap length none)));
+      no_wait = writes.no_wait;
+      written = writes.written;
       told = λ tells. (0, omega arith, (writes.told tells).bytes);
     }
 
 pub faults_writing : (old new : Raw) (piece : List ℕ) (result : Result (Option ℕ) RawError) → result ≡ Err raw_error.Fault → WriteOutcome old piece result new → FaultsWriting old piece new
 faults_writing old new piece result is outcome =
     let fails : FailsWriting old piece new = subst (λ (r : Result (Option ℕ) RawError). WriteOutcome old piece r new) is outcome in
-    record { cause = fails.cause; told = fails.told }
+    record { cause = fails.cause; no_wait = fails.no_wait; written = fails.written; told = fails.told }
 
 -- the writer fails then, and lets go of nothing
-pub fails_passing : (old : WriterView) (raw : Raw) (bytes : List ℕ) → IsWriter old.raw old.pending old.life → old.life ≡ life.Live → old.pending.bytes ≡ [] → Keeps old.raw raw → StaysOpen old.raw raw → FaultsWriting old.raw bytes raw → FailsTaking old bytes (record old { raw = raw; life = life.Failed })
-fails_passing old raw bytes is live none keeps stays faults = record {
+fails_giving : (old : WriterView) (raw : Raw) (bytes : List ℕ) → IsWriter old.raw old.pending old.life → old.life ≡ life.Live → (0 < length old.pending.bytes → bytes ≡ []) → Keeps old.raw raw → StaysOpen old.raw raw → FaultsWriting old.raw (old.pending.bytes ++ bytes) raw → FailsTaking old bytes (record old { raw = raw; life = life.Failed })
+fails_giving old raw bytes is live alone keeps stays faults = record {
   kept = record {
     raw = keeps;
     stays = stays;
     size = refl;
+    appending = refl;
     short = refl;
     is = record {
       pending_is = is.pending_is;
@@ -86,6 +91,7 @@ fails_passing old raw bytes is live none keeps stays faults = record {
   fits = omega arith;
   passed = 0;
   within = omega arith;
+  answered = faults.written;
   place = sym (add-zero old.pending.place);
   owed = sym (append-nil old.pending.bytes);
   told = λ tells.
@@ -93,10 +99,18 @@ fails_passing old raw bytes is live none keeps stays faults = record {
       record {
         laid = laid.0;
         least_is = omega arith;
-        most = omega (arith, laid.1, ap length none, length-append old.pending.bytes bytes);
-        owes = λ some. absurd (omega (arith, some, length-append old.pending.bytes [], ap length none));
-        bytes = laid.2
-            ∙ (ap (λ (place : ℕ). lay old.raw.bytes place (take laid.0 bytes)) (is.stands tells live)
-            ∙ ap (λ (owed : List ℕ). lay old.raw.bytes old.pending.place (take laid.0 (owed ++ bytes))) (sym none));
+        most = laid.1;
+        owes = λ some. omega (arith, laid.1, length-append old.pending.bytes bytes, length-append old.pending.bytes [], ap length (alone (omega (arith, some, length-append old.pending.bytes []))));
+        bytes = laid.2 ∙ ap (λ (place : ℕ). lay old.raw.bytes place (take laid.0 (old.pending.bytes ++ bytes))) (is.stands tells live);
       };
 }
+
+-- of a caller's bytes, while nothing is owed
+pub fails_passing : (old : WriterView) (raw : Raw) (bytes : List ℕ) → IsWriter old.raw old.pending old.life → old.life ≡ life.Live → old.pending.bytes ≡ [] → Keeps old.raw raw → StaysOpen old.raw raw → FaultsWriting old.raw bytes raw → FailsTaking old bytes (record old { raw = raw; life = life.Failed })
+fails_passing old raw bytes is live none keeps stays faults =
+    fails_giving old raw bytes is live (λ some. absurd (omega (arith, some, ap length none))) keeps stays (subst (λ (owed : List ℕ). FaultsWriting old.raw (owed ++ bytes) raw) (sym none) faults)
+
+-- of what is owed
+pub fails_draining : (old : WriterView) (raw : Raw) (piece : List ℕ) → IsWriter old.raw old.pending old.life → old.life ≡ life.Live → piece ≡ old.pending.bytes → Keeps old.raw raw → StaysOpen old.raw raw → FaultsWriting old.raw piece raw → FailsTaking old [] (record old { raw = raw; life = life.Failed })
+fails_draining old raw piece is live same keeps stays faults =
+    fails_giving old raw [] is live (λ some. refl) keeps stays (subst (λ (all : List ℕ). FaultsWriting old.raw all raw) (same ∙ sym (append-nil old.pending.bytes)) faults)

@@ -16,7 +16,7 @@ use Rattle.py_stream.specs.Writing.{LaidInOrder}
 use Rattle.py_stream.specs.Answers.{IsNear}
 use Rattle.py_stream.proofs.Refusing.{IsPlaced}
 use Rattle.py_writer.specs.Pending.{end_of}
-use Rattle.py_writer.specs.Engine.{WriterView, stream_of, IsWriter, Took, FailsTaking}
+use Rattle.py_writer.specs.Engine.{WriterView, stream_of, IsWriter, KeepsWriter, Took, FailsTaking}
 
 -- Where a writer and its raw stand.
 
@@ -100,6 +100,10 @@ failed_flat raw place owed own taken kept laid fits within least most owes =
 
 -- What was taken.
 
+-- no step changes what the stream can do
+pub same_abilities : (old new : WriterView) → KeepsWriter old new → writer_can new.appending new.raw.seekable ≡ writer_can old.appending old.raw.seekable
+same_abilities old new kept = rw (kept.appending, kept.raw.seekable) refl
+
 -- the bytes of the flat file that a writer stands for
 abbrev pub flat_of : WriterView → List ℕ
 flat_of writer = lay writer.raw.bytes writer.pending.place writer.pending.bytes
@@ -113,7 +117,7 @@ pub took_file : (old new : WriterView) (bytes : List ℕ) → old.life ≡ life.
 took_file old new bytes live took tells =
     let laid : flat_of new ≡ lay (flat_of old) (end_of old.pending) bytes = took_bytes old new bytes took tells in
     let place : end_of new.pending ≡ end_of old.pending + length bytes = took_ends old new bytes took in
-    let can : writer_can new.raw.seekable ≡ writer_can old.raw.seekable = ap writer_can took.kept.raw.seekable in
+    let can : writer_can new.appending new.raw.seekable ≡ writer_can old.appending old.raw.seekable = same_abilities old new took.kept in
     let buffering : Buffered new.pending.size ≡ Buffered old.pending.size = ap Buffered took.kept.size in
     let same : new.life ≡ old.life = took.live ∙ sym live in
     cc
@@ -129,7 +133,7 @@ pub took_none_file : (old new : WriterView) → old.life ≡ life.Live → Took 
 took_none_file old new live took tells =
     let laid : flat_of new ≡ flat_of old = took_none_bytes old new took tells in
     let place : end_of new.pending ≡ end_of old.pending = took_none_ends old new took in
-    let can : writer_can new.raw.seekable ≡ writer_can old.raw.seekable = ap writer_can took.kept.raw.seekable in
+    let can : writer_can new.appending new.raw.seekable ≡ writer_can old.appending old.raw.seekable = same_abilities old new took.kept in
     let buffering : Buffered new.pending.size ≡ Buffered old.pending.size = ap Buffered took.kept.size in
     let same : new.life ≡ old.life = took.live ∙ sym live in
     cc
@@ -171,7 +175,7 @@ pub fails_none_file : (old new : WriterView) → FailsTaking old [] new → Wher
 fails_none_file old new fails tells = record {
   life_is = fails.failed;
   bytes_are = fails_none_bytes old new fails tells;
-  can = ap writer_can fails.kept.raw.seekable;
+  can = same_abilities old new fails.kept;
   buffering = ap Buffered fails.kept.size;
 }
 

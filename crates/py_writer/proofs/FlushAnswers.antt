@@ -12,7 +12,8 @@ use Rattle.py_stream.specs.Replies.{done_reply}
 use Rattle.py_stream.specs.Answers.{Answers}
 use Rattle.py_stream.proofs.Begun.{answers_whole}
 use Rattle.py_writer.specs.Engine.{WriterView, stream_of, BeginOutcome, Took, PassAllOutcome}
-use Rattle.py_writer.proofs.PassingOn.{begun, is_near, PassesSome, Asked, took_passes, passing_keeps_place, passing_file, passing_owes, passing_lays, passing_keeps, passed_all, works_answers, flush_accepts, fault_fails_flush, pass_all_refuses, stays_open, rested}
+use Rattle.py_writer.proofs.Flat.{is_near}
+use Rattle.py_writer.proofs.PassingOn.{begun, PassesSome, Asked, took_passes, passing_keeps_place, passing_file, passing_front, passing_lays, passing_keeps, passed_all, works_answers, flush_accepts, fault_fails_flush, pass_all_refuses, stays_open, rested}
 
 -- all was passed on
 flushed : (old new : WriterView) → old.life ≡ life.Live → old.short ≡ false → PassAllOutcome old (Ok tt) new → Answers (stream_of old) Flush Done (stream_of new)
@@ -30,6 +31,7 @@ flushed old new live whole passed =
       causes = record { waits = λ waited. absurd (cc); faults = λ faults. absurd (cc) };
       no_fault = λ _. took.no_fault;
       no_wait = λ _. passed.1;
+      once = λ waited. absurd (cc);
       shorts = short;
       life_is = same;
       place = passing_keeps_place old new passes;
@@ -37,7 +39,7 @@ flushed old new live whole passed =
       ends = tt;
       wants = λ wanting. absurd (cc);
       lives = λ wanting. absurd (cc);
-      leaves = passing_owes old new passes;
+      leaves = passing_front old new new.life new.short passes;
       lays = passing_lays old new passes;
       does = (record { none = passed.2; holds = passed_all old new passes passed.2 }, omega (arith, ap length passed.2));
       full = tt;

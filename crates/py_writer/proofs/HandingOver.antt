@@ -1,5 +1,5 @@
 -- Handing the raw back.
-use Rattle.std.proofs.Common.{◌≡◌, ℕ, ◌≤◌, Bool, true, false, List, [], length, Option, Some, None, Ok, Err, if◌then◌else◌, refl, sym, ap, ◌∙◌, subst, arith}
+use Rattle.std.proofs.Common.{◌≡◌, ℕ, ◌≤◌, Bool, true, false, IsTrue, List, [], length, Option, Some, None, Ok, Err, if◌then◌else◌, refl, sym, ap, ◌∙◌, subst, arith}
 use Rattle.py_flat.specs.declared.fault.IoFault.{IoFault}
 use Rattle.py_flat.specs.declared.fault.IoFault.TheVariants as fault
 use Rattle.py_flat.specs.declared.life.Life.{Life}
@@ -44,13 +44,13 @@ detach_refuses old new life.Closed why is far stops =
 detach_refuses old new life.Detached why is far never = absurd never
 
 -- a stream that may not be handed over, or was
-pub detach_fails : (old new : Option WriterView) (seekable : Bool) (size : ℕ) (why : IoFault) → BeginsDetach old (Err why) new → Answers (writer_of old seekable size) Detach (Refused why) (writer_of new seekable size)
-detach_fails (Some old) (Some new) seekable size why begins = detach_refuses old new old.life why refl begins.2 begins.0
-detach_fails (Some old) None seekable size why never = absurd never
-detach_fails None (Some new) seekable size why never = absurd never
-detach_fails None None seekable size why detached =
+pub detach_fails : (old new : Option WriterView) (appending seekable : Bool) (size : ℕ) (why : IoFault) → BeginsDetach old (Err why) new → Answers (writer_of old appending seekable size) Detach (Refused why) (writer_of new appending seekable size)
+detach_fails (Some old) (Some new) appending seekable size why begins = detach_refuses old new old.life why refl begins.2 begins.0
+detach_fails (Some old) None appending seekable size why never = absurd never
+detach_fails None (Some new) appending seekable size why never = absurd never
+detach_fails None None appending seekable size why detached =
     let own : why ≡ fault.Detached = let same : Err why ≡ Err fault.Detached = detached in cc in
-    rw own (detached_answers (writer_can seekable) size Detach refl refl)
+    rw own (detached_answers (writer_can appending seekable) (Some size) Detach refl refl)
 
 -- A live stream, once nothing is owed.
 
@@ -60,6 +60,10 @@ given old raw owed = handed_over (stream_of old) raw owed
 
 given_file : (old new : WriterView) → PassesSome old new → new.pending.bytes ≡ [] → WhereTold old.raw (file_of (given old new.raw (nothing_owed (end_of old.pending))) ≡ in_life (file_of (stream_of old)) life.Detached)
 given_file old new passes none tells = ap (λ (bytes : List ℕ). record (file_of (stream_of old)) { bytes = bytes; life = life.Detached }) (passed_all old new passes none tells)
+
+-- told, the raw stands at the place of the stream
+stands_at_end : (old new : WriterView) → Took old [] new → new.pending.bytes ≡ [] → WhereTold old.raw (new.raw.place ≡ end_of old.pending)
+stands_at_end old new took none tells = omega (arith, took.kept.is.stands (subst IsTrue (sym took.kept.raw.tells) tells) took.live, passing_keeps_place old new (took_passes old new took), ap length none)
 
 detached_live : (old new : WriterView) → old.life ≡ life.Live → end_of old.pending ≤ greatest_place → PassAllOutcome old (Ok tt) new → Answers (stream_of old) Detach (Unwritten [] (place_handed (stream_of old) (nothing_owed (end_of old.pending)))) (given old new.raw (nothing_owed (end_of old.pending)))
 detached_live old new live far passed =
@@ -71,11 +75,12 @@ detached_live old new live far passed =
     works_answers old Detach reply after asked.none (record {
       passes = asked.passes;
       again = λ closes. absurd (cc);
-      keeps = record { size = refl; can = refl; raw = took.kept.raw };
+      keeps = record { buffer = refl; can = refl; raw = took.kept.raw };
       shut = λ none closed. took.kept.stays ∙ closed ∙ ap is_closed live;
       causes = record { waits = λ waited. absurd (cc); faults = λ faults. absurd (cc) };
       no_fault = λ _. took.no_fault;
       no_wait = λ _. passed.1;
+      once = λ waited. absurd (cc);
       shorts = refl;
       life_is = refl;
       place = refl;
@@ -83,9 +88,9 @@ detached_live old new live far passed =
       ends = tt;
       wants = λ wanting. absurd (cc);
       lives = λ wanting. absurd (cc);
-      leaves = record { passed = passes.passed; bytes = sym passed.2 ∙ passes.owed; place = λ some. absurd (some refl) };
+      leaves = record { passed = passes.passed; most = passes.within; answered = passes.answered; bytes = sym passed.2 ∙ passes.owed; place = λ some. absurd (some refl) };
       lays = passing_lays old new passes;
-      does = λ _. (record { none = refl; holds = passed_all old new passes passed.2 }, refl);
+      does = λ _. (record { none = refl; holds = passed_all old new passes passed.2 }, refl, stands_at_end old new took passed.2);
       full = tt;
       settles = λ none. omega (arith, ap length none);
       unclosed = λ some. absurd (some refl);
@@ -119,11 +124,12 @@ detached_failed old failed far =
     works_answers old Detach reply after detach_takes_none (record {
       passes = passes;
       again = λ closes. absurd (cc);
-      keeps = record { size = refl; can = refl; raw = keeps_same old.raw };
+      keeps = record { buffer = refl; can = refl; raw = keeps_same old.raw };
       shut = λ none closed. closed ∙ ap is_closed failed;
       causes = record { waits = λ waited. absurd (cc); faults = λ faults. absurd (cc) };
       no_fault = λ _ _. refl;
       no_wait = λ _ _. refl;
+      once = λ waited. absurd (cc);
       shorts = refl;
       life_is = refl;
       place = refl;
@@ -131,7 +137,7 @@ detached_failed old failed far =
       ends = tt;
       wants = λ wanting. absurd (cc);
       lives = λ wanting. absurd (cc);
-      leaves = record { passed = 0; bytes = refl; place = λ some. omega arith };
+      leaves = record { passed = 0; most = omega arith; answered = λ tells. refl; bytes = refl; place = λ some. omega arith };
       lays = λ tells. record { owed = 0; more = 0; order = λ some. absurd (some refl); bytes = refl };
       does = λ live. absurd (let dead : life.Failed ≡ life.Live = sym failed ∙ live in cc);
       full = tt;
@@ -172,10 +178,10 @@ hands_over_in old new life.Failed is far same = subst (λ (after : WriterView). 
 hands_over_in old new life.Closed is far wrong = absurd (let never : Ok tt ≡ Err fault.Closed = wrong.0 in cc)
 hands_over_in old new life.Detached is far never = absurd never
 
-hands_over : (old new : WriterView) (seekable : Bool) (size : ℕ) → old.raw.seekable ≡ seekable → old.pending.size ≡ size → BeginsDetach (Some old) (Ok tt) (Some new) → HandsOver (stream_of old) new.raw new.pending.bytes (if seekable then Some new.pending.place else None) (detached_stream (writer_can seekable) size)
-hands_over old new seekable size can sized begins =
+hands_over : (old new : WriterView) (appending seekable : Bool) (size : ℕ) → old.appending ≡ appending → old.raw.seekable ≡ seekable → old.pending.size ≡ size → BeginsDetach (Some old) (Ok tt) (Some new) → HandsOver (stream_of old) new.raw new.pending.bytes (if seekable then Some new.pending.place else None) (detached_stream (writer_can appending seekable) (Some size))
+hands_over old new appending seekable size appends can sized begins =
     let hands : HandsOverTo old old.life new.raw new.pending.bytes new.pending.place = hands_over_in old new old.life refl begins.2 begins.0 in
-    rw (← can, ← sized) (let over : HandsOver (stream_of old) new.raw new.pending.bytes (if old.raw.seekable then Some new.pending.place else None) (left_behind (stream_of old)) = record {
+    rw (← appends, ← can, ← sized) (let over : HandsOver (stream_of old) new.raw new.pending.bytes (if old.raw.seekable then Some new.pending.place else None) (left_behind (stream_of old)) = record {
       answers = hands.answers;
       unwritten_is = hands.unwritten_is;
       place_is = ap (λ (place : ℕ). if old.raw.seekable then Some place else None) hands.place_is;
@@ -183,9 +189,9 @@ hands_over old new seekable size can sized begins =
     } in over)
 
 -- a stream that is handed over
-pub detach_hands_over : (old : Option WriterView) (new : WriterView) (seekable : Bool) (size : ℕ) (raw : Raw) (unwritten : List ℕ) (place : Option ℕ) → IsBufferedWriter old seekable size → BeginsDetach old (Ok tt) (Some new) → raw ≡ new.raw → unwritten ≡ new.pending.bytes → place ≡ (if seekable then Some new.pending.place else None) → HandsOver (writer_of old seekable size) raw unwritten place (writer_of None seekable size)
-detach_hands_over (Some old) new seekable size raw unwritten place is begins raw_is unwritten_is place_is = rw (raw_is, unwritten_is, place_is) (hands_over old new seekable size is.0 is.1 begins)
-detach_hands_over None new seekable size raw unwritten place is never raw_is unwritten_is place_is = absurd never
+pub detach_hands_over : (old : Option WriterView) (new : WriterView) (appending seekable : Bool) (size : ℕ) (raw : Raw) (unwritten : List ℕ) (place : Option ℕ) → IsBufferedWriter old appending seekable size → BeginsDetach old (Ok tt) (Some new) → raw ≡ new.raw → unwritten ≡ new.pending.bytes → place ≡ (if seekable then Some new.pending.place else None) → HandsOver (writer_of old appending seekable size) raw unwritten place (writer_of None appending seekable size)
+detach_hands_over (Some old) new appending seekable size raw unwritten place is begins raw_is unwritten_is place_is = rw (raw_is, unwritten_is, place_is) (hands_over old new appending seekable size is.0 is.1 is.2 begins)
+detach_hands_over None new appending seekable size raw unwritten place is never raw_is unwritten_is place_is = absurd never
 
 pub never_empty : (old : Option WriterView) → BeginsDetach old (Ok tt) None → ⊥
 never_empty (Some old) never = never

@@ -1,4 +1,3 @@
-pub mod Joined
 pub mod Taking
 pub mod PassingOn
 pub mod FlushAnswers
@@ -6,6 +5,7 @@ pub mod CloseAnswers
 pub mod HandingOver
 pub mod SeekAnswers
 pub mod Held
+pub mod Lacking
 pub mod Draining
 pub mod Flat
 pub mod WritingCalls

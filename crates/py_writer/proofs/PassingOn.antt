@@ -15,15 +15,16 @@ use Rattle.py_flat.specs.ExactStep.{is_closed}
 use Rattle.py_flat.specs.AllowedStep.{waited_for, raw_faulted, out_of_memory}
 use Rattle.py_flat.specs.BinaryStep.{BinaryStep, is_live, asks_end, does_work, reaches_raw, is_tell, Fails, WaitedBy, FaultedBy, StarvedBy}
 use Rattle.py_flat.proofs.Laying.{lay_resumes}
-use Rattle.py_raw.specs.RawStream.{Raw, WhereTold, NoFault, NoWait}
+use Rattle.py_raw.specs.RawStream.{Raw, WhereTold, NoFault, NoWait, WaitsOnce, AnswersFor}
 use Rattle.py_stream.specs.Stream.{Stream, file_of, writer_can}
 use Rattle.py_stream.specs.Kinds.{is_reading, reads_on, is_single, takes_space_first, asks_nothing, is_writing, keeps_raw, says_fault, says_no_memory}
-use Rattle.py_stream.specs.Writing.{OwesRest, LaidInOrder, LaysInOrder, PassesOn, BlocksFull, OwesNoneOfIts}
-use Rattle.py_stream.specs.Answers.{Answers, KeepsStream, Leaves, ClosedWith, closes_again, IsReplyTo, HasCauses, IsShort, LifeMoves, PlaceMoves, GivesWithin, refused_by, SeeksByEnd, IsNear}
+use Rattle.py_stream.specs.Writing.{PassesFront, LaidInOrder, LaysInOrder, PassesOn, BlocksFull, OwesNoneOfIts}
+use Rattle.py_stream.specs.Answers.{Answers, KeepsStream, Leaves, ClosedWith, closes_again, IsReplyTo, HasCauses, IsShort, LifeMoves, PlaceStarves, PlaceMoves, GivesWithin, refused_by, SeeksByEnd, IsNear}
 use Rattle.py_stream.proofs.Completing.{completes}
-use Rattle.py_stream.proofs.Refusing.{IsPlaced, refused_alone}
+use Rattle.py_stream.proofs.Refusing.{refused_alone}
 use Rattle.py_writer.specs.Pending.{end_of}
 use Rattle.py_writer.specs.Engine.{WriterView, stream_of, IsWriter, KeepsWriter, Took, FailsTaking, Lacks, PassAllOutcome}
+use Rattle.py_writer.proofs.Flat.{is_near, same_abilities}
 
 -- an engine of which a call was begun
 abbrev pub begun : WriterView → WriterView
@@ -32,18 +33,6 @@ begun writer = record writer { short = false }
 -- what holds of every engine
 abbrev pub Stands : WriterView → Type 0
 Stands writer = IsWriter writer.raw writer.pending writer.life
-
--- Where the raw stands.
-
-pub is_near : (writer : WriterView) → Stands writer → writer.life ≡ life.Live → IsNear (stream_of writer)
-is_near writer is live = record {
-  ahead = omega arith;
-  behind = omega (arith, is.pending_is.held);
-  stands = λ tells. is.stands tells live;
-}
-
-pub is_placed : (writer : WriterView) → Stands writer → IsPlaced (stream_of writer)
-is_placed writer is = record { far = is.pending_is.far; near = λ live. is_near writer is live }
 
 -- Kinds of calls.
 
@@ -60,29 +49,29 @@ pub record TakesNone (call : FileCall) : Type 0 where
   pub lays : (before : Stream) (after : List ℕ) → LaidInOrder before [] after → LaysInOrder before call after
   pub stopped : (before after : Stream) (why : IoFault) → PassesOn before call (Refused why) after
   pub wait_short : IsShort call (Refused (fault.WouldBlock 0)) true
-  pub wait_life : (current : Life) → LifeMoves call (Refused (fault.WouldBlock 0)) current current
-  pub wait_place : (current : Life) (place : ℕ) → PlaceMoves call (Refused (fault.WouldBlock 0)) current place place
+  pub wait_life : (size : ℕ) (current : Life) → LifeMoves (Some size) call (Refused (fault.WouldBlock 0)) current current
+  pub wait_place : (size : ℕ) (current : Life) (place : ℕ) → PlaceMoves (Some size) call (Refused (fault.WouldBlock 0)) current place place
   pub wait_full : (after : Stream) → BlocksFull call (Refused (fault.WouldBlock 0)) after
-  pub wait_answer : IsReplyTo true call (Refused (fault.WouldBlock 0))
+  pub wait_answer : (size : ℕ) → IsReplyTo (Some size) true call (Refused (fault.WouldBlock 0))
   pub wait_ends : (before after : Stream) → SeeksByEnd before call (Refused (fault.WouldBlock 0)) after
   pub wait_step : (file : FlatFile) → WaitedBy file call (Refused (fault.WouldBlock 0)) file
   pub lack_short : IsShort call (Refused fault.NoMemory) false
-  pub lack_life : (current : Life) → LifeMoves call (Refused fault.NoMemory) current current
-  pub lack_place : (current : Life) (place : ℕ) → PlaceMoves call (Refused fault.NoMemory) current place place
+  pub lack_life : (size : ℕ) (current : Life) → LifeMoves (Some size) call (Refused fault.NoMemory) current current
+  pub lack_place : (size : ℕ) (current : Life) (place : ℕ) → PlaceMoves (Some size) call (Refused fault.NoMemory) current place place
   pub lack_full : (after : Stream) → BlocksFull call (Refused fault.NoMemory) after
   pub lack_ends : (before after : Stream) → SeeksByEnd before call (Refused fault.NoMemory) after
-  pub lack_answer : IsReplyTo true call (Refused fault.NoMemory)
+  pub lack_answer : (size : ℕ) → IsReplyTo (Some size) true call (Refused fault.NoMemory)
   pub lack_step : (file : FlatFile) → StarvedBy file call file
   pub fault_short : IsShort call (Refused fault.RawFault) false
-  pub fault_place : (current : Life) (place : ℕ) → PlaceMoves call (Refused fault.RawFault) current place place
+  pub fault_place : (size : ℕ) (current : Life) (place : ℕ) → PlaceMoves (Some size) call (Refused fault.RawFault) current place place
   pub fault_full : (after : Stream) → BlocksFull call (Refused fault.RawFault) after
   pub fault_ends : (before after : Stream) → SeeksByEnd before call (Refused fault.RawFault) after
-  pub fault_answer : IsReplyTo true call (Refused fault.RawFault)
+  pub fault_answer : (size : ℕ) → IsReplyTo (Some size) true call (Refused fault.RawFault)
 
 -- the life in which a fault leaves the stream
 pub record FaultLeaves (call : FileCall) (left : Life) : Type 0 where
   pub dead : is_live left ≡ false
-  pub life_is : (current : Life) → LifeMoves call (Refused fault.RawFault) current left
+  pub life_is : (size : ℕ) (current : Life) → LifeMoves (Some size) call (Refused fault.RawFault) current left
   pub step : (file after : FlatFile) → Fails file left file.bytes after → FaultedBy file call after
 
 -- What such a call answers.
@@ -95,21 +84,22 @@ pub record Works (old : WriterView) (call : FileCall) (reply : FileReply) (after
   pub causes : HasCauses old.raw reply after.raw after.short
   pub no_fault : says_fault reply ≡ false → NoFault old.raw after.raw
   pub no_wait : after.short ≡ false → NoWait old.raw after.raw
+  pub once : IsTrue after.short → WaitsOnce old.raw after.raw
   pub shorts : IsShort call reply after.short
-  pub life_is : LifeMoves call reply old.life after.life
-  pub place : PlaceMoves call reply after.life (end_of old.pending) after.place
+  pub life_is : LifeMoves (Some old.pending.size) call reply old.life after.life
+  pub place : PlaceMoves (Some old.pending.size) call reply after.life (end_of old.pending) after.place
   pub far : after.place ≤ greatest_place
   pub ends : SeeksByEnd (stream_of old) call reply after
   pub wants : IsTrue (says_no_memory reply) → IsTrue old.raw.takes_memory
   pub lives : IsTrue (says_no_memory reply) → after.life ≡ life.Live
-  pub leaves : OwesRest (stream_of old).owed after.owed
+  pub leaves : PassesFront (stream_of old) after
   pub lays : WhereTold old.raw (LaidInOrder (stream_of old) [] after.raw.bytes)
   pub does : PassesOn (stream_of old) call reply after
   pub full : BlocksFull call reply after
   pub settles : after.owed.bytes ≡ [] → after.owed.place ≡ after.place
   pub unclosed : after.owed.bytes ≢ [] → after.raw.closed ≡ old.raw.closed
   pub rests : old.life ≢ life.Live → after.raw ≡ old.raw
-  pub answer : IsReplyTo true call reply
+  pub answer : IsReplyTo (Some old.pending.size) true call reply
   pub told : WhereTold old.raw (BinaryStep (file_of (stream_of old)) call reply after.short (says_fault reply) (file_of after))
   pub near : after.life ≡ life.Live → IsNear after
 
@@ -128,7 +118,7 @@ works_answers old call reply after none works = record {
   again = works.again;
   shut = works.shut;
   causes = works.causes;
-  counted = λ exact. record { faults = λ sound. works.no_fault sound exact; waits = λ whole other. works.no_wait whole exact };
+  counted = λ exact. record { faults = λ sound. works.no_fault sound exact; waits = λ whole other. works.no_wait whole exact; once = λ short other. works.once short exact };
   shorts = works.shorts;
   moves = record { life_is = works.life_is; place = works.place; far = works.far; within = none.within old.pending.size reply };
   ends = works.ends;
@@ -138,6 +128,7 @@ works_answers old call reply after none works = record {
   nothing = λ asks. absurd (cc (none.nothing));
   idle = λ keeps. absurd (cc (none.keeps));
   single = λ single. absurd (cc (none.single));
+  held = λ reads. absurd (cc);
   spares = λ reads. absurd (cc);
   writes = λ can. record {
     takes = λ writing. absurd (cc (none.writing));
@@ -152,8 +143,9 @@ works_answers old call reply after none works = record {
     rests = works.rests;
   };
   answer = λ accepted. works.answer;
-  complete = λ accepted calm sound. completes old.raw after.raw true call reply after.short works.causes works.shorts works.answer calm sound;
+  complete = λ accepted calm sound. completes old.raw after.raw (Some old.pending.size) true call reply after.short works.causes works.shorts works.answer calm sound;
   told = works.told;
+  reach = λ reads. absurd (cc (none.reading));
   near = works.near;
   hides = λ short reads. absurd (cc (none.reading));
 }
@@ -165,6 +157,7 @@ pub record PassesSome (old new : WriterView) : Type 0 where
   pub kept : KeepsWriter old new
   pub passed : ℕ
   pub within : passed ≤ length old.pending.bytes
+  pub answered : AnswersFor passed old.raw new.raw
   pub place : new.pending.place ≡ old.pending.place + passed
   pub owed : new.pending.bytes ≡ drop passed old.pending.bytes
   pub told : WhereTold old.raw ((laid : ℕ) × (passed ≤ laid) × (laid ≤ length old.pending.bytes) × (new.raw.bytes ≡ lay old.raw.bytes old.pending.place (take laid old.pending.bytes)))
@@ -176,6 +169,7 @@ took_passes old new took =
       kept = took.kept;
       passed = took.passed;
       within = omega (arith, took.within);
+      answered = took.answered;
       place = took.place;
       owed = took.owed ∙ ap (drop took.passed) all;
       told = λ tells. (took.passed, omega arith, omega (arith, took.within), took.told tells ∙ ap (λ (bytes : List ℕ). lay old.raw.bytes old.pending.place (take took.passed bytes)) all);
@@ -194,6 +188,7 @@ failing_passes old new fails =
       kept = fails.kept;
       passed = fails.passed;
       within = omega (arith, fails.within, taken);
+      answered = fails.answered;
       place = fails.place;
       owed = fails.owed ∙ ap (λ (more : List ℕ). drop fails.passed (old.pending.bytes ++ more)) none ∙ ap (drop fails.passed) all;
       told = λ tells.
@@ -214,20 +209,21 @@ passing_keeps_bytes old new passes tells =
 pub passed_all : (old new : WriterView) → PassesSome old new → new.pending.bytes ≡ [] → WhereTold old.raw (new.raw.bytes ≡ lay old.raw.bytes old.pending.place old.pending.bytes)
 passed_all old new passes none tells = ap (lay new.raw.bytes new.pending.place) (sym none) ∙ passing_keeps_bytes old new passes tells
 
-pub passing_owes : (old new : WriterView) → PassesSome old new → OwesRest (stream_of old).owed (stream_of new).owed
-passing_owes old new passes = record { passed = passes.passed; bytes = passes.owed; place = λ some. passes.place }
+-- whatever became of the stream, it passed on a front
+pub passing_front : (old new : WriterView) (left : Life) (short : Bool) → PassesSome old new → PassesFront (stream_of old) (stream_of (record new { life = left; short = short }))
+passing_front old new left short passes = record { passed = passes.passed; most = passes.within; answered = passes.answered; bytes = passes.owed; place = λ some. passes.place }
 
 pub passing_lays : (old new : WriterView) → PassesSome old new → WhereTold old.raw (LaidInOrder (stream_of old) [] new.raw.bytes)
 passing_lays old new passes tells = let laid = passes.told tells in record { owed = laid.0; more = 0; order = λ some. absurd (some refl); bytes = laid.3 }
 
 pub passing_keeps : (old new : WriterView) → PassesSome old new → KeepsStream (stream_of old) (stream_of new)
-passing_keeps old new passes = record { size = passes.kept.size; can = ap writer_can passes.kept.raw.seekable; raw = passes.kept.raw }
+passing_keeps old new passes = record { buffer = ap Some passes.kept.size; can = same_abilities old new passes.kept; raw = passes.kept.raw }
 
 pub passing_file : (old new : WriterView) → PassesSome old new → new.life ≡ old.life → WhereTold old.raw (file_of (stream_of new) ≡ file_of (stream_of old))
 passing_file old new passes same tells =
     let bytes : lay new.raw.bytes new.pending.place new.pending.bytes ≡ lay old.raw.bytes old.pending.place old.pending.bytes = passing_keeps_bytes old new passes tells in
     let place : end_of new.pending ≡ end_of old.pending = passing_keeps_place old new passes in
-    let can : writer_can new.raw.seekable ≡ writer_can old.raw.seekable = ap writer_can passes.kept.raw.seekable in
+    let can : writer_can new.appending new.raw.seekable ≡ writer_can old.appending old.raw.seekable = same_abilities old new passes.kept in
     let buffering : Buffered new.pending.size ≡ Buffered old.pending.size = ap Buffered passes.kept.size in
     cc
 
@@ -256,8 +252,8 @@ pub rested : (old : WriterView) (after : Raw) → old.life ≡ life.Live → old
 rested old after live dead = absurd (dead live)
 
 -- the raw asked to wait
-pub waiting_works : (old new : WriterView) (call : FileCall) → Accepts old call → Took old [] (record new { short = old.short }) → new.short ≡ true → Rose old.raw.waits new.raw.waits → Works old call (Refused (fault.WouldBlock 0)) (stream_of new)
-waiting_works old new call accepts took short rose =
+pub waiting_works : (old new : WriterView) (call : FileCall) → Accepts old call → Took old [] (record new { short = old.short }) → new.short ≡ true → Rose old.raw.waits new.raw.waits → WaitsOnce old.raw new.raw → Works old call (Refused (fault.WouldBlock 0)) (stream_of new)
+waiting_works old new call accepts took short rose once =
     let asked : Asked old call = accepts.asked in
     let left : WriterView = record new { short = old.short } in
     let passes : PassesSome old left = took_passes old left took in
@@ -266,26 +262,27 @@ waiting_works old new call accepts took short rose =
     record {
       passes = asked.passes;
       again = λ closes. absurd (cc (asked.again));
-      keeps = record { size = passes.kept.size; can = ap writer_can passes.kept.raw.seekable; raw = passes.kept.raw };
+      keeps = record { buffer = ap Some passes.kept.size; can = same_abilities old left passes.kept; raw = passes.kept.raw };
       shut = λ none. stays_open old new asked.live took.kept.stays (ap is_closed took.live);
       causes = record { waits = λ _. rose; faults = λ faults. absurd (cc) };
       no_fault = λ _. took.no_fault;
       no_wait = λ whole. absurd (cc);
+      once = λ _. once;
       shorts = subst (IsShort call (Refused (fault.WouldBlock 0))) (sym short) asked.none.wait_short;
-      life_is = subst (LifeMoves call (Refused (fault.WouldBlock 0)) old.life) (sym same) (asked.none.wait_life old.life);
-      place = subst (PlaceMoves call (Refused (fault.WouldBlock 0)) new.life (end_of old.pending)) (sym place) (asked.none.wait_place new.life (end_of old.pending));
+      life_is = subst (LifeMoves (Some old.pending.size) call (Refused (fault.WouldBlock 0)) old.life) (sym same) (asked.none.wait_life old.pending.size old.life);
+      place = subst (PlaceMoves (Some old.pending.size) call (Refused (fault.WouldBlock 0)) new.life (end_of old.pending)) (sym place) (asked.none.wait_place old.pending.size new.life (end_of old.pending));
       far = took.kept.is.pending_is.far;
       ends = asked.none.wait_ends (stream_of old) (stream_of new);
       wants = λ wanting. absurd (cc);
       lives = λ wanting. absurd (cc);
-      leaves = passing_owes old left passes;
+      leaves = passing_front old left new.life new.short passes;
       lays = passing_lays old left passes;
       does = asked.none.stopped (stream_of old) (stream_of new) (fault.WouldBlock 0);
       full = asked.none.wait_full (stream_of new);
       settles = λ none. omega (arith, ap length none);
       unclosed = λ some. took.kept.stays;
       rests = rested old new.raw asked.live;
-      answer = asked.none.wait_answer;
+      answer = asked.none.wait_answer old.pending.size;
       told = λ tells. waited_for short (accepts.works tells, subst (λ (file : FlatFile). WaitedBy (file_of (stream_of old)) call (Refused (fault.WouldBlock 0)) file) (sym (passing_file old left passes same tells)) (asked.none.wait_step (file_of (stream_of old))));
       near = is_near new took.kept.is;
     }
@@ -305,21 +302,22 @@ lacking_works old new call asked whole lacks no_wait =
       causes = record { waits = λ waited. absurd (cc); faults = λ faults. absurd (cc) };
       no_fault = λ _. lacks.took.no_fault;
       no_wait = λ _. no_wait;
+      once = λ waited. absurd (cc);
       shorts = subst (IsShort call (Refused fault.NoMemory)) (sym short) asked.none.lack_short;
-      life_is = subst (LifeMoves call (Refused fault.NoMemory) old.life) (sym same) (asked.none.lack_life old.life);
-      place = subst (PlaceMoves call (Refused fault.NoMemory) new.life (end_of old.pending)) (sym place) (asked.none.lack_place new.life (end_of old.pending));
+      life_is = subst (LifeMoves (Some old.pending.size) call (Refused fault.NoMemory) old.life) (sym same) (asked.none.lack_life old.pending.size old.life);
+      place = subst (PlaceMoves (Some old.pending.size) call (Refused fault.NoMemory) new.life (end_of old.pending)) (sym place) (asked.none.lack_place old.pending.size new.life (end_of old.pending));
       far = passes.kept.is.pending_is.far;
       ends = asked.none.lack_ends (stream_of old) (stream_of new);
       wants = λ _. lacks.takes;
       lives = λ _. lacks.took.live;
-      leaves = passing_owes old new passes;
+      leaves = passing_front old new new.life new.short passes;
       lays = passing_lays old new passes;
       does = asked.none.stopped (stream_of old) (stream_of new) fault.NoMemory;
       full = asked.none.lack_full (stream_of new);
       settles = λ none. omega (arith, ap length none);
       unclosed = λ some. passes.kept.stays;
       rests = rested old new.raw asked.live;
-      answer = asked.none.lack_answer;
+      answer = asked.none.lack_answer old.pending.size;
       told = λ tells. out_of_memory refl (asked.reaches, subst (λ (file : FlatFile). StarvedBy (file_of (stream_of old)) call file) (sym (passing_file old new passes same tells)) (asked.none.lack_step (file_of (stream_of old))));
       near = is_near new passes.kept.is;
     }
@@ -334,35 +332,41 @@ failing_works old failed call left asked leaves whole fails no_wait alive =
     record {
       passes = asked.passes;
       again = λ closes. absurd (cc (asked.again));
-      keeps = record { size = passes.kept.size; can = ap writer_can passes.kept.raw.seekable; raw = passes.kept.raw };
+      keeps = record { buffer = ap Some passes.kept.size; can = same_abilities old failed passes.kept; raw = passes.kept.raw };
       shut = λ none. stays_open old new asked.live passes.kept.stays (alive none);
       causes = record { waits = λ waited. absurd (cc); faults = λ _. fails.cause };
       no_fault = λ sound. absurd (cc);
       no_wait = λ _. no_wait;
+      once = λ waited. absurd (cc);
       shorts = subst (IsShort call (Refused fault.RawFault)) (sym short) asked.none.fault_short;
-      life_is = leaves.life_is old.life;
-      place = subst (PlaceMoves call (Refused fault.RawFault) left (end_of old.pending)) (sym place) (asked.none.fault_place left (end_of old.pending));
+      life_is = leaves.life_is old.pending.size old.life;
+      place = subst (PlaceMoves (Some old.pending.size) call (Refused fault.RawFault) left (end_of old.pending)) (sym place) (asked.none.fault_place old.pending.size left (end_of old.pending));
       far = passes.kept.is.pending_is.far;
       ends = asked.none.fault_ends (stream_of old) (stream_of new);
       wants = λ wanting. absurd (cc);
       lives = λ wanting. absurd (cc);
-      leaves = passing_owes old failed passes;
+      leaves = passing_front old failed left failed.short passes;
       lays = passing_lays old failed passes;
       does = asked.none.stopped (stream_of old) (stream_of new) fault.RawFault;
       full = asked.none.fault_full (stream_of new);
       settles = λ none. omega (arith, ap length none);
       unclosed = λ some. passes.kept.stays;
       rests = rested old failed.raw asked.live;
-      answer = asked.none.fault_answer;
-      told = λ tells. raw_faulted refl refl (asked.reaches, leaves.step (file_of (stream_of old)) (file_of (stream_of new)) (record { life_is = refl; bytes_are = passing_keeps_bytes old failed passes tells; can = ap writer_can passes.kept.raw.seekable; buffering = ap Buffered passes.kept.size }));
+      answer = asked.none.fault_answer old.pending.size;
+      told = λ tells. raw_faulted refl refl (asked.reaches, leaves.step (file_of (stream_of old)) (file_of (stream_of new)) (record { life_is = refl; bytes_are = passing_keeps_bytes old failed passes tells; can = same_abilities old failed passes.kept; buffering = ap Buffered passes.kept.size }));
       near = λ live. absurd (let dead : is_live left ≡ false = leaves.dead in let alive : is_live left ≡ true = ap is_live live in cc);
     }
 
 -- Which calls these are.
 
-want_answers : (offset whence : ℤ) → IsReplyTo true (Seek offset whence) (Refused fault.NoMemory)
-want_answers offset (pos (suc (suc zero))) = tt
-want_answers offset whence = tt
+-- want of memory leaves the place of such a call, whatever became of the stream
+starved_there : (current : Life) (place : ℕ) → PlaceStarves current None place place
+starved_there life.Live place = refl
+starved_there current place = omega arith
+
+want_answers : (size : ℕ) (offset whence : ℤ) → IsReplyTo (Some size) true (Seek offset whence) (Refused fault.NoMemory)
+want_answers size offset (pos (suc (suc zero))) = tt
+want_answers size offset whence = tt
 
 want_needs_no_end : (before : Stream) (offset whence : ℤ) (after : Stream) → SeeksByEnd before (Seek offset whence) (Refused fault.NoMemory) after
 want_needs_no_end before offset (pos (suc (suc zero))) after = λ _. tt
@@ -389,24 +393,24 @@ seek_takes_none offset whence = record {
   lays = λ before after is. is;
   stopped = λ before after why. tt;
   wait_short = refl;
-  wait_life = λ current. refl;
-  wait_place = λ current place. refl;
+  wait_life = λ size current. refl;
+  wait_place = λ size current place. refl;
   wait_full = λ after. refl;
-  wait_answer = refl;
+  wait_answer = λ size. refl;
   wait_ends = λ before after. wait_needs_no_end before offset whence after;
   wait_step = λ file. (refl, refl);
   lack_short = refl;
-  lack_life = λ current. refl;
-  lack_place = λ current place. (λ _. refl, omega arith);
+  lack_life = λ size current. refl;
+  lack_place = λ size current place. starved_there current place;
   lack_full = λ after. tt;
   lack_ends = λ before after. want_needs_no_end before offset whence after;
-  lack_answer = want_answers offset whence;
+  lack_answer = λ size. want_answers size offset whence;
   lack_step = λ file. refl;
   fault_short = refl;
-  fault_place = λ current place. refl;
+  fault_place = λ size current place. refl;
   fault_full = λ after. tt;
   fault_ends = λ before after. fault_needs_no_end before offset whence after;
-  fault_answer = tt;
+  fault_answer = λ size. tt;
 }
 
 pub flush_takes_none : TakesNone Flush
@@ -422,24 +426,24 @@ flush_takes_none = record {
   lays = λ before after is. is;
   stopped = λ before after why. tt;
   wait_short = refl;
-  wait_life = λ current. refl;
-  wait_place = λ current place. refl;
+  wait_life = λ size current. refl;
+  wait_place = λ size current place. refl;
   wait_full = λ after. refl;
-  wait_answer = refl;
+  wait_answer = λ size. refl;
   wait_ends = λ before after. tt;
   wait_step = λ file. (refl, refl);
   lack_short = refl;
-  lack_life = λ current. refl;
-  lack_place = λ current place. (λ _. refl, omega arith);
+  lack_life = λ size current. refl;
+  lack_place = λ size current place. starved_there current place;
   lack_full = λ after. tt;
   lack_ends = λ before after. tt;
-  lack_answer = tt;
+  lack_answer = λ size. tt;
   lack_step = λ file. refl;
   fault_short = refl;
-  fault_place = λ current place. refl;
+  fault_place = λ size current place. refl;
   fault_full = λ after. tt;
   fault_ends = λ before after. tt;
-  fault_answer = tt;
+  fault_answer = λ size. tt;
 }
 
 pub close_takes_none : TakesNone Close
@@ -455,24 +459,24 @@ close_takes_none = record {
   lays = λ before after is. is;
   stopped = λ before after why. tt;
   wait_short = refl;
-  wait_life = λ current. refl;
-  wait_place = λ current place. refl;
+  wait_life = λ size current. refl;
+  wait_place = λ size current place. refl;
   wait_full = λ after. refl;
-  wait_answer = refl;
+  wait_answer = λ size. refl;
   wait_ends = λ before after. tt;
   wait_step = λ file. (refl, refl);
   lack_short = refl;
-  lack_life = λ current. refl;
-  lack_place = λ current place. (λ _. refl, omega arith);
+  lack_life = λ size current. refl;
+  lack_place = λ size current place. starved_there current place;
   lack_full = λ after. tt;
   lack_ends = λ before after. tt;
-  lack_answer = tt;
+  lack_answer = λ size. tt;
   lack_step = λ file. refl;
   fault_short = refl;
-  fault_place = λ current place. refl;
+  fault_place = λ size current place. refl;
   fault_full = λ after. tt;
   fault_ends = λ before after. tt;
-  fault_answer = tt;
+  fault_answer = λ size. tt;
 }
 
 pub detach_takes_none : TakesNone Detach
@@ -488,37 +492,37 @@ detach_takes_none = record {
   lays = λ before after is. is;
   stopped = λ before after why. tt;
   wait_short = refl;
-  wait_life = λ current. refl;
-  wait_place = λ current place. refl;
+  wait_life = λ size current. refl;
+  wait_place = λ size current place. refl;
   wait_full = λ after. refl;
-  wait_answer = refl;
+  wait_answer = λ size. refl;
   wait_ends = λ before after. tt;
   wait_step = λ file. (refl, refl);
   lack_short = refl;
-  lack_life = λ current. refl;
-  lack_place = λ current place. (λ _. refl, omega arith);
+  lack_life = λ size current. refl;
+  lack_place = λ size current place. starved_there current place;
   lack_full = λ after. tt;
   lack_ends = λ before after. tt;
-  lack_answer = tt;
+  lack_answer = λ size. tt;
   lack_step = λ file. refl;
   fault_short = refl;
-  fault_place = λ current place. refl;
+  fault_place = λ size current place. refl;
   fault_full = λ after. tt;
   fault_ends = λ before after. tt;
-  fault_answer = tt;
+  fault_answer = λ size. tt;
 }
 
 pub fault_fails_seek : (offset whence : ℤ) → FaultLeaves (Seek offset whence) life.Failed
-fault_fails_seek offset whence = record { dead = refl; life_is = λ current. refl; step = λ file after fails. (0, zero-le, fails) }
+fault_fails_seek offset whence = record { dead = refl; life_is = λ size current. refl; step = λ file after fails. (0, zero-le, fails) }
 
 pub fault_fails_flush : FaultLeaves Flush life.Failed
-fault_fails_flush = record { dead = refl; life_is = λ current. refl; step = λ file after fails. (0, zero-le, fails) }
+fault_fails_flush = record { dead = refl; life_is = λ size current. refl; step = λ file after fails. (0, zero-le, fails) }
 
 pub fault_fails_detach : FaultLeaves Detach life.Failed
-fault_fails_detach = record { dead = refl; life_is = λ current. refl; step = λ file after fails. (0, zero-le, fails) }
+fault_fails_detach = record { dead = refl; life_is = λ size current. refl; step = λ file after fails. (0, zero-le, fails) }
 
 pub fault_closes : FaultLeaves Close life.Closed
-fault_closes = record { dead = refl; life_is = λ current. refl; step = λ file after fails. fails }
+fault_closes = record { dead = refl; life_is = λ size current. refl; step = λ file after fails. fails }
 
 -- a call that a live stream doesn't refuse
 pub works_unrefused : (file : FlatFile) (call : FileCall) → file.life ≡ life.Live → refusal file call ≡ None → (is_getter call || is_tell call) ≡ false → IsTrue (does_work file call)
@@ -570,7 +574,7 @@ failing_answers old failed call asked leaves whole fails no_wait =
 pub waiting_answers : (old new : WriterView) (call : FileCall) (taken : ℕ) → Accepts old call → PassAllOutcome old (Err (fault.WouldBlock taken)) new → Answers (stream_of old) call (Refused (fault.WouldBlock taken)) (stream_of new)
 waiting_answers old new call taken accepts waits =
     subst (λ (count : ℕ). Answers (stream_of old) call (Refused (fault.WouldBlock count)) (stream_of new)) (sym waits.0)
-    (works_answers old call (Refused (fault.WouldBlock 0)) (stream_of new) accepts.asked.none (waiting_works old new call accepts waits.1 waits.2 waits.3))
+    (works_answers old call (Refused (fault.WouldBlock 0)) (stream_of new) accepts.asked.none (waiting_works old new call accepts waits.1 waits.2 waits.3 waits.4))
 
 pub lacking_answers : (old new : WriterView) (call : FileCall) → Asked old call → old.short ≡ false → Lacks old [] new → NoWait old.raw new.raw → Answers (stream_of old) call (Refused fault.NoMemory) (stream_of new)
 lacking_answers old new call asked whole lacks no_wait = works_answers old call (Refused fault.NoMemory) (stream_of new) asked.none (lacking_works old new call asked whole lacks no_wait)

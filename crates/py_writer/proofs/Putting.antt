@@ -1,6 +1,7 @@
 -- Taking all bytes of a call, piece by piece.
-use Rattle.std.proofs.Common.{◌≡◌, ◌≢◌, ℕ, ◌+◌, ◌-◌, ◌<◌, ◌≤◌, Bool, true, false, IsTrue, List, [], ◌++◌, length, take, drop, get_or, None, Result, Ok, Err, refl, sym, ap, ◌∙◌, subst, arith, add-zero, length-append, length-drop}
+use Rattle.std.proofs.Common.{◌≡◌, ◌≢◌, ℕ, ◌+◌, ◌-◌, ◌<◌, ◌≤◌, ◌⊎◌, inl, inr, ⊎_elim, Bool, true, false, IsTrue, List, [], ◌++◌, length, take, drop, get_or, None, Result, Ok, Err, if◌then◌else◌, refl, sym, ap, ◌∙◌, subst, arith, add-zero, length-append, length-drop}
 use Rattle.std.proofs.Math.Seq.{take-add}
+use Rattle.std.proofs.lemmas.Bool.Decides.{leb_tells}
 use Rattle.std.proofs.lemmas.List.{length-take-le, take-append-le, take-append-drop, take_all, drop_all, drop-drop, append-nil}
 use Rattle.py_flat.specs.declared.fault.IoFault.{IoFault}
 use Rattle.py_flat.specs.declared.fault.IoFault.TheVariants as fault
@@ -10,15 +11,15 @@ use Rattle.py_flat.specs.Limits.{greatest_place}
 use Rattle.py_flat.specs.Causes.{Rose}
 use Rattle.py_flat.specs.Lines.{joined}
 use Rattle.py_raw.specs.RawStream.{Raw}
-use Rattle.py_writer.specs.Pending.{PendingView, end_of, pushed}
-use Rattle.py_writer.specs.Engine.{WriterView, IsWriter, Took, FailsTaking, Lacks, FlushOutcome, PassOutcome, PutOutcome, PutsOutcome, OwesOld, FitOutcome, StopOutcome}
-use Rattle.py_writer.proofs.Joined.{joined_more, joined_parts, length-joined_parts}
+use Rattle.py_writer.specs.Pending.{PendingView, end_of, cut_at, pushed}
+use Rattle.py_writer.specs.Engine.{WriterView, IsWriter, Took, FailsTaking, Lacks, starved_from, FlushOutcome, PassOutcome, PutOutcome, PutsOutcome, OwesOld, FitOutcome, StopOutcome}
+use Rattle.py_stream.proofs.Joined.{joined_more, joined_parts, length-joined_parts}
 use Rattle.py_writer.proofs.PassingOn.{PassesSome, took_passes, failing_passes, passing_keeps_place}
 use Rattle.py_writer.proofs.Taking.{take_behind, keeps_self, waited_then, waited_before, took_then, took_on, fails_then, fails_more, starves_then, starves_more, fills_then, fills_more}
 
 -- a writer by its parts
-abbrev pub made : Raw → PendingView → Life → Bool → WriterView
-made raw pending current short = record { raw = raw; pending = pending; life = current; short = short }
+abbrev pub made : Raw → PendingView → Bool → Life → Bool → WriterView
+made raw pending appending current short = record { raw = raw; pending = pending; appending = appending; life = current; short = short }
 
 -- Where the stream stands then.
 
@@ -51,6 +52,7 @@ took_pushed old bytes is live room within = record {
     raw = (keeps_self old is).raw;
     stays = refl;
     size = refl;
+    appending = refl;
     short = refl;
     is = is_pushed old.raw old.pending old.life bytes is room within;
   };
@@ -58,19 +60,29 @@ took_pushed old bytes is live room within = record {
   no_fault = λ exact. refl;
   passed = 0;
   within = omega arith;
+  answered = λ tells. refl;
   place = sym (add-zero old.pending.place);
   owed = refl;
   told = λ tells. refl;
 }
 
 -- the same, by its parts
-pub took_pushing : (old : WriterView) (raw : Raw) (pending now : PendingView) (current : Life) (short : Bool) (bytes : List ℕ) → made raw pending current short ≡ old → IsWriter raw pending current → old.life ≡ life.Live → now ≡ pushed bytes pending → length bytes ≤ pending.size - length pending.bytes → end_of old.pending + length bytes ≤ greatest_place → Took old bytes (made raw now current short)
-took_pushing old raw pending now current short bytes same is live moved room within =
-    let before : WriterView = made raw pending current short in
+pub took_pushing : (old : WriterView) (raw : Raw) (pending now : PendingView) (appending : Bool) (current : Life) (short : Bool) (bytes : List ℕ) → made raw pending appending current short ≡ old → IsWriter raw pending current → old.life ≡ life.Live → now ≡ pushed bytes pending → length bytes ≤ pending.size - length pending.bytes → end_of old.pending + length bytes ≤ greatest_place → Took old bytes (made raw now appending current short)
+took_pushing old raw pending now appending current short bytes same is live moved room within =
+    let before : WriterView = made raw pending appending current short in
     let lives : current ≡ life.Live = ap (λ (writer : WriterView). writer.life) same ∙ live in
     let fits : end_of pending + length bytes ≤ greatest_place = subst (λ (writer : WriterView). end_of writer.pending + length bytes ≤ greatest_place) (sym same) within in
-    subst (λ (view : PendingView). Took old bytes (made raw view current short)) (sym moved)
-    (subst (λ (writer : WriterView). Took writer bytes (made raw (pushed bytes pending) current short)) same (took_pushed before bytes is lives room fits))
+    subst (λ (view : PendingView). Took old bytes (made raw view appending current short)) (sym moved)
+    (subst (λ (writer : WriterView). Took writer bytes (made raw (pushed bytes pending) appending current short)) same (took_pushed before bytes is lives room fits))
+
+-- Want of memory.
+
+-- how a writer is left then: the raw has none of the call's own bytes, and these are let go of; or it has some, and the writer
+-- fails
+pub starves_either : (start : ℕ) (between new : WriterView) → new ≡ starved_from start between → ((between.pending.place ≤ start) × (new ≡ record between { pending = cut_at start between.pending })) ⊎ ((start < between.pending.place) × (new ≡ record between { life = life.Failed }))
+starves_either start between new same =
+    let left : Bool → WriterView = λ (before : Bool). if before then record between { pending = cut_at start between.pending } else record between { life = life.Failed } in
+    ⊎_elim (λ before. inl (before.1, same ∙ ap left before.0)) (λ past. inr (past.1, same ∙ ap left past.0)) (leb_tells between.pending.place start)
 
 -- What is left of the bytes that were owed before.
 
@@ -83,11 +95,13 @@ owes_nothing old new none = record {
   moved = λ elsewhere. none;
 }
 
+-- some of them were passed on
+owes_passing : (old new : WriterView) → PassesSome old new → OwesOld old new
+owes_passing old new passes = record { passed = passes.passed; owed = passes.owed; place = λ some. passes.place; moved = λ elsewhere. absurd (elsewhere (passing_keeps_place old new passes)) }
+
 -- the raw failed while it was given these alone
 owes_failing : (old new : WriterView) → FailsTaking old [] new → OwesOld old new
-owes_failing old new fails =
-    let passes : PassesSome old new = failing_passes old new fails in
-    record { passed = passes.passed; owed = passes.owed; place = λ some. passes.place; moved = λ elsewhere. absurd (elsewhere (passing_keeps_place old new passes)) }
+owes_failing old new fails = owes_passing old new (failing_passes old new fails)
 
 -- after some of them were passed on
 owes_then : (old mid new : WriterView) → Took old [] mid → OwesOld mid new → OwesOld old new
@@ -99,6 +113,13 @@ owes_then old mid new first owes =
       place = λ some. omega (arith, owes.place some, passes.place);
       moved = λ elsewhere. owes.moved (λ same. elsewhere (same ∙ passing_keeps_place old mid passes));
     }
+
+-- and where it left the stream live, want of memory leaves the same of a stream that it fails
+owes_starved : (old mid new : WriterView) (start : ℕ) → mid.life ≡ life.Live → OwesOld old mid → new ≡ starved_from start mid → new.life ≡ life.Failed → OwesOld old new
+owes_starved old mid new start live owes starved failed = ⊎_elim
+    (λ before. absurd (let wrong : life.Live ≡ life.Failed = sym live ∙ (sym (ap (λ (writer : WriterView). writer.life) before.1) ∙ failed) in cc))
+    (λ past. subst (OwesOld old) (sym past.1) (record { passed = owes.passed; owed = owes.owed; place = owes.place; moved = owes.moved }))
+    (starves_either start mid new starved)
 
 -- One step behind others.
 
@@ -121,11 +142,13 @@ put_then old mid new front more start (Err why) first put = absurd put
 -- after a passing on of what was owed before, one piece's is one of the whole
 pub put_behind : (old mid new : WriterView) (bytes : List ℕ) (start : ℕ) (result : Result Bool IoFault) → Took old [] mid → PutOutcome mid bytes start result new → PutOutcome old bytes start result new
 put_behind old mid new bytes start (Err fault.RawFault) first put = (fails_then old mid new [] bytes first put.0, owes_then old mid new first put.1)
+put_behind old mid new bytes start (Err fault.NoMemory) first put = (starves_then old mid new [] bytes start first put.0, λ failed. owes_then old mid new first (put.1 failed))
 put_behind old mid new bytes start result first put = put_then old mid new [] bytes start result first put
 
 -- what one piece answers is what several do
 pub puts_one : (old new : WriterView) (bytes : List ℕ) (start : ℕ) (result : Result Bool IoFault) → PutOutcome old bytes start result new → PutsOutcome old bytes start result new
 puts_one old new bytes start (Err fault.RawFault) put = put.0
+puts_one old new bytes start (Err fault.NoMemory) put = put.0
 puts_one old new bytes start result put = put
 
 -- After a wait.
@@ -145,10 +168,10 @@ fits_then old mid new front more start false first waited fit =
 
 -- Where the raw refused.
 
--- what was taken by then
+-- what was taken by then, and that none of it is owed
 abbrev pub StopsAt : WriterView → List ℕ → IoFault → WriterView → Type 0
 StopsAt old bytes fault.RawFault mid = FailsTaking old bytes mid × OwesOld old mid
-StopsAt old bytes fault.NoMemory mid = (taken : ℕ) × (taken ≤ length bytes) × Lacks old (take taken bytes) mid
+StopsAt old bytes fault.NoMemory mid = (taken : ℕ) × (taken ≤ length bytes) × Lacks old (take taken bytes) mid × OwesOld old mid
 StopsAt old bytes other mid = ⊥
 
 -- the stream is no further back then
@@ -160,13 +183,13 @@ stops_end old mid bytes why stops = absurd stops
 -- the answer then
 pub stopped : (old mid new : WriterView) (bytes : List ℕ) (start : ℕ) (why : IoFault) → StopsAt old bytes why mid → StopOutcome why start mid new → PutOutcome old bytes start (Err why) new
 stopped old mid new bytes start fault.RawFault stops left = subst (λ (writer : WriterView). FailsTaking old bytes writer × OwesOld old writer) (sym left) stops
-stopped old mid new bytes start fault.NoMemory stops left = record { taken = stops.0; fits = stops.1; between = mid; lacks = stops.2; starved = left }
+stopped old mid new bytes start fault.NoMemory stops left = (record { taken = stops.0; fits = stops.1; between = mid; lacks = stops.2; starved = left }, owes_starved old mid new start stops.2.took.live stops.3 left)
 stopped old mid new bytes start why stops left = absurd stops
 
 -- a passing on of what was owed before
 pub flush_stops : (old mid : WriterView) (bytes : List ℕ) (why : IoFault) → FlushOutcome old (Err why) mid → StopsAt old bytes why mid
 flush_stops old mid bytes fault.RawFault flush = (fails_more old mid [] bytes flush.0, owes_failing old mid flush.0)
-flush_stops old mid bytes fault.NoMemory flush = (0, omega arith, flush.0)
+flush_stops old mid bytes fault.NoMemory flush = (0, omega arith, flush.0, owes_passing old mid (took_passes old mid flush.0.took))
 flush_stops old mid bytes why flush = absurd flush
 
 -- a passing of the caller's bytes, after some were taken, while nothing is owed
@@ -180,6 +203,7 @@ pass_stops old now mid front more fault.NoMemory first none pass = (
     took = subst (λ (writer : WriterView). Took old (take (length front) (front ++ more)) writer) (sym pass.1)
         (subst (λ (some : List ℕ). Took old some now) (sym (take-append-le (length front) front more (omega arith) ∙ take_all (length front) front (omega arith))) first);
   },
+  owes_nothing old mid (ap (λ (writer : WriterView). writer.pending.bytes) pass.1 ∙ none),
 )
 pass_stops old now mid front more why first none pass = absurd pass
 
@@ -202,14 +226,14 @@ pub waits_passing : (old now mid : WriterView) (bytes : List ℕ) (taken : ℕ) 
 waits_passing old now mid bytes taken first pass = (took_on old now mid (take taken bytes) first pass.0, waited_then old now mid first.kept pass.2)
 
 -- and all that were left fit into the buffer
-pub took_rest : (old now : WriterView) (raw : Raw) (pending after : PendingView) (current : Life) (short : Bool) (bytes : List ℕ) (taken : ℕ) (piece : List ℕ) → piece ≡ drop taken bytes → taken ≤ length bytes → Took old (take taken bytes) now → made raw pending current short ≡ now → IsWriter raw pending current → now.pending.bytes ≡ [] → end_of old.pending + length bytes ≤ greatest_place → after ≡ pushed piece pending → length bytes - taken ≤ now.pending.size → Took old bytes (made raw after current short)
-took_rest old now raw pending after current short bytes taken piece rest fits took same is none within moved room =
+pub took_rest : (old now : WriterView) (raw : Raw) (pending after : PendingView) (appending : Bool) (current : Life) (short : Bool) (bytes : List ℕ) (taken : ℕ) (piece : List ℕ) → piece ≡ drop taken bytes → taken ≤ length bytes → Took old (take taken bytes) now → made raw pending appending current short ≡ now → IsWriter raw pending current → now.pending.bytes ≡ [] → end_of old.pending + length bytes ≤ greatest_place → after ≡ pushed piece pending → length bytes - taken ≤ now.pending.size → Took old bytes (made raw after appending current short)
+took_rest old now raw pending after appending current short bytes taken piece rest fits took same is none within moved room =
     let view : pending ≡ now.pending = ap (λ (writer : WriterView). writer.pending) same in
     let behind : after ≡ pushed (drop taken bytes) pending = moved ∙ ap (λ (some : List ℕ). pushed some pending) rest in
     let held : length (drop taken bytes) ≤ pending.size - length pending.bytes = omega (arith, room, length-drop taken bytes, ap length none, ap (λ (p : PendingView). p.size) view, ap (λ (p : PendingView). length p.bytes) view) in
-    subst (λ (all : List ℕ). Took old all (made raw after current short)) (all_of bytes taken)
-    (took_then old now (made raw after current short) (take taken bytes) (drop taken bytes) took
-    (took_pushing now raw pending after current short (drop taken bytes) same is took.live behind held (left_within old now bytes taken fits took within)))
+    subst (λ (all : List ℕ). Took old all (made raw after appending current short)) (all_of bytes taken)
+    (took_then old now (made raw after appending current short) (take taken bytes) (drop taken bytes) took
+    (took_pushing now raw pending after appending current short (drop taken bytes) same is took.live behind held (left_within old now bytes taken fits took within)))
 
 -- Line by line.
 

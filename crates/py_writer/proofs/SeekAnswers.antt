@@ -25,28 +25,32 @@ use Rattle.py_stream.proofs.Refusing.{refused_by_life, refused_with, refused_alo
 use Rattle.py_stream.proofs.Begun.{answers_whole}
 use Rattle.py_writer.specs.Pending.{PendingView, end_of}
 use Rattle.py_writer.specs.Engine.{WriterView, stream_of, BeginOutcome, Took, FailsTaking, AsksEnd, FailsMoving, TargetFrom, TargetFromEnd, TargetOutcome, GoesTo, GoOutcome, PassAllOutcome}
-use Rattle.py_writer.proofs.Taking.{keeps_then, no_fault_then, no_wait_then, waited_then, faulted_then, took_none, took_on, fails_on, lacks_on}
-use Rattle.py_writer.proofs.PassingOn.{begun, Stands, is_near, is_placed, PassesSome, Asked, Accepts, work_reaches, works_unrefused, took_passes, passing_keeps_place, passing_file, passing_owes, passing_lays, passed_all, works_answers, seek_takes_none, fault_fails_seek, failing_answers, lacking_answers, pass_all_refuses, stays_open, rested, shut_by_life}
+use Rattle.py_writer.proofs.Taking.{keeps_then, no_fault_then, no_wait_then, waits_once_then, waited_then, faulted_then, answers_still, took_none, took_on, fails_on, lacks_on}
+use Rattle.py_writer.proofs.Flat.{is_near, is_placed, same_abilities}
+use Rattle.py_writer.proofs.PassingOn.{begun, Stands, PassesSome, Asked, Accepts, work_reaches, works_unrefused, took_passes, passing_keeps_place, passing_file, passing_front, passing_lays, passing_keeps, passed_all, works_answers, seek_takes_none, fault_fails_seek, failing_answers, lacking_answers, pass_all_refuses, stays_open, rested, shut_by_life}
 
 -- What a seek is refused by.
 
--- a live stream that can be moved
+-- a live stream that can be moved, and doesn't append
 pub record MaySeek (old : WriterView) : Type 0 where
   pub is : Stands old
   pub live : old.life ≡ life.Live
   pub can : old.raw.seekable ≡ true
+  pub free : old.appending ≡ false
   pub whole : old.short ≡ false
 
 seek_refusal_is : (old : WriterView) (offset whence : ℤ) → MaySeek old → refusal (file_of (stream_of old)) (Seek offset whence) ≡ seek_refusal (seek_base (file_of (stream_of old)) whence) offset
 seek_refusal_is old offset whence may =
     let behind : Option IoFault = seek_refusal (seek_base (file_of (stream_of old)) whence) offset in
-    ap (λ (current : Life). or_else (if lets_through current (Buffered old.pending.size) (Seek offset whence) then None else life_fault current) (or_else (refused_if (not old.raw.seekable || false) fault.Unsupported) behind)) may.live
-    ∙ ap (λ (seekable : Bool). or_else (refused_if (not seekable || false) fault.Unsupported) behind) may.can
+    ap (λ (current : Life). or_else (if lets_through current (Buffered old.pending.size) (Seek offset whence) then None else life_fault current) (or_else (refused_if (not old.raw.seekable || old.appending) fault.Unsupported) behind)) may.live
+    ∙ ap (λ (seekable : Bool). or_else (refused_if (not seekable || old.appending) fault.Unsupported) behind) may.can
+    ∙ ap (λ (appending : Bool). or_else (refused_if (not true || appending) fault.Unsupported) behind) may.free
 
 asks_where_it_ends : (old : WriterView) (offset : ℤ) → MaySeek old → asks_end (file_of (stream_of old)) (Seek offset (pos 2)) ≡ true
 asks_where_it_ends old offset may =
-    ap (λ (current : Life). is_live current && not (not old.raw.seekable || false)) may.live
-    ∙ ap (λ (seekable : Bool). not (not seekable || false)) may.can
+    ap (λ (current : Life). is_live current && not (not old.raw.seekable || old.appending)) may.live
+    ∙ ap (λ (seekable : Bool). not (not seekable || old.appending)) may.can
+    ∙ ap (λ (appending : Bool). not (not true || appending)) may.free
 
 or_true : (first : Bool) → first || true ≡ true
 or_true true = refl
@@ -88,6 +92,7 @@ asking_took old new end live asks =
       no_fault = asks.counts.no_fault;
       passed = 0;
       within = omega arith;
+      answered = asks.answered;
       place = omega (arith, ap (λ (pending : PendingView). pending.place) still);
       owed = ap (λ (pending : PendingView). pending.bytes) still ∙ sym (append-nil old.pending.bytes);
       told = asks.bytes;
@@ -106,6 +111,7 @@ moving_fails old mid new took fails =
       fits = omega arith;
       passed = took.passed;
       within = took.within;
+      answered = answers_still old.raw mid.raw new.raw took.passed took.kept.raw took.answered fails.answered;
       place = ap (λ (pending : PendingView). pending.place) still ∙ took.place;
       owed = ap (λ (pending : PendingView). pending.bytes) still ∙ took.owed;
       told = λ tells. record {
@@ -154,16 +160,16 @@ record RefusesPlace (offset : ℤ) (why : IoFault) : Type 0 where
   pub no_fault : says_fault (Refused why) ≡ false
   pub no_want : says_no_memory (Refused why) ≡ false
   pub short : IsShort (Seek offset (pos 2)) (Refused why) false
-  pub life_is : (current : Life) → LifeMoves (Seek offset (pos 2)) (Refused why) current current
-  pub place : (current : Life) (place : ℕ) → PlaceMoves (Seek offset (pos 2)) (Refused why) current place place
+  pub life_is : (size : ℕ) (current : Life) → LifeMoves (Some size) (Seek offset (pos 2)) (Refused why) current current
+  pub place : (size : ℕ) (current : Life) (place : ℕ) → PlaceMoves (Some size) (Seek offset (pos 2)) (Refused why) current place place
   pub full : (after : Stream) → BlocksFull (Seek offset (pos 2)) (Refused why) after
   pub ends : (before after : Stream) → SeeksFromEnd before offset (Refused why) after → SeeksByEnd before (Seek offset (pos 2)) (Refused why) after
-  pub answer : IsReplyTo true (Seek offset (pos 2)) (Refused why)
+  pub answer : (size : ℕ) → IsReplyTo (Some size) true (Seek offset (pos 2)) (Refused why)
 
 refuses_place : (offset : ℤ) (why : IoFault) → AtBadPlace why → RefusesPlace offset why
 refuses_place offset why at = at_bad_place (RefusesPlace offset)
-    (record { no_fault = refl; no_want = refl; short = refl; life_is = λ current. refl; place = λ current place. refl; full = λ after. tt; ends = λ before after found _. found; answer = tt })
-    (record { no_fault = refl; no_want = refl; short = refl; life_is = λ current. refl; place = λ current place. refl; full = λ after. tt; ends = λ before after found _. found; answer = tt })
+    (record { no_fault = refl; no_want = refl; short = refl; life_is = λ size current. refl; place = λ size current place. refl; full = λ after. tt; ends = λ before after found _. found; answer = λ size. tt })
+    (record { no_fault = refl; no_want = refl; short = refl; life_is = λ size current. refl; place = λ size current place. refl; full = λ after. tt; ends = λ before after found _. found; answer = λ size. tt })
     why at
 
 seeks_nowhere : (before : Stream) (target : Option ℕ) (why : IoFault) (after : Stream) → Leaves before (Refused why) (Refused why) (record after { raw = before.raw }) → SeeksTo before target (Some why) (Refused why) after
@@ -184,7 +190,7 @@ end_refuses old new offset why end may asks refuses =
     let left : Leaves (stream_of old) (Refused why) (Refused why) (record (stream_of new) { raw = old.raw }) = record {
       says = refl;
       same = ap (λ (writer : WriterView). record (stream_of writer) { raw = old.raw }) asks.same
-          ∙ ap (λ (seekable : Bool). record (stream_of old) { can = writer_can seekable }) asks.kept.raw.seekable
+          ∙ ap (λ (seekable : Bool). record (stream_of old) { can = writer_can old.appending seekable }) asks.kept.raw.seekable
           ∙ ap (λ (shortened : Bool). record (stream_of old) { short = shortened }) may.whole;
     } in
     let seeks : SeeksFromEnd (stream_of old) offset (Refused why) (stream_of new) = record {
@@ -195,26 +201,27 @@ end_refuses old new offset why end may asks refuses =
     works_answers old call (Refused why) (stream_of new) asked.none (record {
       passes = asked.passes;
       again = λ closes. absurd (cc);
-      keeps = record { size = passes.kept.size; can = ap writer_can passes.kept.raw.seekable; raw = passes.kept.raw };
+      keeps = passing_keeps old new passes;
       shut = λ none. stays_open old new may.live took.kept.stays (ap is_closed took.live);
       causes = record { waits = λ waited. absurd (cc); faults = λ faults. absurd (cc (at.no_fault)) };
       no_fault = λ _. took.no_fault;
       no_wait = λ _. asks.counts.no_wait;
+      once = λ waited. absurd (cc);
       shorts = subst (IsShort call (Refused why)) (sym short) at.short;
-      life_is = subst (LifeMoves call (Refused why) old.life) (sym same) (at.life_is old.life);
-      place = subst (PlaceMoves call (Refused why) new.life (end_of old.pending)) (sym place) (at.place new.life (end_of old.pending));
+      life_is = subst (LifeMoves (Some old.pending.size) call (Refused why) old.life) (sym same) (at.life_is old.pending.size old.life);
+      place = subst (PlaceMoves (Some old.pending.size) call (Refused why) new.life (end_of old.pending)) (sym place) (at.place old.pending.size new.life (end_of old.pending));
       far = took.kept.is.pending_is.far;
       ends = at.ends (stream_of old) (stream_of new) seeks;
       wants = λ wanting. absurd (cc (at.no_want));
       lives = λ wanting. took.live;
-      leaves = passing_owes old new passes;
+      leaves = passing_front old new new.life new.short passes;
       lays = passing_lays old new passes;
       does = tt;
       full = at.full (stream_of new);
       settles = λ none. omega (arith, ap length none);
       unclosed = λ some. took.kept.stays;
       rests = rested old new.raw may.live;
-      answer = at.answer;
+      answer = at.answer old.pending.size;
       told = λ tells.
           let by : refusal (file_of (stream_of old)) call ≡ Some why = seek_refusal_is old offset (pos 2) may ∙ ap (λ (base : ℕ). target_refusal (moved_by base offset)) (sym (end_is old new end asks tells)) ∙ refuses in
           settled (subst (λ (refused : Option IoFault). SettledBy (file_of (stream_of old)) call refused (Refused why) (file_of (stream_of new))) (sym by) (refl, passing_file old new passes same tells));
@@ -320,6 +327,7 @@ passes_all_then old mid new (Err (fault.WouldBlock taken)) took no_wait waits = 
   subst (λ (short : Bool). Took old [] (record new { short = short })) took.kept.short (took_on old mid (record new { short = mid.short }) [] took waits.1),
   waits.2,
   waited_then old mid new took.kept waits.3,
+  waits_once_then old mid new took.kept no_wait waits.4,
 )
 passes_all_then old mid new (Err fault.RawFault) took no_wait fails = (fails_on old mid new [] took fails.0, no_wait_then old mid new took.kept no_wait fails.1, fails.2)
 passes_all_then old mid new (Err fault.NoMemory) took no_wait lacks = (lacks_on old mid new [] took lacks.0, no_wait_then old mid new took.kept no_wait lacks.1)
@@ -340,7 +348,7 @@ gone_file old mid new target may passed goes tells =
     let bytes : lay new.raw.bytes new.pending.place new.pending.bytes ≡ lay old.raw.bytes old.pending.place old.pending.bytes = ap (lay new.raw.bytes new.pending.place) none ∙ still in
     let there : new.pending.place ≡ target = ap (λ (pending : PendingView). pending.place) goes.none in
     let place : end_of new.pending ≡ target = omega (arith, there, ap length none) in
-    let can : writer_can new.raw.seekable ≡ writer_can old.raw.seekable = ap writer_can (goes.kept.raw.seekable ∙ took.kept.raw.seekable) in
+    let can : writer_can new.appending new.raw.seekable ≡ writer_can old.appending old.raw.seekable = same_abilities old new (keeps_then old mid new took.kept goes.kept) in
     let buffering : Buffered new.pending.size ≡ Buffered old.pending.size = ap Buffered (goes.kept.size ∙ took.kept.size) in
     let live : new.life ≡ old.life = goes.live ∙ sym may.live in
     cc
@@ -360,14 +368,15 @@ gone old found mid new offset whence target may finds passed goes =
       passes = asked.passes;
       again = λ closes. absurd (cc);
       keeps = record {
-        size = goes.kept.size ∙ took.kept.size;
-        can = ap writer_can (goes.kept.raw.seekable ∙ took.kept.raw.seekable);
+        buffer = ap Some (goes.kept.size ∙ took.kept.size);
+        can = same_abilities old new (keeps_then old mid new took.kept goes.kept);
         raw = (keeps_then old mid new took.kept goes.kept).raw;
       };
       shut = λ none. stays_open old new may.live (goes.kept.stays ∙ took.kept.stays) (ap is_closed goes.live);
       causes = record { waits = λ waited. absurd (cc); faults = λ faults. absurd (cc) };
       no_fault = λ _. no_fault_then old mid new took.kept took.no_fault goes.counts.no_fault;
       no_wait = λ _. no_wait_then old mid new took.kept passed.1 goes.counts.no_wait;
+      once = λ waited. absurd (cc);
       shorts = short;
       life_is = goes.live ∙ sym may.live;
       place = (place, finds.goes);
@@ -375,7 +384,13 @@ gone old found mid new offset whence target may finds passed goes =
       ends = finds.ends (stream_of new);
       wants = λ wanting. absurd (cc);
       lives = λ wanting. absurd (cc);
-      leaves = record { passed = passes.passed; bytes = none ∙ sym passed.2 ∙ passes.owed; place = λ some. absurd (some none) };
+      leaves = record {
+        passed = passes.passed;
+        most = passes.within;
+        answered = answers_still old.raw mid.raw new.raw passes.passed took.kept.raw passes.answered goes.answered;
+        bytes = none ∙ sym passed.2 ∙ passes.owed;
+        place = λ some. absurd (some none);
+      };
       lays = λ tells. subst (LaidInOrder (stream_of old) []) (sym (goes.bytes (took.kept.raw.tells ∙ tells))) (passing_lays old mid passes tells);
       does = λ _. none;
       full = tt;
@@ -393,11 +408,12 @@ gone old found mid new offset whence target may finds passed goes =
 
 -- As the steps of `seek` come.
 
-may_seek : (old started : WriterView) → Stands old → BeginOutcome old (Ok tt) started → started.raw.seekable ≡ true → MaySeek (begun old)
-may_seek old started stands begins can = record {
+may_seek : (old started : WriterView) → Stands old → BeginOutcome old (Ok tt) started → started.raw.seekable ≡ true → started.appending ≡ false → MaySeek (begun old)
+may_seek old started stands begins can free = record {
   is = stands;
   live = begins.0;
   can = sym (ap (λ (writer : WriterView). writer.raw.seekable) begins.1) ∙ can;
+  free = sym (ap (λ (writer : WriterView). writer.appending) begins.1) ∙ free;
   whole = refl;
 }
 
@@ -409,15 +425,16 @@ pub record Seeks (old started : WriterView) : Type 0 where
   pub is : Stands old
   pub begins : BeginOutcome old (Ok tt) started
   pub can : started.raw.seekable ≡ true
+  pub free : started.appending ≡ false
 
 pub seek_finds_nothing : (old started new : WriterView) (offset whence : ℤ) (why : IoFault) → Seeks old started → TargetOutcome started offset whence (Err why) new → Answers (stream_of old) (Seek offset whence) (Refused why) (stream_of new)
 seek_finds_nothing old started new offset whence why seeks found =
     answers_whole (stream_of old) (stream_of new) (Seek offset whence) (Refused why)
-    (target_answers (begun old) new offset whence why (may_seek old started seeks.is seeks.begins seeks.can) (subst (λ (writer : WriterView). TargetOutcome writer offset whence (Err why) new) seeks.begins.1 found))
+    (target_answers (begun old) new offset whence why (may_seek old started seeks.is seeks.begins seeks.can seeks.free) (subst (λ (writer : WriterView). TargetOutcome writer offset whence (Err why) new) seeks.begins.1 found))
 
 seek_finds : (old started found : WriterView) (offset whence : ℤ) (target : ℕ) → Seeks old started → TargetOutcome started offset whence (Ok target) found → Finds (begun old) offset whence target found
 seek_finds old started found offset whence target seeks sought =
-    finds (begun old) found offset whence target (may_seek old started seeks.is seeks.begins seeks.can) (subst (λ (writer : WriterView). TargetOutcome writer offset whence (Ok target) found) seeks.begins.1 sought)
+    finds (begun old) found offset whence target (may_seek old started seeks.is seeks.begins seeks.can seeks.free) (subst (λ (writer : WriterView). TargetOutcome writer offset whence (Ok target) found) seeks.begins.1 sought)
 
 pub seek_stops : (old started found new : WriterView) (offset whence : ℤ) (target : ℕ) (why : IoFault) → Seeks old started → TargetOutcome started offset whence (Ok target) found → PassAllOutcome found (Err why) new → Answers (stream_of old) (Seek offset whence) (Refused why) (stream_of new)
 seek_stops old started found new offset whence target why seeks sought stops =
@@ -430,11 +447,11 @@ seek_fails old started found mid new offset whence target why seeks sought passe
     let finding = seek_finds old started found offset whence target seeks sought in
     let passes : PassAllOutcome (begun old) (Ok tt) mid = passes_all_then (begun old) found mid (Ok tt) finding.took finding.no_wait passed in
     answers_whole (stream_of old) (stream_of new) (Seek offset whence) (Refused why)
-    (going_fails (begun old) mid new offset whence target why (may_seek old started seeks.is seeks.begins seeks.can) finding.accepts.asked passes.0 passes.1 fails)
+    (going_fails (begun old) mid new offset whence target why (may_seek old started seeks.is seeks.begins seeks.can seeks.free) finding.accepts.asked passes.0 passes.1 fails)
 
 pub seek_answers : (old started found mid new : WriterView) (offset whence : ℤ) (target : ℕ) → Seeks old started → TargetOutcome started offset whence (Ok target) found → PassAllOutcome found (Ok tt) mid → GoesTo mid target new → Answers (stream_of old) (Seek offset whence) (Place target) (stream_of new)
 seek_answers old started found mid new offset whence target seeks sought passed goes =
     let finding = seek_finds old started found offset whence target seeks sought in
     let passes : PassAllOutcome (begun old) (Ok tt) mid = passes_all_then (begun old) found mid (Ok tt) finding.took finding.no_wait passed in
     answers_whole (stream_of old) (stream_of new) (Seek offset whence) (Place target)
-    (gone (begun old) found mid new offset whence target (may_seek old started seeks.is seeks.begins seeks.can) finding passes goes)
+    (gone (begun old) found mid new offset whence target (may_seek old started seeks.is seeks.begins seeks.can seeks.free) finding passes goes)

@@ -4,9 +4,9 @@ use Rattle.std.proofs.Math.Seq.{take-append-add, take-add}
 use Rattle.std.proofs.lemmas.List.{length-take-le, take-append-le, drop-append-le, drop-drop, append-nil}
 use Rattle.py_flat.specs.declared.life.Life.TheVariants as life
 use Rattle.py_flat.specs.Bytes.{lay}
-use Rattle.py_flat.specs.Causes.{Rose}
+use Rattle.py_flat.specs.Causes.{Rose, counted}
 use Rattle.py_flat.proofs.Laying.{lay_behind}
-use Rattle.py_raw.specs.RawStream.{NoFault, NoWait}
+use Rattle.py_raw.specs.RawStream.{Raw, Keeps, NoFault, NoWait, WaitsOnce, AnswersFor}
 use Rattle.py_writer.specs.Engine.{WriterView, IsWriter, KeepsWriter, Took, LaysFurther, FailsTaking, Lacks, StarvesTaking, FillsUp}
 
 -- Lists.
@@ -39,6 +39,7 @@ keeps_self writer is = record {
   raw = record { tells = refl; readable = refl; writable = refl; seekable = refl; takes_memory = refl; counts_exactly = refl; faults = omega arith; waits = omega arith };
   stays = refl;
   size = refl;
+  appending = refl;
   short = refl;
   is = is;
 }
@@ -57,6 +58,7 @@ keeps_then old mid new first second = record {
   };
   stays = second.stays ∙ first.stays;
   size = second.size ∙ first.size;
+  appending = second.appending ∙ first.appending;
   short = second.short ∙ first.short;
   is = second.is;
 }
@@ -67,6 +69,10 @@ no_fault_then old mid new kept first second exact = second (kept.raw.counts_exac
 
 pub no_wait_then : (old mid new : WriterView) → KeepsWriter old mid → NoWait old.raw mid.raw → NoWait mid.raw new.raw → NoWait old.raw new.raw
 no_wait_then old mid new kept first second exact = second (kept.raw.counts_exactly ∙ exact) ∙ first exact
+
+-- a step that waits once behind one that doesn't wait
+pub waits_once_then : (old mid new : WriterView) → KeepsWriter old mid → NoWait old.raw mid.raw → WaitsOnce mid.raw new.raw → WaitsOnce old.raw new.raw
+waits_once_then old mid new kept first second exact = second (kept.raw.counts_exactly ∙ exact) ∙ ap (λ (waits : ℕ). counted waits 1) (first exact)
 
 -- a count that rose in the second step rose in both
 pub waited_then : (old mid new : WriterView) → KeepsWriter old mid → Rose mid.raw.waits new.raw.waits → Rose old.raw.waits new.raw.waits
@@ -79,6 +85,16 @@ faulted_then old mid new kept rose = omega (arith, kept.raw.faults, rose)
 pub waited_before : (old mid new : WriterView) → KeepsWriter mid new → Rose old.raw.waits mid.raw.waits → Rose old.raw.waits new.raw.waits
 waited_before old mid new kept rose = omega (arith, kept.raw.waits, rose)
 
+-- What the raw answered for.
+
+-- in two steps: for what it did in each
+pub answers_then : (old mid new : Raw) (first second : ℕ) → Keeps old mid → AnswersFor first old mid → AnswersFor second mid new → AnswersFor (first + second) old new
+answers_then old mid new first second kept one two tells = omega (arith, one tells, two (kept.tells ∙ tells))
+
+-- for nothing more in the second
+pub answers_still : (old mid new : Raw) (count : ℕ) → Keeps old mid → AnswersFor count old mid → AnswersFor 0 mid new → AnswersFor count old new
+answers_still old mid new count kept one two = subst (λ (more : ℕ). AnswersFor more old new) (add-zero count) (answers_then old mid new count 0 kept one two)
+
 -- Taking.
 
 -- a step that takes nothing and passes nothing on
@@ -89,6 +105,7 @@ took_none writer is live = record {
   no_fault = λ exact. refl;
   passed = 0;
   within = omega arith;
+  answered = λ tells. refl;
   place = sym (add-zero writer.pending.place);
   owed = sym (append-nil writer.pending.bytes);
   told = λ tells. refl;
@@ -124,6 +141,7 @@ took_then old mid new front more first second = record {
   no_fault = no_fault_then old mid new first.kept first.no_fault second.no_fault;
   passed = first.passed + second.passed;
   within = within_then old.pending.bytes mid.pending.bytes front more first.passed second.passed first.within first.owed second.within;
+  answered = answers_then old.raw mid.raw new.raw first.passed second.passed first.kept.raw first.answered second.answered;
   place = omega (arith, first.place, second.place);
   owed = owed_then old.pending.bytes mid.pending.bytes new.pending.bytes front more first.passed second.passed first.within first.owed second.owed;
   told = λ tells. told_then old.raw.bytes mid.raw.bytes new.raw.bytes old.pending.place mid.pending.place old.pending.bytes mid.pending.bytes front more first.passed second.passed first.within first.owed first.place (first.told tells) (second.told (subst IsTrue (sym first.kept.raw.tells) tells));
@@ -159,6 +177,7 @@ fails_then old mid new front more first second = record {
   fits = omega (arith, second.fits, length-append front more);
   passed = first.passed + second.passed;
   within = omega (arith, first.within, second.within, ap length first.owed, length-drop first.passed (old.pending.bytes ++ front), length-append old.pending.bytes front);
+  answered = answers_then old.raw mid.raw new.raw first.passed second.passed first.kept.raw first.answered second.answered;
   place = omega (arith, first.place, second.place);
   owed = owed_then old.pending.bytes mid.pending.bytes new.pending.bytes front (take second.taken more) first.passed second.passed first.within first.owed second.owed
       ∙ ap (λ (xs : List ℕ). drop (first.passed + second.passed) (old.pending.bytes ++ xs)) (sym (take_behind front more second.taken));
@@ -177,6 +196,7 @@ fails_more old new bytes more fails =
       fits = omega (arith, fails.fits, length-append bytes more);
       passed = fails.passed;
       within = fails.within;
+      answered = fails.answered;
       place = fails.place;
       owed = fails.owed ∙ ap (λ (xs : List ℕ). drop fails.passed (old.pending.bytes ++ xs)) (sym same);
       told = λ tells.

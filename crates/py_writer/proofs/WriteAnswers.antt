@@ -1,7 +1,6 @@
 -- The answers of the calls that give bytes to a writer.
-use Rattle.std.proofs.Common.{◌≡◌, ℕ, ◌+◌, ◌-◌, ◌<◌, ◌≤◌, ◌⊎◌, inl, inr, ⊎_elim, Bool, true, false, IsTrue, List, [], ◌++◌, length, take, drop, Option, Ok, Err, if◌then◌else◌, refl, sym, ap, ◌∙◌, subst, arith}
+use Rattle.std.proofs.Common.{◌≡◌, ℕ, ◌+◌, ◌-◌, ◌<◌, ◌≤◌, inl, inr, ⊎_elim, Bool, true, false, IsTrue, List, [], ◌++◌, length, take, drop, Option, Ok, Err, refl, sym, ap, ◌∙◌, subst, arith}
 use Rattle.std.proofs.Math.Seq.{take-append_seam}
-use Rattle.std.proofs.lemmas.Bool.Decides.{leb_tells}
 use Rattle.std.proofs.lemmas.List.{length-take, length-take-le, take_all, take-append-le, append-nil, drop-take}
 use Rattle.py_flat.specs.declared.fault.IoFault.{IoFault}
 use Rattle.py_flat.specs.declared.fault.IoFault.TheVariants as fault
@@ -15,14 +14,15 @@ use Rattle.py_flat.specs.ExactStep.{is_closed}
 use Rattle.py_flat.specs.AllowedStep.{settled, waited_for, raw_faulted, out_of_memory}
 use Rattle.py_flat.specs.BinaryStep.{payload, SettledBy}
 use Rattle.py_raw.specs.RawStream.{WhereTold}
-use Rattle.py_stream.specs.Stream.{Stream, file_of, writer_can}
+use Rattle.py_stream.specs.Stream.{Stream, file_of}
 use Rattle.py_stream.specs.Kinds.{is_writing}
-use Rattle.py_stream.specs.Writing.{Takes, LaidInOrder, OwesNoneOfIts}
+use Rattle.py_stream.specs.Writing.{Takes, LaidInOrder, OwesOld, OwesNoneOfIts, TookOwn}
 use Rattle.py_stream.specs.Answers.{Answers}
 use Rattle.py_stream.proofs.Begun.{answers_whole}
 use Rattle.py_writer.specs.Pending.{IsPending, end_of, cut_at}
-use Rattle.py_writer.specs.Engine.{WriterView, stream_of, IsWriter, BeginOutcome, Took, FailsTaking, FillsUp, StarvesTaking, starved_from, PutOutcome, PutsOutcome}
-use Rattle.py_writer.proofs.Flat.{take_front, laid_in_order, took_ends, took_bytes, took_file, took_none_file, fails_ends, fails_bytes, fails_lays}
+use Rattle.py_writer.specs.Engine.{WriterView, stream_of, IsWriter, BeginOutcome, Took, FailsTaking, FillsUp, StarvesTaking, PutOutcome, PutsOutcome, OwesOld as LeavesOld}
+use Rattle.py_writer.proofs.Putting.{starves_either}
+use Rattle.py_writer.proofs.Flat.{same_abilities, take_front, laid_in_order, took_ends, took_bytes, took_file, took_none_file, fails_ends, fails_bytes, fails_lays}
 use Rattle.py_writer.proofs.WritingCalls.{MayWrite, answers_coming, accepted, works, reaches, taken_reply, says_no_fault, wants_none, is_taken, is_blocked, is_faulted, is_starved}
 
 -- What was taken of a call's own bytes.
@@ -34,6 +34,8 @@ takes_front old new own taken short fits took = record {
   within = fits;
   place = omega (arith, took_ends old new (take taken own) took, length-take-le taken own fits);
   passed = took.passed;
+  most = omega (arith, took.within, length-take-le taken own fits);
+  answered = took.answered;
   owed = took.owed;
   up_to = inr refl;
   told = λ tells. (taken, omega arith, fits, took_bytes old new (take taken own) took tells);
@@ -112,9 +114,18 @@ fills_up old new call taken may less took full waited =
 
 -- The raw failed.
 
--- of one `write` no byte is owed then
+-- what the engine owes then is what its stream does
+owes_old : (old new : WriterView) (short : Bool) → LeavesOld old new → OwesOld (stream_of old) (stream_of (record new { short = short }))
+owes_old old new short owes = record {
+  rest = record { passed = owes.passed; bytes = owes.owed; place = owes.place };
+  stands = λ none. omega (arith, ap length none);
+  moved = owes.moved;
+}
+
+-- of one `write` no byte is owed then, nor where want of memory fails the stream
 pub one_write : (old new : WriterView) (bytes : List ℕ) (start : ℕ) (why : IoFault) → PutOutcome old bytes start (Err why) new → OwesNoneOfIts (stream_of old) (Write bytes) (Refused why) (stream_of (record new { short = false }))
-one_write old new bytes start fault.RawFault put = (record { passed = put.1.passed; bytes = put.1.owed; place = put.1.place }, λ none. omega (arith, ap length none), put.1.moved)
+one_write old new bytes start fault.RawFault put = owes_old old new false put.1
+one_write old new bytes start fault.NoMemory put = λ failed. owes_old old new false (put.1 failed)
 one_write old new bytes start why put = tt
 
 faults : (old new : WriterView) (call : FileCall) → MayWrite old call → FailsTaking old (payload call) new → OwesNoneOfIts (stream_of old) call (Refused fault.RawFault) (stream_of (record new { short = false })) → Answers (stream_of old) call (Refused fault.RawFault) (stream_of (record new { short = false }))
@@ -129,13 +140,15 @@ faults old new call may fails straight =
       no_fault = λ sound. absurd (cc);
       shorts = is.shorts;
       life_is = is.life_is old.life new.life fails.failed;
-      place = is.place new.life (end_of old.pending) (end_of new.pending) (omega (arith, ends));
+      place = is.place new.life (end_of old.pending) (end_of new.pending) (omega (arith, ends)) (omega (arith, ends, fails.fits));
       wants = λ wanting. absurd (cc);
       takes = record {
         taken = fails.taken;
         within = fails.fits;
         place = ends;
         passed = fails.passed;
+        most = fails.within;
+        answered = fails.answered;
         owed = fails.owed;
         up_to = inr refl;
         told = λ tells. let laid = fails_bytes old new own fails tells in (laid.count, laid.least_is, laid.fits, laid.bytes);
@@ -155,7 +168,7 @@ faults old new call may fails straight =
               record {
                 life_is = fails.failed;
                 bytes_are = laid.bytes;
-                can = ap writer_can fails.kept.raw.seekable;
+                can = same_abilities old new fails.kept;
                 buffering = ap Buffered fails.kept.size;
               },
             ),
@@ -164,16 +177,17 @@ faults old new call may fails straight =
 
 -- Memory was wanting.
 
--- how a writer is left then: the raw has none of the call's own bytes, and these are let go of; or it has some, and the writer
--- fails
-starves_either : (start : ℕ) (between new : WriterView) → new ≡ starved_from start between → ((between.pending.place ≤ start) × (new ≡ record between { pending = cut_at start between.pending })) ⊎ ((start < between.pending.place) × (new ≡ record between { life = life.Failed }))
-starves_either start between new same =
-    let left : Bool → WriterView = λ (before : Bool). if before then record between { pending = cut_at start between.pending } else record between { life = life.Failed } in
-    ⊎_elim (λ before. inl (before.1, same ∙ ap left before.0)) (λ past. inr (past.1, same ∙ ap left past.0)) (leb_tells between.pending.place start)
-
 -- told, a raw stands where what is owed belongs, however much was taken
 took_stands : (old new : WriterView) (bytes : List ℕ) → Took old bytes new → WhereTold old.raw (new.raw.place ≡ new.pending.place)
 took_stands old new bytes took tells = took.kept.is.stands (subst IsTrue (sym took.kept.raw.tells) tells) took.live
+
+-- and where it stands behind the place of a call it took some of that call's own bytes
+took_own : (old new : WriterView) (bytes : List ℕ) → Took old bytes new → end_of old.pending < new.pending.place → TookOwn (stream_of old) (stream_of (record new { life = life.Failed; short = false }))
+took_own old new bytes took past = record {
+  further = past;
+  stands = λ tells. omega (arith, past, took_stands old new bytes took tells);
+  answered = λ tells. omega (arith, past, took.place, took.answered tells);
+}
 
 -- up to where the call began all is as it was
 cut_bytes : (owed front : List ℕ) (passed most : ℕ) → passed ≤ length owed → most ≡ length owed - passed → take most (drop passed (owed ++ front)) ≡ drop passed (owed ++ [])
@@ -193,6 +207,7 @@ lets_go old between front start begins before took =
         raw = took.kept.raw;
         stays = took.kept.stays;
         size = took.kept.size;
+        appending = took.kept.appending;
         short = took.kept.short;
         is = record {
           pending_is = record {
@@ -210,13 +225,14 @@ lets_go old between front start begins before took =
       no_fault = took.no_fault;
       passed = took.passed;
       within = omega (arith, within);
+      answered = took.answered;
       place = took.place;
       owed = ap (take (start - between.pending.place)) took.owed ∙ cut_bytes owed front took.passed (start - between.pending.place) within (omega (arith, begins, took.place));
       told = λ tells. took.told tells ∙ ap (lay old.raw.bytes old.pending.place) (take-append-le took.passed owed front within ∙ sym (take-append-le took.passed owed [] within));
     }
 
-starves_nothing : (old new : WriterView) (call : FileCall) → MayWrite old call → IsTrue old.raw.takes_memory → Took old [] new → Answers (stream_of old) call (Refused fault.NoMemory) (stream_of (record new { short = false }))
-starves_nothing old new call may takes took =
+starves_nothing : (old new : WriterView) (call : FileCall) → MayWrite old call → IsTrue old.raw.takes_memory → Took old [] new → OwesNoneOfIts (stream_of old) call (Refused fault.NoMemory) (stream_of (record new { short = false })) → Answers (stream_of old) call (Refused fault.NoMemory) (stream_of (record new { short = false }))
+starves_nothing old new call may takes took straight =
     let own : List ℕ = payload call in
     let is = is_starved old call may.writing in
     let same : new.life ≡ old.life = took.live ∙ sym may.live in
@@ -228,19 +244,19 @@ starves_nothing old new call may takes took =
       no_fault = λ sound. took.no_fault;
       shorts = is.shorts;
       life_is = is.life_is old.life new.life (inl same);
-      place = is.place new.life (end_of old.pending) (end_of new.pending) (λ lives. ends) (omega (arith, ends));
+      place = is.place new.life (end_of old.pending) (end_of new.pending) (λ lives. ends) (omega (arith, ends)) (omega (arith, ends));
       wants = λ wanting. takes;
       takes = takes_front old new own 0 false (omega arith) took;
       lays = lays_front old new own 0 (omega arith) took;
       full = is.full (stream_of (record new { short = false }));
-      straight = is.straight (stream_of (record new { short = false }));
+      straight = straight;
       starves = λ wanting failed. absurd (let wrong : life.Live ≡ life.Failed = sym took.live ∙ failed in cc);
       answers = is.answers;
       told = λ tells. out_of_memory refl (reaches (file_of (stream_of old)) call (works old call may), is.starved (file_of (stream_of new)) (inl (took_none_file old new may.live took tells)));
     })
 
-starves_midway : (old between : WriterView) (call : FileCall) (taken : ℕ) → MayWrite old call → taken ≤ length (payload call) → IsTrue old.raw.takes_memory → Took old (take taken (payload call)) between → end_of old.pending < between.pending.place → Answers (stream_of old) call (Refused fault.NoMemory) (stream_of (record between { life = life.Failed; short = false }))
-starves_midway old between call taken may fits takes took past =
+starves_midway : (old between : WriterView) (call : FileCall) (taken : ℕ) → MayWrite old call → taken ≤ length (payload call) → IsTrue old.raw.takes_memory → Took old (take taken (payload call)) between → end_of old.pending < between.pending.place → OwesNoneOfIts (stream_of old) call (Refused fault.NoMemory) (stream_of (record between { life = life.Failed; short = false })) → Answers (stream_of old) call (Refused fault.NoMemory) (stream_of (record between { life = life.Failed; short = false }))
+starves_midway old between call taken may fits takes took past straight =
     let own : List ℕ = payload call in
     let is = is_starved old call may.writing in
     let new : WriterView = record between { life = life.Failed } in
@@ -252,6 +268,7 @@ starves_midway old between call taken may fits takes took past =
         raw = took.kept.raw;
         stays = took.kept.stays;
         size = took.kept.size;
+        appending = took.kept.appending;
         short = took.kept.short;
         is = record {
           pending_is = took.kept.is.pending_is;
@@ -266,21 +283,23 @@ starves_midway old between call taken may fits takes took past =
       no_fault = λ sound. took.no_fault;
       shorts = is.shorts;
       life_is = is.life_is old.life life.Failed (inr refl);
-      place = is.place life.Failed (end_of old.pending) (end_of between.pending) (λ lives. absurd (cc)) (omega (arith, ends));
+      place = is.place life.Failed (end_of old.pending) (end_of between.pending) (λ lives. absurd (cc)) (omega (arith, ends)) (omega (arith, ends, fits));
       wants = λ wanting. takes;
       takes = record {
         taken = taken;
         within = fits;
         place = ends;
         passed = took.passed;
+        most = omega (arith, took.within, long);
+        answered = took.answered;
         owed = took.owed;
         up_to = inr refl;
         told = λ tells. (taken, omega arith, fits, took_bytes old between (take taken own) took tells);
       };
       lays = lays_front old between own taken fits took;
       full = is.full (stream_of (record new { short = false }));
-      straight = is.straight (stream_of (record new { short = false }));
-      starves = λ wanting failed. (past, λ tells. omega (arith, past, took_stands old between (take taken own) took tells));
+      straight = straight;
+      starves = λ wanting failed. took_own old between (take taken own) took past;
       answers = is.answers;
       told = λ tells. out_of_memory refl (
         reaches (file_of (stream_of old)) call (works old call may),
@@ -291,26 +310,27 @@ starves_midway old between call taken may fits takes took past =
           record {
             life_is = refl;
             bytes_are = took_bytes old between (take taken own) took tells;
-            can = ap writer_can took.kept.raw.seekable;
+            can = same_abilities old between took.kept;
             buffering = ap Buffered took.kept.size;
           },
         )),
       );
     })
 
-starves : (old new : WriterView) (call : FileCall) (start : ℕ) → MayWrite old call → old.short ≡ false → start ≡ end_of old.pending → StarvesTaking old (payload call) start new → Answers (stream_of old) call (Refused fault.NoMemory) (stream_of new)
-starves old new call start may whole begins lack =
+starves : (old new : WriterView) (call : FileCall) (start : ℕ) → MayWrite old call → old.short ≡ false → start ≡ end_of old.pending → StarvesTaking old (payload call) start new → OwesNoneOfIts (stream_of old) call (Refused fault.NoMemory) (stream_of (record new { short = false })) → Answers (stream_of old) call (Refused fault.NoMemory) (stream_of new)
+starves old new call start may whole begins lack straight =
     let between : WriterView = lack.between in
     let took : Took old (take lack.taken (payload call)) between = lack.lacks.took in
     let sound : between.short ≡ false = took.kept.short ∙ whole in
+    let owes : WriterView → Type 0 = λ (left : WriterView). OwesNoneOfIts (stream_of old) call (Refused fault.NoMemory) (stream_of (record left { short = false })) in
     ⊎_elim
     (λ before.
     let cut : WriterView = record between { pending = cut_at start between.pending } in
-    let answers = starves_nothing old cut call may lack.lacks.takes (lets_go old between (take lack.taken (payload call)) start begins before.0 took) in
+    let answers = starves_nothing old cut call may lack.lacks.takes (lets_go old between (take lack.taken (payload call)) start begins before.0 took) (subst owes before.1 straight) in
     subst (λ (left : WriterView). Answers (stream_of old) call (Refused fault.NoMemory) (stream_of left)) (said_short cut false sound ∙ sym before.1) answers)
     (λ past.
     let failed : WriterView = record between { life = life.Failed } in
-    let answers = starves_midway old between call lack.taken may lack.fits lack.lacks.takes took (omega (arith, begins, past.0)) in
+    let answers = starves_midway old between call lack.taken may lack.fits lack.lacks.takes took (omega (arith, begins, past.0)) (subst owes past.1 straight) in
     subst (λ (left : WriterView). Answers (stream_of old) call (Refused fault.NoMemory) (stream_of left)) (said_short failed false sound ∙ sym past.1) answers)
     (starves_either start between new lack.starved)
 
@@ -359,5 +379,5 @@ writing_fails first old new call start fault.RawFault begun begins fails straigh
     from_first first old call (Refused fault.RawFault) (stream_of new) begun
     (subst (λ (left : WriterView). Answers (stream_of old) call (Refused fault.RawFault) (stream_of left)) (said_short new false (fails.kept.short ∙ begun.whole)) (faults old new call begun.may fails straight))
 writing_fails first old new call start fault.NoMemory begun begins wants straight =
-    from_first first old call (Refused fault.NoMemory) (stream_of new) begun (starves old new call start begun.may begun.whole begins wants)
+    from_first first old call (Refused fault.NoMemory) (stream_of new) begun (starves old new call start begun.may begun.whole begins wants straight)
 writing_fails first old new call start why begun begins never straight = absurd never

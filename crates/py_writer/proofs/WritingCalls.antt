@@ -6,21 +6,23 @@ use Rattle.py_flat.specs.declared.fault.IoFault.TheVariants as fault
 use Rattle.py_flat.specs.declared.life.Life.{Life}
 use Rattle.py_flat.specs.declared.life.Life.TheVariants as life
 use Rattle.py_flat.specs.Limits.{greatest_place}
+use Rattle.py_flat.specs.Lines.{joined}
 use Rattle.py_flat.specs.FlatFile.{FlatFile, Buffered}
 use Rattle.py_flat.specs.Calls.{FileCall, Write, WriteLines, FileReply, Count, Done, Refused}
 use Rattle.py_flat.specs.Refusals.{refusal, is_getter, is_other_getter, lets_through, life_fault, life_refusal, or_else, refused_if, too_far}
 use Rattle.py_flat.specs.ExactStep.{is_closed, after_write}
 use Rattle.py_flat.specs.BinaryStep.{BinaryStep, payload, asks_end, reaches_raw, does_work, is_live, is_tell, Accepted, WaitedBy, FaultedBy, StarvedBy, TakesPart, FailsWriting, FailsMidway}
 use Rattle.py_raw.specs.RawStream.{WhereTold, NoFault}
-use Rattle.py_stream.specs.Stream.{Stream, file_of, writer_can}
+use Rattle.py_stream.specs.Stream.{Stream, size_of, file_of}
 use Rattle.py_stream.specs.Kinds.{is_reading, reads_on, is_single, takes_space_first, asks_nothing, is_writing, keeps_raw, says_fault, says_no_memory}
-use Rattle.py_stream.specs.Writing.{Takes, LaidInOrder, LaysInOrder, PassesOn, BlocksFull, OwesNoneOfIts}
-use Rattle.py_stream.specs.Answers.{Answers, HasCauses, IsShort, LifeMoves, PlaceMoves, GivesWithin, SeeksByEnd, IsReplyTo, closes_again, refused_by}
+use Rattle.py_stream.specs.Writing.{Takes, LaidInOrder, LaysInOrder, PassesOn, BlocksFull, OwesNoneOfIts, TookOwn}
+use Rattle.py_stream.specs.Answers.{Answers, HasCauses, IsShort, LifeMoves, PlaceStarves, PlaceMoves, GivesWithin, SeeksByEnd, IsReplyTo, closes_again, refused_by}
 use Rattle.py_stream.proofs.Completing.{completes}
 use Rattle.py_stream.proofs.Refusing.{refused_alone, refused_by_life, refused_with}
 use Rattle.py_writer.specs.Pending.{end_of}
-use Rattle.py_writer.specs.Engine.{WriterView, stream_of, IsWriter, KeepsWriter, BeginOutcome, EndsWithin}
-use Rattle.py_writer.proofs.Flat.{is_near, is_placed}
+use Rattle.py_stream.specs.Moving.{EndsWithin}
+use Rattle.py_writer.specs.Engine.{WriterView, stream_of, IsWriter, KeepsWriter, BeginOutcome}
+use Rattle.py_writer.proofs.Flat.{is_near, is_placed, same_abilities}
 
 -- what holds of a writer at each call
 abbrev pub Stands : WriterView → Type 0
@@ -132,20 +134,20 @@ pub record Comes (old : WriterView) (call : FileCall) (reply : FileReply) (short
   pub causes : HasCauses old.raw reply new.raw short
   pub no_fault : says_fault reply ≡ false → NoFault old.raw new.raw
   pub shorts : IsShort call reply short
-  pub life_is : LifeMoves call reply old.life new.life
-  pub place : PlaceMoves call reply new.life (end_of old.pending) (end_of new.pending)
+  pub life_is : LifeMoves (Some old.pending.size) call reply old.life new.life
+  pub place : PlaceMoves (Some old.pending.size) call reply new.life (end_of old.pending) (end_of new.pending)
   pub wants : IsTrue (says_no_memory reply) → IsTrue old.raw.takes_memory
   pub takes : Takes (stream_of old) (payload call) (stream_of (record new { short = short }))
   pub lays : WhereTold old.raw (LaidInOrder (stream_of old) (payload call) new.raw.bytes)
   pub full : BlocksFull call reply (stream_of (record new { short = short }))
   pub straight : OwesNoneOfIts (stream_of old) call reply (stream_of (record new { short = short }))
-  pub starves : IsTrue (says_no_memory reply) → new.life ≡ life.Failed → (end_of old.pending < new.pending.place) × WhereTold old.raw (end_of old.pending < new.raw.place)
-  pub answers : IsReplyTo true call reply
+  pub starves : IsTrue (says_no_memory reply) → new.life ≡ life.Failed → TookOwn (stream_of old) (stream_of (record new { short = short }))
+  pub answers : IsReplyTo (Some old.pending.size) true call reply
   pub told : WhereTold old.raw (BinaryStep (file_of (stream_of old)) call reply short (says_fault reply) (file_of (stream_of new)))
 
 -- what else such a call says by what it is
 record IsGiving (before : Stream) (call : FileCall) (reply : FileReply) (after : Stream) : Type 0 where
-  pub within : GivesWithin before.size call reply
+  pub within : GivesWithin (size_of before) call reply
   pub ends : SeeksByEnd before call reply after
   pub passes : PassesOn before call reply after
   pub lays : LaidInOrder before (payload call) after.raw.bytes → LaysInOrder before call after.raw.bytes
@@ -169,12 +171,12 @@ answers_coming old new call reply short may comes =
     let giving : IsGiving before call reply (stream_of left) = is_giving before call reply (stream_of left) may.writing in
     let unrefused : refused_by before call ≡ None = refused_alone before call (no_end (file_of before) call may.writing) ∙ accepted old call may in
     record {
-      keeps = record { size = comes.kept.size; can = ap writer_can comes.kept.raw.seekable; raw = comes.kept.raw };
+      keeps = record { buffer = ap Some comes.kept.size; can = same_abilities old new comes.kept; raw = comes.kept.raw };
       refused = λ why refuses. absurd (let wrong : None ≡ Some why = sym unrefused ∙ refuses in cc);
       again = λ closes. absurd (cc (no_close before call may.writing));
       shut = λ none closed. comes.kept.stays ∙ closed ∙ ap is_closed may.live ∙ sym comes.is_open;
       causes = comes.causes;
-      counted = λ exact. record { faults = λ sound. comes.no_fault sound exact; waits = λ whole reads. absurd (cc (may.writing)) };
+      counted = λ exact. record { faults = λ sound. comes.no_fault sound exact; waits = λ whole reads. absurd (cc (may.writing)); once = λ shortened reads. absurd (cc (may.writing)) };
       shorts = comes.shorts;
       moves = record { life_is = comes.life_is; place = comes.place; far = comes.kept.is.pending_is.far; within = giving.within };
       ends = giving.ends;
@@ -184,6 +186,7 @@ answers_coming old new call reply short may comes =
       nothing = λ asks. absurd (cc (giving.asks));
       idle = λ keeps. absurd (cc (giving.calls));
       single = λ single. absurd (cc (giving.many));
+      held = λ reads. absurd (cc);
       spares = λ reads. absurd (cc);
       writes = λ can. record {
         takes = λ writing up_to. comes.takes;
@@ -198,8 +201,9 @@ answers_coming old new call reply short may comes =
         rests = λ dead. absurd (dead may.live);
       };
       answer = λ accepts. comes.answers;
-      complete = λ accepts calm sound. completes old.raw new.raw true call reply short comes.causes comes.shorts comes.answers calm sound;
+      complete = λ accepts calm sound. completes old.raw new.raw (Some old.pending.size) true call reply short comes.causes comes.shorts comes.answers calm sound;
       told = comes.told;
+      reach = λ reads. absurd (cc (giving.reads));
       near = λ lives. is_near left comes.kept.is lives;
       hides = λ shortened reads. absurd (cc (giving.reads));
     }
@@ -209,11 +213,11 @@ answers_coming old new call reply short may comes =
 -- all was taken
 pub record IsTaken (old : WriterView) (call : FileCall) : Type 0 where
   pub shorts : IsShort call (taken_reply call) false
-  pub life_is : (before after : Life) → after ≡ before → LifeMoves call (taken_reply call) before after
-  pub place : (current : Life) (before after : ℕ) → after ≡ before + length (payload call) → PlaceMoves call (taken_reply call) current before after
+  pub life_is : (before after : Life) → after ≡ before → LifeMoves (Some old.pending.size) call (taken_reply call) before after
+  pub place : (current : Life) (before after : ℕ) → after ≡ before + length (payload call) → PlaceMoves (Some old.pending.size) call (taken_reply call) current before after
   pub full : (after : Stream) → BlocksFull call (taken_reply call) after
   pub straight : (after : Stream) → OwesNoneOfIts (stream_of old) call (taken_reply call) after
-  pub answers : IsReplyTo true call (taken_reply call)
+  pub answers : IsReplyTo (Some old.pending.size) true call (taken_reply call)
   pub carried : (after : FlatFile) → after ≡ after_write (file_of (stream_of old)) (payload call) → Accepted (file_of (stream_of old)) call (taken_reply call) after
 
 pub is_taken : (old : WriterView) (call : FileCall) → is_writing call ≡ true → IsTaken old call
@@ -225,11 +229,11 @@ is_taken old call writing = of_both (IsTaken old)
 -- the buffer was filled, and some are left over
 pub record IsBlocked (old : WriterView) (taken : ℕ) (call : FileCall) : Type 0 where
   pub shorts : IsShort call (Refused (fault.WouldBlock taken)) true
-  pub life_is : (before after : Life) → after ≡ before → LifeMoves call (Refused (fault.WouldBlock taken)) before after
-  pub place : (current : Life) (before after : ℕ) → taken < length (payload call) → after ≡ before + taken → PlaceMoves call (Refused (fault.WouldBlock taken)) current before after
-  pub full : (after : Stream) → length after.owed.bytes ≡ after.size → BlocksFull call (Refused (fault.WouldBlock taken)) after
+  pub life_is : (before after : Life) → after ≡ before → LifeMoves (Some old.pending.size) call (Refused (fault.WouldBlock taken)) before after
+  pub place : (current : Life) (before after : ℕ) → taken < length (payload call) → after ≡ before + taken → PlaceMoves (Some old.pending.size) call (Refused (fault.WouldBlock taken)) current before after
+  pub full : (after : Stream) → length after.owed.bytes ≡ size_of after → BlocksFull call (Refused (fault.WouldBlock taken)) after
   pub straight : (after : Stream) → OwesNoneOfIts (stream_of old) call (Refused (fault.WouldBlock taken)) after
-  pub answers : IsReplyTo true call (Refused (fault.WouldBlock taken))
+  pub answers : IsReplyTo (Some old.pending.size) true call (Refused (fault.WouldBlock taken))
   pub waited : (after : FlatFile) → TakesPart (file_of (stream_of old)) (payload call) (Refused (fault.WouldBlock taken)) after → WaitedBy (file_of (stream_of old)) call (Refused (fault.WouldBlock taken)) after
 
 pub is_blocked : (old : WriterView) (taken : ℕ) (call : FileCall) → is_writing call ≡ true → IsBlocked old taken call
@@ -241,30 +245,34 @@ is_blocked old taken call writing = of_both (IsBlocked old taken)
 -- the raw failed
 pub record IsFaulted (old : WriterView) (call : FileCall) : Type 0 where
   pub shorts : IsShort call (Refused fault.RawFault) false
-  pub life_is : (before after : Life) → after ≡ life.Failed → LifeMoves call (Refused fault.RawFault) before after
-  pub place : (current : Life) (before after : ℕ) → before ≤ after → PlaceMoves call (Refused fault.RawFault) current before after
+  pub life_is : (before after : Life) → after ≡ life.Failed → LifeMoves (Some old.pending.size) call (Refused fault.RawFault) before after
+  pub place : (current : Life) (before after : ℕ) → before ≤ after → after ≤ before + length (payload call) → PlaceMoves (Some old.pending.size) call (Refused fault.RawFault) current before after
   pub full : (after : Stream) → BlocksFull call (Refused fault.RawFault) after
-  pub answers : IsReplyTo true call (Refused fault.RawFault)
+  pub answers : IsReplyTo (Some old.pending.size) true call (Refused fault.RawFault)
   pub faulted : (after : FlatFile) → FailsWriting (file_of (stream_of old)) call life.Failed after → FaultedBy (file_of (stream_of old)) call after
 
 pub is_faulted : (old : WriterView) (call : FileCall) → is_writing call ≡ true → IsFaulted old call
 is_faulted old call writing = of_both (IsFaulted old)
-    (λ bytes. record { shorts = refl; life_is = λ before after failed. failed; place = λ current before after forth. forth; full = λ after. tt; answers = tt; faulted = λ after fails. fails })
-    (λ lines. record { shorts = refl; life_is = λ before after failed. failed; place = λ current before after forth. forth; full = λ after. tt; answers = tt; faulted = λ after fails. fails })
+    (λ bytes. record { shorts = refl; life_is = λ before after failed. failed; place = λ current before after forth most. (forth, most); full = λ after. tt; answers = tt; faulted = λ after fails. fails })
+    (λ lines. record { shorts = refl; life_is = λ before after failed. failed; place = λ current before after forth most. (forth, most); full = λ after. tt; answers = tt; faulted = λ after fails. fails })
     call writing
+
+-- where it leaves a live stream the place is as it was, and else no further on than what was given
+starved_within : (current : Life) (most before after : ℕ) → (current ≡ life.Live → after ≡ before) → before ≤ after → after ≤ before + most → PlaceStarves current (Some most) before after
+starved_within life.Live most before after stays forth within = stays refl
+starved_within current most before after stays forth within = (forth, within)
 
 -- memory was wanting
 pub record IsStarved (old : WriterView) (call : FileCall) : Type 0 where
   pub shorts : IsShort call (Refused fault.NoMemory) false
-  pub life_is : (before after : Life) → (after ≡ before) ⊎ (after ≡ life.Failed) → LifeMoves call (Refused fault.NoMemory) before after
-  pub place : (current : Life) (before after : ℕ) → (current ≡ life.Live → after ≡ before) → before ≤ after → PlaceMoves call (Refused fault.NoMemory) current before after
+  pub life_is : (before after : Life) → (after ≡ before) ⊎ (after ≡ life.Failed) → LifeMoves (Some old.pending.size) call (Refused fault.NoMemory) before after
+  pub place : (current : Life) (before after : ℕ) → (current ≡ life.Live → after ≡ before) → before ≤ after → after ≤ before + length (payload call) → PlaceMoves (Some old.pending.size) call (Refused fault.NoMemory) current before after
   pub full : (after : Stream) → BlocksFull call (Refused fault.NoMemory) after
-  pub straight : (after : Stream) → OwesNoneOfIts (stream_of old) call (Refused fault.NoMemory) after
-  pub answers : IsReplyTo true call (Refused fault.NoMemory)
+  pub answers : IsReplyTo (Some old.pending.size) true call (Refused fault.NoMemory)
   pub starved : (after : FlatFile) → (after ≡ file_of (stream_of old)) ⊎ FailsMidway (file_of (stream_of old)) call after → StarvedBy (file_of (stream_of old)) call after
 
 pub is_starved : (old : WriterView) (call : FileCall) → is_writing call ≡ true → IsStarved old call
 is_starved old call writing = of_both (IsStarved old)
-    (λ bytes. record { shorts = refl; life_is = λ before after either. either; place = λ current before after stays forth. (stays, forth); full = λ after. tt; straight = λ after. tt; answers = tt; starved = λ after either. either })
-    (λ lines. record { shorts = refl; life_is = λ before after either. either; place = λ current before after stays forth. (stays, forth); full = λ after. tt; straight = λ after. tt; answers = tt; starved = λ after either. either })
+    (λ bytes. record { shorts = refl; life_is = λ before after either. either; place = λ current before after stays forth most. starved_within current (length bytes) before after stays forth most; full = λ after. tt; answers = tt; starved = λ after either. either })
+    (λ lines. record { shorts = refl; life_is = λ before after either. either; place = λ current before after stays forth most. starved_within current (length (joined lines)) before after stays forth most; full = λ after. tt; answers = tt; starved = λ after either. either })
     call writing

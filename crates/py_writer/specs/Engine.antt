@@ -8,17 +8,19 @@ use Rattle.py_flat.specs.Limits.{greatest_place}
 use Rattle.py_flat.specs.Bytes.{lay}
 use Rattle.py_flat.specs.Causes.{Rose}
 use Rattle.py_flat.specs.Refusals.{life_fault}
-use Rattle.py_raw.specs.RawStream.{Raw, Keeps, StaysOpen, WhereTold, NoFault, NoWait, LeavesCounts}
+use Rattle.py_raw.specs.RawStream.{Raw, Keeps, StaysOpen, WhereTold, NoFault, NoWait, WaitsOnce, LeavesCounts, AnswersFor}
 use Rattle.py_writer.specs.declared.writer_data.Passed.{Passed}
 use Rattle.py_writer.specs.declared.writer_data.Passed.TheVariants as passing
 use Rattle.py_stream.specs.Stream.{Stream, writer_can}
 use Rattle.py_stream.specs.Moving.{MovedBy}
 use Rattle.py_writer.specs.Pending.{PendingView, IsPending, end_of, cut_at, none_at}
 
--- the raw, the bytes that it is owed, what became of the stream, and whether a wait cut its last answer short
+-- the raw, the bytes that it is owed, whether the stream appends, what became of it, and whether a wait cut its last answer
+-- short
 pub record WriterView : Type 0 where
   pub raw : Raw
   pub pending : PendingView
+  pub appending : Bool
   pub life : Life
   pub short : Bool
 
@@ -28,9 +30,9 @@ stream_of writer = record {
   raw = writer.raw;
   place = end_of writer.pending;
   raw_place = writer.pending.place;
-  can = writer_can writer.raw.seekable;
+  can = writer_can writer.appending writer.raw.seekable;
   life = writer.life;
-  size = writer.pending.size;
+  buffer = Some writer.pending.size;
   short = writer.short;
   owed = record { bytes = writer.pending.bytes; place = writer.pending.place };
 }
@@ -48,6 +50,7 @@ pub record KeepsWriter (old new : WriterView) : Type 0 where
   pub raw : Keeps old.raw new.raw
   pub stays : StaysOpen old.raw new.raw
   pub size : new.pending.size ≡ old.pending.size
+  pub appending : new.appending ≡ old.appending
   pub short : new.short ≡ old.short
   pub is : IsWriter new.raw new.pending new.life
 
@@ -74,6 +77,7 @@ pub record Took (old : WriterView) (bytes : List ℕ) (new : WriterView) : Type 
   pub no_fault : NoFault old.raw new.raw
   pub passed : ℕ
   pub within : passed ≤ length old.pending.bytes + length bytes
+  pub answered : AnswersFor passed old.raw new.raw
   pub place : new.pending.place ≡ old.pending.place + passed
   pub owed : new.pending.bytes ≡ drop passed (old.pending.bytes ++ bytes)
   pub told : WhereTold old.raw (new.raw.bytes ≡ lay old.raw.bytes old.pending.place (take passed (old.pending.bytes ++ bytes)))
@@ -96,6 +100,7 @@ pub record FailsTaking (old : WriterView) (bytes : List ℕ) (new : WriterView) 
   pub fits : taken ≤ length bytes
   pub passed : ℕ
   pub within : passed ≤ length old.pending.bytes + taken
+  pub answered : AnswersFor passed old.raw new.raw
   pub place : new.pending.place ≡ old.pending.place + passed
   pub owed : new.pending.bytes ≡ drop passed (old.pending.bytes ++ take taken bytes)
   pub told : WhereTold old.raw (LaysFurther old.raw.bytes old.pending.place passed (old.pending.bytes ++ bytes) (old.pending.bytes ++ take taken bytes) new.raw.bytes)
@@ -110,7 +115,7 @@ pub record Lacks (old : WriterView) (bytes : List ℕ) (new : WriterView) : Type
 -- one transfer: some went; or the raw asked to wait
 abbrev pub DrainOutcome : WriterView → Result Passed IoFault → WriterView → Type 0
 DrainOutcome old (Ok passing.All) new = Took old [] new × NoWait old.raw new.raw × (length new.pending.bytes < length old.pending.bytes)
-DrainOutcome old (Ok passing.Waits) new = Took old [] new × (new.pending ≡ old.pending) × Rose old.raw.waits new.raw.waits
+DrainOutcome old (Ok passing.Waits) new = Took old [] new × (new.pending ≡ old.pending) × Rose old.raw.waits new.raw.waits × WaitsOnce old.raw new.raw
 DrainOutcome old (Err fault.RawFault) new = FailsTaking old [] new × NoWait old.raw new.raw × (0 < length new.pending.bytes)
 DrainOutcome old (Err fault.NoMemory) new = IsTrue old.raw.takes_memory × (new ≡ old)
 DrainOutcome old (Err other) new = ⊥
@@ -118,7 +123,7 @@ DrainOutcome old (Err other) new = ⊥
 -- all of it: nothing is owed then; or the raw asked to wait before
 abbrev pub FlushOutcome : WriterView → Result Passed IoFault → WriterView → Type 0
 FlushOutcome old (Ok passing.All) new = Took old [] new × NoWait old.raw new.raw × (new.pending.bytes ≡ [])
-FlushOutcome old (Ok passing.Waits) new = Took old [] new × Rose old.raw.waits new.raw.waits
+FlushOutcome old (Ok passing.Waits) new = Took old [] new × Rose old.raw.waits new.raw.waits × WaitsOnce old.raw new.raw
 FlushOutcome old (Err fault.RawFault) new = FailsTaking old [] new × NoWait old.raw new.raw × (0 < length new.pending.bytes)
 FlushOutcome old (Err fault.NoMemory) new = Lacks old [] new × NoWait old.raw new.raw
 FlushOutcome old (Err other) new = ⊥
@@ -170,9 +175,10 @@ pub record OwesOld (old new : WriterView) : Type 0 where
   pub place : new.pending.bytes ≢ [] → new.pending.place ≡ old.pending.place + passed
   pub moved : end_of new.pending ≢ end_of old.pending → new.pending.bytes ≡ []
 
--- one piece: where the raw fails, none of it is owed
+-- one piece: where the raw fails, or want of memory fails the stream, none of it is owed
 abbrev pub PutOutcome : WriterView → List ℕ → ℕ → Result Bool IoFault → WriterView → Type 0
 PutOutcome old bytes start (Err fault.RawFault) new = FailsTaking old bytes new × OwesOld old new
+PutOutcome old bytes start (Err fault.NoMemory) new = StarvesTaking old bytes start new × (new.life ≡ life.Failed → OwesOld old new)
 PutOutcome old bytes start result new = PutsOutcome old bytes start result new
 
 -- after a wait: what fits is taken
@@ -185,11 +191,6 @@ abbrev pub StopOutcome : IoFault → ℕ → WriterView → WriterView → Type 
 StopOutcome fault.NoMemory start old new = new ≡ starved_from start old
 StopOutcome why start old new = new ≡ old
 
--- where lines end that are written at a place, as far as there is such a place
-abbrev pub EndsWithin : ℕ → Option ℕ → Type 0
-EndsWithin end (Some place) = (place ≡ end) × (end ≤ greatest_place)
-EndsWithin end None = greatest_place < end
-
 -- Moving.
 
 -- where the flat file ends: with what is owed
@@ -200,6 +201,7 @@ end_with pending end = if nat_eq (length pending.bytes) 0 then end else max end 
 pub record AsksEnd (old : WriterView) (end : ℕ) (new : WriterView) : Type 0 where
   pub kept : KeepsWriter old new
   pub counts : LeavesCounts old.raw new.raw
+  pub answered : AnswersFor 0 old.raw new.raw
   pub same : new ≡ record old { raw = new.raw }
   pub within : end ≤ greatest_place
   pub bytes : WhereTold old.raw (new.raw.bytes ≡ old.raw.bytes)
@@ -210,6 +212,7 @@ pub record FailsMoving (old new : WriterView) : Type 0 where
   pub kept : KeepsWriter old new
   pub cause : Rose old.raw.faults new.raw.faults
   pub no_wait : NoWait old.raw new.raw
+  pub answered : AnswersFor 0 old.raw new.raw
   pub failed : new.life ≡ life.Failed
   pub still : new.pending ≡ old.pending
   pub bytes : WhereTold old.raw (new.raw.bytes ≡ old.raw.bytes)
@@ -240,6 +243,7 @@ TargetOutcome old offset whence result new = (result ≡ Err fault.BadWhence) ×
 pub record GoesTo (old : WriterView) (target : ℕ) (new : WriterView) : Type 0 where
   pub kept : KeepsWriter old new
   pub counts : LeavesCounts old.raw new.raw
+  pub answered : AnswersFor 0 old.raw new.raw
   pub live : new.life ≡ life.Live
   pub none : new.pending ≡ none_at target old.pending
   pub bytes : WhereTold old.raw (new.raw.bytes ≡ old.raw.bytes)
@@ -255,7 +259,7 @@ GoOutcome old target (Err other) new = ⊥
 -- a wait is remembered
 abbrev pub PassAllOutcome : WriterView → Result (Unit {0}) IoFault → WriterView → Type 0
 PassAllOutcome old (Ok done) new = Took old [] new × NoWait old.raw new.raw × (new.pending.bytes ≡ [])
-PassAllOutcome old (Err (fault.WouldBlock taken)) new = (taken ≡ 0) × Took old [] (record new { short = old.short }) × (new.short ≡ true) × Rose old.raw.waits new.raw.waits
+PassAllOutcome old (Err (fault.WouldBlock taken)) new = (taken ≡ 0) × Took old [] (record new { short = old.short }) × (new.short ≡ true) × Rose old.raw.waits new.raw.waits × WaitsOnce old.raw new.raw
 PassAllOutcome old (Err fault.RawFault) new = FailsTaking old [] new × NoWait old.raw new.raw × (0 < length new.pending.bytes)
 PassAllOutcome old (Err fault.NoMemory) new = Lacks old [] new × NoWait old.raw new.raw
 PassAllOutcome old (Err other) new = ⊥
@@ -282,7 +286,9 @@ pub record ClosesRaw (old new : WriterView) : Type 0 where
   pub keeps : Keeps old.raw new.raw
   pub closed : new.raw.closed ≡ true
   pub no_wait : NoWait old.raw new.raw
+  pub answered : AnswersFor 0 old.raw new.raw
   pub life_is : new.life ≡ life.Closed
+  pub appending : new.appending ≡ old.appending
   pub still : new.pending ≡ old.pending
   pub short : new.short ≡ old.short
   pub is : IsWriter new.raw new.pending new.life

@@ -9,14 +9,14 @@ use Rattle.py_writer.specs.Pending.{end_of}
 use Rattle.py_writer.specs.Engine.{WriterView, stream_of, BeginDetach}
 
 -- by its engine; of a detached one only what it could do and the buffer's size are left
-abbrev pub writer_of : Option WriterView → Bool → ℕ → Stream
-writer_of (Some engine) seekable size = stream_of engine
-writer_of None seekable size = detached_stream (writer_can seekable) size
+abbrev pub writer_of : Option WriterView → Bool → Bool → ℕ → Stream
+writer_of (Some engine) appending seekable size = stream_of engine
+writer_of None appending seekable size = detached_stream (writer_can appending seekable) (Some size)
 
 -- what is kept beside the engine is the engine's own
-abbrev pub IsBufferedWriter : Option WriterView → Bool → ℕ → Type 0
-IsBufferedWriter (Some engine) seekable size = (engine.raw.seekable ≡ seekable) × (engine.pending.size ≡ size)
-IsBufferedWriter None seekable size = Unit {0}
+abbrev pub IsBufferedWriter : Option WriterView → Bool → Bool → ℕ → Type 0
+IsBufferedWriter (Some engine) appending seekable size = (engine.appending ≡ appending) × (engine.raw.seekable ≡ seekable) × (engine.pending.size ≡ size)
+IsBufferedWriter None appending seekable size = Unit {0}
 
 -- a detaching begins where the raw may be handed back; an engine isn't detached, and its place is one that a stream can have
 abbrev pub BeginsDetach : Option WriterView → Result (Unit {0}) IoFault → Option WriterView → Type 0

@@ -1,9 +1,9 @@
 //! The writer, which is its engine or, once detached, what is left of it.
-ghost use Rattle.std.specs.Prelude.{◌≡◌, ◌≢◌, Some, None, false, vec_len, if◌then◌else◌};
-ghost use Rattle.py_flat.specs.Calls.{Write, WriteLines, Seek, Tell, Flush, Close};
+ghost use Rattle.std.specs.Prelude.{◌≡◌, ◌≢◌, Some, None, true, false, vec_len, if◌then◌else◌};
+ghost use Rattle.py_flat.specs.Calls.{FileCall, Write, WriteLines, Seek, Tell, Flush, Close, Refused};
 ghost use Rattle.py_flat.specs.ExactStep.{is_closed};
 ghost use Rattle.py_stream.specs.Stream.{writer_can};
-ghost use Rattle.py_stream.specs.Answers.{Answers};
+ghost use Rattle.py_stream.specs.Answers.{Answers, RefusesAlone};
 ghost use Rattle.py_stream.specs.Replies.{count_reply, place_reply, done_reply};
 ghost use Rattle.py_stream.specs.Opening.{StandsAtStart, MayOpen, NewOutcome};
 ghost use Rattle.py_stream.specs.Handing.{DetachOutcome, PartsOutcome, LendsRaw};
@@ -20,19 +20,21 @@ use std::marker::Model;
 ///
 /// It is seen as a `Stream`: what its raw shows, its place, what it can do, its life, the buffer's size, whether its last
 /// answer was short, and the bytes that it owes the raw, with the place of the first of them. Counts are bytes; places are
-/// bytes from the start of the stream, from 0 to 9223372036854775807. But for `new` no call takes memory of its own:
-/// `NoMemory` comes only of a raw that takes some.
+/// bytes from the start of the stream, from 0 to 9223372036854775807. But for `new` and `append` no call takes memory of its
+/// own: `NoMemory` comes only of a raw that takes some.
 ///
 /// Each call first answers by the life, with all as it was: `Failed` after a fault, or want of memory that failed it (a `detach`
 /// still works), `Closed` after a `close` (which may be called again), `Detached` after a `detach`. Else, where the raw failed in the call, it is
 /// `RawFault`: the writer is failed from then on (after `close` closed). Where the raw asked to wait, and there is no room
 /// for what is left, it is `WouldBlock`, which says how many bytes were taken. Whatever comes, no byte that was taken is
 /// lost: the raw has it, or it is still owed, and `detach` or `into_parts` hand it back (but what a large write gave the raw
-/// straight away is never owed: the place tells how far it came). What waits and faults leave is this project's choice
+/// straight away is never owed: the place tells how far it came). A writer that is let go while it lives loses what it owes:
+/// close, flush or detach it before. What waits and faults leave is this project's choice
 /// (docs/DECISIONS.md), all else the rule of Python's `io` module.
 #[derive(Drop)]
 pub struct BufferedWriter<R: RawStream> {
     data: Option<WriterData<R>>,
+    appending: bool,
     seekable: bool,
     size: usize,
 }
@@ -44,9 +46,9 @@ impl<R: RawStream> Model for BufferedWriter<R> {
 
     ghost Value = { Stream };
 
-    ghost view = { λ w. writer_of w.data w.seekable w.size };
+    ghost view = { λ w. writer_of w.data w.appending w.seekable w.size };
 
-    ghost invariant = { λ w. IsBufferedWriter w.data w.seekable w.size };
+    ghost invariant = { λ w. IsBufferedWriter w.data w.appending w.seekable w.size };
 }
 
 impl<R: RawStream> BufferedWriter<R> {
@@ -58,13 +60,37 @@ impl<R: RawStream> BufferedWriter<R> {
     /// the last it is as it was.
     pub fn new(alloc: Global, raw: R, buffer_size: usize) -> Result<Self, NewRefused<R>>
         requires start { StandsAtStart (R.shows raw) }
-        ensures { NewOutcome R.shows (λ shown. shown.writable) writer_can raw buffer_size result }
+        ensures { NewOutcome R.shows (λ shown. shown.writable) (writer_can false) raw (Some buffer_size) result }
     {
-        if let Some(fault) = refused_at_first(&raw, raw.writable(), buffer_size) {
+        BufferedWriter::begin(alloc, raw, buffer_size, false)
+    }
+
+    /// A writer that appends to a raw stream: it begins at the end, to which a raw that can seek is moved, and `seek` is
+    /// `Unsupported`. A raw that can't seek stands at place 0. It is what Python's `open` makes for the mode `ab`.
+    ///
+    /// Refused as `new` is; `RawFault` where the raw failed to say where it ends, or to move there.
+    pub fn append(alloc: Global, raw: R, buffer_size: usize) -> Result<Self, NewRefused<R>>
+        requires start { StandsAtStart (R.shows raw) }
+        ensures { NewOutcome R.shows (λ shown. shown.writable) (writer_can true) raw (Some buffer_size) result }
+    {
+        BufferedWriter::begin(alloc, raw, buffer_size, true)
+    }
+
+    /// A writer that appends, or not.
+    fn begin(
+        alloc: Global,
+        raw: R,
+        buffer_size: usize,
+        appending: bool,
+    ) -> Result<Self, NewRefused<R>>
+        requires start { StandsAtStart (R.shows raw) }
+        ensures { NewOutcome R.shows (λ shown. shown.writable) (writer_can appending) raw (Some buffer_size) result }
+    {
+        if let Some(fault) = refused_at_first(&raw, raw.writable(), Some(buffer_size)) {
             return Err(NewRefused { raw, fault });
         }
         match vec![in alloc; 0u8; buffer_size] {
-            Ok(buffer) => BufferedWriter::over(raw, buffer),
+            Ok(buffer) => BufferedWriter::over(raw, buffer, appending),
             Err(_) => Err(NewRefused {
                 raw,
                 fault: IoFault::NoMemory,
@@ -73,17 +99,18 @@ impl<R: RawStream> BufferedWriter<R> {
     }
 
     /// A writer with this buffer.
-    fn over(raw: R, buffer: Vec<u8>) -> Result<Self, NewRefused<R>>
+    fn over(raw: R, buffer: Vec<u8>, appending: bool) -> Result<Self, NewRefused<R>>
         requires start { StandsAtStart (R.shows raw) }
-        requires may { MayOpen (λ shown. shown.writable) (R.shows raw) (vec_len buffer) }
-        ensures { NewOutcome R.shows (λ shown. shown.writable) writer_can raw (vec_len buffer) result }
+        requires may { MayOpen (λ shown. shown.writable) (R.shows raw) (Some (vec_len buffer)) }
+        ensures { NewOutcome R.shows (λ shown. shown.writable) (writer_can appending) raw (Some (vec_len buffer)) result }
     {
         let mut raw = raw;
         let seekable = raw.seekable();
         let size = buffer.len();
-        match first_place(&mut raw) {
+        match first_place(&mut raw, appending) {
             Ok(place) => Ok(BufferedWriter {
-                data: Some(WriterData::new(raw, Pending::new(buffer, place))),
+                data: Some(WriterData::new(raw, Pending::new(buffer, place), appending)),
+                appending,
                 seekable,
                 size,
             }),
@@ -103,8 +130,9 @@ impl<R: RawStream> BufferedWriter<R> {
     ///
     /// `TooFar` where they would end past 9223372036854775807: all is as it was. `WouldBlock { taken }` where the raw asked to
     /// wait and the rest has no room: the first `taken` bytes were taken, and the buffer is full; go on behind them.
-    /// `RawFault`: the writer is failed, and owes none of `bytes`: those that went straight to the raw are told by the place. `NoMemory`, of a raw that takes some, takes nothing, unless the raw has some of
-    /// `bytes` already: then the writer is failed.
+    /// `RawFault`: the writer is failed, and owes none of `bytes`: those that went straight to the raw are told by the place.
+    /// `NoMemory`, of a raw that takes some, takes nothing, unless the raw has some of `bytes` already: then the writer is failed,
+    /// as by a fault.
     pub fn write(&mut self, bytes: &[u8]) -> Result<usize, IoFault>
         ensures { Answers self.old (Write bytes.now) (count_reply result) self.new }
     {
@@ -127,7 +155,7 @@ impl<R: RawStream> BufferedWriter<R> {
     /// Moves to `offset` bytes from the start (`whence` 0), the place (1) or the end (2), past the end too, and answers the new
     /// place. What is owed is passed on before; nothing is owed then.
     ///
-    /// `Unsupported` where the raw can't seek, `BadWhence` for another `whence`, `NegativeSeek` and `TooFar` for a target below
+    /// `Unsupported` where the raw can't seek, and of a writer that appends; `BadWhence` for another `whence`, `NegativeSeek` and `TooFar` for a target below
     /// 0 or past 9223372036854775807: all is as it was. From the end, the raw is asked first where that is, and may fail.
     /// `WouldBlock { taken: 0 }` and `NoMemory` leave the place, and what isn't passed on yet is still owed.
     pub fn seek(&mut self, offset: i64, whence: i32) -> Result<u64, IoFault>
@@ -146,6 +174,18 @@ impl<R: RawStream> BufferedWriter<R> {
         match &mut self.data {
             Some(data) => data.tell(),
             None => Err(IoFault::Detached),
+        }
+    }
+
+    /// The refusal of a call that a writer lacks (one that reads, or that moves what can't seek), or that the life doesn't let
+    /// through: by the life, else
+    /// `Unsupported`, with all as it was. It calls no raw. It is for those who take calls as values.
+    pub fn refuse(&mut self) -> IoFault
+        ensures { (call : FileCall) → RefusesAlone self.old call → Answers self.old call (Refused result) self.new }
+    {
+        match &mut self.data {
+            Some(data) => data.refuse(),
+            None => IoFault::Detached,
         }
     }
 
@@ -198,6 +238,7 @@ impl<R: RawStream> BufferedWriter<R> {
     {
         let BufferedWriter {
             data,
+            appending: _,
             seekable,
             size: _,
         } = self;
@@ -223,7 +264,7 @@ impl<R: RawStream> BufferedWriter<R> {
         true
     }
 
-    /// Whether it can be moved: where its raw can.
+    /// Whether its raw can be moved. A writer that appends isn't moved, whatever its raw can.
     pub fn seekable(&self) -> bool
         ensures { result ≡ self.now.can.seekable }
     {
@@ -249,7 +290,7 @@ impl<R: RawStream> BufferedWriter<R> {
 
     /// How many bytes its buffer holds.
     pub fn buffer_size(&self) -> usize
-        ensures { result ≡ self.now.size }
+        ensures { self.now.buffer ≡ Some result }
     {
         self.size
     }

@@ -4,7 +4,7 @@ ghost use Rattle.py_raw.specs.MemRaw.{shown};
 ghost use Rattle.py_stream.specs.Opening.{StandsAtStart};
 
 use crate::BufferedWriter;
-use py_raw::{Cut, IoFault, Life, MemRaw, RawFlags, RawStream};
+use py_raw::{Cut, Data, IoFault, Life, Lines, MemRaw, RawFlags, RawStream};
 use std::alloc::{AllocError, Global};
 use std::test::Fail;
 
@@ -57,6 +57,30 @@ fn a_write_that_has_to_wait_goes_on_past_what_was_taken(rt: HostRuntime) -> Resu
     let detached = writer.detach()?;
     assert_eq!(rt; detached.raw.bytes_of(), &b"0123456789"[..]);
     assert!(rt; detached.unwritten.is_empty());
+    Ok(())
+}
+
+#[test]
+fn lines_that_have_to_wait_are_counted_over_all_of_them(rt: HostRuntime) -> Result<(), Fail> {
+    let alloc = rt.alloc();
+    // the raw takes three bytes, and then asks to wait
+    let raw = raw_over(alloc, b"", &[Cut::Take(3), Cut::Wait])?;
+    let Ok(writer) = BufferedWriter::new(alloc, raw, 4) else {
+        return Err(Fail::from("refused"));
+    };
+    let mut writer = writer;
+    let mut lines = Lines::new(alloc);
+    for line in [b"abc\n", b"def\n", b"ghi\n"] {
+        lines.push(Data::from_slice(alloc, line)?)?;
+    }
+    assert_eq!(rt;
+        writer.writelines(&lines),
+        Err(IoFault::WouldBlock { taken: 7 })
+    );
+    assert_eq!(rt; writer.write(b"\nghi\n"), Ok(5)); // later: what is left of the lines joined
+    writer.flush()?;
+    let detached = writer.detach()?;
+    assert_eq!(rt; detached.raw.bytes_of(), &b"abc\ndef\nghi\n"[..]);
     Ok(())
 }
 
@@ -176,5 +200,67 @@ fn a_close_that_fails_gives_back_what_is_owed(rt: HostRuntime) -> Result<(), Fai
     assert!(rt; !parts.raw.closed()); // the raw wasn't asked to close
     assert_eq!(rt; parts.unwritten.as_slice(), &b"abc"[..]);
     assert_eq!(rt; parts.place, Some(0));
+    Ok(())
+}
+
+#[test]
+fn a_seek_that_has_to_wait_stands_where_it_stood(rt: HostRuntime) -> Result<(), Fail> {
+    let alloc = rt.alloc();
+    // the raw takes two bytes, and then asks to wait
+    let raw = raw_over(alloc, b"", &[Cut::Take(2), Cut::Wait])?;
+    let Ok(writer) = BufferedWriter::new(alloc, raw, 8) else {
+        return Err(Fail::from("refused"));
+    };
+    let mut writer = writer;
+    assert_eq!(rt; writer.write(b"abcdef"), Ok(6));
+    assert_eq!(rt; writer.seek(0, 0), Err(IoFault::WouldBlock { taken: 0 }));
+    assert_eq!(rt; writer.tell(), Ok(6)); // it stands where it stood
+    assert_eq!(rt; writer.seek(0, 0), Ok(0)); // later
+    let detached = writer.detach()?;
+    assert_eq!(rt; detached.raw.bytes_of(), &b"abcdef"[..]);
+    Ok(())
+}
+
+#[test]
+fn lines_that_fail_are_counted_by_place_and_rest(rt: HostRuntime) -> Result<(), Fail> {
+    let alloc = rt.alloc();
+    // the raw takes three bytes, and then fails
+    let raw = raw_over(alloc, b"", &[Cut::Take(3), Cut::Break(0)])?;
+    let Ok(writer) = BufferedWriter::new(alloc, raw, 4) else {
+        return Err(Fail::from("refused"));
+    };
+    let mut writer = writer;
+    let mut lines = Lines::new(alloc);
+    for line in [b"abc\n", b"def\n", b"ghi\n"] {
+        lines.push(Data::from_slice(alloc, line)?)?;
+    }
+    assert_eq!(rt; writer.writelines(&lines), Err(IoFault::RawFault)); // three lines of four bytes, from place 0
+    let detached = writer.detach()?;
+    assert_eq!(rt; detached.raw.bytes_of(), &b"abc"[..]);
+    assert_eq!(rt; detached.unwritten.as_slice(), &b"\n"[..]);
+    assert_eq!(rt; detached.place, Some(3)); // 3 and 1: the first line was taken, and the others weren't
+    Ok(())
+}
+
+#[test]
+fn a_raw_that_fails_to_close_has_all_the_same(rt: HostRuntime) -> Result<(), Fail> {
+    let alloc = rt.alloc();
+    // its calls are counted from 0: it is asked where it stands, written to, and fails to close
+    let faults = [2u64].to_vec(alloc)?;
+    let flags = RawFlags::able(false, true, true);
+    let raw = MemRaw::new(Vec::new(alloc), flags, Vec::new(alloc), faults);
+    let Ok(writer) = BufferedWriter::new(alloc, raw, 8) else {
+        return Err(Fail::from("refused"));
+    };
+    let mut writer = writer;
+    assert_eq!(rt; writer.write(b"abc"), Ok(3));
+    assert_eq!(rt; writer.close(), Err(IoFault::RawFault));
+    assert_eq!(rt; writer.life(), Life::Closed);
+    let Some(parts) = writer.into_parts() else {
+        return Err(Fail::from("detached"));
+    };
+    assert!(rt; parts.raw.closed()); // closed it is, though it said that it failed
+    assert!(rt; parts.unwritten.is_empty());
+    assert_eq!(rt; parts.raw.bytes_of(), &b"abc"[..]);
     Ok(())
 }

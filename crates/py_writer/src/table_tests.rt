@@ -347,6 +347,8 @@ fn waits_once(
             break;
         }
     }
+    // The wait may come as late as the last of what is owed is passed on.
+    waits = waits || writer.flush() == Err(IoFault::WouldBlock { taken: 0 });
     let parts = parts_of(writer)?;
     let handed = laid(alloc, &parts)?;
     assert!(rt; handed.bytes == flat.bytes && handed.place == flat.place);
@@ -426,7 +428,7 @@ fn a_wait_before_any_transfer_loses_nothing(rt: HostRuntime) -> Result<(), Fail>
     let alloc = rt.alloc();
     for size in 1..10 {
         let mut waited = false;
-        for at in 0..30 {
+        for at in 0..40 {
             let raw = raw_of(alloc, BYTES, plan_but(alloc, at, Cut::Wait)?, &[])?;
             waited = waits_once(&rt, alloc, raw, size, CALLS)? || waited;
         }

@@ -112,6 +112,47 @@ fn a_fault_hands_back_what_is_owed(rt: HostRuntime) -> Result<(), Fail> {
 }
 
 #[test]
+fn a_writer_that_appends_begins_at_the_end_and_stays(rt: HostRuntime) -> Result<(), Fail> {
+    let alloc = rt.alloc();
+    for size in 1..4 {
+        let raw = raw_of(alloc, b"abc", Vec::new(alloc), &[])?;
+        let Ok(writer) = BufferedWriter::append(alloc, raw, size) else {
+            return Err(Fail::from("refused"));
+        };
+        let mut writer = writer;
+        assert_eq!(rt; writer.tell(), Ok(3));
+        assert_eq!(rt; writer.write(b"de"), Ok(2));
+        assert_eq!(rt; writer.seek(0, 0), Err(IoFault::Unsupported));
+        assert_eq!(rt; writer.tell(), Ok(5));
+        assert_eq!(rt; writer.flush(), Ok(()));
+        let Some(parts) = writer.into_parts() else {
+            return Err(Fail::from("detached"));
+        };
+        assert_eq!(rt; parts.raw.bytes_of(), b"abcde".as_slice());
+    }
+    for fails in [0, 1] {
+        let raw = raw_of(alloc, b"abc", Vec::new(alloc), &[fails])?;
+        let Err(refused) = BufferedWriter::append(alloc, raw, 4) else {
+            return Err(Fail::from("taken"));
+        };
+        assert_eq!(rt; refused.fault, IoFault::RawFault);
+        assert_eq!(rt; refused.raw.bytes_of(), b"abc".as_slice());
+    }
+    Ok(())
+}
+
+#[test]
+fn what_a_writer_lacks_is_refused_by_life_and_kind(rt: HostRuntime) -> Result<(), Fail> {
+    let alloc = rt.alloc();
+    let raw = raw_of(alloc, b"", Vec::new(alloc), &[])?;
+    let mut writer = writer_of(&rt, alloc, raw, 4);
+    assert_eq!(rt; writer.refuse(), IoFault::Unsupported);
+    assert_eq!(rt; writer.close(), Ok(()));
+    assert_eq!(rt; writer.refuse(), IoFault::Closed);
+    Ok(())
+}
+
+#[test]
 fn a_raw_that_fails_to_close_leaves_the_writer_closed(rt: HostRuntime) -> Result<(), Fail> {
     let alloc = rt.alloc();
     let raw = raw_of(alloc, b"", Vec::new(alloc), &[1])?;

@@ -25,6 +25,7 @@ pub(crate) enum Passed {
 pub(crate) struct WriterData<R: RawStream> {
     raw: R,
     pending: Pending,
+    appending: bool,
     life: Life,
     short: bool,
 }
@@ -35,20 +36,21 @@ impl<R: RawStream> Model for WriterData<R> {
 
     ghost Value = { WriterView };
 
-    ghost view = { λ d. record { raw = R.shows d.raw; pending = d.pending; life = d.life; short = d.short } };
+    ghost view = { λ d. record { raw = R.shows d.raw; pending = d.pending; appending = d.appending; life = d.life; short = d.short } };
 
     ghost invariant = { λ d. IsWriter (R.shows d.raw) d.pending d.life };
 }
 
 impl<R: RawStream> WriterData<R> {
-    /// An engine over a raw that stands at a place, with nothing owed there.
-    pub fn new(raw: R, pending: Pending) -> Self
+    /// An engine over a raw that stands at a place, with nothing owed there; one that appends is never moved.
+    pub fn new(raw: R, pending: Pending, appending: bool) -> Self
         requires { Begins (R.shows raw) pending }
-        ensures { result ≡ record { raw = R.shows raw; pending = pending; life = Life.Live; short = false } }
+        ensures { result ≡ record { raw = R.shows raw; pending = pending; appending = appending; life = Life.Live; short = false } }
     {
         WriterData {
             raw,
             pending,
+            appending,
             life: Life::Live,
             short: false,
         }
@@ -147,6 +149,7 @@ impl<R: RawStream> WriterData<R> {
         let WriterData {
             raw,
             pending,
+            appending: _,
             life: _,
             short: _,
         } = self;

@@ -1,8 +1,8 @@
 //! Where the stream stands, and moving it.
 ghost use Rattle.std.specs.Prelude.{◌≡◌, ◌≤◌, pos, true, false};
 ghost use Rattle.py_flat.specs.Limits.{greatest_place};
-ghost use Rattle.py_flat.specs.Calls.{Seek, Tell, Flush};
-ghost use Rattle.py_stream.specs.Answers.{Answers};
+ghost use Rattle.py_flat.specs.Calls.{FileCall, Seek, Tell, Flush, Refused};
+ghost use Rattle.py_stream.specs.Answers.{Answers, RefusesAlone};
 ghost use Rattle.py_reader.specs.Engine.{stream_of};
 ghost use Rattle.py_reader.specs.Moving.{TargetOutcome, EndOutcome, GoOutcome};
 ghost use Rattle.py_stream.specs.Replies.{place_reply, done_reply};
@@ -36,6 +36,17 @@ impl<R: RawStream> BufferedData<R> {
             return Err(IoFault::Unsupported);
         }
         Ok(self.window.place())
+    }
+
+    /// Refuses a call by the life, or as one that readers lack.
+    pub fn refuse(&mut self) -> IoFault
+        ensures { (call : FileCall) → RefusesAlone (stream_of self.old) call → Answers (stream_of self.old) call (Refused result) (stream_of self.new) }
+    {
+        let _ = &self.raw;
+        match self.begin() {
+            Ok(()) => IoFault::Unsupported,
+            Err(fault) => fault,
+        }
     }
 
     /// Nothing is to be passed on.

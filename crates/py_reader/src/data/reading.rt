@@ -183,6 +183,7 @@ impl<R: RawStream> BufferedData<R> {
     pub(super) fn copy_ahead(&self, buffer: &mut [u8]) -> usize
         ensures count { result ≡ min (length (ahead_of self.now.window)) (length buffer.old) }
         ensures front { take result buffer.new ≡ take result (ahead_of self.now.window) }
+        ensures behind { drop result buffer.new ≡ drop result buffer.old }
         ensures length { length buffer.new ≡ length buffer.old }
         ensures engine { IsEngine self.now.raw self.now.window self.now.life }
     {

@@ -1,8 +1,8 @@
 //! Where the stream stands, moving it, and passing on what it owes.
 ghost use Rattle.std.specs.Prelude.{◌≡◌, ◌≤◌, pos, true, false, []};
 ghost use Rattle.py_flat.specs.Limits.{greatest_place};
-ghost use Rattle.py_flat.specs.Calls.{Seek, Tell, Flush};
-ghost use Rattle.py_stream.specs.Answers.{Answers};
+ghost use Rattle.py_flat.specs.Calls.{FileCall, Seek, Tell, Flush, Refused};
+ghost use Rattle.py_stream.specs.Answers.{Answers, RefusesAlone};
 ghost use Rattle.py_stream.specs.Replies.{place_reply, done_reply};
 ghost use Rattle.py_writer.specs.Engine.{stream_of, TargetOutcome, EndOutcome, GoOutcome};
 
@@ -17,7 +17,7 @@ impl<R: RawStream> WriterData<R> {
     {
         let _ = &self.raw;
         self.begin()?;
-        if !self.raw.seekable() {
+        if !self.raw.seekable() || self.appending {
             return Err(IoFault::Unsupported);
         }
         let target = self.target(offset, whence)?;
@@ -36,6 +36,17 @@ impl<R: RawStream> WriterData<R> {
             return Err(IoFault::Unsupported);
         }
         Ok(self.pending.end_place())
+    }
+
+    /// Refuses a call by the life, or as one that writers lack.
+    pub fn refuse(&mut self) -> IoFault
+        ensures { (call : FileCall) → RefusesAlone (stream_of self.old) call → Answers (stream_of self.old) call (Refused result) (stream_of self.new) }
+    {
+        let _ = &self.raw;
+        match self.begin() {
+            Ok(()) => IoFault::Unsupported,
+            Err(fault) => fault,
+        }
     }
 
     /// Passes on all that is owed.

@@ -6,26 +6,11 @@ ghost use Rattle.py_flat.specs.Calls.{Write, WriteLines};
 ghost use Rattle.py_stream.specs.Answers.{Answers};
 ghost use Rattle.py_stream.specs.Replies.{count_reply, done_reply};
 ghost use Rattle.py_writer.specs.Pending.{end_of};
-ghost use Rattle.py_writer.specs.Engine.{stream_of, PassOutcome, PutOutcome, PutsOutcome, FitOutcome, StopOutcome, EndsWithin};
+ghost use Rattle.py_writer.specs.Engine.{stream_of, PassOutcome, PutOutcome, PutsOutcome, FitOutcome, StopOutcome};
 
 use super::{Passed, WriterData};
 use py_raw::{GREATEST_PLACE, IoFault, Life, Lines, RawError, RawStream};
-
-/// The place behind all lines that are written at a place, as far as there is one.
-fn end_of_lines(place: u64, lines: &Lines) -> Option<u64>
-    requires { place ≤ greatest_place }
-    ensures { EndsWithin (place + length (joined lines.now)) result }
-{
-    let mut end = place;
-    for line in lines.as_slice() {
-        let count = line.as_slice().len() as u64;
-        if count > GREATEST_PLACE - end {
-            return None;
-        }
-        end += count;
-    }
-    Some(end)
-}
+use py_stream::end_of_lines;
 
 impl<R: RawStream> WriterData<R> {
     /// Takes bytes, and passes on what the buffer has no room for.

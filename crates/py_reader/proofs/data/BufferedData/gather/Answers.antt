@@ -1,7 +1,7 @@
 use Rattle.std.proofs.Common.{rules, ◌≡◌, ℕ, List, Result, Err, sym, ap, ◌∙◌, subst}
 use Rattle.py_flat.specs.declared.fault.IoFault.{IoFault}
 use Rattle.py_flat.specs.Causes.{Rose}
-use Rattle.py_raw.specs.RawStream.{NoWait}
+use Rattle.py_raw.specs.RawStream.{NoWait, WaitsOnce}
 use Rattle.py_reader.specs.declared.data.Stop.{Stop}
 use Rattle.py_reader.specs.Window.{ahead_of}
 use Rattle.py_reader.specs.Engine.{EngineView, Fills, UsesUp, IsLast}
@@ -53,8 +53,8 @@ returns-in-Waits g c =
     let wanted : List ℕ → List ℕ = g.C.Collector.wanted c.loop-used.collector in
     let lent : c.ahead.result.now ≡ ahead_of now.window = c.ahead.ensures ∙ ap (λ (e : EngineView). ahead_of e.window) c.self-in-loop-used.view_is in
     let more : WantsMore wanted (g.C.Collector.collected c.loop-used.collector) c.ahead.result.now (g.C.Collector.collected c.collect.new.self) = rw c.in-Ok-All.field-0-is at c.in-Ok-All.ensures.outcome in
-    let waits : UsesUp now c.fill.new.self × Rose now.raw.waits c.fill.new.self.raw.waits = rw c.in-Waits.is at c.in_ok-fill.ensures in
-    stops_waiting c.args.self.now now _ _ _ c.loop-used.moved c.loop-used.invariant.gathered wanted lent more c.fill.new.self (g.C.Collector.wanted c.args.collector.now) c.loop-used.invariant.same waits.0 waits.1
+    let waits : UsesUp now c.fill.new.self × Rose now.raw.waits c.fill.new.self.raw.waits × WaitsOnce now.raw c.fill.new.self.raw = rw c.in-Waits.is at c.in_ok-fill.ensures in
+    stops_waiting c.args.self.now now _ _ _ c.loop-used.moved c.loop-used.invariant.gathered wanted lent more c.fill.new.self (g.C.Collector.wanted c.args.collector.now) c.loop-used.invariant.same waits.0 waits.1 waits.2
 
 pub returns-in-Err : goal.returns-in-Err
 returns-in-Err g c =
@@ -69,6 +69,7 @@ returns-in_err-fill g c =
     let first : List ℕ → List ℕ = g.C.Collector.wanted c.args.collector.now in
     let after : List ℕ = g.C.Collector.collected c.collect.new.self in
     let more : WantsMore wanted (g.C.Collector.collected c.loop-used.collector) c.ahead.result.now after = rw c.in-Ok-All.field-0-is at c.in-Ok-All.ensures.outcome in
+    let lent : c.ahead.result.now ≡ ahead_of c.loop-used.self.window = c.ahead.ensures ∙ ap (λ (e : EngineView). ahead_of e.window) c.self-in-loop-used.view_is in
     let says : c.from_residual.result ≡ Err c.in_err-fill.field-0.0 = search rules in
     subst (λ (result : Result Stop IoFault). GatherOutcome first c.args.self.now result after c.fill.new.self) (sym says)
-    (fails_so_far c.args.self.now c.loop-used.self c.fill.new.self _ after c.loop-used.moved wanted first c.ahead.result.now c.in_err-fill.field-0.0 c.loop-used.invariant.gathered c.loop-used.invariant.some c.loop-used.invariant.same more c.in_err-fill.ensures)
+    (fails_so_far c.args.self.now c.loop-used.self c.fill.new.self _ after c.loop-used.moved wanted first c.ahead.result.now c.in_err-fill.field-0.0 c.loop-used.invariant.gathered c.loop-used.invariant.some lent c.loop-used.invariant.same more c.in_err-fill.ensures)

@@ -8,7 +8,7 @@ use Rattle.py_reader.proofs.data.BufferedData.gather.Given as goal
 abbrev pub invariant-loop-used : goal.invariant-loop-used
 invariant-loop-used g l = record {
   gathered : GatheredTo l.fn.self (g.C.Collector.collected l.collector) l.moved l.self;
-  some : MovedSome (g.C.Collector.wanted l.fn.collector) l.fn.self l.moved;
+  some : MovedSome (g.C.Collector.wanted l.fn.collector) l.fn.self (g.C.Collector.collected l.collector) l.moved;
   same : (rest : List ℕ) → g.C.Collector.wanted l.collector rest ≡ g.C.Collector.wanted l.fn.collector rest;
   stays : g.C.Collector.is_open l.collector;
 }

@@ -23,7 +23,7 @@ returns-in_err-progress g c =
     let says : bytes_reply c.from_residual.result ≡ Refused c.in_err-progress.field-0.0 = search rules in
     let long : length c.read_into.new.buffer ≡ size = c.in_err-progress.ensures.length ∙ c.deref_mut.ensures.len ∙ c.in-Ok.ensures.len in
     subst (λ (reply : FileReply). Answers (stream_of old) (Read (Some size)) reply (stream_of c.read_into.new.self)) (sym says)
-    (refused_into old c.read_into.new.self (Read (Some size)) size c.read_into.new.buffer c.in_err-progress.field-0.0 refl (λ left. refl) long c.requires.live c.requires.whole (seen_is (g.R.RawStream.shows inside.raw) inside.window inside.life inside.short old c.self.view_is c.self.invariant) c.in_err-progress.ensures.outcome)
+    (refused_into old c.read_into.new.self (Read (Some size)) size c.read_into.new.buffer c.in_err-progress.field-0.0 refl (λ left. refl) refl long c.requires.live c.requires.whole (seen_is (g.R.RawStream.shows inside.raw) inside.window inside.life inside.short old c.self.view_is c.self.invariant) c.in_err-progress.ensures.outcome)
 
 pub returns-then-answers : goal.returns-then-answers
 returns-then-answers g c =

@@ -34,7 +34,7 @@ returns-in_err-progress-clause-answers g c =
     let says : into_reply c.from_residual-in_err-progress.result buffer ≡ Refused c.in_err-progress.field-0.0 = search rules in
     answers_begun first old call (into_reply c.from_residual-in_err-progress.result buffer) (stream_of c.read_into.new.self) c.in_ok-begin.ensures.1
     (subst (λ (reply : FileReply). Answers (stream_of old) call reply (stream_of c.read_into.new.self)) (sym says)
-    (refused_into old c.read_into.new.self call size buffer c.in_err-progress.field-0.0 refl (λ left. refl) c.in_err-progress.ensures.length began.live began.whole began.is c.in_err-progress.ensures.outcome))
+    (refused_into old c.read_into.new.self call size buffer c.in_err-progress.field-0.0 refl (λ left. refl) refl c.in_err-progress.ensures.length began.live began.whole began.is c.in_err-progress.ensures.outcome))
 
 pub returns-then-answers-clause-answers : goal.returns-then-answers-clause-answers
 returns-then-answers-clause-answers g c =

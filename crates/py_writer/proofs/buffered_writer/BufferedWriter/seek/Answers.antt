@@ -1,4 +1,4 @@
-use Rattle.std.proofs.Common.{ℤ, refl, subst₂, to_z-of_z}
+use Rattle.std.proofs.Common.{ℤ, Some, refl, subst₂, to_z-of_z}
 use Rattle.py_flat.specs.Calls.{Seek}
 use Rattle.py_writer.specs.Engine.{stream_of}
 use Rattle.py_stream.specs.Stream.{writer_can}
@@ -12,5 +12,5 @@ pub returns : goal.returns
 returns g c = elim c.match-self.branch [
   | in-Some w ↦ rw (← c.self.view_is, w.in-Some.is, w.result-is, w.self-inside-is)
       (subst₂ (λ (offset : ℤ) (whence : ℤ). Answers (stream_of w.in-Some.data) (Seek offset whence) (place_reply w.seek.result) (stream_of w.seek.new.self)) (to_z-of_z c.ranges.offset) (to_z-of_z c.ranges.whence) w.seek.ensures)
-  | in-None w ↦ rw (← c.self.view_is, w.result-is, w.self-inside-is, w.in-None.is) (detached_answers (writer_can c.self.inside.seekable) c.self.inside.size (Seek c.args.offset c.args.whence) refl refl)
+  | in-None w ↦ rw (← c.self.view_is, w.result-is, w.self-inside-is, w.in-None.is) (detached_answers (writer_can c.self.inside.appending c.self.inside.seekable) (Some c.self.inside.size) (Seek c.args.offset c.args.whence) refl refl)
 ]

@@ -9,7 +9,7 @@ use Rattle.py_writer.proofs.writer_data.WriterData.pass.Goals as goal
 pub returns-in-Ok-Some-eq0 : goal.returns-in-Ok-Some-eq0
 returns-in-Ok-Some-eq0 g c =
     let inside = c.self.inside in
-    let given : WriterView = record { raw = g.R.RawStream.shows inside.raw; pending = inside.pending; life = inside.life; short = inside.short } in
+    let given : WriterView = record { raw = g.R.RawStream.shows inside.raw; pending = inside.pending; appending = inside.appending; life = inside.life; short = inside.short } in
     let raw : Raw = g.R.RawStream.shows c.write.new.self in
     let bytes : List ℕ = c.args.bytes.now in
     let same : given ≡ c.args.self.now = c.self.view_is in

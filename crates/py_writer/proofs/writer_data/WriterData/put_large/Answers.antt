@@ -54,4 +54,4 @@ returns g c =
     let taken : ℕ = c.loop-taken.taken in
     let inside = c.self-2.inside in
     let room : length bytes - taken ≤ c.loop-taken.self.pending.size = omega (arith, c.loop-taken-test.false, c.size.ensures.size, ap (λ (writer : WriterView). writer.pending.size) c.self-in-loop-taken.view_is) in
-    took_rest c.args.self.now c.loop-taken.self (g.R.RawStream.shows inside.raw) inside.pending c.push.new.self inside.life inside.short bytes taken _ (take_rest bytes taken) c.loop-taken.invariant.fits c.loop-taken.invariant.took c.self-2.view_is c.self-2.invariant c.loop-taken.invariant.none c.requires.within c.push.ensures room
+    took_rest c.args.self.now c.loop-taken.self (g.R.RawStream.shows inside.raw) inside.pending c.push.new.self inside.appending inside.life inside.short bytes taken _ (take_rest bytes taken) c.loop-taken.invariant.fits c.loop-taken.invariant.took c.self-2.view_is c.self-2.invariant c.loop-taken.invariant.none c.requires.within c.push.ensures room
