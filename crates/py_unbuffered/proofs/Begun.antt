@@ -1,0 +1,73 @@
+-- The engine with which a call begins, and what a stream without a buffer refuses by itself.
+use Rattle.std.proofs.Common.{◌≡◌, true, false, Some, Err, Ok, refl, sym, ap, subst, arith}
+use Rattle.std.proofs.Math.Bool.{and-false}
+use Rattle.py_flat.specs.declared.fault.IoFault.{IoFault}
+use Rattle.py_flat.specs.declared.fault.IoFault.TheVariants as fault
+use Rattle.py_flat.specs.declared.life.Life.{Life}
+use Rattle.py_flat.specs.declared.life.Life.TheVariants as life
+use Rattle.py_flat.specs.Calls.{FileCall, FileReply, Refused}
+use Rattle.py_flat.specs.FlatFile.{Unbuffered}
+use Rattle.py_flat.specs.Refusals.{refusal, is_getter, is_other_getter, is_close, is_detach, lets_through, life_fault, lacks}
+use Rattle.py_flat.specs.BinaryStep.{asks_end}
+use Rattle.py_stream.specs.Stream.{Stream, file_of}
+use Rattle.py_stream.specs.Answers.{Answers, IsNear, closes_again}
+use Rattle.py_stream.proofs.Begun.{answers_whole}
+use Rattle.py_stream.proofs.Refused.{is_own}
+use Rattle.py_stream.proofs.Refusing.{IsPlaced, refused_with as stream_refuses, refused_by_life as life_refuses, refused_by_ability as ability_refuses}
+use Rattle.py_unbuffered.specs.Engine.{EngineView, stream_of, IsEngine, BeginOutcome}
+
+-- what holds of every engine
+abbrev pub Stands : EngineView → Type 0
+Stands engine = IsEngine engine.raw engine.place engine.access engine.life
+
+-- a live stream's raw stands at its place
+pub is_near : (engine : EngineView) → Stands engine → engine.life ≡ life.Live → IsNear (stream_of engine)
+is_near engine stands live = record { ahead = omega arith; behind = omega arith; stands = λ tells. stands.stands tells live }
+
+-- where a stream is, and its raw
+pub is_placed : (engine : EngineView) → Stands engine → IsPlaced (stream_of engine)
+is_placed engine stands = record { far = stands.far; near = is_near engine stands }
+
+-- the engine with which a call begins
+abbrev pub begun : EngineView → EngineView
+begun engine = record engine { short = false }
+
+-- a call of it is one of the engine that it was
+pub answers_begun : (first : EngineView) (call : FileCall) (reply : FileReply) (after : Stream) → Answers (stream_of (begun first)) call reply after → Answers (stream_of first) call reply after
+answers_begun first call reply after answers = answers_whole (stream_of first) after call reply answers
+
+-- the same, for an engine that is known to be the begun one
+pub answers_from : (first now : EngineView) (call : FileCall) (reply : FileReply) (after : Stream) → now ≡ begun first → Answers (stream_of now) call reply after → Answers (stream_of first) call reply after
+answers_from first now call reply after is answers = answers_begun first call reply after (subst (λ (engine : EngineView). Answers (stream_of engine) call reply after) is answers)
+
+-- A refusal of the stream's own leaves all as it was.
+pub refused_with : (old new : EngineView) (call : FileCall) (why : IoFault) → Stands old → refusal (file_of (stream_of old)) call ≡ Some why → asks_end (file_of (stream_of old)) call ≡ false → is_own why ≡ true → closes_again (stream_of old) call ≡ false → new ≡ begun old → Answers (stream_of old) call (Refused why) (stream_of new)
+refused_with old new call why stands refuses alone own first same = stream_refuses (stream_of old) (stream_of new) call why (is_placed old stands) refuses alone own first (ap stream_of same)
+
+-- a life that refuses anything lets nothing through but a close
+pub shut_by_life : (current : Life) (call : FileCall) (why : IoFault) → is_close call ≡ false → life_fault current ≡ Some why → lets_through current Unbuffered call ≡ false
+shut_by_life life.Live call why closes by = absurd (cc)
+shut_by_life life.Failed call why closes by = and-false (is_detach call)
+shut_by_life life.Closed call why closes by = closes
+shut_by_life life.Detached call why closes by = refl
+
+-- A call that the life doesn't let through.
+pub refused_by_life : (old new : EngineView) (call : FileCall) (why : IoFault) → Stands old → is_getter call ≡ false → is_other_getter call ≡ false → lets_through old.life Unbuffered call ≡ false → BeginOutcome old (Err why) new → Answers (stream_of old) call (Refused why) (stream_of new)
+refused_by_life old new call why stands works own stopped began = life_refuses (stream_of old) (stream_of new) call why (is_placed old stands) works own stopped began.0 (ap stream_of began.1)
+
+-- and each but a close that `begin` refuses
+pub begins_in_vain : (old new : EngineView) (call : FileCall) (why : IoFault) → Stands old → is_getter call ≡ false → is_other_getter call ≡ false → is_close call ≡ false → BeginOutcome old (Err why) new → Answers (stream_of old) call (Refused why) (stream_of new)
+begins_in_vain old new call why stands works own closes began = refused_by_life old new call why stands works own (shut_by_life old.life call why closes began.0) began
+
+-- A call of a live stream that lacks what the call needs.
+pub refused_by_ability : (old new : EngineView) (call : FileCall) → Stands old → is_getter call ≡ false → is_other_getter call ≡ false → old.life ≡ life.Live → lacks (file_of (stream_of old)) call ≡ true → new ≡ begun old → Answers (stream_of old) call (Refused fault.Unsupported) (stream_of new)
+refused_by_ability old new call stands works own live wants same = ability_refuses (stream_of old) (stream_of new) call (is_placed old stands) works own live wants (ap stream_of same)
+
+-- what is known of an engine with which a call begins that its life lets through
+pub record Begun (engine : EngineView) : Type 0 where
+  pub live : engine.life ≡ life.Live
+  pub whole : engine.short ≡ false
+  pub stands : Stands engine
+
+pub begun_live : (first now : EngineView) → Stands first → BeginOutcome first (Ok tt) now → Begun now
+begun_live first now stands began = subst Begun (sym began.1) (record { live = began.0; whole = refl; stands = stands })

@@ -1,0 +1,13 @@
+pub mod Begun
+pub mod Steps
+pub mod Flushing
+pub mod Reading
+pub mod Failing
+pub mod Once
+pub mod Several
+pub mod Gathering
+pub mod Putting
+pub mod Refused
+pub mod Seeking
+pub mod WriteAnswers
+pub mod Lacking

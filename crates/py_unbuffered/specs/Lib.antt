@@ -1,0 +1,2 @@
+pub mod Unbuffered
+pub mod Engine

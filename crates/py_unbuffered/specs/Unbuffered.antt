@@ -1,0 +1,19 @@
+-- A stream without a buffer: what it can do, by what it is opened for.
+use Rattle.std.specs.Prelude.{Bool, true, false}
+use Rattle.py_flat.specs.FlatFile.{Abilities}
+use Rattle.py_raw.specs.RawStream.{Raw}
+use Rattle.py_stream.specs.Stream.{reader_can, writer_can}
+use Rattle.py_unbuffered.specs.declared.access.Access.{Access}
+use Rattle.py_unbuffered.specs.declared.access.Access.TheVariants as access
+
+-- what it can do, by whether its raw can seek
+abbrev pub can_of : Access → Bool → Abilities
+can_of access.Read seekable = reader_can seekable
+can_of access.Write seekable = writer_can false seekable
+can_of access.Append seekable = writer_can true seekable
+
+-- whether a raw is able to do what it is opened for
+abbrev pub is_able : Access → Raw → Bool
+is_able access.Read raw = raw.readable
+is_able access.Write raw = raw.writable
+is_able access.Append raw = raw.writable

@@ -1,0 +1,144 @@
+//! Where the stream stands, moving it, and closing it.
+ghost use Rattle.std.specs.Prelude.{◌≡◌, ◌≤◌, pos, true, false};
+ghost use Rattle.py_flat.specs.declared.life.Life.TheVariants.{Live};
+ghost use Rattle.py_flat.specs.Limits.{greatest_place};
+ghost use Rattle.py_flat.specs.Calls.{FileCall, Seek, Tell, Flush, Close, Refused};
+ghost use Rattle.py_stream.specs.Answers.{Answers, RefusesAlone};
+ghost use Rattle.py_stream.specs.Replies.{place_reply, done_reply};
+ghost use Rattle.py_unbuffered.specs.Engine.{stream_of, TargetOutcome, EndOutcome, GoOutcome};
+
+use super::UnbufferedData;
+use crate::access::Access;
+use py_raw::{IoFault, Life, RawError, RawStream};
+use py_stream::moved_by;
+
+impl<R: RawStream> UnbufferedData<R> {
+    /// Moves by an offset from the start (0), the place (1) or the end (2).
+    pub fn seek(&mut self, offset: i64, whence: i32) -> Result<u64, IoFault>
+        ensures { Answers (stream_of self.old) (Seek offset whence) (place_reply result) (stream_of self.new) }
+    {
+        let _ = &self.raw;
+        self.begin()?;
+        if !self.raw.seekable() || matches!(self.access, Access::Append) {
+            return Err(IoFault::Unsupported);
+        }
+        let target = self.target(offset, whence)?;
+        self.go_to(target)?;
+        Ok(target)
+    }
+
+    /// The place, where the stream can be moved.
+    pub fn tell(&mut self) -> Result<u64, IoFault>
+        ensures { Answers (stream_of self.old) Tell (place_reply result) (stream_of self.new) }
+    {
+        let _ = &self.raw;
+        self.begin()?;
+        if !self.raw.seekable() {
+            return Err(IoFault::Unsupported);
+        }
+        Ok(self.place)
+    }
+
+    /// Refuses a call by the life, or as one that the stream lacks.
+    pub fn refuse(&mut self) -> IoFault
+        ensures { (call : FileCall) → RefusesAlone (stream_of self.old) call → Answers (stream_of self.old) call (Refused result) (stream_of self.new) }
+    {
+        let _ = &self.raw;
+        match self.begin() {
+            Ok(()) => IoFault::Unsupported,
+            Err(fault) => fault,
+        }
+    }
+
+    /// Nothing is to be passed on.
+    pub fn flush(&mut self) -> Result<(), IoFault>
+        ensures { Answers (stream_of self.old) Flush (done_reply result) (stream_of self.new) }
+    {
+        let _ = &self.raw;
+        self.begin()
+    }
+
+    /// Closes the raw. A closed stream stays so.
+    pub fn close(&mut self) -> Result<(), IoFault>
+        ensures { Answers (stream_of self.old) Close (done_reply result) (stream_of self.new) }
+    {
+        if matches!(self.life, Life::Closed) {
+            self.short = false;
+            return Ok(());
+        }
+        self.begin()?;
+        self.close_raw()
+    }
+
+    /// Closes the raw of a live stream. A fault leaves the stream closed too.
+    fn close_raw(&mut self) -> Result<(), IoFault>
+        requires live { self.old.life ≡ Live }
+        requires whole { self.old.short ≡ false }
+        ensures { Answers (stream_of self.old) Close (done_reply result) (stream_of self.new) }
+    {
+        match self.raw.close() {
+            Ok(()) => {
+                self.life = Life::Closed;
+                Ok(())
+            }
+            Err(RawError::Fault) => {
+                self.life = Life::Closed;
+                Err(IoFault::RawFault)
+            }
+            Err(RawError::Memory) => Err(IoFault::NoMemory),
+        }
+    }
+
+    /// Where a seek goes.
+    fn target(&mut self, offset: i64, whence: i32) -> Result<u64, IoFault>
+        requires live { self.old.life ≡ Live }
+        requires can { self.old.raw.seekable ≡ true }
+        ensures { TargetOutcome self.old offset whence result self.new }
+    {
+        match whence {
+            0 => moved_by(0, offset),
+            1 => moved_by(self.place, offset),
+            2 => {
+                let end = self.end()?;
+                moved_by(end, offset)
+            }
+            _ => Err(IoFault::BadWhence),
+        }
+    }
+
+    /// Where the raw ends.
+    fn end(&mut self) -> Result<u64, IoFault>
+        requires live { self.old.life ≡ Live }
+        requires can { self.old.raw.seekable ≡ true }
+        ensures { EndOutcome self.old result self.new }
+    {
+        match self.raw.end() {
+            Ok(end) => Ok(end),
+            Err(RawError::Fault) => {
+                self.life = Life::Failed;
+                Err(IoFault::RawFault)
+            }
+            Err(RawError::Memory) => Err(IoFault::NoMemory),
+        }
+    }
+
+    /// Moves the raw to a place.
+    fn go_to(&mut self, target: u64) -> Result<(), IoFault>
+        requires live { self.old.life ≡ Live }
+        requires can { self.old.raw.seekable ≡ true }
+        requires within { target ≤ greatest_place }
+        ensures { GoOutcome self.old target result self.new }
+    {
+        match self.raw.seek(target) {
+            Ok(()) => {
+                self.place = target;
+                Ok(())
+            }
+            Err(RawError::Fault) => {
+                self.life = Life::Failed;
+                Err(IoFault::RawFault)
+            }
+            Err(RawError::Memory) => Err(IoFault::NoMemory),
+        }
+    }
+}

@@ -1,0 +1,122 @@
+//! Readings of one transfer, and of all that is left.
+ghost use Rattle.std.specs.Prelude.{◌≡◌, [], false, length, max};
+ghost use Rattle.py_flat.specs.declared.life.Life.TheVariants.{Live};
+ghost use Rattle.py_flat.specs.Calls.{Read, ReadInto};
+ghost use Rattle.py_stream.specs.Answers.{Answers};
+ghost use Rattle.py_stream.specs.Replies.{bytes_reply, into_reply, CountFits, KeepsBuffer};
+ghost use Rattle.py_unbuffered.specs.declared.access.Access.TheVariants as access;
+ghost use Rattle.py_unbuffered.specs.Engine.{stream_of, RestOutcome};
+
+use super::{Stop, UnbufferedData};
+use py_raw::{IoFault, RawStream};
+use std::alloc::Global;
+
+/// How many bytes the next transfer of a reading up to the end asks for, after so many: 8192, and then as many as came,
+/// so that the room doubles.
+fn next_chunk(came: usize) -> usize
+    ensures { result ≡ max came 8192 }
+{
+    came.max(8192)
+}
+
+impl<R: RawStream> UnbufferedData<R> {
+    /// Reads at most so many bytes, or all that are left.
+    pub fn read(&mut self, alloc: Global, size: Option<usize>) -> Result<Option<Vec<u8>>, IoFault>
+        ensures { Answers (stream_of self.old) (Read size) (bytes_reply result) (stream_of self.new) }
+    {
+        let _ = &self.raw;
+        self.begin()?;
+        if !self.reads() {
+            return Err(IoFault::Unsupported);
+        }
+        match size {
+            Some(size) => self.read_once(alloc, size),
+            None => self.read_rest(alloc),
+        }
+    }
+
+    /// Reads into a buffer, by one transfer.
+    pub fn readinto(&mut self, buffer: &mut [u8]) -> Result<Option<usize>, IoFault>
+        ensures answers { Answers (stream_of self.old) (ReadInto (length buffer.old)) (into_reply result buffer.new) (stream_of self.new) }
+        ensures length { length buffer.new ≡ length buffer.old }
+        ensures fits { CountFits result buffer.new }
+        ensures refused { KeepsBuffer self.old.life buffer.old buffer.new }
+    {
+        let _ = &self.raw;
+        self.begin()?;
+        if !self.reads() {
+            return Err(IoFault::Unsupported);
+        }
+        let count = self.transfer(buffer, false)?;
+        self.short = count.is_none();
+        Ok(count)
+    }
+
+    /// Reads into a vector by one transfer; its space is taken first.
+    fn read_once(&mut self, alloc: Global, size: usize) -> Result<Option<Vec<u8>>, IoFault>
+        requires live { self.old.life ≡ Live }
+        requires reads { self.old.access ≡ access.Read }
+        requires whole { self.old.short ≡ false }
+        ensures { Answers (stream_of self.old) (Read (Some size)) (bytes_reply result) (stream_of self.new) }
+    {
+        let _ = &self.raw;
+        let Ok(bytes) = vec![in alloc; 0u8; size] else {
+            return Err(IoFault::NoMemory);
+        };
+        let mut bytes = bytes;
+        match self.transfer(&mut bytes, false)? {
+            Some(count) => {
+                bytes.truncate(count);
+                Ok(Some(bytes))
+            }
+            None => {
+                self.short = true;
+                Ok(None)
+            }
+        }
+    }
+
+    /// Reads all that is left.
+    fn read_rest(&mut self, alloc: Global) -> Result<Option<Vec<u8>>, IoFault>
+        requires live { self.old.life ≡ Live }
+        requires reads { self.old.access ≡ access.Read }
+        requires whole { self.old.short ≡ false }
+        ensures { Answers (stream_of self.old) (Read None) (bytes_reply result) (stream_of self.new) }
+    {
+        let _ = &self.raw;
+        let mut bytes = Vec::new(alloc);
+        let stop = self.read_all(&mut bytes)?;
+        if self.answers(stop, bytes.is_empty()) {
+            Ok(Some(bytes))
+        } else {
+            Ok(None)
+        }
+    }
+
+    /// Reads all that is left into a vector that has nothing yet. Its space is taken before each transfer.
+    fn read_all(&mut self, bytes: &mut Vec<u8>) -> Result<Stop, IoFault>
+        requires live { self.old.life ≡ Live }
+        requires reads { self.old.access ≡ access.Read }
+        requires none { bytes.old.items ≡ [] }
+        ensures { RestOutcome self.old result bytes.new.items self.new }
+    {
+        let _ = &self.raw;
+        loop {
+            let held = bytes.len();
+            if bytes.resize(held + next_chunk(held), 0).is_err() {
+                return Err(self.starve(held > 0));
+            }
+            match self.transfer(&mut bytes[held..], held > 0)? {
+                Some(0) => {
+                    bytes.truncate(held);
+                    return Ok(Stop::End);
+                }
+                Some(count) => bytes.truncate(held + count),
+                None => {
+                    bytes.truncate(held);
+                    return Ok(Stop::Waits);
+                }
+            }
+        }
+    }
+}

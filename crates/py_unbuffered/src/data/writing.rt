@@ -1,0 +1,116 @@
+//! Writing.
+ghost use Rattle.std.specs.Prelude.{◌≡◌, ◌≢◌, ◌+◌, ◌≤◌, false, length};
+ghost use Rattle.py_flat.specs.declared.life.Life.TheVariants.{Live};
+ghost use Rattle.py_flat.specs.Limits.{greatest_place};
+ghost use Rattle.py_flat.specs.Lines.{joined};
+ghost use Rattle.py_flat.specs.Calls.{Write, WriteLines};
+ghost use Rattle.py_stream.specs.Answers.{Answers};
+ghost use Rattle.py_stream.specs.Replies.{taken_reply, done_reply};
+ghost use Rattle.py_unbuffered.specs.declared.access.Access.TheVariants as access;
+ghost use Rattle.py_unbuffered.specs.Engine.{stream_of, PutOutcome, WriteOutcome};
+
+use super::UnbufferedData;
+use py_raw::{GREATEST_PLACE, IoFault, Life, Lines, RawError, RawStream};
+use py_stream::end_of_lines;
+
+impl<R: RawStream> UnbufferedData<R> {
+    /// Hands bytes to the raw, by one transfer.
+    pub fn write(&mut self, bytes: &[u8]) -> Result<Option<usize>, IoFault>
+        ensures { Answers (stream_of self.old) (Write bytes.now) (taken_reply result) (stream_of self.new) }
+    {
+        let _ = &self.raw;
+        self.begin()?;
+        if self.reads() {
+            return Err(IoFault::Unsupported);
+        }
+        if bytes.len() as u64 > GREATEST_PLACE - self.place {
+            return Err(IoFault::TooFar);
+        }
+        let count = self.put(bytes, false)?;
+        self.short = count.is_none();
+        Ok(count)
+    }
+
+    /// Hands lines to the raw, one after another, each whole.
+    pub fn writelines(&mut self, lines: &Lines) -> Result<(), IoFault>
+        ensures { Answers (stream_of self.old) (WriteLines lines.now) (done_reply result) (stream_of self.new) }
+    {
+        let _ = &self.raw;
+        self.begin()?;
+        if self.reads() {
+            return Err(IoFault::Unsupported);
+        }
+        let start = self.place;
+        if end_of_lines(start, lines).is_none() {
+            return Err(IoFault::TooFar);
+        }
+        if self.write_lines(lines, start)? {
+            return Ok(());
+        }
+        self.short = true;
+        Err(IoFault::WouldBlock {
+            taken: self.place - start,
+        })
+    }
+
+    /// Hands each line to the raw, for a call that began at a place; false where the raw asked to wait.
+    fn write_lines(&mut self, lines: &Lines, start: u64) -> Result<bool, IoFault>
+        requires live { self.old.life ≡ Live }
+        requires writes { self.old.access ≢ access.Read }
+        requires start { start ≡ self.old.place }
+        requires within { start + length (joined lines.now) ≤ greatest_place }
+        ensures { WriteOutcome self.old (joined lines.now) start result self.new }
+    {
+        let _ = &self.raw;
+        for line in lines.as_slice() {
+            if !self.write_line(line.as_slice(), start)? {
+                return Ok(false);
+            }
+        }
+        Ok(true)
+    }
+
+    /// Hands all of a line to the raw, for a call that began at a place; false where the raw asked to wait.
+    fn write_line(&mut self, line: &[u8], start: u64) -> Result<bool, IoFault>
+        requires live { self.old.life ≡ Live }
+        requires writes { self.old.access ≢ access.Read }
+        requires start { start ≤ self.old.place }
+        requires within { self.old.place + length line.now ≤ greatest_place }
+        ensures { WriteOutcome self.old line.now start result self.new }
+    {
+        let _ = &self.raw;
+        let mut taken = 0;
+        while taken < line.len() {
+            match self.put(&line[taken..], self.place > start)? {
+                Some(count) => taken += count,
+                None => return Ok(false),
+            }
+        }
+        Ok(true)
+    }
+
+    /// One transfer to the raw. `moved` tells whether bytes had moved in this call.
+    fn put(&mut self, bytes: &[u8], moved: bool) -> Result<Option<usize>, IoFault>
+        requires live { self.old.life ≡ Live }
+        requires writes { self.old.access ≢ access.Read }
+        requires within { self.old.place + length bytes.now ≤ greatest_place }
+        ensures { PutOutcome self.old moved bytes.now result self.new }
+    {
+        match self.raw.write(bytes) {
+            Ok(Some(0)) if !bytes.is_empty() => {
+                self.life = Life::Failed;
+                Err(IoFault::RawFault)
+            }
+            Ok(Some(count)) => {
+                self.place += count as u64;
+                Ok(Some(count))
+            }
+            Ok(None) => Ok(None),
+            Err(RawError::Fault) => {
+                self.life = Life::Failed;
+                Err(IoFault::RawFault)
+            }
+            Err(RawError::Memory) => Err(self.starve(moved)),
+        }
+    }
+}

@@ -1,0 +1,12 @@
+//! Binary streams without a buffer: each call goes to the raw stream below at once.
+#![tactic(auto)]
+
+mod access;
+mod data;
+#[cfg(test)]
+mod tests;
+mod unbuffered_stream;
+
+pub use access::Access;
+pub use py_stream::{Detached, NewRefused};
+pub use unbuffered_stream::UnbufferedStream;
