@@ -353,6 +353,15 @@ impl<R: RawStream> BufferedReader<R> {
         }
     }
 
+    /// Forgets that a wait cut the last call short. It is for those who answer a call by themselves, which then is the last one.
+    pub fn forget_wait(&mut self)
+        ensures { self.new ≡ record self.old { short = false } }
+    {
+        if let Some(data) = &mut self.data {
+            data.forget_wait();
+        }
+    }
+
     /// The raw, lent; `None` exactly where it was handed back.
     pub fn raw(&self) -> Option<&R>
         ensures { LendsRaw R.shows self.now result }

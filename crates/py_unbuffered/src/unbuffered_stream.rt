@@ -1,5 +1,5 @@
 //! The stream without a buffer.
-ghost use Rattle.std.specs.Prelude.{◌≡◌, length};
+ghost use Rattle.std.specs.Prelude.{◌≡◌, false, length};
 ghost use Rattle.py_flat.specs.Calls.{FileCall, Read, ReadLine, ReadLines, ReadInto, Write, WriteLines, Seek, Tell, Flush, Close, Refused};
 ghost use Rattle.py_flat.specs.ExactStep.{is_closed};
 ghost use Rattle.py_stream.specs.Answers.{Answers, RefusesAlone};
@@ -250,6 +250,13 @@ impl<R: RawStream> UnbufferedStream<R> {
         ensures { result ≡ self.now.short }
     {
         self.data.short()
+    }
+
+    /// Forgets that a wait cut the last call short. It is for those who answer a call by themselves, which then is the last one.
+    pub fn forget_wait(&mut self)
+        ensures { self.new ≡ record self.old { short = false } }
+    {
+        self.data.forget_wait();
     }
 
     /// The raw, lent.

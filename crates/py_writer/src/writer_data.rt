@@ -70,6 +70,13 @@ impl<R: RawStream> WriterData<R> {
         self.short
     }
 
+    /// Forgets that a wait cut the last answer short.
+    pub fn forget_wait(&mut self)
+        ensures { self.new ≡ record self.old { short = false } }
+    {
+        self.short = false;
+    }
+
     /// The raw, lent.
     pub fn raw(&self) -> &R
         ensures raw { R.shows result.now ≡ self.now.raw }

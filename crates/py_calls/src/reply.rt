@@ -1,7 +1,7 @@
 //! The replies of a session.
 ghost use Rattle.std.specs.Prelude.{◌≡◌, IfOk};
-ghost use Rattle.py_open.specs.Calls.{said};
-ghost use Rattle.py_open.specs.Session.{says_wait, says_fault};
+ghost use Rattle.py_calls.specs.Calls.{said};
+ghost use Rattle.py_stream.specs.Kinds.{says_wait, says_fault};
 
 use py_flat::{Chars, Data, IoFault, Lines};
 use std::alloc::{AllocError, Global};

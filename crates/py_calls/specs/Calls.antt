@@ -1,0 +1,55 @@
+-- A session's calls and replies as the models see them.
+use Rattle.py_flat.specs.Calls.{FileCall, FileReply, Bytes, Text, Lines, Count, Place, Done, NotReady, Flag, Name, Unwritten, Refused}
+use Rattle.py_flat.specs.Calls as file
+use Rattle.py_plain.specs.TextStep as plain
+use Rattle.py_plain.specs.TextStep.{TextCall}
+use Rattle.py_calls.specs.declared.call.Call.{Call}
+use Rattle.py_calls.specs.declared.call.Call.TheVariants as call
+use Rattle.py_calls.specs.declared.reply.Reply.{Reply}
+use Rattle.py_calls.specs.declared.reply.Reply.TheVariants as reply
+
+-- a call of a text session; so far a text has no others
+abbrev pub text_call : Call → TextCall
+text_call (call.Read size) = plain.Read size
+text_call (call.ReadLine limit) = plain.ReadLine limit
+text_call call.Close = plain.Close
+text_call _ = plain.OtherKind
+
+-- a call of a binary session; so far it has no `truncate`
+abbrev pub file_call : Call → FileCall
+file_call (call.Read size) = file.Read size
+file_call (call.Read1 size) = file.Read1 size
+file_call (call.ReadLine limit) = file.ReadLine limit
+file_call (call.ReadLines hint) = file.ReadLines hint
+file_call call.Peek = file.Peek
+file_call (call.ReadInto size) = file.ReadInto size
+file_call (call.ReadInto1 size) = file.ReadInto1 size
+file_call (call.Write bytes) = file.Write bytes
+file_call (call.WriteLines lines) = file.WriteLines lines
+file_call (call.Seek offset whence) = file.Seek offset whence
+file_call call.Tell = file.Tell
+file_call call.Flush = file.Flush
+file_call call.Close = file.Close
+file_call call.Detach = file.Detach
+file_call call.Readable = file.Readable
+file_call call.Writable = file.Writable
+file_call call.Seekable = file.Seekable
+file_call call.Closed = file.Closed
+file_call call.ChunkSize = file.OtherGetter
+file_call call.Encoding = file.OtherGetter
+file_call call.Errors = file.OtherGetter
+file_call _ = file.OtherKind
+
+-- what a reply says
+abbrev pub said : Reply → FileReply
+said (reply.Bytes bytes) = Bytes bytes
+said (reply.Text characters) = Text characters
+said (reply.Lines lines) = Lines lines
+said (reply.Count count) = Count count
+said (reply.Place place) = Place place
+said reply.Done = Done
+said reply.NotReady = NotReady
+said (reply.Flag value) = Flag value
+said (reply.Name characters) = Name characters
+said (reply.Unwritten bytes place) = Unwritten bytes place
+said (reply.Refused fault) = Refused fault
