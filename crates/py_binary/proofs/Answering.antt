@@ -1,0 +1,56 @@
+-- What a stream answers is what a session may answer.
+use Rattle.std.proofs.Common.{◌≡◌, ℕ, IsTrue, List, length, take, drop, ◌++◌, Option, Result, sym, ap, ◌∙◌, subst, arith}
+use Rattle.std.proofs.lemmas.List.{take_all, take-append-le}
+use Rattle.py_flat.specs.declared.fault.IoFault.{IoFault}
+use Rattle.py_flat.specs.Calls.{FileCall, ReadInto, ReadInto1, Peek, FileReply}
+use Rattle.py_stream.specs.Stream.{Stream}
+use Rattle.py_stream.specs.Kinds.{has_room}
+use Rattle.py_stream.specs.Answers.{AnswersWith, Answers}
+use Rattle.py_stream.specs.Replies.{into_reply}
+use Rattle.py_binary.specs.Binary.{has_reply_room}
+
+-- a call for which the reply has its room has it for itself
+has_own_room : (call : FileCall) → IsTrue (has_reply_room call) → IsTrue (has_room call)
+has_own_room (ReadInto size) room = absurd (cc)
+has_own_room (ReadInto1 size) room = absurd (cc)
+has_own_room Peek room = absurd (cc)
+has_own_room call room = room
+
+pub with_reply_room : (old : Stream) (call : FileCall) (reply : FileReply) (new : Stream) → Answers old call reply new → AnswersWith has_reply_room old call reply new
+with_reply_room old call reply new a = record {
+  keeps = a.keeps;
+  refused = a.refused;
+  again = a.again;
+  shut = a.shut;
+  causes = a.causes;
+  counted = a.counted;
+  shorts = a.shorts;
+  moves = a.moves;
+  ends = a.ends;
+  wants = λ wants room. a.wants wants (has_own_room call room);
+  starves = a.starves;
+  first = a.first;
+  nothing = a.nothing;
+  idle = a.idle;
+  single = a.single;
+  held = a.held;
+  spares = a.spares;
+  writes = a.writes;
+  answer = a.answer;
+  complete = a.complete;
+  told = a.told;
+  reach = a.reach;
+  near = a.near;
+  hides = a.hides;
+}
+
+-- the same of a reply that says it
+pub with_said : (old : Stream) (call : FileCall) (reply said : FileReply) (new : Stream) → said ≡ reply → Answers old call reply new → AnswersWith has_reply_room old call said new
+with_said old call reply said new is a = subst (λ (r : FileReply). AnswersWith has_reply_room old call r new) (sym is) (with_reply_room old call reply new a)
+
+-- the same of a reading into a buffer of so many bytes
+pub into_answers : (old : Stream) (call : ℕ → FileCall) (size len : ℕ) (items before buffer : List ℕ) (answer : Result (Option ℕ) IoFault) (said : FileReply) (new : Stream) → length before ≡ len → len ≡ size → length buffer ≡ length before → said ≡ into_reply answer (take len (buffer ++ drop (length buffer) items)) → Answers old (call (length before)) (into_reply answer buffer) new → AnswersWith has_reply_room old (call size) said new
+into_answers old call size len items before buffer answer said new long sized kept is a =
+    let all : length buffer ≡ len = kept ∙ long in
+    let whole : take len (buffer ++ drop (length buffer) items) ≡ buffer = take-append-le len buffer (drop (length buffer) items) (omega arith) ∙ take_all len buffer (omega arith) in
+    with_said old (call size) (into_reply answer buffer) said new (is ∙ ap (into_reply answer) whole) (subst (λ (count : ℕ). Answers old (call count) (into_reply answer buffer) new) (long ∙ sized) a)

@@ -1,0 +1,5 @@
+pub mod Alone
+pub mod Answering
+pub mod Leaving
+pub mod Sessions
+pub mod Starving

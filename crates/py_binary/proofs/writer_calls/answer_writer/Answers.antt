@@ -1,0 +1,13 @@
+use Rattle.std.proofs.Common.{rules}
+use Rattle.py_stream.specs.Replies.{place_reply}
+use Rattle.py_calls.specs.Calls.{file_call}
+use Rattle.py_binary.proofs.Answering.{with_said, with_reply_room}
+use Rattle.py_binary.proofs.Alone.{writer_refuses}
+use Rattle.py_binary.proofs.writer_calls.answer_writer.Goals as goal
+
+pub returns-in-Seek : goal.returns-in-Seek
+returns-in-Seek g c = rw c.in-Seek.is (with_said _ _ (place_reply c.seek.result) _ _ c.place_reply.ensures (search rules))
+
+pub returns-in_default : goal.returns-in_default
+returns-in_default g c =
+    with_reply_room _ _ _ _ (c.refuse.ensures (file_call c.args.call.now) (writer_refuses c.args.writer.now c.args.call.now c.requires.served.reads c.requires.asks c.requires.stays c.in_default.not-Write c.in_default.not-WriteLines c.in_default.not-Seek c.in_default.not-Tell c.in_default.not-Flush c.in_default.not-Close c.in_default.not-ChunkSize c.in_default.not-Encoding c.in_default.not-Errors))

@@ -1,0 +1,17 @@
+//! Binary sessions: a stream of bytes, buffered or not, on which calls are made as values.
+//!
+//! `BinarySession` opens a raw stream for reading, writing or appending, and answers each call by the one clause of all
+//! binary streams. A `detach` hands over what the stream owes; the raw stays with the session, for `into_parts`.
+#![tactic(auto)]
+
+mod binary_session;
+mod kind;
+mod reader_calls;
+mod replies;
+#[cfg(test)]
+mod tests;
+mod unbuffered_calls;
+mod writer_calls;
+
+pub use binary_session::BinarySession;
+pub use py_unbuffered::Access;
