@@ -62,6 +62,7 @@ answers_call old call reply new is stays a = record {
   answers = a;
   hands = hands_none old call reply stays;
   leaves = sym (left_same new.life new (held_on has_reply_room old call reply new is stays a).attached);
+  marks = refl;
 }
 
 pub no_detach : (call : FileCall) (reply : FileReply) → call ≢ Detach → Stays call reply
@@ -125,6 +126,7 @@ gone_answers can buffer raw call asks =
       answers = with_reply_room gone call (Refused (detached_fault call)) gone a;
       hands = hands_none gone call (Refused (detached_fault call)) (no_answer call (detached_fault call));
       leaves = refl;
+      marks = refl;
     }
 
 -- A `detach` that was answered.
@@ -134,4 +136,5 @@ detach_answers old new raw unwritten place hands = record {
   answers = with_reply_room old Detach (Unwritten unwritten place) (handed_over old raw (owed_then old.life old)) hands.answers;
   hands = (hands.unwritten_is, hands.place_is);
   leaves = ap (λ (left : Stream). gone_stream left.can left.buffer raw) hands.left;
+  marks = refl;
 }

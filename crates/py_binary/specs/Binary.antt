@@ -53,12 +53,13 @@ HandsOwed before call reply = Unit {0}
 
 -- The one clause of every call.
 
--- a call that the stream answered; what it left is the session's
+-- a call that the stream answered; what it left is the session's, which is short where the stream was
 pub record AnswersCall (before : Stream) (call : FileCall) (reply : FileReply) (after : Stream) : Type 0 where
   pub answered : Stream
   pub answers : AnswersWith has_reply_room before call reply answered
   pub hands : HandsOwed before call reply
   pub leaves : after ≡ left_of answered
+  pub marks : after.short ≡ answered.short
 
 -- a question leaves all as it was; every other call is one of the stream
 abbrev pub AnswersBy : Bool → Stream → FileCall → FileReply → Stream → Type 0

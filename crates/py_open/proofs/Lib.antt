@@ -1,16 +1,4 @@
-mod Modes
-mod Planning
-mod Reading
-mod Beginning
-mod Running
-mod Decoding
-mod Tying
-mod Holding
-mod Gathering
-mod Results
-mod Taking
-mod Waiting
-mod Enough
-mod Answering
-mod Runs
-mod Losing
+pub mod Steps
+pub mod Ending
+pub mod Runs
+pub mod Running

@@ -1,7 +1,7 @@
 -- A run goes on by one call.
 use Rattle.std.proofs.Common.{List, [], ◌∷◌, ◌++◌, refl, subst}
-use Rattle.py_open.specs.declared.call.Call.{Call}
-use Rattle.py_open.specs.declared.reply.Reply.{Reply}
+use Rattle.py_calls.specs.declared.call.Call.{Call}
+use Rattle.py_calls.specs.declared.reply.Reply.{Reply}
 use Rattle.py_open.specs.Session.{SessionView, Answers}
 use Rattle.py_open.specs.Run.{IsRun}
 

@@ -1,25 +1,46 @@
--- What holds of whole runs, and of the steps of a text, whatever raw is below.
-use Rattle.std.specs.Prelude.{◌≡◌, ℕ, List, [], ◌∷◌, ◌++◌}
+-- What holds of whole runs, whatever raw is below.
+use Rattle.std.specs.Prelude.{◌≡◌, Bool, true, false, List, [], ◌∷◌, None}
 use Rattle.py_flat.specs.declared.fault.IoFault.TheVariants as fault
-use Rattle.py_flat.specs.Calls.{FileReply, Done, Refused}
-use Rattle.py_plain.specs.Rest.{text_rest}
+use Rattle.py_flat.specs.Calls.{FileCall, Close, Detach, Flush, OtherGetter, FileReply, Done, Unwritten, Refused}
+use Rattle.py_flat.specs.Refusals.{is_getter}
 use Rattle.py_plain.specs.TextFile.{TextFile}
-use Rattle.py_plain.specs.TextStep.{TextCall, Close}
-use Rattle.py_open.specs.declared.call.Call.{Call}
-use Rattle.py_open.specs.declared.reply.Reply.{Reply}
-use Rattle.py_open.specs.Calls.{text_call}
-use Rattle.py_open.specs.Session.{SessionFile, OfText, SessionView}
-use Rattle.py_open.specs.Run.{Entry, IsRun, IsMarkedRun, IsHistory, calls_of, replies_of, exact_replies, exact_after, all_said}
+use Rattle.py_plain.specs.TextStep.{TextCall, text_refusal, text_exact}
+use Rattle.py_plain.specs.TextStep as plain
+use Rattle.py_raw.specs.RawStream.{WhereTold}
+use Rattle.py_stream.specs.Stream.{nothing_owed}
+use Rattle.py_stream.specs.Answers as stream
+use Rattle.py_calls.specs.declared.call.Call.{Call}
+use Rattle.py_calls.specs.declared.reply.Reply.{Reply}
+use Rattle.py_calls.specs.Calls.{text_call, file_call, said}
+use Rattle.py_textio.specs.Answers as text
+use Rattle.py_open.specs.Session.{SessionFile, OfText, OfBinary, SessionView, TextSession, BinarySession, raw_of, file_seen, owed_of, flat_bytes, flag_seen, Answers}
+use Rattle.py_open.specs.Run.{Entry, IsRun, IsMarkedRun, IsHistory, calls_of, replies_of, all_said}
 
--- each reply is the exact one, and so is the file behind them
-pub record IsExact (before : SessionView) (calls : List Call) (replies : List Reply) (after : SessionView) : Type 0 where
-  pub says : all_said replies ≡ exact_replies before.file calls
-  pub leaves : after.file ≡ exact_after before.file calls
+-- Texts.
 
--- each reply of a history is the exact one, and so is the file behind them
-pub record IsExactHistory (before : SessionFile) (entries : List Entry) (after : SessionFile) : Type 0 where
-  pub says : all_said (replies_of entries) ≡ exact_replies before (calls_of entries)
-  pub leaves : after ≡ exact_after before (calls_of entries)
+-- what a text answers and leaves where nothing waits, fails or lacks memory
+abbrev pub exact_by : Bool → TextFile → Call → FileReply × TextFile
+exact_by true file call = (flag_seen (OfText file) call, file)
+exact_by false file call = text_exact file (text_call call)
+
+abbrev pub session_exact : TextFile → Call → FileReply × TextFile
+session_exact file call = exact_by (is_getter (file_call call)) file call
+
+-- the replies of a list of calls, and the text after them
+abbrev pub exact_replies : TextFile → List Call → List FileReply
+exact_replies file [] = []
+exact_replies file (call ∷ calls) = (session_exact file call).0 ∷ exact_replies (session_exact file call).1 calls
+
+abbrev pub exact_after : TextFile → List Call → TextFile
+exact_after file [] = file
+exact_after file (call ∷ calls) = exact_after (session_exact file call).1 calls
+
+-- each reply is the exact one, and so is the text behind them
+pub record IsExact (before : TextFile) (calls : List Call) (replies : List FileReply) (after : SessionFile) : Type 0 where
+  pub says : replies ≡ exact_replies before calls
+  pub leaves : after ≡ OfText (exact_after before calls)
+
+-- Histories, and runs in parts.
 
 -- a run as a history: the same calls and replies, with the marks of the run, from file to file
 pub record HasHistory (before : SessionView) (calls : List Call) (replies : List Reply) (after : SessionView) : Type 0 where
@@ -27,7 +48,7 @@ pub record HasHistory (before : SessionView) (calls : List Call) (replies : List
   pub calls_are : calls_of entries ≡ calls
   pub replies_are : replies_of entries ≡ replies
   pub marked : IsMarkedRun before entries after
-  pub steps : IsHistory before.file entries after.file
+  pub steps : IsHistory (file_seen before) entries (file_seen after)
 
 -- a run in two parts, with the session between them
 pub record RunsInTwo (before : SessionView) (calls more : List Call) (replies others : List Reply) (after : SessionView) : Type 0 where
@@ -35,26 +56,83 @@ pub record RunsInTwo (before : SessionView) (calls more : List Call) (replies ot
   pub first : IsRun before calls replies mid
   pub second : IsRun mid more others after
 
--- what a file can do, and its settings, stay
-abbrev pub KeepsSettings : SessionFile → SessionFile → Type 0
-KeepsSettings (OfText before) (OfText after) = (after.can ≡ before.can) × (after.settings ≡ before.settings)
+-- Completeness.
 
--- what a closed session answers: another close is done, all else is refused
-abbrev pub closed_reply : TextCall → FileReply
-closed_reply Close = Done
-closed_reply call = Refused fault.Closed
+-- a question is answered by its flag; a call that isn't refused by an answer of its own, or for want of memory
+abbrev pub CompletesBy : Bool → SessionView → Call → FileReply → Type 0
+CompletesBy true before call reply = reply ≡ flag_seen (file_seen before) call
+CompletesBy false (TextSession before) call reply = text_refusal before.file (text_call call) ≡ None → text.IsAnswerTo (text_call call) reply
+CompletesBy false (BinarySession before) call reply = stream.refused_by before (file_call call) ≡ None → stream.IsAnswerTo (file_call call) reply
 
-abbrev pub closed_replies : List Call → List FileReply
-closed_replies [] = []
-closed_replies (call ∷ calls) = closed_reply (text_call call) ∷ closed_replies calls
+abbrev pub Completes : SessionView → Call → FileReply → Type 0
+Completes before call reply = CompletesBy (is_getter (file_call call)) before call reply
+
+-- a run whose every call is answered so
+abbrev pub RunsComplete : SessionView → List Call → List Reply → SessionView → Type 0
+RunsComplete before [] [] after = after ≡ before
+RunsComplete before (call ∷ calls) (reply ∷ replies) after = (mid : SessionView) × Answers before call reply mid × Completes before call (said reply) × RunsComplete mid calls replies after
+RunsComplete before [] (reply ∷ replies) after = ⊥
+RunsComplete before (call ∷ calls) [] after = ⊥
+
+-- What stays.
+
+-- what a session can do, its kind and its settings, stay
+abbrev pub KeepsSettings : SessionView → SessionView → Type 0
+KeepsSettings (TextSession before) (TextSession after) = (after.file.can ≡ before.file.can) × (after.file.settings ≡ before.file.settings) × (after.buffer ≡ before.buffer)
+KeepsSettings (BinarySession before) (BinarySession after) = (after.can ≡ before.can) × (after.buffer ≡ before.buffer)
+KeepsSettings before after = ⊥
+
+-- a session that doesn't write, and owes nothing
+abbrev pub OnlyReads : SessionView → Type 0
+OnlyReads (TextSession text) = Unit {0}
+OnlyReads (BinarySession stream) = (stream.can.writable ≡ false) × (stream.owed ≡ nothing_owed stream.place)
+
+-- only a session that writes owes anything; so does every session from its opening on
+abbrev pub OwesAsWriter : SessionView → Type 0
+OwesAsWriter (TextSession text) = Unit {0}
+OwesAsWriter (BinarySession stream) = stream.can.writable ≡ false → stream.owed ≡ nothing_owed stream.place
+
+-- What is passed on.
+
+-- a call that leaves nothing owed of a live session: a `flush`, a `close` or a `detach` that was done
+abbrev pub PassesAll : FileCall → FileReply → Type 0
+PassesAll Flush Done = Unit {0}
+PassesAll Close Done = Unit {0}
+PassesAll Detach (Unwritten bytes place) = Unit {0}
+PassesAll call reply = ⊥
+
+-- nothing is owed any more; told, the raw holds the flat bytes of the session that the call came to
+pub record HoldsFlat (before after : SessionView) : Type 0 where
+  pub none : owed_of after ≡ []
+  pub holds : WhereTold (raw_of before) ((raw_of after).bytes ≡ flat_bytes before)
+
+-- Closed sessions.
+
+-- what a closed text answers: another close is done, all else is refused
+abbrev pub closed_text_reply : TextCall → FileReply
+closed_text_reply plain.Close = Done
+closed_text_reply call = Refused fault.Closed
+
+-- a closed stream the same, but that it lacks some questions
+abbrev pub closed_file_reply : FileCall → FileReply
+closed_file_reply Close = Done
+closed_file_reply OtherGetter = Refused fault.Unsupported
+closed_file_reply call = Refused fault.Closed
+
+abbrev pub closed_by : Bool → SessionFile → Call → FileReply
+closed_by true file call = flag_seen file call
+closed_by false (OfText file) call = closed_text_reply (text_call call)
+closed_by false (OfBinary file) call = closed_file_reply (file_call call)
+
+abbrev pub closed_reply : SessionFile → Call → FileReply
+closed_reply file call = closed_by (is_getter (file_call call)) file call
+
+abbrev pub closed_replies : SessionFile → List Call → List FileReply
+closed_replies file [] = []
+closed_replies file (call ∷ calls) = closed_reply file call ∷ closed_replies file calls
 
 -- a closed session answers so, and the session, with its raw, stays as it was
 pub record StaysClosed (before : SessionView) (calls : List Call) (replies : List Reply) (after : SessionView) : Type 0 where
-  pub says : all_said replies ≡ closed_replies calls
-  pub file : after.file ≡ before.file
-  pub raw : after.raw ≡ before.raw
-
--- what was left of a text is the characters that were answered and what is left now, up to the same refused range
-pub record LosesNothing (before : TextFile) (answer : List ℕ) (after : TextFile) : Type 0 where
-  pub characters : (text_rest before).characters ≡ answer ++ (text_rest after).characters
-  pub refusal : (text_rest after).refusal ≡ (text_rest before).refusal
+  pub says : all_said replies ≡ closed_replies (file_seen before) calls
+  pub file : file_seen after ≡ file_seen before
+  pub raw : raw_of after ≡ raw_of before

@@ -1,11 +1,5 @@
-pub mod OpenArgs
-pub mod Calls
-pub mod Mode
-pub mod Plan
-pub mod Reader
-pub mod Waiting
-pub mod Text
 pub mod Session
+pub mod Kinds
 pub mod Opening
 pub mod Run
 pub mod Laws

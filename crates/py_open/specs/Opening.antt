@@ -1,53 +1,48 @@
 -- Opening a session over a raw stream, and handing the raw back.
-use Rattle.std.specs.Prelude.{◌≡◌, ℕ, true, false, Bool, IsFalse, List, Option, Some, None, Result, Ok, Err, if◌then◌else◌}
-use Rattle.py_flat.specs.declared.life.Life.{Life}
-use Rattle.py_flat.specs.declared.life.Life.TheVariants as life
-use Rattle.py_plain.specs.declared.encoding.Encoding.TheVariants.{Utf8}
-use Rattle.py_plain.specs.declared.handler.Handler.TheVariants.{Strict}
-use Rattle.py_plain.specs.declared.newlines.Newlines.TheVariants as newlines
-use Rattle.py_plain.specs.Units.{Unknown}
-use Rattle.py_plain.specs.TextFile.{clean_at, TextFile}
-use Rattle.py_raw.specs.RawStream.{Raw, Keeps, StaysOpen, WhereTold}
-use Rattle.py_open.specs.declared.open_refused.OpenRefused.{OpenRefused}
-use Rattle.py_open.specs.Reader.{Untouched, RefusesRaw}
-use Rattle.py_open.specs.Session.{SessionFile, OfText, SessionView}
+use Rattle.std.specs.Prelude.{ℕ, Option, unwrap_or, Result, Ok, Err}
+use Rattle.py_flat.specs.declared.fault.IoFault.{IoFault}
+use Rattle.py_raw.specs.RawStream.{Raw}
+use Rattle.py_stream.specs.declared.new_refused.NewRefused.{NewRefused}
+use Rattle.py_stream.specs.Opening.{Opens, RefusesRaw}
+use Rattle.py_unbuffered.specs.declared.access.Access.{Access}
+use Rattle.py_unbuffered.specs.declared.access.Access.TheVariants as access
+use Rattle.py_unbuffered.specs.Unbuffered.{can_of, is_able}
+use Rattle.py_mode.specs.declared.mode.FileMode.{FileMode}
+use Rattle.py_mode.specs.declared.mode.FileMode.TheVariants.{Read, Write, Exclusive, Append}
+use Rattle.py_mode.specs.declared.mode.EncodeMode.{EncodeMode}
+use Rattle.py_mode.specs.declared.mode.EncodeMode.TheVariants.{Text, Bytes}
+use Rattle.py_mode.specs.declared.plan.OpenPlan.{OpenPlan}
+use Rattle.py_textio.specs.Opening.{OpensText, handed_at}
+use Rattle.py_binary.specs.Binary.{place_left}
+use Rattle.py_open.specs.Session.{SessionView, TextSession, BinarySession}
 
--- the flat file of a text that is opened to be read, in UTF-8, strict, with the newline rule Lf: these bytes, clean at a place
-abbrev pub text_opened : List ℕ → ℕ → Bool → ℕ → TextFile
-text_opened bytes place seekable chunk = record {
-  bytes = bytes;
-  place = clean_at place Unknown;
-  can = record { readable = true; writable = false; seekable = seekable; appending = false };
-  settings = record { encoding = Utf8; handler = Strict; newline = newlines.Lf; line_buffering = false; write_through = false; chunk_size = chunk };
-  life = life.Live;
-}
+-- what a mode opens a raw for; an opener has made the file by then
+abbrev pub access_of : FileMode → Access
+access_of Read = access.Read
+access_of Write = access.Write
+access_of Exclusive = access.Write
+access_of Append = access.Append
 
--- told: the raw's bytes, and its place, where it still stands
-abbrev pub OpensTold : Raw → ℕ → SessionView → Type 0
-OpensTold raw place session = (session.raw.bytes ≡ raw.bytes) × (session.raw.place ≡ raw.place) × (place ≡ raw.place)
+-- an open session by the plan's kind: a text; or a stream of bytes, with a buffer or without, which begins where the raw
+-- stands, one that appends at the end, and at 0 where the raw can't seek
+abbrev pub OpensBy : EncodeMode → Raw → OpenPlan → ℕ → SessionView → Type 0
+OpensBy Text raw plan chunk (TextSession text) = OpensText raw (unwrap_or plan.buffer_size 1) chunk text
+OpensBy Bytes raw plan chunk (BinarySession stream) = Opens (is_able (access_of plan.mode.file)) (can_of (access_of plan.mode.file)) raw plan.buffer_size stream
+OpensBy encode raw plan chunk session = ⊥
 
--- an open session: the raw was open, stays so and can be read from, and nothing was read; it begins where the raw stood, at 0
--- where it can't seek, with a buffer and chunks of these sizes
-pub record OpensText (raw : Raw) (buffer chunk : ℕ) (session : SessionView) : Type 0 where
-  pub was_open : raw.closed ≡ false
-  pub reads : raw.readable ≡ true
-  pub keeps : Keeps raw session.raw
-  pub stays : StaysOpen raw session.raw
-  pub untouched : Untouched raw session.raw
-  pub place : ℕ
-  pub file : session.file ≡ OfText (text_opened session.raw.bytes place raw.seekable chunk)
-  pub start : IsFalse raw.seekable → place ≡ 0
-  pub buffer_is : session.buffer ≡ buffer
-  pub told : WhereTold raw (OpensTold raw place session)
-  pub whole : session.short ≡ false
+abbrev pub OpensSession : Raw → OpenPlan → ℕ → SessionView → Type 0
+OpensSession raw plan chunk session = OpensBy plan.mode.encode raw plan chunk session
 
-abbrev pub SessionOutcome : {R : Type 0} → (R → Raw) → R → ℕ → ℕ → Result SessionView (OpenRefused R) → Type 0
-SessionOutcome shows raw buffer chunk (Ok session) = OpensText (shows raw) buffer chunk session
-SessionOutcome shows raw buffer chunk (Err refused) = RefusesRaw (shows raw) refused.fault (shows refused.raw)
+-- why a raw isn't opened by a plan
+abbrev pub RefusesSession : Raw → OpenPlan → IoFault → Raw → Type 0
+RefusesSession raw plan why back = RefusesRaw (is_able (access_of plan.mode.file)) (can_of (access_of plan.mode.file) raw.seekable).appending raw plan.buffer_size why back
 
-abbrev pub life_of : SessionFile → Life
-life_of (OfText file) = file.life
+abbrev pub SessionOutcome : {R : Type 0} → (R → Raw) → R → OpenPlan → ℕ → Result SessionView (NewRefused R) → Type 0
+SessionOutcome shows raw plan chunk (Ok session) = OpensSession (shows raw) plan chunk session
+SessionOutcome shows raw plan chunk (Err refused) = RefusesSession (shows raw) plan refused.fault (shows refused.raw)
 
--- the place that is handed back with the raw: the byte of the text place, none where the raw can't seek
-abbrev pub handed_at : SessionFile → Option ℕ
-handed_at (OfText file) = if file.can.seekable then Some file.place.at else None
+-- the place that is handed back with the raw: of a text the byte of its place; else of the first byte that is owed, the
+-- stream's own where none is; none where the raw can't seek, and of a detached session
+abbrev pub place_handed : SessionView → Option ℕ
+place_handed (TextSession text) = handed_at text.file
+place_handed (BinarySession stream) = place_left stream.life stream

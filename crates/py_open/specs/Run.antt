@@ -1,22 +1,21 @@
 -- Runs: what a list of calls may be answered, one call after another, and which opening they begin from.
-use Rattle.std.specs.Prelude.{◌≡◌, ◌≢◌, ℕ, Bool, false, List, [], ◌∷◌, unwrap_or, Result, Ok, Err}
+use Rattle.std.specs.Prelude.{◌≡◌, ◌≢◌, ℕ, Bool, false, List, [], ◌∷◌, Result, Ok, Err, ◌⊎◌}
 use Rattle.py_flat.specs.declared.fault.IoFault.{IoFault}
 use Rattle.py_flat.specs.declared.fault.IoFault.TheVariants as fault
 use Rattle.py_flat.specs.Calls.{FileReply, Refused}
 use Rattle.py_flat.specs.Causes.{rose}
-use Rattle.py_plain.specs.TextStep.{text_exact}
 use Rattle.py_raw.specs.RawStream.{Raw}
-use Rattle.py_open.specs.declared.call.Call.{Call}
-use Rattle.py_open.specs.declared.reply.Reply.{Reply}
-use Rattle.py_open.specs.declared.plan.OpenPlan.{OpenPlan}
-use Rattle.py_open.specs.declared.open_args.OpenArgs.{OpenArgs}
+use Rattle.py_stream.specs.Kinds.{says_fault}
+use Rattle.py_calls.specs.declared.call.Call.{Call}
+use Rattle.py_calls.specs.declared.reply.Reply.{Reply}
+use Rattle.py_calls.specs.Calls.{said}
+use Rattle.py_mode.specs.declared.plan.OpenPlan.{OpenPlan}
+use Rattle.py_mode.specs.declared.open_args.OpenArgs.{OpenArgs}
+use Rattle.py_mode.specs.Plan.{plan_of}
 use Rattle.py_open.specs.declared.run.Run.{Run}
 use Rattle.py_open.specs.declared.open_refused.OpenRefused.{OpenRefused}
-use Rattle.py_open.specs.Calls.{text_call, said}
-use Rattle.py_open.specs.Reader.{RefusesRaw}
-use Rattle.py_open.specs.Session.{SessionFile, OfText, SessionView, SessionStep, says_fault, Answers}
-use Rattle.py_open.specs.Opening.{OpensText}
-use Rattle.py_open.specs.Plan.{plan_of}
+use Rattle.py_open.specs.Session.{SessionFile, SessionView, SessionStep, Settles, raw_of, short_of, Answers}
+use Rattle.py_open.specs.Opening.{OpensSession, RefusesSession}
 
 -- from `before` the calls may be answered so, and leave `after`: there is a session between any two calls, and each
 -- call leads from one to the next
@@ -45,7 +44,7 @@ replies_of (entry ∷ entries) = entry.reply ∷ replies_of entries
 -- that is short, so that the raw's waits rose in this call; by a fault where the reply says so, so that its faults did
 abbrev pub IsMarkedRun : SessionView → List Entry → SessionView → Type 0
 IsMarkedRun before [] after = after ≡ before
-IsMarkedRun before (entry ∷ entries) after = (mid : SessionView) × Answers before entry.call entry.reply mid × (entry.waited ≡ mid.short) × (entry.faulted ≡ says_fault (said entry.reply)) × IsMarkedRun mid entries after
+IsMarkedRun before (entry ∷ entries) after = (mid : SessionView) × Answers before entry.call entry.reply mid × (entry.waited ≡ short_of mid) × (entry.faulted ≡ says_fault (said entry.reply)) × IsMarkedRun mid entries after
 
 -- the same of flat files alone: there is a file between any two entries, and each entry is a step from one to the next
 abbrev pub IsHistory : SessionFile → List Entry → SessionFile → Type 0
@@ -57,18 +56,13 @@ abbrev pub IsCalm : List Entry → Type 0
 IsCalm [] = Unit {0}
 IsCalm (entry ∷ entries) = (entry.waited ≡ false) × (entry.faulted ≡ false) × (said entry.reply ≢ Refused fault.NoMemory) × IsCalm entries
 
--- what a call answers and leaves where nothing waits, fails or lacks memory
-abbrev pub session_exact : SessionFile → Call → FileReply × SessionFile
-session_exact (OfText file) call = ((text_exact file (text_call call)).0, OfText (text_exact file (text_call call)).1)
-
--- the replies of a list of calls, and the file after them
-abbrev pub exact_replies : SessionFile → List Call → List FileReply
-exact_replies file [] = []
-exact_replies file (call ∷ calls) = (session_exact file call).0 ∷ exact_replies (session_exact file call).1 calls
-
-abbrev pub exact_after : SessionFile → List Call → SessionFile
-exact_after file [] = file
-exact_after file (call ∷ calls) = exact_after (session_exact file call).1 calls
+-- each call settles: there is a file between any two calls, and each reply is what the file there answers where nothing waits,
+-- fails or lacks memory
+abbrev pub AllSettle : SessionFile → List Call → List FileReply → SessionFile → Type 0
+AllSettle before [] [] after = after ≡ before
+AllSettle before (call ∷ calls) (reply ∷ replies) after = (mid : SessionFile) × Settles before call reply mid × AllSettle mid calls replies after
+AllSettle before [] (reply ∷ replies) after = ⊥
+AllSettle before (call ∷ calls) [] after = ⊥
 
 -- what replies say
 abbrev pub all_said : List Reply → List FileReply
@@ -87,23 +81,32 @@ pub record IsSmooth (before after : Raw) : Type 0 where
 
 -- The opening, and the whole run.
 
--- why an opening is refused, and the raw that is handed back: by its plan, with the raw as it was; or by the raw; space
--- for the replies may be wanting too
-abbrev pub RefusesPlanned : Raw → Result OpenPlan IoFault → IoFault → Raw → Type 0
-RefusesPlanned raw (Err planned) refused back = (refused ≡ planned) × (back ≡ raw)
-RefusesPlanned raw (Ok plan) refused back = RefusesRaw raw refused back
+-- the session opened, and then there was no space for the replies; the raw is as the opening left it
+pub record LacksSpace (raw : Raw) (plan : OpenPlan) (chunk : ℕ) (back : Raw) : Type 0 where
+  pub opened : SessionView
+  pub opens : OpensSession raw plan chunk opened
+  pub back_is : back ≡ raw_of opened
+
+-- why a planned opening is refused, and the raw that is handed back
+abbrev pub RefusesOpening : Raw → OpenPlan → ℕ → IoFault → Raw → Type 0
+RefusesOpening raw plan chunk refused back = RefusesSession raw plan refused back ⊎ ((refused ≡ fault.NoMemory) × LacksSpace raw plan chunk back)
+
+-- why an opening is refused: by its plan, with the raw as it was; or as it says
+abbrev pub RefusesPlanned : Raw → Result OpenPlan IoFault → ℕ → IoFault → Raw → Type 0
+RefusesPlanned raw (Err planned) chunk refused back = (refused ≡ planned) × (back ≡ raw)
+RefusesPlanned raw (Ok plan) chunk refused back = RefusesOpening raw plan chunk refused back
 
 -- the session opens over the raw, and the replies are a run from there to the session
-pub record RunsCalls (raw : Raw) (buffer chunk : ℕ) (calls : List Call) (session : SessionView) (replies : List Reply) : Type 0 where
+pub record RunsCalls (raw : Raw) (plan : OpenPlan) (chunk : ℕ) (calls : List Call) (session : SessionView) (replies : List Reply) : Type 0 where
   pub opened : SessionView
-  pub opens : OpensText raw buffer chunk opened
+  pub opens : OpensSession raw plan chunk opened
   pub run : IsRun opened calls replies session
 
-abbrev pub OpenedOutcome : {R : Type 0} → (R → Raw) → R → ℕ → ℕ → List Call → Result (Run R) (OpenRefused R) → Type 0
-OpenedOutcome shows raw buffer chunk calls (Ok run) = RunsCalls (shows raw) buffer chunk calls run.session run.replies.items
-OpenedOutcome shows raw buffer chunk calls (Err refused) = RefusesRaw (shows raw) refused.fault (shows refused.raw)
+abbrev pub OpenedOutcome : {R : Type 0} → (R → Raw) → R → OpenPlan → ℕ → List Call → Result (Run R) (OpenRefused R) → Type 0
+OpenedOutcome shows raw plan chunk calls (Ok run) = RunsCalls (shows raw) plan chunk calls run.session run.replies.items
+OpenedOutcome shows raw plan chunk calls (Err refused) = RefusesOpening (shows raw) plan chunk refused.fault (shows refused.raw)
 
--- a run comes only of a plan that is accepted, through a buffer of the size that it gives
+-- a run comes only of a plan that is accepted
 abbrev pub RunOutcome : {R : Type 0} → (R → Raw) → R → List ℕ → OpenArgs → List Call → Result (Run R) (OpenRefused R) → Type 0
-RunOutcome shows raw mode args calls (Ok run) = (plan : OpenPlan) × (plan_of mode args ≡ Ok plan) × RunsCalls (shows raw) (unwrap_or plan.buffer_size 1) args.chunk_size calls run.session run.replies.items
-RunOutcome shows raw mode args calls (Err refused) = RefusesPlanned (shows raw) (plan_of mode args) refused.fault (shows refused.raw)
+RunOutcome shows raw mode args calls (Ok run) = (plan : OpenPlan) × (plan_of mode args ≡ Ok plan) × RunsCalls (shows raw) plan args.chunk_size calls run.session run.replies.items
+RunOutcome shows raw mode args calls (Err refused) = RefusesPlanned (shows raw) (plan_of mode args) args.chunk_size refused.fault (shows refused.raw)

@@ -1,169 +1,132 @@
 -- A session: what it is seen as, and what one call of it may do.
-use Rattle.std.specs.Prelude.{◌≡◌, ◌≢◌, ℕ, ◌≤◌, Bool, true, false, IsTrue, List, [], length, Option, Some, None}
-use Rattle.py_flat.specs.declared.fault.IoFault.{IoFault}
-use Rattle.py_flat.specs.declared.fault.IoFault.TheVariants as fault
+use Rattle.std.specs.Prelude.{◌≡◌, ℕ, Bool, true, false, List, []}
 use Rattle.py_flat.specs.declared.life.Life.{Life}
 use Rattle.py_flat.specs.declared.life.Life.TheVariants as life
-use Rattle.py_flat.specs.Calls.{FileReply, Text, Done, NotReady, Refused}
-use Rattle.py_flat.specs.Causes.{Rose, rose}
-use Rattle.py_plain.specs.TextFile.{TextPlace, clean_at, TextFile}
-use Rattle.py_plain.specs.TextStep.{TextCall, Read, ReadLine, Close, text_refusal, asks_any, place_taking, TextStep}
-use Rattle.py_raw.specs.RawStream.{Raw, Keeps, WhereTold}
-use Rattle.py_open.specs.declared.call.Call.{Call}
-use Rattle.py_open.specs.declared.reply.Reply.{Reply}
-use Rattle.py_open.specs.Calls.{text_call, said}
-use Rattle.py_flat.specs.ExactStep.{is_closed}
-use Rattle.py_stream.specs.Answers.{ClosedWith}
-use Rattle.py_open.specs.Waiting.{ShowsAll}
+use Rattle.py_flat.specs.Bytes.{lay}
+use Rattle.py_flat.specs.Calls.{FileReply, Flag}
+use Rattle.py_flat.specs.FlatFile.{FlatFile}
+use Rattle.py_flat.specs.Refusals.{is_getter}
+use Rattle.py_flat.specs.BinaryStep.{Settled, BinaryStep}
+use Rattle.py_plain.specs.TextFile.{TextFile}
+use Rattle.py_plain.specs.TextStep.{TextSettled, TextStep}
+use Rattle.py_raw.specs.RawStream.{Raw}
+use Rattle.py_stream.specs.Stream.{Stream, file_of}
+use Rattle.py_calls.specs.declared.call.Call.{Call}
+use Rattle.py_calls.specs.declared.reply.Reply.{Reply}
+use Rattle.py_calls.specs.Calls.{text_call, file_call, said}
+use Rattle.py_textio.specs.TextState.{TextState}
+use Rattle.py_textio.specs.Answers as text
+use Rattle.py_binary.specs.Binary.{flag_of, AnswersBinary}
+
+-- a session, by its kind
+pub data SessionView : Type 0 where
+  TextSession : (text : TextState) → SessionView
+  BinarySession : (stream : Stream) → SessionView
 
 -- the flat file of a session, by its kind
 pub data SessionFile : Type 0 where
   OfText : (file : TextFile) → SessionFile
+  OfBinary : (file : FlatFile) → SessionFile
 
--- the flat file; the raw under it, with its counts; the buffer's size in bytes; and whether the last answer was short,
--- since the raw asked to wait
-pub record SessionView : Type 0 where
-  pub file : SessionFile
-  pub raw : Raw
-  pub buffer : ℕ
-  pub short : Bool
+-- the flat file that a session stands for
+abbrev pub file_seen : SessionView → SessionFile
+file_seen (TextSession text) = OfText text.file
+file_seen (BinarySession stream) = OfBinary (file_of stream)
 
--- What the model says of a call.
+-- the raw under it, with its counts
+abbrev pub raw_of : SessionView → Raw
+raw_of (TextSession text) = text.raw
+raw_of (BinarySession stream) = stream.raw
 
--- the allowed step
-abbrev pub SessionStep : SessionFile → Call → FileReply → Bool → Bool → SessionFile → Type 0
-SessionStep (OfText before) call reply waited faulted (OfText after) = TextStep before (text_call call) reply waited faulted after
+abbrev pub life_of : SessionView → Life
+life_of (TextSession text) = text.file.life
+life_of (BinarySession stream) = stream.life
 
--- Causes.
+-- whether a wait of the raw cut the last answer short
+abbrev pub short_of : SessionView → Bool
+short_of (TextSession text) = text.short
+short_of (BinarySession stream) = stream.short
 
--- whether a reply says that the raw asked to wait
-abbrev pub says_wait : FileReply → Bool
-says_wait NotReady = true
-says_wait (Refused (fault.WouldBlock taken)) = true
-says_wait _ = false
+-- the bytes that callers handed over and the raw isn't known to have
+abbrev pub owed_of : SessionView → List ℕ
+owed_of (TextSession text) = []
+owed_of (BinarySession stream) = stream.owed.bytes
 
--- whether it says that the raw failed
-abbrev pub says_fault : FileReply → Bool
-says_fault (Refused fault.RawFault) = true
-says_fault _ = false
-
--- Completeness.
-
--- the replies that an accepted call may have where nothing waits or fails; want of memory is free
-abbrev pub IsAnswerTo : TextCall → FileReply → Type 0
-IsAnswerTo (Read size) (Text characters) = Unit {0}
-IsAnswerTo (Read size) (Refused (fault.UnicodeDecodeError start end)) = Unit {0}
-IsAnswerTo (ReadLine limit) (Text characters) = Unit {0}
-IsAnswerTo (ReadLine limit) (Refused (fault.UnicodeDecodeError start end)) = Unit {0}
-IsAnswerTo Close Done = Unit {0}
-IsAnswerTo call (Refused fault.NoMemory) = Unit {0}
-IsAnswerTo call reply = ⊥
-
--- Life and place, whether the raw tells or not.
-
-abbrev pub life_after : TextCall → FileReply → Life → Life
-life_after Close Done current = life.Closed
-life_after Close (Refused fault.RawFault) current = life.Closed
-life_after call (Refused fault.RawFault) current = life.Failed
-life_after call reply current = current
-
--- a whole read of all goes to where the bytes end, clean
-pub record GoesToEnd (before after : TextPlace) : Type 0 where
-  pub clean : after ≡ clean_at after.at before.order
-  pub forth : before.at ≤ after.at
-
--- so many characters were taken, no more than asked for
-pub record TakesText (size : Option ℕ) (characters : List ℕ) (dirty : Bool) (before after : TextPlace) : Type 0 where
-  pub taken : after ≡ place_taking before (length characters) dirty
-  pub within : (limit : ℕ) → size ≡ Some limit → length characters ≤ limit
-
--- the place after each reply; after a fault it isn't told
-abbrev pub PlaceMoves : TextCall → Bool → FileReply → TextPlace → TextPlace → Type 0
-PlaceMoves (Read None) false (Text characters) before after = GoesToEnd before after
-PlaceMoves (Read size) true (Text characters) before after = TakesText size characters true before after
-PlaceMoves (Read size) false (Text characters) before after = TakesText size characters (asks_any size) before after
-PlaceMoves (ReadLine limit) true (Text characters) before after = TakesText limit characters true before after
-PlaceMoves (ReadLine limit) false (Text characters) before after = TakesText limit characters (asks_any limit) before after
-PlaceMoves call short (Refused fault.RawFault) before after = Unit {0}
-PlaceMoves call short reply before after = after ≡ before
-
--- what every call keeps of a text, and what it moves
-pub record TextMoves (before : TextFile) (call : TextCall) (short : Bool) (reply : FileReply) (after : TextFile) : Type 0 where
-  pub can : after.can ≡ before.can
-  pub settings : after.settings ≡ before.settings
-  pub life_is : after.life ≡ life_after call reply before.life
-  pub place : PlaceMoves call short reply before.place after.place
+-- the bytes of the flat file: the raw's, with the owed ones laid at their place
+abbrev pub flat_bytes : SessionView → List ℕ
+flat_bytes (TextSession text) = text.raw.bytes
+flat_bytes (BinarySession stream) = lay stream.raw.bytes stream.owed.place stream.owed.bytes
 
 -- The one clause of every call.
 
--- whether a call closes a text that is closed: Python's `close` of a closed stream does nothing
-abbrev pub closes_again : TextFile → TextCall → Bool
-closes_again file Close = is_closed file.life
-closes_again file call = false
-
--- a call of a text that calls no raw and leaves all as it was, with this answer
-pub record LeavesText (before : TextFile) (old : Raw) (expected reply : FileReply) (after : TextFile) (new : Raw) (short : Bool) : Type 0 where
+-- a question leaves a text as it was
+pub record LeavesText (before : TextState) (expected reply : FileReply) (after : TextState) : Type 0 where
   pub says : reply ≡ expected
-  pub file : after ≡ before
-  pub raw : new ≡ old
-  pub whole : short ≡ false
+  pub same : after ≡ record before { short = false }
 
--- a short answer comes only where the raw's waits rose in this call, RawFault only where its faults did
-pub record HasCauses (old : Raw) (reply : FileReply) (new : Raw) (short : Bool) : Type 0 where
-  pub waits : IsTrue short → Rose old.waits new.waits
-  pub faults : IsTrue (says_fault reply) → Rose old.faults new.faults
+abbrev pub AnswersTextBy : Bool → TextState → Call → FileReply → TextState → Type 0
+AnswersTextBy true before call reply after = LeavesText before (Flag (flag_of before.file.can before.file.life (file_call call))) reply after
+AnswersTextBy false before call reply after = text.Answers before (text_call call) reply after
 
--- what is short: some characters, never none; and each reply that says by itself that the raw asked to wait, always
-abbrev pub IsShort : FileReply → Bool → Type 0
-IsShort (Text characters) true = characters ≢ []
-IsShort NotReady short = short ≡ true
-IsShort (Refused (fault.WouldBlock taken)) short = short ≡ true
-IsShort reply short = short ≡ false
+-- a call of a text session: one of the four questions, or one of the text
+abbrev pub AnswersText : TextState → Call → Reply → TextState → Type 0
+AnswersText before call reply after = AnswersTextBy (is_getter (file_call call)) before call (said reply) after
 
--- a close wants no memory but its raw's
-abbrev pub WantsMemory : TextCall → FileReply → Raw → Type 0
-WantsMemory Close (Refused fault.NoMemory) raw = IsTrue raw.takes_memory
-WantsMemory call reply raw = Unit {0}
-
--- the replies that an accepted call may have at all
-abbrev pub IsReplyTo : TextCall → FileReply → Type 0
-IsReplyTo Close NotReady = ⊥
-IsReplyTo call (Refused fault.RawFault) = Unit {0}
-IsReplyTo call NotReady = Unit {0}
-IsReplyTo call reply = IsAnswerTo call reply
-
--- an accepted call in which no count rose is answered so, and whole
-pub record IsComplete (call : TextCall) (reply : FileReply) (short : Bool) : Type 0 where
-  pub answer : IsAnswerTo call reply
-  pub whole : short ≡ false
-
--- one call of a text: what the raw can do stays and its counts never fall; what the life or the kind refuses; a close
--- of a closed text; that the raw is closed with the text; causes; what is short; life and place; completeness; and,
--- where the raw tells, that its bytes stay, the step of the model, and that a wait hides nothing
-pub record AnswersText (before : TextFile) (old : Raw) (call : TextCall) (reply : FileReply) (after : TextFile) (new : Raw) (short : Bool) : Type 0 where
-  pub keeps : Keeps old new
-  pub refused : (refused : IoFault) → text_refusal before call ≡ Some refused → LeavesText before old (Refused refused) reply after new short
-  pub again : closes_again before call ≡ true → LeavesText before old Done reply after new short
-  pub shut : ClosedWith before.life old → ClosedWith after.life new
-  pub bytes : WhereTold old (new.bytes ≡ old.bytes)
-  pub causes : HasCauses old reply new short
-  pub shorts : IsShort reply short
-  pub wants : WantsMemory call reply old
-  pub moves : TextMoves before call short reply after
-  pub answer : text_refusal before call ≡ None → IsReplyTo call reply
-  pub complete : text_refusal before call ≡ None → rose old.waits new.waits ≡ false → rose old.faults new.faults ≡ false → IsComplete call reply short
-  pub told : WhereTold old (TextStep before call reply short (says_fault reply) after)
-  pub hides : IsTrue short → WhereTold old (ShowsAll after new)
-
--- the same of a session's files
-abbrev pub AnswersFile : SessionFile → Raw → TextCall → FileReply → SessionFile → Raw → Bool → Type 0
-AnswersFile (OfText before) old call reply (OfText after) new short = AnswersText before old call reply after new short
-
--- and the buffer's size stays
-pub record AnswersAs (before : SessionView) (call : TextCall) (reply : Reply) (after : SessionView) : Type 0 where
-  pub answers : AnswersFile before.file before.raw call (said reply) after.file after.raw after.short
-  pub buffer : after.buffer ≡ before.buffer
-
--- one call of a session
+-- one call of a session, which stays of its kind
 abbrev pub Answers : SessionView → Call → Reply → SessionView → Type 0
-Answers before call reply after = AnswersAs before (text_call call) reply after
+Answers (TextSession before) call reply (TextSession after) = AnswersText before call reply after
+Answers (BinarySession before) call reply (BinarySession after) = AnswersBinary before call reply after
+Answers before call reply after = ⊥
+
+-- What the model says of a call.
+
+-- what a call leaves of a flat file: all, but that of a detached one only the life, and what it could do, is told
+abbrev pub FileLeftBy : Life → FlatFile → FlatFile → Type 0
+FileLeftBy life.Detached file after = (after.life ≡ life.Detached) × (after.can ≡ file.can) × (after.buffering ≡ file.buffering)
+FileLeftBy current file after = after ≡ file
+
+abbrev pub FileLeft : FlatFile → FlatFile → Type 0
+FileLeft file after = FileLeftBy file.life file after
+
+-- the allowed step of a flat file
+pub record LeavesFile (before : FlatFile) (call : Call) (reply : FileReply) (waited faulted : Bool) (after : FlatFile) : Type 0 where
+  pub file : FlatFile
+  pub step : BinaryStep before (file_call call) reply waited faulted file
+  pub left : FileLeft file after
+
+-- the same where nothing waits, fails or lacks memory
+pub record SettlesFile (before : FlatFile) (call : Call) (reply : FileReply) (after : FlatFile) : Type 0 where
+  pub file : FlatFile
+  pub settled : Settled before (file_call call) reply file
+  pub left : FileLeft file after
+
+-- what a session answers to one of the four questions
+abbrev pub flag_seen : SessionFile → Call → FileReply
+flag_seen (OfText file) call = Flag (flag_of file.can file.life (file_call call))
+flag_seen (OfBinary file) call = Flag (flag_of file.can file.life (file_call call))
+
+-- it leaves the file as it was
+pub record Tells (before : SessionFile) (call : Call) (reply : FileReply) (after : SessionFile) : Type 0 where
+  pub says : reply ≡ flag_seen before call
+  pub same : after ≡ before
+
+abbrev pub StepBy : Bool → SessionFile → Call → FileReply → Bool → Bool → SessionFile → Type 0
+StepBy true before call reply waited faulted after = Tells before call reply after
+StepBy false (OfText before) call reply waited faulted (OfText after) = TextStep before (text_call call) reply waited faulted after
+StepBy false (OfBinary before) call reply waited faulted (OfBinary after) = LeavesFile before call reply waited faulted after
+StepBy false before call reply waited faulted after = ⊥
+
+-- the allowed step
+abbrev pub SessionStep : SessionFile → Call → FileReply → Bool → Bool → SessionFile → Type 0
+SessionStep before call reply waited faulted after = StepBy (is_getter (file_call call)) before call reply waited faulted after
+
+abbrev pub SettlesBy : Bool → SessionFile → Call → FileReply → SessionFile → Type 0
+SettlesBy true before call reply after = Tells before call reply after
+SettlesBy false (OfText before) call reply (OfText after) = TextSettled before (text_call call) reply after
+SettlesBy false (OfBinary before) call reply (OfBinary after) = SettlesFile before call reply after
+SettlesBy false before call reply after = ⊥
+
+-- what a call answers and leaves where nothing waits, fails or lacks memory: the exact answer, but that a single transfer gives
+-- some front of what is asked
+abbrev pub Settles : SessionFile → Call → FileReply → SessionFile → Type 0
+Settles before call reply after = SettlesBy (is_getter (file_call call)) before call reply after

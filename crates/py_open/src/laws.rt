@@ -1,28 +1,38 @@
-//! Laws of the definitions that the contracts cite: what any run of a session, and any step of a text, has to be.
+//! Laws of the definitions that the contracts cite: what any run of a session has to be.
 //!
 //! No function here does anything; what each ensures is a law.
-ghost use Rattle.std.specs.Prelude.{◌≡◌, ◌≢◌, ℕ, ◌≤◌, IsTrue, Bool, List, [], ◌++◌, length};
-ghost use Rattle.py_flat.specs.declared.fault.IoFault.{IoFault};
-ghost use Rattle.py_flat.specs.declared.fault.IoFault.TheVariants as fault;
+ghost use Rattle.std.specs.Prelude.{◌≡◌, ℕ, ◌≤◌, IsTrue, List, ◌++◌, length};
 ghost use Rattle.py_flat.specs.declared.life.Life.TheVariants as life;
-ghost use Rattle.py_flat.specs.Calls.{FileReply, Text, NotReady, Refused};
+ghost use Rattle.py_flat.specs.Calls.{FileReply};
 ghost use Rattle.py_plain.specs.TextFile.{TextFile};
-ghost use Rattle.py_plain.specs.TextStep.{TextCall, TextSettled, TextStep};
-ghost use Rattle.py_raw.specs.RawStream.{Keeps};
-ghost use Rattle.py_open.specs.declared.call.Call.{Call};
-ghost use Rattle.py_open.specs.declared.reply.Reply.{Reply};
+ghost use Rattle.py_raw.specs.RawStream.{Raw, Keeps};
 ghost use Rattle.py_stream.specs.Answers.{ClosedWith};
-ghost use Rattle.py_open.specs.Session.{SessionFile, SessionView};
-ghost use Rattle.py_open.specs.Opening.{life_of};
-ghost use Rattle.py_open.specs.Run.{Entry, IsRun, IsHistory, IsCalm, IsSmooth, NoneLacksMemory, all_said};
-ghost use Rattle.py_open.specs.Laws.{IsExact, IsExactHistory, HasHistory, RunsInTwo, KeepsSettings, StaysClosed, LosesNothing};
+ghost use Rattle.py_calls.specs.declared.call.Call.{Call};
+ghost use Rattle.py_calls.specs.declared.reply.Reply.{Reply};
+ghost use Rattle.py_calls.specs.Calls.{file_call, said};
+ghost use Rattle.py_open.specs.Session.{SessionFile, OfText, SessionView, Answers, file_seen, raw_of, life_of};
+ghost use Rattle.py_mode.specs.declared.plan.OpenPlan.{OpenPlan};
+ghost use Rattle.py_open.specs.Opening.{OpensSession};
+ghost use Rattle.py_open.specs.Run.{Entry, IsRun, IsHistory, IsCalm, IsSmooth, NoneLacksMemory, AllSettle, all_said, calls_of, replies_of};
+ghost use Rattle.py_open.specs.Laws.{IsExact, HasHistory, RunsInTwo, RunsComplete, KeepsSettings, OnlyReads, OwesAsWriter, PassesAll, HoldsFlat, StaysClosed};
 
-/// A run over a raw that tells, in which no count of the raw rose and no call lacked memory, is the model's: each reply is
-/// the exact answer of the file there, and the file behind them is the exact one.
-///
-/// Two such runs of the same calls from the same file are alike, whatever pieces their raws moved.
-pub fn a_smooth_run_is_exact()
-    ensures { (before : SessionView) (calls : List Call) (replies : List Reply) (after : SessionView) → IsRun before calls replies after → IsTrue before.raw.tells → IsSmooth before.raw after.raw → NoneLacksMemory (all_said replies) → IsExact before calls replies after }
+/// A run over a raw that tells, in which no count of the raw rose and no call lacked memory, is the model's: there is a flat file
+/// between any two calls, and each reply is what the file there answers, exactly, but that a single transfer gives some front of
+/// what it is asked for.
+pub fn a_smooth_run_settles()
+    ensures { (before : SessionView) (calls : List Call) (replies : List Reply) (after : SessionView) → IsRun before calls replies after → IsTrue (raw_of before).tells → IsSmooth (raw_of before) (raw_of after) → NoneLacksMemory (all_said replies) → AllSettle (file_seen before) calls (all_said replies) (file_seen after) }
+{}
+
+/// Calls of a text that all settle are answered by the exact replies, and leave the exact text: two such lists are alike, whatever
+/// pieces their raws moved.
+pub fn a_settled_text_is_exact()
+    ensures { (before : TextFile) (calls : List Call) (replies : List FileReply) (after : SessionFile) → AllSettle (OfText before) calls replies after → IsExact before calls replies after }
+{}
+
+/// A run, over any raw, told or not, in which no count of the raw rose is complete: each call that the session doesn't refuse is
+/// answered by an answer of its own, or for want of memory.
+pub fn a_smooth_run_is_complete()
+    ensures { (before : SessionView) (calls : List Call) (replies : List Reply) (after : SessionView) → IsRun before calls replies after → IsSmooth (raw_of before) (raw_of after) → RunsComplete before calls replies after }
 {}
 
 /// A run may be looked at in two parts, anywhere: there is a session between them, to which the first leads and from which
@@ -34,13 +44,13 @@ pub fn a_run_splits_anywhere()
 /// A run over a raw that tells is a history of its flat files: the same calls and replies, each a step of the model, marked
 /// where a wait cut the call short and where a fault answered it. So each mark has its cause in the counts of the raw.
 pub fn a_run_is_a_history()
-    ensures { (before : SessionView) (calls : List Call) (replies : List Reply) (after : SessionView) → IsRun before calls replies after → IsTrue before.raw.tells → HasHistory before calls replies after }
+    ensures { (before : SessionView) (calls : List Call) (replies : List Reply) (after : SessionView) → IsRun before calls replies after → IsTrue (raw_of before).tells → HasHistory before calls replies after }
 {}
 
-/// A history in which no entry waited, faulted or lacked memory is the model's: each reply is the exact one. This needs no
-/// counts, only the marks of its entries.
-pub fn a_calm_history_is_exact()
-    ensures { (before : SessionFile) (entries : List Entry) (after : SessionFile) → IsHistory before entries after → IsCalm entries → IsExactHistory before entries after }
+/// A history in which no entry waited, faulted or lacked memory is the model's: each reply settles. This needs no counts, only the
+/// marks of its entries.
+pub fn a_calm_history_settles()
+    ensures { (before : SessionFile) (entries : List Entry) (after : SessionFile) → IsHistory before entries after → IsCalm entries → AllSettle before (calls_of entries) (all_said (replies_of entries)) after }
 {}
 
 /// A run has one reply for each call.
@@ -50,45 +60,40 @@ pub fn a_run_answers_each_call()
 
 /// Over a run neither the faults nor the waits that the raw counts fall, so a count that rose stays risen.
 pub fn counts_never_fall()
-    ensures faults { (before : SessionView) (calls : List Call) (replies : List Reply) (after : SessionView) → IsRun before calls replies after → before.raw.faults ≤ after.raw.faults }
-    ensures waits { (before : SessionView) (calls : List Call) (replies : List Reply) (after : SessionView) → IsRun before calls replies after → before.raw.waits ≤ after.raw.waits }
+    ensures faults { (before : SessionView) (calls : List Call) (replies : List Reply) (after : SessionView) → IsRun before calls replies after → (raw_of before).faults ≤ (raw_of after).faults }
+    ensures waits { (before : SessionView) (calls : List Call) (replies : List Reply) (after : SessionView) → IsRun before calls replies after → (raw_of before).waits ≤ (raw_of after).waits }
 {}
 
-/// Over a run what the raw and the file can do stays, and so do the file's settings, the buffer's size and, where the raw
-/// tells them, its bytes: a text that is read writes nothing.
-pub fn a_run_keeps_the_bytes_and_the_settings()
-    ensures raw { (before : SessionView) (calls : List Call) (replies : List Reply) (after : SessionView) → IsRun before calls replies after → Keeps before.raw after.raw }
-    ensures file { (before : SessionView) (calls : List Call) (replies : List Reply) (after : SessionView) → IsRun before calls replies after → KeepsSettings before.file after.file }
-    ensures buffer { (before : SessionView) (calls : List Call) (replies : List Reply) (after : SessionView) → IsRun before calls replies after → after.buffer ≡ before.buffer }
-    ensures bytes { (before : SessionView) (calls : List Call) (replies : List Reply) (after : SessionView) → IsRun before calls replies after → IsTrue before.raw.tells → after.raw.bytes ≡ before.raw.bytes }
+/// Over a run what the raw and the session can do stays, and so do the session's kind, a text's settings and the buffer's size.
+pub fn a_run_keeps_the_settings()
+    ensures raw { (before : SessionView) (calls : List Call) (replies : List Reply) (after : SessionView) → IsRun before calls replies after → Keeps (raw_of before) (raw_of after) }
+    ensures session { (before : SessionView) (calls : List Call) (replies : List Reply) (after : SessionView) → IsRun before calls replies after → KeepsSettings before after }
 {}
 
-/// A raw that is closed just where its session is stays so over a run: only a `Close` closes it, and each that closes the
-/// session does, after a fault too.
+/// A session that only reads leaves the raw's bytes, where it tells them, as they were.
+pub fn a_session_that_reads_spares_the_bytes()
+    ensures { (before : SessionView) (calls : List Call) (replies : List Reply) (after : SessionView) → IsRun before calls replies after → OnlyReads before → IsTrue (raw_of before).tells → (raw_of after).bytes ≡ (raw_of before).bytes }
+{}
+
+/// What is passed on is in the raw: after a `flush`, a `close` or a `detach` of a live session that was done nothing is owed, and the
+/// raw holds the flat bytes of the session that the call came to.
+///
+/// Only a session that writes owes anything: so it is where a session opens, and over every run.
+pub fn what_is_passed_on_is_in_the_raw()
+    ensures passed { (before : SessionView) (call : Call) (reply : Reply) (after : SessionView) → Answers before call reply after → OwesAsWriter before → life_of before ≡ life.Live → PassesAll (file_call call) (said reply) → HoldsFlat before after }
+    ensures opened { (raw : Raw) (plan : OpenPlan) (chunk : ℕ) (session : SessionView) → OpensSession raw plan chunk session → OwesAsWriter session }
+    ensures kept { (before : SessionView) (calls : List Call) (replies : List Reply) (after : SessionView) → IsRun before calls replies after → OwesAsWriter before → OwesAsWriter after }
+{}
+
+/// A raw that is closed just where its session is stays so over a run of a session that only reads: only a `Close` closes it, and
+/// each that closes the session does, after a fault too.
 pub fn a_raw_is_closed_with_its_session()
-    ensures { (before : SessionView) (calls : List Call) (replies : List Reply) (after : SessionView) → IsRun before calls replies after → ClosedWith (life_of before.file) before.raw → ClosedWith (life_of after.file) after.raw }
+    ensures { (before : SessionView) (calls : List Call) (replies : List Reply) (after : SessionView) → IsRun before calls replies after → OnlyReads before → ClosedWith (life_of before) (raw_of before) → ClosedWith (life_of after) (raw_of after) }
 {}
 
-/// A run from a closed session answers `Done` to each further `Close` and `Closed` to every other call, and leaves the
-/// file and the raw as they were, whether the raw tells or not (Python's documentation of `close`).
+/// A run from a closed session answers `Done` to each further `Close`, the four questions as ever, and refuses every other call, by
+/// `Closed` but for the questions that a stream lacks; it leaves the file and the raw as they were, whether the raw tells or not
+/// (Python's documentation of `close`).
 pub fn a_closed_session_stays_closed()
-    ensures { (before : SessionView) (calls : List Call) (replies : List Reply) (after : SessionView) → IsRun before calls replies after → life_of before.file ≡ life.Closed → StaysClosed before calls replies after }
-{}
-
-/// A settled reply of a text blames neither the raw nor memory: it is not `NotReady`, `RawFault`, `NoMemory` or
-/// `WouldBlock`.
-pub fn settled_only_blames_itself()
-    ensures ready { (before : TextFile) (call : TextCall) (reply : FileReply) (after : TextFile) → TextSettled before call reply after → reply ≢ NotReady }
-    ensures no_raw_fault { (before : TextFile) (call : TextCall) (reply : FileReply) (after : TextFile) → TextSettled before call reply after → reply ≢ Refused fault.RawFault }
-    ensures no_want_of_memory { (before : TextFile) (call : TextCall) (reply : FileReply) (after : TextFile) → TextSettled before call reply after → reply ≢ Refused fault.NoMemory }
-    ensures no_wait { (before : TextFile) (call : TextCall) (reply : FileReply) (after : TextFile) (taken : ℕ) → TextSettled before call reply after → reply ≢ Refused (fault.WouldBlock taken) }
-{}
-
-/// No character is lost by any answer of a text, whole or short: what was left before is the answer and then what is left
-/// after it, up to the same refused range. An answer that isn't ready, and a refusal that is no fault of the raw, leave the
-/// text as it was.
-pub fn a_wait_loses_nothing()
-    ensures answered { (before : TextFile) (call : TextCall) (answer : List ℕ) (waited faulted : Bool) (after : TextFile) → TextStep before call (Text answer) waited faulted after → LosesNothing before answer after }
-    ensures not_ready { (before : TextFile) (call : TextCall) (waited faulted : Bool) (after : TextFile) → TextStep before call NotReady waited faulted after → after ≡ before }
-    ensures refused { (before : TextFile) (call : TextCall) (why : IoFault) (waited faulted : Bool) (after : TextFile) → why ≢ fault.RawFault → TextStep before call (Refused why) waited faulted after → after ≡ before }
+    ensures { (before : SessionView) (calls : List Call) (replies : List Reply) (after : SessionView) → IsRun before calls replies after → life_of before ≡ life.Closed → StaysClosed before calls replies after }
 {}

@@ -1,11 +1,14 @@
 //! Runs: a session that is opened, and a list of calls that are made on it in order.
-ghost use Rattle.std.specs.Prelude.{◌≡◌, ◌<◌, MatchResult};
+ghost use Rattle.std.specs.Prelude.{◌≡◌, MatchResult};
 ghost use Rattle.py_stream.specs.Opening.{StandsAtStart};
+ghost use Rattle.py_open.specs.Kinds.{IsPlanned};
+ghost use Rattle.py_open.specs.Session.{raw_of};
 ghost use Rattle.py_open.specs.Run.{IsRun, OpenedOutcome, RunOutcome};
 
-use crate::{Call, Detached, OpenArgs, OpenRefused, Reply, Session, plan_open};
+use crate::{Call, Detached, OpenArgs, OpenPlan, OpenRefused, Reply, Session, plan_open};
 use py_flat::IoFault;
 use py_raw::RawStream;
+use py_stream::NewRefused;
 use std::alloc::Global;
 
 /// A session after a list of calls, and their replies in order.
@@ -18,15 +21,17 @@ pub struct Run<R: RawStream> {
 }
 
 /// Opens a session over a raw by a mode and arguments, and makes calls in order: through a buffer of the size that the
-/// plan gives, and with chunks of `args.chunk_size` bytes.
+/// plan gives, or without one, and of a text with chunks of `args.chunk_size` bytes.
 ///
 /// The replies are a run of the model from the opening's flat file to the session's own: for every raw, told or not,
 /// each has its cause; where the raw tells, each is the model's, whatever pieces the raw moves and whatever the sizes of
 /// buffer and chunks are.
 ///
-/// Refused, the raw is handed back with nothing read: by the plan (`plan_open`), then `Closed`, `Unsupported` where it
-/// can't be read from, `NoMemory`, and `RawFault` where it fails to say where it stands; one that tells still stands where
-/// it stood, but after `RawFault`. Space for the replies is taken before the first call.
+/// Refused, the raw is handed back with nothing read or written: by the plan (`plan_open`), then `Closed`, `Unsupported` where
+/// it can't do what the mode needs, `NoMemory`, and `RawFault` where it fails to say where it stands or ends, or to move there.
+/// Space for the replies is taken before the first call: where there is none it is `NoMemory` too, and the raw stands where
+/// the session would have begun. Else a raw that tells still stands where it stood, but after `RawFault` and, where it was to be
+/// moved to its end, `NoMemory`.
 pub fn run_session<R: RawStream>(
     alloc: Global,
     raw: R,
@@ -38,30 +43,29 @@ pub fn run_session<R: RawStream>(
     ensures { RunOutcome R.shows raw mode.now args calls.now result }
 {
     match plan_open(mode, &args) {
-        Ok(plan) => {
-            let buffer_size = plan.buffer_size.unwrap_or(1);
-            run_opened(alloc, raw, buffer_size, args.chunk_size, calls)
-        }
+        Ok(plan) => run_opened(alloc, raw, plan, args.chunk_size, calls),
         Err(fault) => Err(OpenRefused { raw, fault }),
     }
 }
 
-/// The same with a buffer and chunks of these sizes in bytes.
+/// The same as it is planned.
 pub(crate) fn run_opened<R: RawStream>(
     alloc: Global,
     raw: R,
-    buffer_size: usize,
+    plan: OpenPlan,
     chunk_size: usize,
     calls: &[Call],
 ) -> Result<Run<R>, OpenRefused<R>>
-    requires buffer { 0 < buffer_size }
-    requires chunk { 0 < chunk_size }
+    requires planned { IsPlanned plan chunk_size }
     requires start { StandsAtStart (R.shows raw) }
-    ensures { OpenedOutcome R.shows raw buffer_size chunk_size calls.now result }
+    ensures { OpenedOutcome R.shows raw plan chunk_size calls.now result }
 {
-    match Session::open(alloc, raw, buffer_size, chunk_size) {
+    match Session::open(alloc, raw, plan, chunk_size) {
         Ok(session) => answer_all(alloc, session, calls),
-        Err(refused) => Err(refused),
+        Err(refused) => {
+            let NewRefused { raw, fault } = refused;
+            Err(OpenRefused { raw, fault })
+        }
     }
 }
 
@@ -73,7 +77,7 @@ fn answer_all<R: RawStream>(
 ) -> Result<Run<R>, OpenRefused<R>>
     ensures { MatchResult result
         (λ run. IsRun session calls.now run.replies.items run.session)
-        (λ refused. (refused.fault ≡ IoFault.NoMemory) × (R.shows refused.raw ≡ session.raw)) }
+        (λ refused. (refused.fault ≡ IoFault.NoMemory) × (R.shows refused.raw ≡ raw_of session)) }
 {
     let mut session = session;
     let mut replies = Vec::new(alloc);

@@ -1,192 +1,176 @@
-//! Sessions: each call is refused by life or kind, or answered by the text below.
-ghost use Rattle.std.specs.Prelude.{◌≡◌, ◌<◌, true, false, []};
-ghost use Rattle.py_plain.specs.TextStep.{Close, OtherKind};
+//! Sessions: what a plan opens over a raw stream, and on which calls are made.
+ghost use Rattle.std.specs.Prelude.{◌≡◌};
 ghost use Rattle.py_stream.specs.Opening.{StandsAtStart};
-ghost use Rattle.py_open.specs.Text.{call_of};
-ghost use Rattle.py_open.specs.Session.{Answers, AnswersAs};
-ghost use Rattle.py_open.specs.Opening.{SessionOutcome, life_of, handed_at};
+ghost use Rattle.py_open.specs.Session.{Answers, life_of, short_of, raw_of, owed_of};
+ghost use Rattle.py_open.specs.Kinds.{IsPlanned};
+ghost use Rattle.py_open.specs.Opening.{SessionOutcome, access_of, place_handed};
 
-use crate::chunk_reader::ChunkReader;
-use crate::text::{Answer, Text, Wanted};
-use crate::{Call, OpenRefused, Reply};
-use py_flat::{IoFault, Life};
+use crate::text_calls::answer_text;
+use crate::{Call, EncodeMode, FileMode, OpenPlan, Reply};
+use py_binary::{Access, BinarySession};
+use py_flat::Life;
 use py_raw::RawStream;
-use py_stream::Detached;
+use py_stream::{Detached, NewRefused};
+use py_textio::TextReader;
 use std::alloc::Global;
 use std::marker::Model;
 
-/// A stream that was opened, and on which calls are made one by one.
+/// What a session calls.
+#[derive(Drop)]
+pub(crate) enum Kind<R: RawStream> {
+    /// A text that is read.
+    Text(TextReader<R>),
+    /// A stream of bytes.
+    Binary(BinarySession<R>),
+}
+
+/// A stream that was opened, and on which calls are made one by one: a text that is read, or a stream of bytes that is read,
+/// written or appended to, with a buffer or without.
 ///
-/// So far it is a text that is read, in UTF-8 with the handler strict, in lines that end at LF; it is seen as its flat
-/// file, the raw under it, its buffer's size, and whether its last answer was short. A session that is let go lets its raw go; `finish`
-/// hands it back.
+/// It is seen as a text's state or as a stream: the flat file, the raw under it, its buffer's size, whether its last answer was
+/// short, and of a stream the bytes that it owes the raw. A session that is let go lets its raw go, and what it owes;
+/// `finish` hands both back.
 #[derive(Drop)]
 pub struct Session<R: RawStream> {
     alloc: Global,
-    text: Text<R>,
-    short: bool,
+    kind: Kind<R>,
 }
 
 impl<R: RawStream> Model for Session<R> {
-    ghost use Rattle.py_open.specs.Text.{file_of};
-    ghost use Rattle.py_open.specs.Session.{SessionView, SessionFile, OfText};
+    ghost use Rattle.py_open.specs.Session.{SessionView};
+    ghost use Rattle.py_open.specs.Kinds.{seen};
 
     ghost Value = { SessionView };
 
-    ghost view = { λ s. record { file = OfText (file_of s.text); raw = s.text.reader.raw; buffer = s.text.reader.size; short = s.short } };
+    ghost view = { λ s. seen s.kind };
 }
 
 impl<R: RawStream> Session<R> {
-    /// A text session over a raw that is read from where it stands, with a buffer and chunks of these sizes in bytes.
+    /// A session as it is planned, over a raw that is opened for it. It begins where the raw stands, one that appends at the
+    /// end, to which a raw that can seek is moved; one that can't stands at place 0.
     ///
-    /// Refused, the raw is handed back with nothing read: `Closed`, then `Unsupported` where it can't be read from,
-    /// `NoMemory`, and `RawFault` where it fails to say where it stands. One that tells still stands where it stood, but
-    /// after `RawFault`.
+    /// Refused, the raw is handed back with nothing read or written: `Closed`, then `Unsupported` where it can't do what it is
+    /// opened for, `NoMemory`, and `RawFault` where it fails to say where it stands or ends, or to move there. One that tells
+    /// still stands where it stood, but after `RawFault` and, of one that appends, `NoMemory`.
     pub(crate) fn open(
         alloc: Global,
         raw: R,
-        buffer_size: usize,
+        plan: OpenPlan,
         chunk_size: usize,
-    ) -> Result<Self, OpenRefused<R>>
-        requires buffer { 0 < buffer_size }
-        requires chunk { 0 < chunk_size }
+    ) -> Result<Self, NewRefused<R>>
+        requires planned { IsPlanned plan chunk_size }
         requires start { StandsAtStart (R.shows raw) }
-        ensures { SessionOutcome R.shows raw buffer_size chunk_size result }
+        ensures { SessionOutcome R.shows raw plan chunk_size result }
     {
-        match ChunkReader::new(alloc, raw, buffer_size) {
-            Ok(reader) => Ok(Session {
-                alloc,
-                text: Text::new(alloc, reader, chunk_size),
-                short: false,
-            }),
-            Err(refused) => Err(refused),
+        match plan.mode.encode {
+            EncodeMode::Text => {
+                let buffer_size = plan.buffer_size.unwrap_or(1);
+                match TextReader::new(alloc, raw, buffer_size, chunk_size) {
+                    Ok(text) => Ok(Session {
+                        alloc,
+                        kind: Kind::Text(text),
+                    }),
+                    Err(refused) => Err(refused),
+                }
+            }
+            EncodeMode::Bytes => {
+                let access = access_of(plan.mode.file);
+                match BinarySession::new(alloc, raw, access, plan.buffer_size) {
+                    Ok(session) => Ok(Session {
+                        alloc,
+                        kind: Kind::Binary(session),
+                    }),
+                    Err(refused) => Err(refused),
+                }
+            }
         }
     }
 
     /// Makes one call.
     ///
-    /// `Read` answers the next characters, as many as asked for, or all that are left; `ReadLine` those up to and with
-    /// the next LF, at most its limit; fewer come only at the end. Where the raw asked to wait, what came by then is
-    /// answered, never nothing, or it is `NotReady` with nothing taken; `short` says so. `Close` closes the raw and is `Done`, and so
-    /// is another `Close` after it.
+    /// A text has `Read`, `ReadLine` and `Close`; a stream of bytes all but `Truncate` and the calls of texts, as far as it reads,
+    /// writes and can be moved, and without a buffer no `Read1`, `ReadInto1`, `Peek` and `Detach`. The four questions `Readable`,
+    /// `Writable`, `Seekable` and `Closed` are answered by a `Flag` in every life.
+    ///
+    /// - Readings answer bytes, lines or characters, as many as asked for, or all that are left; fewer come only at the end.
+    ///   `Read1`, `ReadInto1`, `Peek` and, without a buffer, `Read` of a size and `ReadInto` answer what one transfer of the raw gives,
+    ///   none only where none is asked for or left. Where the raw asked to wait, what came by then is answered, never nothing, or it is
+    ///   `NotReady` with nothing taken; `short` says so.
+    /// - `Write` answers how many bytes were taken: all, or without a buffer those of one transfer; `WriteLines` is `Done`.
+    /// - `Seek` and `Tell` answer the place, `Flush` and `Close` `Done`. `Detach` answers what is unwritten, and its place; the
+    ///   raw stays with the session, and every call but the questions is `Detached` from then on.
     ///
     /// Else it is `Refused`:
     ///
-    /// - `Failed` after an earlier fault, `Closed` after a `Close`, and `Unsupported` to any call but these three, in this
-    ///   order: no raw is called, and all stays as it was.
-    /// - `UnicodeDecodeError`, with byte places from the start of the stream, where a range that is no UTF-8 stands before
-    ///   the end of the answer: place and life stay, and a shorter read gives the characters before it.
-    /// - `RawFault` where the raw failed: the session is failed from then on and its place isn't told; after `Close` it is
-    ///   closed.
-    /// - `NoMemory`: place and life stay, and the call may be made again.
+    /// - `Failed` after an earlier fault (a stream with a buffer may still be detached), `Closed` after a `Close` (which may be made again), `Detached`
+    ///   after a `Detach`; then `Unsupported` to a call that the session lacks, `BadWhence`, `NegativeSeek` and `TooFar`: no raw is
+    ///   called, but for a `Seek` from the end, and all stays as it was. `ChunkSize`, `Encoding` and `Errors` are `Unsupported` in
+    ///   every life of a stream of bytes.
+    /// - `UnicodeDecodeError`, with byte places from the start of the stream, where a range that is no UTF-8 stands before the end of a
+    ///   text's answer: place and life stay, and a shorter read gives the characters before it.
+    /// - `WouldBlock` where the raw asked to wait and a buffer had no room for the rest: the first `taken` bytes were taken; of every
+    ///   other call but a write `taken` is 0, and it may be made again.
+    /// - `RawFault` where the raw failed: the session is failed from then on; after `Close` it is closed.
+    /// - `NoMemory`: place and life stay, and the call may be made again; but a reading call of bytes is failed by it once bytes left
+    ///   the raw, and a write once the raw took some of its bytes.
     ///
-    /// The rules are those of Python's `io.TextIOWrapper`; what waits, faults and refused ranges leave is this project's
-    /// choice.
-    ///
-    /// A wait hides nothing: after a short answer or `NotReady` each character that the bytes taken from the raw so far
-    /// surely give has been answered, and no refused range stands among them.
+    /// The rules are those of Python's `io`; what waits, faults and refused ranges leave is this project's choice
+    /// (docs/DECISIONS.md).
     pub fn call(&mut self, alloc: Global, call: &Call) -> Reply
         ensures { Answers self.old call.now result self.new }
     {
-        self.short = false;
-        match call {
-            Call::Read(size) => self.read(alloc, Wanted::Characters(*size)),
-            Call::ReadLine(limit) => self.read(alloc, Wanted::Line(*limit)),
-            Call::Close => self.close(),
-            _ => self.unsupported(),
+        match &mut self.kind {
+            Kind::Text(text) => answer_text(alloc, text, call),
+            Kind::Binary(session) => session.call(alloc, call),
         }
     }
 
-    /// Whether the raw asked to wait before the last call was answered in full: its answer is the characters that came by
-    /// then, or `NotReady`. It is false before the first call, and after a call that the wait didn't cut short.
+    /// Whether the raw asked to wait before the last call was answered in full: its answer is what came by then, or was taken, or
+    /// `NotReady`. It is false before the first call, and after a call that the wait didn't cut short.
     pub fn short(&self) -> bool
-        ensures { result ≡ self.now.short }
+        ensures { result ≡ short_of self.now }
     {
-        self.short
+        match &self.kind {
+            Kind::Text(text) => text.short(),
+            Kind::Binary(session) => session.short(),
+        }
     }
 
-    /// What became of the session: live from its opening on, failed by a fault of the raw, or closed by `Close`.
+    /// What became of the session: live from its opening on, failed by a fault of the raw or want of memory, closed by `Close`,
+    /// or detached by `Detach`.
     pub fn life(&self) -> Life
-        ensures { result ≡ life_of self.now.file }
+        ensures { result ≡ life_of self.now }
     {
-        self.text.life()
+        match &self.kind {
+            Kind::Text(text) => text.life(),
+            Kind::Binary(session) => session.life(),
+        }
     }
 
-    /// Hands the raw back, in every life, with nothing unwritten, and with the byte of the text place where it can seek. The
-    /// raw is closed where `Close` closed the session, and else stands wherever its last transfer left it.
-    /// What was read and not taken is let go. It takes no memory.
+    /// Hands the raw back, in every life, with the bytes that it isn't known to have, and the place of the first of them: with
+    /// none unwritten the session's own place, of a text in bytes. No place comes where the raw can't seek, nor of a session that was
+    /// detached, whose reply had what was unwritten. The raw is closed where a `Close` closed it, and else stands wherever its
+    /// last call left it. What was read and not taken is let go. It takes no memory.
     pub fn finish(self) -> Detached<R>
-        ensures raw { R.shows result.raw ≡ self.raw }
-        ensures unwritten { result.unwritten.items ≡ [] }
-        ensures place { result.place ≡ handed_at self.file }
+        ensures raw { R.shows result.raw ≡ raw_of self }
+        ensures unwritten { result.unwritten.items ≡ owed_of self }
+        ensures place { result.place ≡ place_handed self }
     {
-        let Session {
-            alloc,
-            text,
-            short: _,
-        } = self;
-        let (raw, at) = text.into_raw();
-        let place = if raw.seekable() { Some(at) } else { None };
-        Detached {
-            raw,
-            unwritten: Vec::new(alloc),
-            place,
+        let Session { alloc, kind } = self;
+        match kind {
+            Kind::Text(text) => text.into_parts(alloc),
+            Kind::Binary(session) => session.into_parts(),
         }
     }
+}
 
-    fn read(&mut self, alloc: Global, wanted: Wanted) -> Reply
-        requires { self.old.short ≡ false }
-        ensures { AnswersAs self.old (call_of wanted) result self.new }
-    {
-        match self.text.life() {
-            Life::Live => self.answer(alloc, wanted),
-            Life::Failed => Reply::Refused(IoFault::Failed),
-            Life::Closed => Reply::Refused(IoFault::Closed),
-            Life::Detached => Reply::Refused(IoFault::Detached),
-        }
-    }
-
-    fn answer(&mut self, alloc: Global, wanted: Wanted) -> Reply
-        requires short { self.old.short ≡ false }
-        requires live { life_of self.old.file ≡ Life.Live }
-        ensures { AnswersAs self.old (call_of wanted) result self.new }
-    {
-        match self.text.answer(alloc, wanted) {
-            Ok(Answer::Whole(text)) => Reply::Text(text),
-            Ok(Answer::Short(text)) => self.cut_short(Reply::Text(text)),
-            Ok(Answer::NotReady) => self.cut_short(Reply::NotReady),
-            Err(fault) => Reply::Refused(fault),
-        }
-    }
-
-    /// Remembers that a wait cut this reply short.
-    fn cut_short(&mut self, reply: Reply) -> Reply
-        ensures reply { result ≡ reply }
-        ensures short { self.new ≡ record self.old { short = true } }
-    {
-        self.short = true;
-        reply
-    }
-
-    fn close(&mut self) -> Reply
-        requires { self.old.short ≡ false }
-        ensures { AnswersAs self.old Close result self.new }
-    {
-        match self.text.close() {
-            Ok(()) => Reply::Done,
-            Err(fault) => Reply::Refused(fault),
-        }
-    }
-
-    fn unsupported(&mut self) -> Reply
-        requires { self.old.short ≡ false }
-        ensures { AnswersAs self.old OtherKind result self.new }
-    {
-        match self.text.life() {
-            Life::Live => Reply::Refused(IoFault::Unsupported),
-            Life::Failed => Reply::Refused(IoFault::Failed),
-            Life::Closed => Reply::Refused(IoFault::Closed),
-            Life::Detached => Reply::Refused(IoFault::Detached),
-        }
+/// What a mode opens a raw for; an opener has made the file by then.
+fn access_of(file: FileMode) -> Access
+    ensures { result ≡ access_of file }
+{
+    match file {
+        FileMode::Read => Access::Read,
+        FileMode::Write | FileMode::Exclusive => Access::Write,
+        FileMode::Append => Access::Append,
     }
 }

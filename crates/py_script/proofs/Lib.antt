@@ -1,8 +1,10 @@
 mod Decimals
 mod LineLemmas
+mod Behind
 mod ScriptLemmas
 mod WordLemmas
 mod FaultLemmas
 mod ReplyLemmas
 mod OptionLemmas
 mod OptionLaws
+mod WordLaws

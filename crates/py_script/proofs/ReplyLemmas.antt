@@ -15,7 +15,7 @@ use Rattle.py_flat.specs.declared.fault.IoFault.{IoFault}
 use Rattle.py_script.specs.Words.{spaced}
 use Rattle.py_script.specs.ReplyLine.{hex_of, place_of, reply_word, reply_fields, reply_line}
 use Rattle.py_script.specs.ReplyRange.{IsInRange}
-use Rattle.py_script.proofs.WordLemmas.{is_word, AreWords, cut, rest_of_line, rest_ends_word, rest_of_line_same, one_word_same, hex_word, decimal_word}
+use Rattle.py_script.proofs.WordLemmas.{is_word, AreWords, cut, rest_of_line, rest_ends_word, rest_of_line_same, one_word_same, hex_word, hex_lines_words, decimal_word}
 use Rattle.py_script.proofs.FaultLemmas.{fault_words, fault_same}
 
 -- hex of some bytes has two digits at least
@@ -43,11 +43,6 @@ hex_lines_same (k ∷ ks) (l ∷ ls) range_k range_l same =
     let first : k ≡ l = hex_same k l (range_k 0 [] (omega arith)) (range_l 0 [] (omega arith)) heads in
     let more : ks ≡ ls = hex_lines_same ks ls (λ i d within. range_k (suc i) d (omega arith)) (λ i d within. range_l (suc i) d (omega arith)) tails in
     cc
-
--- hex of lines is words
-hex_lines_words : (lines : List (List ℕ)) → AreWords (map hex_of lines)
-hex_lines_words [] = tt
-hex_lines_words (line ∷ lines) = (hex_word line, hex_lines_words lines)
 
 -- the word of a place
 place_word : (place : Option ℕ) → IfSome place (λ some. some < 2 ^ 64) → is_word (place_of place) ≡ true

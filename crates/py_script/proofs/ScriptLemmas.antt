@@ -1,17 +1,8 @@
 -- The calls of a script, one line at a time.
-use Rattle.std.proofs.Common.{◌≡◌, ℕ, ◌+◌, ◌<◌, true, false, List, [], ◌∷◌, ◌++◌, Option, Some, None, map, length, get_or, drop, drop-cons, add-one, refl, sym, ap, append_assoc, Bor}
+use Rattle.std.proofs.Common.{◌≡◌, ℕ, ◌+◌, ◌<◌, true, false, List, [], ◌∷◌, ◌++◌, Option, Some, None, map, length, get_or, drop, drop-cons, add-one, refl, Bor}
 use Rattle.py_open.specs.declared.call.Call.{Call}
-use Rattle.py_script.specs.Script.{is_skipped, line_call, call_before, lines_calls}
-
--- calls before those that follow, where these are in form
-abbrev pub behind : List Call → Option (List Call) → Option (List Call)
-behind calls None = None
-behind calls (Some more) = Some (calls ++ more)
-
--- one more call
-behind_more : (calls : List Call) (call : Call) (more : Option (List Call)) → behind calls (call_before (Some call) more) ≡ behind (calls ++ call ∷ []) more
-behind_more calls call None = refl
-behind_more calls call (Some more) = ap Some (sym (append_assoc calls (call ∷ []) more))
+use Rattle.py_script.specs.Script.{is_skipped, line_call, lines_calls}
+use Rattle.py_script.proofs.Behind.{behind, behind_more}
 
 -- the calls of the lines from one on
 abbrev pub calls_from : List (Bor (List ℕ)) → ℕ → Option (List Call)

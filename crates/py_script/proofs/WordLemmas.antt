@@ -1,15 +1,18 @@
 -- Words that hold neither a space nor an LF, and how a line is cut into them.
-use Rattle.std.proofs.Common.{◌≡◌, ℕ, zero, suc, ◌/◌, ◌%◌, ◌<◌, ◌^◌, Bool, true, false, not, ◌&&◌, ◌||◌, eqb, List, [], ◌∷◌, ◌++◌, get_or, refl, sym, ap, ◌∙◌, append_assoc, arith}
+use Rattle.std.proofs.Common.{◌≡◌, ℕ, zero, suc, ◌/◌, ◌%◌, ◌<◌, ◌^◌, Bool, true, false, not, ◌&&◌, ◌||◌, eqb, List, [], ◌∷◌, ◌++◌, get_or, map, refl, sym, ap, ◌∙◌, append_assoc, append-nil, arith}
 use Rattle.std.specs.Bool.{⊤}
 use Rattle.std.specs.Char.{digit_value}
 use Rattle.std.specs.Fmt.{decimal}
+use Rattle.std.specs.List.{All}
 use Rattle.std.specs.Str.Parse.{AllDigits}
 use Rattle.std.proofs.lemmas.Bool.{false≢true}
 use Rattle.std.proofs.lemmas.Bool.Decides.{nat_tests}
 use Rattle.std.proofs.lemmas.Fmt.{decimal_is_IsNumeral}
 use Rattle.std.proofs.lemmas.List.{append_cancel_right}
+use Rattle.std.proofs.lemmas.List.Elements.{All-nil, All-cons}
+use Rattle.std.proofs.lemmas.List.Splits.{slice_split_none, slice_split_at}
 use Rattle.hex.specs.Hex.{encode_with, lower_digits}
-use Rattle.py_script.specs.Words.{spaced}
+use Rattle.py_script.specs.Words.{words_of, spaced}
 use Rattle.py_script.specs.ReplyLine.{hex_of}
 
 -- whether a byte ends a word: a space or an LF
@@ -124,3 +127,28 @@ digits_word (digit ∷ digits) all = rw (digit_is_none digit all.0) (digits_word
 -- so a decimal is one
 pub decimal_word : (number : ℕ) → number < 2 ^ 64 → is_word (decimal number) ≡ true
 decimal_word number small = digits_word (decimal number) (decimal_is_IsNumeral number small).0.1
+
+-- words of lines are words
+pub hex_lines_words : (lines : List (List ℕ)) → AreWords (map hex_of lines)
+hex_lines_words [] = tt
+hex_lines_words (line ∷ lines) = (hex_word line, hex_lines_words lines)
+
+-- what ends no word is no space
+no_space : (byte : ℕ) → is_separator byte ≡ false → eqb byte 32 ≡ false
+no_space byte = elim (eqb byte 32) as (λ b. (b || eqb byte 10) ≡ false → b ≡ false) [
+  | true ↦ λ h. h
+  | false ↦ λ h. refl
+]
+
+-- a word has no space
+spaceless : (word : List ℕ) → is_word word ≡ true → All (λ byte. eqb byte 32 ≡ false) word
+spaceless [] is = All-nil (λ byte. eqb byte 32 ≡ false)
+spaceless (byte ∷ bytes) is =
+    All-cons (λ byte. eqb byte 32 ≡ false) byte bytes (no_space byte (first_of_word byte bytes is)) (spaceless bytes (rest_of_word byte bytes is))
+
+-- words behind one another are told apart
+pub words_apart : (word : List ℕ) (words : List (List ℕ)) → is_word word ≡ true → AreWords words → words_of (word ++ spaced words) ≡ word ∷ words
+words_apart word [] is are = rw append-nil (slice_split_none (λ byte. eqb byte 32) word (spaceless word is))
+words_apart word (next ∷ words) is are =
+    slice_split_at (λ byte. eqb byte 32) word 32 (next ++ spaced words) (spaceless word is) refl
+    ∙ ap (λ rest. word ∷ rest) (words_apart next words are.0 are.1)

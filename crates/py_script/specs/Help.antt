@@ -17,37 +17,40 @@ words_help =
     codes "Opens a file, makes the calls of a script on it, and prints each reply." ∷
     [] ∷
     codes "  run PATH MODE [OPTION ..]   takes the script from standard input" ∷
-    codes "  --help                      prints this text" ∷
-    codes "  --version                   prints the program's name and version" ∷
+    codes "  --help, --version           prints this text, or the program's version" ∷
     [] ∷
     codes "MODE is as in Python's open. Each OPTION is given at most once, in any order:" ∷
-    codes "  buffering=I    size of the buffer in bytes; 1, and I below 0, mean 8192" ∷
+    codes "  buffering=I    size of the buffer in bytes; 0: none; 1, and I below 0: 8192" ∷
     codes "  encoding=NAME  the encoding (default utf-8)" ∷
     codes "  errors=NAME    the handler of bytes that are out of form (default strict)" ∷
     codes "  newline=HEX    what ends a line, in hex of its UTF-8: 0a is LF (default: any" ∷
     codes "                 of CR LF, CR and LF, each read as LF); none: empty text" ∷
     codes "  chunk=N        bytes that a text asks its buffer for at once (default 8192)" ∷
-    codes "I and N are decimal numbers, I also behind a -. So far only MODE r is opened," ∷
-    codes "with newline=0a, in UTF-8, strict, buffered, by chunks of 1 byte or more." ∷
+    codes "So far MODE is rb, wb, xb or ab, with any buffering; or r, with newline=0a, in" ∷
+    codes "UTF-8, strict, buffered, by chunks of 1 byte or more." ∷
     []
 
 -- the script and its replies
 abbrev pub script_help : List (List ℕ)
 script_help =
-    codes "The script has a call on each line, with one space between its words:" ∷
-    codes "  read [N]       reads N characters, or all that is left" ∷
-    codes "  readline [N]   reads up to and with the end of a line, at most N characters" ∷
-    codes "  close          closes the file" ∷
-    codes "Empty lines and lines that begin with # are skipped. A close is added at the" ∷
-    codes "end. A script has at most 1048576 bytes." ∷
+    codes "A script has a call a line, one space between words, and 1048576 bytes at most:" ∷
+    codes "  read [N]           reads N bytes, of a text characters, or all that is left" ∷
+    codes "  readline [N]       reads up to and with the end of a line, at most N of it" ∷
+    codes "  readlines [N], read1 [N], peek, readinto N, readinto1 N     read as in Python" ∷
+    codes "  write HEX          writes bytes, and writelines [HEX ..] any number of lines" ∷
+    codes "  seek I [WHENCE]    I from the start (0, or none), the place (1), the end (2)" ∷
+    codes "  tell, flush, close, detach, readable, writable, seekable, closed" ∷
+    codes "N and I are decimal, I also behind a -; HEX has two digits a byte, - for none." ∷
+    codes "Lines that are empty or begin with # are skipped. A close is added at the end." ∷
     [] ∷
     codes "Each call is answered by a line:" ∷
-    codes "  text HEX       what was read, in hex of its UTF-8; text - where nothing was" ∷
-    codes "  ok             done" ∷
-    codes "  notready       the file was not ready: make the call again" ∷
-    codes "  err NAME ..    refused: Closed or Failed by an earlier call, RawFault where" ∷
-    codes "                 the file failed, NoMemory, UnicodeDecodeError START END where" ∷
-    codes "                 the bytes from START to before END are no UTF-8" ∷
+    codes "  bytes HEX, text HEX, lines N HEX ..   what was read, of a text its UTF-8" ∷
+    codes "  count N, place N, true, false, ok     how many, where, yes, no, done" ∷
+    codes "  notready          the file was not ready: make the call again" ∷
+    codes "  detached HEX N    handed back: HEX may be unwritten, and belongs at place N" ∷
+    codes "  err NAME ..       refused: Closed, Detached or Failed by an earlier call," ∷
+    codes "                    RawFault where the file failed, WouldBlock N where it was" ∷
+    codes "                    not ready and took N bytes; other names say why" ∷
     []
 
 -- the statuses
@@ -57,10 +60,8 @@ status_help =
     codes "  0  every reply was printed        5  the script could not be read" ∷
     codes "  2  the words are no form          6  a line could not be printed" ∷
     codes "  3  the script is out of form      7  there was no memory left" ∷
-    codes "  4  refused NAME was printed: the  8  the path could not be opened, or the" ∷
-    codes "     mode (InvalidMode,                file not be put away again" ∷
-    codes "     MultipleFile, MultipleEncode, NoFile), an option (Unsupported), the file" ∷
-    codes "     (RawFault)" ∷
+    codes "  4  refused NAME was printed, of   8  the path could not be opened, or the" ∷
+    codes "     the mode, option or file          file not be put away again" ∷
     []
 
 -- the lines that `--help` prints

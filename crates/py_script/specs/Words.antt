@@ -1,6 +1,10 @@
--- Words of a line, and the numbers among them: this project's script language, docs/PROGRAM.md.
-use Rattle.std.specs.Prelude.{ℕ, ◌+◌, ◌-◌, ◌*◌, ◌^◌, ◌==◌, ◌&&◌, nat_le, nat_lt, ℤ, pos, neg_ℤ, Bool, List, [], ◌∷◌, ◌++◌, Option, Some, None, if◌then◌else◌}
+-- Words of a line, and the numbers and bytes among them: this project's script language, docs/PROGRAM.md.
+use Rattle.std.specs.Prelude.{ℕ, ◌+◌, ◌-◌, ◌*◌, ◌^◌, ◌==◌, ◌&&◌, nat_le, nat_lt, ℤ, pos, negsuc, neg_ℤ, Bool, List, [], ◌∷◌, ◌++◌, Option, Some, None, codes, if◌then◌else◌}
 use Rattle.std.specs.List.{slice_split}
+use Rattle.std.specs.Option.{option_and_then}
+use Rattle.std.specs.Result.{result_ok}
+use Rattle.std.specs.Str.{bytes_eq}
+use Rattle.hex.specs.Hex.{decode_of}
 
 -- the words of a line, parted by one space: two spaces in a row have an empty word between them
 abbrev pub words_of : List ℕ → List (List ℕ)
@@ -44,3 +48,31 @@ as_negative (Some value) = if nat_le value (2 ^ 63) then Some (neg_ℤ (pos valu
 abbrev pub integer_value : List ℕ → Option ℤ
 integer_value [] = None
 integer_value (byte ∷ bytes) = if byte == 45 then as_negative (decimal_value bytes) else as_positive (decimal_value (byte ∷ bytes))
+
+-- an integer as a whence, which 32 bits hold with a sign; None where it is below -2147483648 or above 2147483647
+abbrev pub as_whence : ℤ → Option ℤ
+as_whence (pos value) = if nat_lt value (2 ^ 31) then Some (pos value) else None
+as_whence (negsuc value) = if nat_lt value (2 ^ 31) then Some (negsuc value) else None
+
+-- the whence of a word: an integer from -2147483648 to 2147483647
+abbrev pub whence_value : List ℕ → Option ℤ
+whence_value word = option_and_then as_whence (integer_value word)
+
+-- the bytes that are written in hex, two digits of either case to a byte; None where they are no hex
+abbrev pub hex_bytes : List ℕ → Option (List ℕ)
+hex_bytes digits = result_ok (decode_of digits)
+
+-- the bytes of a word: at least one, in hex, or `-` for none; None where it is neither
+abbrev pub word_bytes : List ℕ → Option (List ℕ)
+word_bytes [] = None
+word_bytes (digit ∷ digits) = if bytes_eq (digit ∷ digits) (codes "-") then Some [] else hex_bytes (digit ∷ digits)
+
+-- an item before those that follow; None where either is out of form
+abbrev pub item_before : {A : Type 0} → Option A → Option (List A) → Option (List A)
+item_before (Some item) (Some items) = Some (item ∷ items)
+item_before _ _ = None
+
+-- the bytes of words, each one's apart; None where one is out of form
+abbrev pub words_bytes : List (List ℕ) → Option (List (List ℕ))
+words_bytes [] = Some []
+words_bytes (word ∷ words) = item_before (word_bytes word) (words_bytes words)

@@ -1,5 +1,5 @@
 ghost use Rattle.std.specs.Prelude.{◌≡◌, ◌∷◌, []};
-ghost use Rattle.py_script.specs.Words.{value_onto, as_size, decimal_value, as_negative, integer_value};
+ghost use Rattle.py_script.specs.Words.{value_onto, as_size, decimal_value, as_negative, integer_value, as_whence, whence_value};
 
 /// The number of one or more decimal digits, leading zeros too, with no sign; `None` for other bytes and for a number
 /// above 18446744073709551615.
@@ -47,4 +47,18 @@ fn negative(value: usize) -> Option<i64>
     ensures { result ≡ as_negative (Some value) }
 {
     0i64.checked_sub_unsigned(value as u64)
+}
+
+/// The whence of a word: an integer, as for `parse_integer`, from -2147483648 to 2147483647; `None` for other bytes.
+pub(crate) fn parse_whence(bytes: &[u8]) -> Option<i32>
+    ensures { result ≡ whence_value bytes.now }
+{
+    as_whence(parse_integer(bytes)?)
+}
+
+/// An integer as a whence; `None` for one below -2147483648 or above 2147483647.
+fn as_whence(integer: i64) -> Option<i32>
+    ensures { result ≡ as_whence integer }
+{
+    i32::try_from(integer).ok()
 }

@@ -22,11 +22,68 @@ pub fn examples_of_scripts()
         ≡ Some (Call.Read (Some 18446744073709551615) ∷ []) }
 {}
 
+/// Worked examples of lines of one word, computed from the definition.
+pub fn examples_of_plain_lines()
+    ensures reads { script_calls (codes "read1\nreadlines\npeek") ≡ Some (Call.Read1 None ∷ Call.ReadLines None ∷ Call.Peek ∷ []) }
+    ensures place_and_end { script_calls (codes "tell\nflush\nclose\ndetach") ≡ Some (Call.Tell ∷ Call.Flush ∷ Call.Close ∷ Call.Detach ∷ []) }
+    ensures questions { script_calls (codes "readable\nwritable\nseekable\nclosed")
+        ≡ Some (Call.Readable ∷ Call.Writable ∷ Call.Seekable ∷ Call.Closed ∷ []) }
+{}
+
+/// Worked examples of lines with a size, computed from the definition.
+#[tactic(auto, unfolding(crate::specs::Words::is_digit))]
+pub fn examples_of_sized_lines()
+    ensures reads { script_calls (codes "read1 2\nreadlines 010") ≡ Some (Call.Read1 (Some 2) ∷ Call.ReadLines (Some 10) ∷ []) }
+    ensures into { script_calls (codes "readinto 0\nreadinto1 3") ≡ Some (Call.ReadInto 0 ∷ Call.ReadInto1 3 ∷ []) }
+    ensures no_size_to_read_into { script_calls (codes "readinto") ≡ None }
+    ensures no_size_to_read_into_once { script_calls (codes "readinto1") ≡ None }
+    ensures size_of_peek { script_calls (codes "peek 1") ≡ None }
+    ensures size_of_tell { script_calls (codes "tell 1") ≡ None }
+    ensures two_sizes { script_calls (codes "read1 1 2") ≡ None }
+    ensures below_zero { script_calls (codes "readlines -1") ≡ None }
+{}
+
+/// Worked examples of moves, computed from the definition.
+#[tactic(auto, unfolding(crate::specs::Words::is_digit))]
+pub fn examples_of_moves()
+    ensures from_the_start { script_calls (codes "seek 0") ≡ Some (Call.Seek (pos 0) (pos 0) ∷ []) }
+    ensures from_the_place { script_calls (codes "seek 3 1") ≡ Some (Call.Seek (pos 3) (pos 1) ∷ []) }
+    ensures from_the_end { script_calls (codes "seek -1 2") ≡ Some (Call.Seek (negsuc 0) (pos 2) ∷ []) }
+    ensures least { script_calls (codes "seek -9223372036854775808 -2147483648")
+        ≡ Some (Call.Seek (negsuc 9223372036854775807) (negsuc 2147483647) ∷ []) }
+    ensures greatest { script_calls (codes "seek 9223372036854775807 2147483647")
+        ≡ Some (Call.Seek (pos 9223372036854775807) (pos 2147483647) ∷ []) }
+    ensures no_offset { script_calls (codes "seek") ≡ None }
+    ensures three_numbers { script_calls (codes "seek 1 2 3") ≡ None }
+    ensures two_minuses { script_calls (codes "seek --1") ≡ None }
+    ensures offset_too_large { script_calls (codes "seek 9223372036854775808") ≡ None }
+    ensures whence_too_large { script_calls (codes "seek 1 2147483648") ≡ None }
+    ensures whence_too_small { script_calls (codes "seek 1 -2147483649") ≡ None }
+    ensures whence_of_no_digits { script_calls (codes "seek 1 ") ≡ None }
+{}
+
+/// Worked examples of writes, computed from the definition.
+pub fn examples_of_writes()
+    ensures either_case { script_calls (codes "write 6A6a") ≡ Some (Call.Write (106 ∷ 106 ∷ []) ∷ []) }
+    ensures no_bytes { script_calls (codes "write -") ≡ Some (Call.Write [] ∷ []) }
+    ensures no_lines { script_calls (codes "writelines") ≡ Some (Call.WriteLines [] ∷ []) }
+    ensures lines { script_calls (codes "writelines 610a - 62") ≡ Some (Call.WriteLines ((97 ∷ 10 ∷ []) ∷ [] ∷ (98 ∷ []) ∷ []) ∷ []) }
+    ensures nothing_to_write { script_calls (codes "write") ≡ None }
+    ensures empty_word { script_calls (codes "write ") ≡ None }
+    ensures odd_hex { script_calls (codes "write 6") ≡ None }
+    ensures no_hex { script_calls (codes "write 6g") ≡ None }
+    ensures two_words { script_calls (codes "write 61 62") ≡ None }
+    ensures minus_behind_hex { script_calls (codes "write 61-") ≡ None }
+    ensures empty_line { script_calls (codes "writelines 61 ") ≡ None }
+    ensures odd_line { script_calls (codes "writelines 61 6") ≡ None }
+{}
+
 /// Worked examples of scripts out of form, computed from the definition.
 #[tactic(auto, unfolding(crate::specs::Words::is_digit))]
 pub fn examples_out_of_form()
     ensures misspelled { script_calls (codes "red") ≡ None }
-    ensures misspelled_later { script_calls (codes "read\nclosed\n") ≡ None }
+    ensures misspelled_later { script_calls (codes "read\nclose1\n") ≡ None }
+    ensures upper_case { script_calls (codes "READ") ≡ None }
     ensures two_spaces { script_calls (codes "read  1") ≡ None }
     ensures leading_space { script_calls (codes " read") ≡ None }
     ensures trailing_space { script_calls (codes "read ") ≡ None }
@@ -36,6 +93,13 @@ pub fn examples_out_of_form()
     ensures too_large { script_calls (codes "read 18446744073709551616") ≡ None }
     ensures size_of_close { script_calls (codes "close 1") ≡ None }
     ensures not_utf8 { script_calls (codes "read " ++ 255 ∷ []) ≡ None }
+    ensures truncation { script_calls (codes "truncate") ≡ None }
+    ensures text_to_write { script_calls (codes "writetext 61") ≡ None }
+    ensures cookie { script_calls (codes "seektext 00") ≡ None }
+    ensures chunk { script_calls (codes "chunksize") ≡ None }
+    ensures settings { script_calls (codes "reconfigure") ≡ None }
+    ensures encoding { script_calls (codes "encoding") ≡ None }
+    ensures errors { script_calls (codes "errors") ≡ None }
 {}
 
 /// Worked examples of the lines of replies, computed from the definition.

@@ -5,42 +5,43 @@ const HELP: &str = "\
 Opens a file, makes the calls of a script on it, and prints each reply.
 
   run PATH MODE [OPTION ..]   takes the script from standard input
-  --help                      prints this text
-  --version                   prints the program's name and version
+  --help, --version           prints this text, or the program's version
 
 MODE is as in Python's open. Each OPTION is given at most once, in any order:
-  buffering=I    size of the buffer in bytes; 1, and I below 0, mean 8192
+  buffering=I    size of the buffer in bytes; 0: none; 1, and I below 0: 8192
   encoding=NAME  the encoding (default utf-8)
   errors=NAME    the handler of bytes that are out of form (default strict)
   newline=HEX    what ends a line, in hex of its UTF-8: 0a is LF (default: any
                  of CR LF, CR and LF, each read as LF); none: empty text
   chunk=N        bytes that a text asks its buffer for at once (default 8192)
-I and N are decimal numbers, I also behind a -. So far only MODE r is opened,
-with newline=0a, in UTF-8, strict, buffered, by chunks of 1 byte or more.
+So far MODE is rb, wb, xb or ab, with any buffering; or r, with newline=0a, in
+UTF-8, strict, buffered, by chunks of 1 byte or more.
 
-The script has a call on each line, with one space between its words:
-  read [N]       reads N characters, or all that is left
-  readline [N]   reads up to and with the end of a line, at most N characters
-  close          closes the file
-Empty lines and lines that begin with # are skipped. A close is added at the
-end. A script has at most 1048576 bytes.
+A script has a call a line, one space between words, and 1048576 bytes at most:
+  read [N]           reads N bytes, of a text characters, or all that is left
+  readline [N]       reads up to and with the end of a line, at most N of it
+  readlines [N], read1 [N], peek, readinto N, readinto1 N     read as in Python
+  write HEX          writes bytes, and writelines [HEX ..] any number of lines
+  seek I [WHENCE]    I from the start (0, or none), the place (1), the end (2)
+  tell, flush, close, detach, readable, writable, seekable, closed
+N and I are decimal, I also behind a -; HEX has two digits a byte, - for none.
+Lines that are empty or begin with # are skipped. A close is added at the end.
 
 Each call is answered by a line:
-  text HEX       what was read, in hex of its UTF-8; text - where nothing was
-  ok             done
-  notready       the file was not ready: make the call again
-  err NAME ..    refused: Closed or Failed by an earlier call, RawFault where
-                 the file failed, NoMemory, UnicodeDecodeError START END where
-                 the bytes from START to before END are no UTF-8
+  bytes HEX, text HEX, lines N HEX ..   what was read, of a text its UTF-8
+  count N, place N, true, false, ok     how many, where, yes, no, done
+  notready          the file was not ready: make the call again
+  detached HEX N    handed back: HEX may be unwritten, and belongs at place N
+  err NAME ..       refused: Closed, Detached or Failed by an earlier call,
+                    RawFault where the file failed, WouldBlock N where it was
+                    not ready and took N bytes; other names say why
 
 The first status that applies ends the program:
   0  every reply was printed        5  the script could not be read
   2  the words are no form          6  a line could not be printed
   3  the script is out of form      7  there was no memory left
-  4  refused NAME was printed: the  8  the path could not be opened, or the
-     mode (InvalidMode,                file not be put away again
-     MultipleFile, MultipleEncode, NoFile), an option (Unsupported), the file
-     (RawFault)
+  4  refused NAME was printed, of   8  the path could not be opened, or the
+     the mode, option or file          file not be put away again
 ";
 
 /// How the program is used, for one who has only the program: its words and options, the script, the replies and the

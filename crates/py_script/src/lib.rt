@@ -2,7 +2,9 @@
 //!
 //! A script is read into calls (`parse_script`), replies and refusals are written as lines (`push_reply_line`,
 //! `push_refused_line`), and the command line's words are told apart (`parse_words`), with a text that tells how they are
-//! used (`help_text`). Nothing here opens, reads or prints. `reply_lines_tell` is a law: no two replies are printed alike.
+//! used (`help_text`). Nothing here opens, reads or prints. The rest are laws and worked examples: no two replies are printed
+//! alike (`reply_lines_tell`), and what a reply answered is written by a script as it stands
+//! (`answered_bytes_can_be_written`).
 #![tactic(auto)]
 
 mod command;
@@ -10,17 +12,21 @@ mod decimal;
 mod examples;
 mod fault_line;
 mod help;
+mod hex_words;
+mod line_call;
 mod option_laws;
 mod options;
 mod reply_law;
 mod reply_line;
 mod script;
+mod word_laws;
 
 pub use command::{Command, parse_words};
 pub use decimal::parse_decimal;
 pub use examples::{
-    examples_of_commands, examples_of_no_options, examples_of_options, examples_of_refusals,
-    examples_of_replies, examples_of_scripts, examples_out_of_form,
+    examples_of_commands, examples_of_moves, examples_of_no_options, examples_of_options,
+    examples_of_plain_lines, examples_of_refusals, examples_of_replies, examples_of_scripts,
+    examples_of_sized_lines, examples_of_writes, examples_out_of_form,
 };
 pub use fault_line::{fault_name, push_refused_line};
 pub use help::{help_text, version_text};
@@ -28,6 +34,7 @@ pub use option_laws::{an_option_stands_once, every_text_has_its_hex, options_sta
 pub use reply_law::reply_lines_tell;
 pub use reply_line::push_reply_line;
 pub use script::{MAX_SCRIPT_SIZE, parse_line, parse_script};
+pub use word_laws::{answered_bytes_can_be_written, answered_lines_can_be_written};
 
 #[cfg(test)]
 mod tests;

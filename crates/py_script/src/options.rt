@@ -2,7 +2,7 @@ ghost use Rattle.std.specs.Prelude.{◌≡◌, map, string_bytes, IfOk};
 ghost use Rattle.py_script.specs.Options.{text_of, hex_text, named_option, option_of, given_with, arguments_by, arguments_of};
 
 use crate::decimal::{parse_decimal, parse_integer};
-use hex::{FromHexError, decode};
+use crate::hex_words::hex_bytes;
 use py_flat::Chars;
 use py_open::OpenArgs;
 use std::alloc::{AllocError, Global};
@@ -134,10 +134,9 @@ fn named_option(alloc: Global, name: &str, value: &str) -> Result<Option<WordOpt
 fn hex_text(alloc: Global, digits: &str) -> Result<Option<Chars>, AllocError>
     ensures { IfOk result (λ text. text ≡ hex_text digits.now) }
 {
-    match decode(alloc, digits) {
-        Ok(bytes) => Ok(text_of(bytes)),
-        Err(FromHexError::OutOfMemory) => Err(AllocError),
-        Err(_) => Ok(None),
+    match hex_bytes(alloc, digits.as_bytes())? {
+        Some(bytes) => Ok(text_of(bytes.into_vec())),
+        None => Ok(None),
     }
 }
 

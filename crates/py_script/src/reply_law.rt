@@ -42,7 +42,7 @@ pub(crate) fn read_bytes(bytes: &[u8])
 {}
 
 /// The bytes of lines are, and how many lines there are is below 2 ^ 64.
-fn read_lines(lines: &[Data])
+pub(crate) fn read_lines(lines: &[Data])
     ensures bytes { All IsBytes lines.now }
     ensures count { length lines.now < 2 ^ 64 }
 {

@@ -1,9 +1,9 @@
 ghost use Rattle.std.specs.Prelude.{◌≡◌, ◌==◌, map, IfOk};
 ghost use Rattle.std.specs.List.{slice_split};
 ghost use Rattle.std.specs.Option.{option_map};
-ghost use Rattle.py_script.specs.Script.{plain_call, sized_call, words_call, line_call, is_skipped, lines_calls, script_calls};
+ghost use Rattle.py_script.specs.Script.{line_call, is_skipped, lines_calls, script_calls};
 
-use crate::parse_decimal;
+use crate::line_call::words_call;
 use py_open::Call;
 use std::alloc::{AllocError, Global};
 
@@ -40,13 +40,22 @@ fn parse_lines(alloc: Global, lines: &[&[u8]]) -> Result<Option<Vec<Call>>, Allo
 
 /// The call of a script's line, without its LF, or `None` where the line is out of form; `Err` for want of memory.
 ///
-/// The lines so far are `read`, `read n`, `readline`, `readline n` and `close`, each word parted from the next by one
-/// space (docs/PROGRAM.md).
+/// A line is one of these, with one space between its words:
+/// - `read`, `read1`, `readline` or `readlines`, alone or with a size;
+/// - `readinto` or `readinto1` with a size;
+/// - `write` with bytes, `writelines` with the bytes of each line, of none too;
+/// - `seek` with an offset, or with an offset and a whence, which is 0 where there is none;
+/// - `peek`, `tell`, `flush`, `close`, `detach`, `readable`, `writable`, `seekable` or `closed`, alone.
+///
+/// A size is one or more decimal digits, up to 18446744073709551615. An offset is the same after at most one `-`, from
+/// -9223372036854775808 to 9223372036854775807, and so is a whence, from -2147483648 to 2147483647: which of them mean
+/// something is left to the call. Leading zeros are allowed, `+` is not. Bytes are hex of either case, two digits to a
+/// byte, or `-` for none. Every other line is out of form (docs/PROGRAM.md).
 pub fn parse_line(alloc: Global, line: &[u8]) -> Result<Option<Call>, AllocError>
     ensures { IfOk result (λ call. call ≡ line_call line.now) }
 {
     let words = pieces(alloc, line, b' ')?;
-    Ok(words_call(&words))
+    words_call(alloc, &words)
 }
 
 /// The pieces of some bytes that are cut at each byte of one kind; `Err` for want of memory.
@@ -56,17 +65,6 @@ fn pieces(alloc: Global, bytes: &[u8], at: u8) -> Result<Vec<&[u8]>, AllocError>
     bytes.split(|byte| *byte == at).collect(alloc)
 }
 
-/// The call of a line's words, or `None` where they are no form.
-fn words_call(words: &[&[u8]]) -> Option<Call>
-    ensures { result ≡ words_call (map (λ word. word.now) words.now) }
-{
-    match words {
-        [name] => plain_call(name),
-        [name, size] => sized_call(name, parse_decimal(size)?),
-        _ => None,
-    }
-}
-
 /// Whether a line is skipped: it is empty, or begins with `#`.
 fn is_skipped(line: &[u8]) -> bool
     ensures { result ≡ is_skipped line.now }
@@ -74,33 +72,5 @@ fn is_skipped(line: &[u8]) -> bool
     match line {
         [] => true,
         [byte, ..] => *byte == b'#',
-    }
-}
-
-/// The call of a word that stands alone.
-fn plain_call(name: &[u8]) -> Option<Call>
-    ensures { result ≡ plain_call name.now }
-{
-    if name == "read".as_bytes() {
-        Some(Call::Read(None))
-    } else if name == "readline".as_bytes() {
-        Some(Call::ReadLine(None))
-    } else if name == "close".as_bytes() {
-        Some(Call::Close)
-    } else {
-        None
-    }
-}
-
-/// The call of a word with a size behind it.
-fn sized_call(name: &[u8], size: usize) -> Option<Call>
-    ensures { result ≡ sized_call name.now size }
-{
-    if name == "read".as_bytes() {
-        Some(Call::Read(Some(size)))
-    } else if name == "readline".as_bytes() {
-        Some(Call::ReadLine(Some(size)))
-    } else {
-        None
     }
 }

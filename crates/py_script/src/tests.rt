@@ -39,6 +39,117 @@ fn scripts_make_the_calls_of_their_lines(rt: HostRuntime) -> Result<(), Fail> {
 }
 
 #[test]
+fn each_line_makes_its_call(rt: HostRuntime) -> Result<(), Fail> {
+    let cases = [
+        ("read", "Read(None)"),
+        ("read 5", "Read(Some(5))"),
+        ("read1", "Read1(None)"),
+        ("read1 05", "Read1(Some(5))"),
+        ("readline", "ReadLine(None)"),
+        ("readline 5", "ReadLine(Some(5))"),
+        ("readlines", "ReadLines(None)"),
+        ("readlines 5", "ReadLines(Some(5))"),
+        ("peek", "Peek"),
+        ("readinto 5", "ReadInto(5)"),
+        ("readinto1 0", "ReadInto1(0)"),
+        ("write 6A", "Write(Data { bytes: [106] })"),
+        ("write 00fF0a", "Write(Data { bytes: [0, 255, 10] })"),
+        ("write -", "Write(Data { bytes: [] })"),
+        ("writelines", "WriteLines(Lines { lines: [] })"),
+        (
+            "writelines 610a - 62",
+            "WriteLines(Lines { lines: [Data { bytes: [97, 10] }, Data { bytes: [] }, Data { bytes: [98] }] })",
+        ),
+        ("seek 0", "Seek(0, 0)"),
+        ("seek -0 -0", "Seek(0, 0)"),
+        ("seek -1 2", "Seek(-1, 2)"),
+        ("seek 3 1", "Seek(3, 1)"),
+        (
+            "seek -9223372036854775808 -2147483648",
+            "Seek(-9223372036854775808, -2147483648)",
+        ),
+        (
+            "seek 9223372036854775807 2147483647",
+            "Seek(9223372036854775807, 2147483647)",
+        ),
+        ("tell", "Tell"),
+        ("flush", "Flush"),
+        ("close", "Close"),
+        ("detach", "Detach"),
+        ("readable", "Readable"),
+        ("writable", "Writable"),
+        ("seekable", "Seekable"),
+        ("closed", "Closed"),
+    ];
+    for (line, want) in cases {
+        let call = parse_line(rt.alloc(), line.as_bytes())?;
+        let shown = format!(in rt.alloc(); "{call:?}")?;
+        let wanted = format!(in rt.alloc(); "Some({want})")?;
+        assert_eq!(rt; shown.as_str(), wanted.as_str(), "at {line:?}");
+    }
+    Ok(())
+}
+
+#[test]
+fn other_lines_are_out_of_form(rt: HostRuntime) -> Result<(), Fail> {
+    let lines = [
+        "",
+        " ",
+        "Read",
+        "read2",
+        "tell 1",
+        "tell ",
+        "peek 1",
+        "flush -",
+        "closed 1",
+        "read1 -1",
+        "readlines 1 2",
+        "readinto",
+        "readinto -1",
+        "readinto1",
+        "write",
+        "write ",
+        "write 6",
+        "write 6g",
+        "write 6_",
+        "write --",
+        "write -61",
+        "write 61-",
+        "write 61 62",
+        "write 61 ",
+        "writelines ",
+        "writelines 61 ",
+        "writelines 61  62",
+        "writelines 61 6",
+        "seek",
+        "seek ",
+        "seek -",
+        "seek --1",
+        "seek +1",
+        "seek 1 ",
+        "seek 1 -",
+        "seek 1 2 3",
+        "seek 1 2147483648",
+        "seek 1 -2147483649",
+        "seek 9223372036854775808",
+        "seek -9223372036854775809",
+        "truncate",
+        "truncate 1",
+        "writetext 61",
+        "seektext 00 0",
+        "chunksize",
+        "reconfigure",
+        "encoding",
+        "errors",
+    ];
+    for line in lines {
+        let call = parse_line(rt.alloc(), line.as_bytes())?;
+        assert!(rt; call.is_none(), "at {line:?}");
+    }
+    Ok(())
+}
+
+#[test]
 fn replies_are_printed_as_lines(rt: HostRuntime) -> Result<(), Fail> {
     let alloc = rt.alloc();
     let mut lines = Lines::new(alloc);
@@ -231,6 +342,8 @@ fn the_help_names_every_word(rt: HostRuntime) {
         "run PATH MODE",
         "--help",
         "--version",
+        "rb, wb, xb or ab",
+        "with any buffering",
         "buffering=",
         "encoding=",
         "errors=",
@@ -238,10 +351,32 @@ fn the_help_names_every_word(rt: HostRuntime) {
         "chunk=",
         "read [N]",
         "readline [N]",
+        "readlines [N]",
+        "read1 [N]",
+        "peek",
+        "readinto N",
+        "readinto1 N",
+        "write HEX",
+        "writelines [HEX ..]",
+        "seek I [WHENCE]",
+        "tell",
+        "flush",
         "close",
+        "detach",
+        "readable",
+        "writable",
+        "seekable",
+        "closed",
+        "bytes HEX",
         "text HEX",
+        "lines N HEX ..",
+        "count N",
+        "place N",
+        "true",
+        "false",
         "ok",
         "notready",
+        "detached HEX N",
         "err NAME",
         "refused NAME",
     ];

@@ -1,5 +1,6 @@
 use Rattle.std.proofs.Common.{Bor, List, ℕ, ◌+◌, [], sym, ap, ◌∙◌, arith}
-use Rattle.py_script.proofs.ScriptLemmas.{behind, calls_from, calls_from_skipped, calls_from_more, calls_from_none}
+use Rattle.py_script.proofs.Behind.{behind}
+use Rattle.py_script.proofs.ScriptLemmas.{calls_from, calls_from_skipped, calls_from_more, calls_from_none}
 use Rattle.py_script.proofs.script.parse_lines.Goals as goal
 
 -- no line, which a read past the end gives

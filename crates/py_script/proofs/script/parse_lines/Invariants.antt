@@ -1,6 +1,6 @@
 use Rattle.std.proofs.Common.{◌≡◌, drop, map}
 use Rattle.py_script.specs.Script.{lines_calls}
-use Rattle.py_script.proofs.ScriptLemmas.{behind}
+use Rattle.py_script.proofs.Behind.{behind}
 use Rattle.py_script.proofs.script.parse_lines.Given as goal
 
 abbrev pub invariant-loop-line : goal.invariant-loop-line

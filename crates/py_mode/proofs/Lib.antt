@@ -1,0 +1,2 @@
+mod Modes
+pub mod Planning

@@ -1,0 +1,11 @@
+use Rattle.py_mode.proofs.Planning.{planned_bytes_encoding, planned_bytes_errors, planned_bytes_newline}
+use Rattle.py_mode.proofs.laws.an_accepted_binary_mode_has_no_text_argument.Goals as goal
+
+pub returns-clause-encoding : goal.returns-clause-encoding
+returns-clause-encoding c = λ mode args plan planned bytes. planned_bytes_encoding mode args plan planned bytes
+
+pub returns-clause-errors : goal.returns-clause-errors
+returns-clause-errors c = λ mode args plan planned bytes. planned_bytes_errors mode args plan planned bytes
+
+pub returns-clause-newline : goal.returns-clause-newline
+returns-clause-newline c = λ mode args plan planned bytes. planned_bytes_newline mode args plan planned bytes

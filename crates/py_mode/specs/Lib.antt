@@ -1,0 +1,3 @@
+pub mod OpenArgs
+pub mod Mode
+pub mod Plan

@@ -1,0 +1,436 @@
+//! What a mode and arguments set up, decided before any raw stream is asked.
+ghost use Rattle.std.specs.Prelude.{◌≡◌, chars};
+ghost use Rattle.py_mode.specs.Plan.{plan_of, is_given, is_lf, is_utf8, is_strict, buffer_size_of, gives_text_argument, has_bad_argument, are_planned_names, is_planned_text, is_planned};
+
+use crate::{Mode, OpenArgs};
+use py_flat::{Chars, IoFault};
+
+/// The size of a buffer where none is given, and how many bytes a text asks its buffer for at once: Python 3.11's
+/// `io.DEFAULT_BUFFER_SIZE` and the chunk size of its texts.
+pub const DEFAULT_BUFFER_SIZE: usize = 8192;
+
+/// What an opening by a mode and arguments sets up.
+#[derive(Clone, Copy, Debug, PartialEq, Eq)]
+pub struct OpenPlan {
+    /// The mode.
+    pub mode: Mode,
+    /// The buffer's size in bytes; `None` is unbuffered.
+    pub buffer_size: Option<usize>,
+}
+
+/// Whether an argument is given, as a text.
+fn is_given(argument: &Option<Chars>, text: &str) -> bool
+    ensures { result ≡ is_given argument.now (chars text.now) }
+{
+    match argument {
+        Some(characters) => characters.as_str() == text,
+        None => false,
+    }
+}
+
+/// Whether an encoding is utf-8, by no name, that of the locale or its own.
+#[tactic(auto, using(crate::proofs::Planning::locale_spelled, crate::proofs::Planning::utf8_spelled))]
+fn is_utf8(encoding: &Option<Chars>) -> bool
+    ensures { result ≡ is_utf8 encoding.now }
+{
+    encoding.is_none() || is_given(encoding, "locale") || is_given(encoding, "utf-8")
+}
+
+/// Whether a handler is strict, by no name or its own.
+#[tactic(auto, using(crate::proofs::Planning::strict_spelled))]
+fn is_strict(errors: &Option<Chars>) -> bool
+    ensures { result ≡ is_strict errors.now }
+{
+    errors.is_none() || is_given(errors, "strict")
+}
+
+/// Whether a newline argument is LF.
+#[tactic(auto, using(crate::proofs::Planning::line_feed_spelled))]
+fn is_line_feed(newline: &Option<Chars>) -> bool
+    ensures { result ≡ is_lf newline.now }
+{
+    is_given(newline, "\n")
+}
+
+/// The buffer's size that a `buffering` asks for; `None` is unbuffered.
+fn buffer_size_of(buffering: i64) -> Option<usize>
+    ensures { result ≡ buffer_size_of buffering }
+{
+    match usize::try_from(buffering) {
+        Ok(0) => None,
+        Ok(1) | Err(_) => Some(DEFAULT_BUFFER_SIZE),
+        Ok(size) => Some(size),
+    }
+}
+
+/// Whether an argument is given that only a text has, be it an empty text.
+fn gives_text_argument(args: &OpenArgs) -> bool
+    ensures { result ≡ gives_text_argument args.now }
+{
+    args.encoding.is_some() || args.errors.is_some() || args.newline.is_some()
+}
+
+/// Whether an argument can't be had, with this mode or at all.
+fn has_bad_argument(mode: Mode, args: &OpenArgs) -> bool
+    ensures { result ≡ has_bad_argument mode args.now }
+{
+    args.chunk_size == 0 || !mode.encode.is_text() && gives_text_argument(args)
+}
+
+/// Whether the names are those of a text that is opened so far.
+fn are_planned_names(args: &OpenArgs) -> bool
+    ensures { result ≡ are_planned_names args.now }
+{
+    is_utf8(&args.encoding) && is_strict(&args.errors) && is_line_feed(&args.newline)
+}
+
+/// Whether a text is opened so far.
+fn is_planned_text(mode: Mode, args: &OpenArgs) -> bool
+    ensures { result ≡ is_planned_text mode args.now }
+{
+    mode.file.is_read() && are_planned_names(args) && buffer_size_of(args.buffering).is_some()
+}
+
+/// Whether mode and arguments are opened so far.
+fn is_planned(mode: Mode, args: &OpenArgs) -> bool
+    ensures { result ≡ is_planned mode args.now }
+{
+    !mode.plus && (!mode.encode.is_text() || is_planned_text(mode, args))
+}
+
+/// What an opening by a mode and arguments sets up, before any raw is asked (Python's documentation of `open`): the mode,
+/// and a buffer of the size that `buffering` asks for. The arguments stay with the caller.
+///
+/// 0 asks for no buffer, 1 and any negative number for 8192 bytes, any greater number for as many bytes.
+///
+/// It is refused, by the first of these that applies:
+/// - as `ParseMode` with the reason, where the mode is out of form (`Mode`'s `from_str`), whatever the arguments are;
+/// - as `BadArgument`, also with a mode that isn't opened so far: where an encoding, errors or a newline argument is given
+///   with a binary mode, whatever it says, also an empty text (Python's `open` takes no such argument in binary mode); and
+///   where the chunk size is 0, in any mode, since a text that asks for no bytes comes to no end (this project's choice);
+/// - as `Unsupported`, where it isn't opened so far, though Python's `open` takes more.
+///
+/// So far these are opened, all without `+`:
+/// - the binary modes `rb`, `wb`, `xb` and `ab`, with any `buffering`;
+/// - the text mode `r`, also spelled with `t`, where `buffering` is other than 0, with encoding `None`, `locale` or `utf-8`,
+///   all of which mean utf-8, errors `None` or `strict`, both of which mean strict, and newline LF; a name is compared
+///   letter for letter.
+pub fn plan_open(mode: &str, args: &OpenArgs) -> Result<OpenPlan, IoFault>
+    ensures { result ≡ plan_of mode.now args.now }
+{
+    let mode: Mode = mode.parse().map_err(IoFault::ParseMode)?;
+    if has_bad_argument(mode, args) {
+        return Err(IoFault::BadArgument);
+    }
+    if !is_planned(mode, args) {
+        return Err(IoFault::Unsupported);
+    }
+    Ok(OpenPlan {
+        mode,
+        buffer_size: buffer_size_of(args.buffering),
+    })
+}
+
+#[cfg(test)]
+mod tests {
+    use super::*;
+    use crate::{EncodeMode, FileMode};
+    use py_flat::ParseModeError;
+    use std::alloc::{AllocError, Global};
+    use std::test::Fail;
+
+    /// A mode and arguments.
+    #[derive(Clone, Copy)]
+    struct Opening {
+        mode: &'static str,
+        buffering: i64,
+        encoding: Option<&'static str>,
+        errors: Option<&'static str>,
+        newline: Option<&'static str>,
+        chunk_size: usize,
+    }
+
+    /// A text that is read, with the newline argument LF and every other argument at its default.
+    const READ: Opening = Opening {
+        mode: "r",
+        buffering: -1,
+        encoding: None,
+        errors: None,
+        newline: Some("\n"),
+        chunk_size: 8192,
+    };
+
+    /// A binary file that is read, with every argument at its default.
+    const BYTES: Opening = Opening {
+        mode: "rb",
+        buffering: -1,
+        encoding: None,
+        errors: None,
+        newline: None,
+        chunk_size: 8192,
+    };
+
+    /// An opening that is refused for each of its arguments.
+    const INVALID: Opening = Opening {
+        mode: "r",
+        buffering: 0,
+        encoding: Some("latin-1"),
+        errors: Some("ignore"),
+        newline: None,
+        chunk_size: 0,
+    };
+
+    const UNSUPPORTED: Result<OpenPlan, IoFault> = Err(IoFault::Unsupported);
+
+    const BAD_ARGUMENT: Result<OpenPlan, IoFault> = Err(IoFault::BadArgument);
+
+    /// A text that is read through a buffer of so many bytes.
+    fn opened(size: usize) -> Result<OpenPlan, IoFault> {
+        Ok(OpenPlan {
+            mode: Mode {
+                file: FileMode::Read,
+                encode: EncodeMode::Text,
+                plus: false,
+            },
+            buffer_size: Some(size),
+        })
+    }
+
+    /// A binary file through a buffer of so many bytes, or none.
+    fn opened_bytes(file: FileMode, buffer_size: Option<usize>) -> Result<OpenPlan, IoFault> {
+        Ok(OpenPlan {
+            mode: Mode {
+                file,
+                encode: EncodeMode::Bytes,
+                plus: false,
+            },
+            buffer_size,
+        })
+    }
+
+    fn chars(alloc: Global, text: Option<&str>) -> Result<Option<Chars>, AllocError> {
+        Ok(match text {
+            Some(text) => Some(Chars::from_text(alloc, text)?),
+            None => None,
+        })
+    }
+
+    fn planned(alloc: Global, opening: Opening) -> Result<Result<OpenPlan, IoFault>, AllocError> {
+        let args = OpenArgs {
+            buffering: opening.buffering,
+            encoding: chars(alloc, opening.encoding)?,
+            errors: chars(alloc, opening.errors)?,
+            newline: chars(alloc, opening.newline)?,
+            chunk_size: opening.chunk_size,
+        };
+        Ok(plan_open(opening.mode, &args))
+    }
+
+    #[test]
+    fn a_mode_out_of_form_is_refused_first(rt: HostRuntime) -> Result<(), Fail> {
+        let alloc = rt.alloc();
+        for (mode, why) in [
+            ("rr", ParseModeError::InvalidMode),
+            ("rw", ParseModeError::MultipleFile),
+            ("rtb", ParseModeError::MultipleEncode),
+            ("", ParseModeError::NoFile),
+        ] {
+            let refused = Err(IoFault::ParseMode(why));
+            assert_eq!(rt;
+                planned(alloc, Opening { mode, ..READ })?,
+                refused,
+                "of {mode}"
+            );
+            assert_eq!(rt;
+                planned(alloc, Opening { mode, ..INVALID })?,
+                refused,
+                "of {mode}"
+            );
+        }
+        Ok(())
+    }
+
+    #[test]
+    fn a_text_is_read_and_not_written_so_far(rt: HostRuntime) -> Result<(), Fail> {
+        let alloc = rt.alloc();
+        for mode in ["r", "rt", "tr"] {
+            assert_eq!(rt;
+                planned(alloc, Opening { mode, ..READ })?,
+                opened(8192),
+                "of {mode}"
+            );
+        }
+        for mode in ["w", "x", "at", "r+", "w+", "x+t", "+a"] {
+            assert_eq!(rt;
+                planned(alloc, Opening { mode, ..READ })?,
+                UNSUPPORTED,
+                "of {mode}"
+            );
+        }
+        Ok(())
+    }
+
+    #[test]
+    fn binary_modes_have_any_buffer_or_none(rt: HostRuntime) -> Result<(), Fail> {
+        let alloc = rt.alloc();
+        for (mode, file) in [
+            ("rb", FileMode::Read),
+            ("br", FileMode::Read),
+            ("wb", FileMode::Write),
+            ("xb", FileMode::Exclusive),
+            ("ab", FileMode::Append),
+        ] {
+            for (buffering, size) in [
+                (0, None),
+                (1, Some(8192)),
+                (-1, Some(8192)),
+                (i64::MIN, Some(8192)),
+                (2, Some(2)),
+                (8191, Some(8191)),
+                (i64::MAX, Some(9223372036854775807)),
+            ] {
+                let plan = planned(
+                    alloc,
+                    Opening {
+                        mode,
+                        buffering,
+                        ..BYTES
+                    },
+                )?;
+                assert_eq!(rt; plan, opened_bytes(file, size), "of {mode} and {buffering}");
+            }
+        }
+        for mode in ["rb+", "wb+", "x+b", "+ab"] {
+            assert_eq!(rt;
+                planned(alloc, Opening { mode, ..BYTES })?,
+                UNSUPPORTED,
+                "of {mode}"
+            );
+        }
+        Ok(())
+    }
+
+    #[test]
+    fn a_binary_mode_takes_no_argument_of_a_text(rt: HostRuntime) -> Result<(), Fail> {
+        let alloc = rt.alloc();
+        for mode in ["rb", "wb", "xb", "ab", "rb+", "wb+"] {
+            for name in ["utf-8", "strict", "\n", ""] {
+                let given = Some(name);
+                for opening in [
+                    Opening {
+                        mode,
+                        encoding: given,
+                        ..BYTES
+                    },
+                    Opening {
+                        mode,
+                        errors: given,
+                        ..BYTES
+                    },
+                    Opening {
+                        mode,
+                        newline: given,
+                        ..BYTES
+                    },
+                ] {
+                    assert_eq!(rt;
+                        planned(alloc, opening)?,
+                        BAD_ARGUMENT,
+                        "of {mode} and {name:?}"
+                    );
+                }
+            }
+        }
+        Ok(())
+    }
+
+    #[test]
+    fn chunks_have_bytes_in_every_mode(rt: HostRuntime) -> Result<(), Fail> {
+        let alloc = rt.alloc();
+        for mode in ["r", "w", "r+", "rb", "ab", "ab+"] {
+            let chunk_size = 0;
+            let plan = planned(
+                alloc,
+                Opening {
+                    mode,
+                    chunk_size,
+                    ..BYTES
+                },
+            )?;
+            assert_eq!(rt; plan, BAD_ARGUMENT, "of {mode}");
+        }
+        let chunks_of_one = planned(
+            alloc,
+            Opening {
+                chunk_size: 1,
+                ..READ
+            },
+        )?;
+        assert_eq!(rt; chunks_of_one, opened(8192));
+        Ok(())
+    }
+
+    #[test]
+    fn names_are_compared_as_they_stand(rt: HostRuntime) -> Result<(), Fail> {
+        let alloc = rt.alloc();
+        for name in ["locale", "utf-8"] {
+            let encoding = Some(name);
+            assert_eq!(rt;
+                planned(alloc, Opening { encoding, ..READ })?,
+                opened(8192),
+                "of {name}"
+            );
+        }
+        for name in ["latin-1", "UTF-8", "utf8", "utf-8 ", ""] {
+            let encoding = Some(name);
+            assert_eq!(rt;
+                planned(alloc, Opening { encoding, ..READ })?,
+                UNSUPPORTED,
+                "of {name}"
+            );
+        }
+        let errors = Some("strict");
+        assert_eq!(rt; planned(alloc, Opening { errors, ..READ })?, opened(8192));
+        for name in ["ignore", "Strict", "stricté"] {
+            let errors = Some(name);
+            assert_eq!(rt;
+                planned(alloc, Opening { errors, ..READ })?,
+                UNSUPPORTED,
+                "of {name}"
+            );
+        }
+        for newline in [None, Some(""), Some("\r"), Some("\r\n"), Some("\n\n")] {
+            assert_eq!(rt;
+                planned(alloc, Opening { newline, ..READ })?,
+                UNSUPPORTED,
+                "of {newline:?}"
+            );
+        }
+        Ok(())
+    }
+
+    #[test]
+    fn buffers_have_the_size_that_is_asked_for(rt: HostRuntime) -> Result<(), Fail> {
+        let alloc = rt.alloc();
+        for (buffering, size) in [
+            (-1, 8192),
+            (1, 8192),
+            (-5, 8192),
+            (i64::MIN, 8192),
+            (2, 2),
+            (i64::MAX, 9223372036854775807),
+        ] {
+            let plan = planned(alloc, Opening { buffering, ..READ })?;
+            assert_eq!(rt; plan, opened(size), "of {buffering}");
+        }
+        let unbuffered = planned(
+            alloc,
+            Opening {
+                buffering: 0,
+                ..READ
+            },
+        )?;
+        assert_eq!(rt; unbuffered, UNSUPPORTED);
+        Ok(())
+    }
+}

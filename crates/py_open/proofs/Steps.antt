@@ -1,0 +1,255 @@
+-- What one call of a session does, by its kind.
+use Rattle.std.proofs.Common.{◌≡◌, ◌≢◌, ℕ, Bool, true, false, IsTrue, [], refl, sym, ap, ◌∙◌, subst, arith}
+use Rattle.std.proofs.lemmas.Bool.{le-leb}
+use Rattle.py_flat.specs.declared.fault.IoFault.TheVariants as fault
+use Rattle.py_flat.specs.declared.life.Life.{Life}
+use Rattle.py_flat.specs.declared.life.Life.TheVariants as life
+use Rattle.py_flat.specs.Causes.{Rose, rose}
+use Rattle.py_flat.specs.Calls.{FileCall, FileReply, Refused}
+use Rattle.py_flat.specs.FlatFile.{Abilities, FlatFile}
+use Rattle.py_flat.specs.Owed.{Owed}
+use Rattle.py_flat.specs.Refusals.{is_getter}
+use Rattle.py_flat.specs.AllowedStep.{settled, waited_for, raw_faulted, out_of_memory}
+use Rattle.py_flat.specs.BinaryStep.{Settled, BinaryStep}
+use Rattle.py_plain.specs.TextFile.{TextFile}
+use Rattle.py_plain.specs.TextStep.{TextCall, TextSettled, TextStep}
+use Rattle.py_raw.specs.RawStream.{Raw, Keeps}
+use Rattle.py_stream.specs.Stream.{Stream, file_of, nothing_owed}
+use Rattle.py_stream.specs.Kinds.{says_fault}
+use Rattle.py_stream.specs.Answers.{HasCauses, ClosedWith}
+use Rattle.py_calls.specs.declared.call.Call.{Call}
+use Rattle.py_calls.specs.declared.reply.Reply.{Reply}
+use Rattle.py_calls.specs.Calls.{text_call, file_call, said}
+use Rattle.py_textio.specs.TextState.{TextState}
+use Rattle.py_binary.specs.Binary.{left_by, left_of, AnswersBy}
+use Rattle.py_open.specs.Session.{SessionFile, OfText, OfBinary, SessionView, TextSession, BinarySession, FileLeftBy, FileLeft, StepBy, SessionStep, SettlesBy, Settles, file_seen, raw_of, life_of, short_of, AnswersTextBy, Answers}
+use Rattle.py_open.specs.Run.{IsSmooth}
+use Rattle.py_open.specs.Laws.{CompletesBy, Completes, KeepsSettings, OnlyReads, OwesAsWriter}
+
+-- What is left of a stream.
+
+pub left_raw : (current : Life) (stream : Stream) → (left_by current stream).raw ≡ stream.raw
+left_raw life.Detached stream = refl
+left_raw current stream = refl
+
+left_can : (current : Life) (stream : Stream) → (left_by current stream).can ≡ stream.can
+left_can life.Detached stream = refl
+left_can current stream = refl
+
+left_buffer : (current : Life) (stream : Stream) → (left_by current stream).buffer ≡ stream.buffer
+left_buffer life.Detached stream = refl
+left_buffer current stream = refl
+
+left_life : (current : Life) (stream : Stream) → stream.life ≡ current → (left_by current stream).life ≡ current
+left_life life.Detached stream is = refl
+left_life current stream is = is
+
+pub left_none : (current : Life) (stream : Stream) → stream.owed.bytes ≡ [] → (left_by current stream).owed.bytes ≡ []
+left_none life.Detached stream none = refl
+left_none current stream none = none
+
+left_settled : (current : Life) (stream : Stream) → stream.owed ≡ nothing_owed stream.place → (left_by current stream).owed ≡ nothing_owed (left_by current stream).place
+left_settled life.Detached stream none = refl
+left_settled current stream none = none
+
+left_file : (current : Life) (stream : Stream) → FileLeftBy current (file_of stream) (file_of (left_by current stream))
+left_file life.Detached stream = (refl, refl, refl)
+left_file current stream = refl
+
+-- What every call keeps.
+
+pub keeps_self : (raw : Raw) → Keeps raw raw
+keeps_self raw = record { tells = refl; readable = refl; writable = refl; seekable = refl; takes_memory = refl; counts_exactly = refl; faults = omega arith; waits = omega arith }
+
+text_keeps : (getter : Bool) (before : TextState) (call : Call) (reply : FileReply) (after : TextState) → AnswersTextBy getter before call reply after → Keeps before.raw after.raw × KeepsSettings (TextSession before) (TextSession after)
+text_keeps true before call reply after step = (
+  subst (λ (raw : Raw). Keeps before.raw raw) (sym (ap (λ (t : TextState). t.raw) step.same)) (keeps_self before.raw),
+  (ap (λ (t : TextState). t.file.can) step.same, ap (λ (t : TextState). t.file.settings) step.same, ap (λ (t : TextState). t.buffer) step.same),
+)
+text_keeps false before call reply after step = (step.answers.keeps, (step.answers.moves.can, step.answers.moves.settings, step.buffer))
+
+binary_keeps : (getter : Bool) (before : Stream) (call : FileCall) (reply : FileReply) (after : Stream) → AnswersBy getter before call reply after → Keeps before.raw after.raw × KeepsSettings (BinarySession before) (BinarySession after)
+binary_keeps true before call reply after step = (
+  subst (λ (raw : Raw). Keeps before.raw raw) (sym (ap (λ (s : Stream). s.raw) step.same)) (keeps_self before.raw),
+  (ap (λ (s : Stream). s.can) step.same, ap (λ (s : Stream). s.buffer) step.same),
+)
+binary_keeps false before call reply after step =
+    let a : Stream = step.answered in (
+      subst (λ (raw : Raw). Keeps before.raw raw) (sym (ap (λ (s : Stream). s.raw) step.leaves ∙ left_raw a.life a)) step.answers.keeps.raw,
+      (ap (λ (s : Stream). s.can) step.leaves ∙ left_can a.life a ∙ step.answers.keeps.can, ap (λ (s : Stream). s.buffer) step.leaves ∙ left_buffer a.life a ∙ step.answers.keeps.buffer),
+    )
+
+pub step_keeps : (before : SessionView) (call : Call) (reply : Reply) (after : SessionView) → Answers before call reply after → Keeps (raw_of before) (raw_of after) × KeepsSettings before after
+step_keeps (TextSession before) call reply (TextSession after) step = text_keeps (is_getter (file_call call)) before call (said reply) after step
+step_keeps (BinarySession before) call reply (BinarySession after) step = binary_keeps (is_getter (file_call call)) before (file_call call) (said reply) after step
+step_keeps (TextSession before) call reply (BinarySession after) step = absurd step
+step_keeps (BinarySession before) call reply (TextSession after) step = absurd step
+
+-- Causes.
+
+-- what has neither cause
+caused_none : (old new : Raw) (reply : FileReply) (short : Bool) → short ≡ false → says_fault reply ≡ false → HasCauses old reply new short
+caused_none old new reply short whole sound = record { waits = λ is. absurd (let wrong : true ≡ false = sym is ∙ whole in cc); faults = λ is. absurd (let wrong : true ≡ false = sym is ∙ sound in cc) }
+
+text_causes : (getter : Bool) (before : TextState) (call : Call) (reply : FileReply) (after : TextState) → AnswersTextBy getter before call reply after → HasCauses before.raw reply after.raw after.short
+text_causes true before call reply after step = caused_none before.raw after.raw reply after.short (ap (λ (t : TextState). t.short) step.same) (ap says_fault step.says)
+text_causes false before call reply after step = step.answers.causes
+
+binary_causes : (getter : Bool) (before : Stream) (call : FileCall) (reply : FileReply) (after : Stream) → AnswersBy getter before call reply after → HasCauses before.raw reply after.raw after.short
+binary_causes true before call reply after step = caused_none before.raw after.raw reply after.short (ap (λ (s : Stream). s.short) step.same) (ap says_fault step.says)
+binary_causes false before call reply after step =
+    let a : Stream = step.answered in
+    subst (λ (short : Bool). HasCauses before.raw reply after.raw short) (sym step.marks)
+    (subst (λ (raw : Raw). HasCauses before.raw reply raw a.short) (sym (ap (λ (s : Stream). s.raw) step.leaves ∙ left_raw a.life a)) step.answers.causes)
+
+pub step_causes : (before : SessionView) (call : Call) (reply : Reply) (after : SessionView) → Answers before call reply after → HasCauses (raw_of before) (said reply) (raw_of after) (short_of after)
+step_causes (TextSession before) call reply (TextSession after) step = text_causes (is_getter (file_call call)) before call (said reply) after step
+step_causes (BinarySession before) call reply (BinarySession after) step = binary_causes (is_getter (file_call call)) before (file_call call) (said reply) after step
+step_causes (TextSession before) call reply (BinarySession after) step = absurd step
+step_causes (BinarySession before) call reply (TextSession after) step = absurd step
+
+-- The model's step.
+
+text_told : (getter : Bool) (before : TextState) (call : Call) (reply : FileReply) (after : TextState) → AnswersTextBy getter before call reply after → IsTrue before.raw.tells → StepBy getter (OfText before.file) call reply after.short (says_fault reply) (OfText after.file)
+text_told true before call reply after step tells = record { says = step.says; same = ap (λ (t : TextState). OfText t.file) step.same }
+text_told false before call reply after step tells = step.answers.told tells
+
+binary_told : (getter : Bool) (before : Stream) (call : Call) (reply : FileReply) (after : Stream) → AnswersBy getter before (file_call call) reply after → IsTrue before.raw.tells → StepBy getter (OfBinary (file_of before)) call reply after.short (says_fault reply) (OfBinary (file_of after))
+binary_told true before call reply after step tells = record { says = step.says; same = ap (λ (s : Stream). OfBinary (file_of s)) step.same }
+binary_told false before call reply after step tells =
+    let a : Stream = step.answered in
+    record {
+      file = file_of a;
+      step = subst (λ (short : Bool). BinaryStep (file_of before) (file_call call) reply short (says_fault reply) (file_of a)) (sym step.marks) (step.answers.told tells);
+      left = subst (λ (s : Stream). FileLeft (file_of a) (file_of s)) (sym step.leaves) (left_file a.life a);
+    }
+
+pub step_told : (before : SessionView) (call : Call) (reply : Reply) (after : SessionView) → Answers before call reply after → IsTrue (raw_of before).tells → SessionStep (file_seen before) call (said reply) (short_of after) (says_fault (said reply)) (file_seen after)
+step_told (TextSession before) call reply (TextSession after) step tells = text_told (is_getter (file_call call)) before call (said reply) after step tells
+step_told (BinarySession before) call reply (BinarySession after) step tells = binary_told (is_getter (file_call call)) before call (said reply) after step tells
+step_told (TextSession before) call reply (BinarySession after) step tells = absurd step
+step_told (BinarySession before) call reply (TextSession after) step tells = absurd step
+
+-- A step that has neither cause, and had memory, is settled.
+
+text_alone : (before : TextFile) (call : TextCall) (reply : FileReply) (waited faulted : Bool) (after : TextFile) → waited ≡ false → faulted ≡ false → reply ≢ Refused fault.NoMemory → TextStep before call reply waited faulted after → TextSettled before call reply after
+text_alone before call reply waited faulted after no_wait no_fault had (settled exact) = exact
+text_alone before call reply waited faulted after no_wait no_fault had (waited_for rose part) = let wrong : true ≡ false = sym rose ∙ no_wait in absurd (cc)
+text_alone before call reply waited faulted after no_wait no_fault had (raw_faulted rose said left) = let wrong : true ≡ false = sym rose ∙ no_fault in absurd (cc)
+text_alone before call reply waited faulted after no_wait no_fault had (out_of_memory said left) = absurd (had said)
+
+binary_alone : (before : FlatFile) (call : FileCall) (reply : FileReply) (waited faulted : Bool) (after : FlatFile) → waited ≡ false → faulted ≡ false → reply ≢ Refused fault.NoMemory → BinaryStep before call reply waited faulted after → Settled before call reply after
+binary_alone before call reply waited faulted after no_wait no_fault had (settled exact) = exact
+binary_alone before call reply waited faulted after no_wait no_fault had (waited_for rose part) = let wrong : true ≡ false = sym rose ∙ no_wait in absurd (cc)
+binary_alone before call reply waited faulted after no_wait no_fault had (raw_faulted rose said left) = let wrong : true ≡ false = sym rose ∙ no_fault in absurd (cc)
+binary_alone before call reply waited faulted after no_wait no_fault had (out_of_memory said left) = absurd (had said)
+
+settles_by : (getter : Bool) (before : SessionFile) (call : Call) (reply : FileReply) (waited faulted : Bool) (after : SessionFile) → waited ≡ false → faulted ≡ false → reply ≢ Refused fault.NoMemory → StepBy getter before call reply waited faulted after → SettlesBy getter before call reply after
+settles_by true before call reply waited faulted after no_wait no_fault had step = step
+settles_by false (OfText before) call reply waited faulted (OfText after) no_wait no_fault had step = text_alone before (text_call call) reply waited faulted after no_wait no_fault had step
+settles_by false (OfBinary before) call reply waited faulted (OfBinary after) no_wait no_fault had step = record { file = step.file; settled = binary_alone before (file_call call) reply waited faulted step.file no_wait no_fault had step.step; left = step.left }
+settles_by false (OfText before) call reply waited faulted (OfBinary after) no_wait no_fault had step = absurd step
+settles_by false (OfBinary before) call reply waited faulted (OfText after) no_wait no_fault had step = absurd step
+
+pub step_settles : (before : SessionFile) (call : Call) (reply : FileReply) (waited faulted : Bool) (after : SessionFile) → waited ≡ false → faulted ≡ false → reply ≢ Refused fault.NoMemory → SessionStep before call reply waited faulted after → Settles before call reply after
+step_settles before call reply waited faulted after no_wait no_fault had step = settles_by (is_getter (file_call call)) before call reply waited faulted after no_wait no_fault had step
+
+-- what has no cause isn't so
+uncaused : (said : Bool) (old new : ℕ) → (IsTrue said → Rose old new) → rose old new ≡ false → said ≡ false
+uncaused true old new cause none =
+    let risen : Rose old new = cause refl in
+    let tested : rose old new ≡ true = le-leb _ new risen in
+    let wrong : true ≡ false = sym tested ∙ none in
+    absurd (cc)
+uncaused false old new cause none = refl
+
+pub smooth_step : (before : SessionView) (call : Call) (reply : Reply) (after : SessionView) → Answers before call reply after → IsTrue (raw_of before).tells → IsSmooth (raw_of before) (raw_of after) → said reply ≢ Refused fault.NoMemory → Settles (file_seen before) call (said reply) (file_seen after)
+smooth_step before call reply after step tells smooth had =
+    let causes = step_causes before call reply after step in
+    step_settles (file_seen before) call (said reply) (short_of after) (says_fault (said reply)) (file_seen after)
+    (uncaused (short_of after) (raw_of before).waits (raw_of after).waits causes.waits smooth.waits)
+    (uncaused (says_fault (said reply)) (raw_of before).faults (raw_of after).faults causes.faults smooth.faults)
+    had (step_told before call reply after step tells)
+
+-- Completeness.
+
+text_completes : (getter : Bool) (before : TextState) (call : Call) (reply : FileReply) (after : TextState) → AnswersTextBy getter before call reply after → IsSmooth before.raw after.raw → CompletesBy getter (TextSession before) call reply
+text_completes true before call reply after step smooth = step.says
+text_completes false before call reply after step smooth = λ accepted. (step.answers.complete accepted smooth.waits smooth.faults).answer
+
+binary_completes : (getter : Bool) (before : Stream) (call : Call) (reply : FileReply) (after : Stream) → AnswersBy getter before (file_call call) reply after → IsSmooth before.raw after.raw → CompletesBy getter (BinarySession before) call reply
+binary_completes true before call reply after step smooth = step.says
+binary_completes false before call reply after step smooth =
+    let a : Stream = step.answered in
+    let same : IsSmooth before.raw a.raw = subst (λ (raw : Raw). IsSmooth before.raw raw) (ap (λ (s : Stream). s.raw) step.leaves ∙ left_raw a.life a) smooth in
+    λ accepted. (step.answers.complete accepted same.waits same.faults).0
+
+pub step_completes : (before : SessionView) (call : Call) (reply : Reply) (after : SessionView) → Answers before call reply after → IsSmooth (raw_of before) (raw_of after) → Completes before call (said reply)
+step_completes (TextSession before) call reply (TextSession after) step smooth = text_completes (is_getter (file_call call)) before call (said reply) after step smooth
+step_completes (BinarySession before) call reply (BinarySession after) step smooth = binary_completes (is_getter (file_call call)) before call (said reply) after step smooth
+step_completes (TextSession before) call reply (BinarySession after) step smooth = absurd step
+step_completes (BinarySession before) call reply (TextSession after) step smooth = absurd step
+
+-- Sessions that only read, or owe nothing.
+
+owes_on : (getter : Bool) (before : Stream) (call : FileCall) (reply : FileReply) (after : Stream) → AnswersBy getter before call reply after → OwesAsWriter (BinarySession before) → OwesAsWriter (BinarySession after)
+owes_on true before call reply after step owes reads = subst (λ (s : Stream). s.owed ≡ nothing_owed s.place) (sym step.same) (owes (sym (ap (λ (s : Stream). s.can.writable) step.same) ∙ reads))
+owes_on false before call reply after step owes reads =
+    let a : Stream = step.answered in
+    let read : before.can.writable ≡ false = sym (ap (λ (s : Stream). s.can.writable) step.leaves ∙ ap (λ (can : Abilities). can.writable) (left_can a.life a ∙ step.answers.keeps.can)) ∙ reads in
+    subst (λ (s : Stream). s.owed ≡ nothing_owed s.place) (sym step.leaves) (left_settled a.life a (step.answers.spares read (owes read)).owed)
+
+pub step_owes : (before : SessionView) (call : Call) (reply : Reply) (after : SessionView) → Answers before call reply after → OwesAsWriter before → OwesAsWriter after
+step_owes (TextSession before) call reply (TextSession after) step owes = tt
+step_owes (BinarySession before) call reply (BinarySession after) step owes = owes_on (is_getter (file_call call)) before (file_call call) (said reply) after step owes
+step_owes (TextSession before) call reply (BinarySession after) step owes = absurd step
+step_owes (BinarySession before) call reply (TextSession after) step owes = absurd step
+
+pub reads_owe : (session : SessionView) → OnlyReads session → OwesAsWriter session
+reads_owe (TextSession text) reads = tt
+reads_owe (BinarySession stream) reads = λ _. reads.1
+
+pub step_reads : (before : SessionView) (call : Call) (reply : Reply) (after : SessionView) → Answers before call reply after → OnlyReads before → OnlyReads after
+step_reads (TextSession before) call reply (TextSession after) step reads = tt
+step_reads (BinarySession before) call reply (BinarySession after) step reads =
+    let can = (binary_keeps (is_getter (file_call call)) before (file_call call) (said reply) after step).1.0 in
+    let read : after.can.writable ≡ false = ap (λ (can : Abilities). can.writable) can ∙ reads.0 in
+    (read, owes_on (is_getter (file_call call)) before (file_call call) (said reply) after step (λ _. reads.1) read)
+step_reads (TextSession before) call reply (BinarySession after) step reads = absurd step
+step_reads (BinarySession before) call reply (TextSession after) step reads = absurd step
+
+text_bytes : (getter : Bool) (before : TextState) (call : Call) (reply : FileReply) (after : TextState) → AnswersTextBy getter before call reply after → IsTrue before.raw.tells → after.raw.bytes ≡ before.raw.bytes
+text_bytes true before call reply after step tells = ap (λ (t : TextState). t.raw.bytes) step.same
+text_bytes false before call reply after step tells = step.answers.bytes tells
+
+binary_bytes : (getter : Bool) (before : Stream) (call : FileCall) (reply : FileReply) (after : Stream) → AnswersBy getter before call reply after → OnlyReads (BinarySession before) → IsTrue before.raw.tells → after.raw.bytes ≡ before.raw.bytes
+binary_bytes true before call reply after step reads tells = ap (λ (s : Stream). s.raw.bytes) step.same
+binary_bytes false before call reply after step reads tells =
+    let a : Stream = step.answered in
+    ap (λ (s : Stream). s.raw.bytes) step.leaves ∙ ap (λ (raw : Raw). raw.bytes) (left_raw a.life a) ∙ (step.answers.spares reads.0 reads.1).bytes tells
+
+pub step_spares : (before : SessionView) (call : Call) (reply : Reply) (after : SessionView) → Answers before call reply after → OnlyReads before → IsTrue (raw_of before).tells → (raw_of after).bytes ≡ (raw_of before).bytes
+step_spares (TextSession before) call reply (TextSession after) step reads tells = text_bytes (is_getter (file_call call)) before call (said reply) after step tells
+step_spares (BinarySession before) call reply (BinarySession after) step reads tells = binary_bytes (is_getter (file_call call)) before (file_call call) (said reply) after step reads tells
+step_spares (TextSession before) call reply (BinarySession after) step reads tells = absurd step
+step_spares (BinarySession before) call reply (TextSession after) step reads tells = absurd step
+
+-- a raw that is closed with its session
+text_shuts : (getter : Bool) (before : TextState) (call : Call) (reply : FileReply) (after : TextState) → AnswersTextBy getter before call reply after → ClosedWith before.file.life before.raw → ClosedWith after.file.life after.raw
+text_shuts true before call reply after step shut = subst (λ (t : TextState). ClosedWith t.file.life t.raw) (sym step.same) shut
+text_shuts false before call reply after step shut = step.answers.shut shut
+
+binary_shuts : (getter : Bool) (before : Stream) (call : FileCall) (reply : FileReply) (after : Stream) → AnswersBy getter before call reply after → OnlyReads (BinarySession before) → ClosedWith before.life before.raw → ClosedWith after.life after.raw
+binary_shuts true before call reply after step reads shut = subst (λ (s : Stream). ClosedWith s.life s.raw) (sym step.same) shut
+binary_shuts false before call reply after step reads shut =
+    let a : Stream = step.answered in
+    let none : a.owed.bytes ≡ [] = ap (λ (owed : Owed). owed.bytes) (step.answers.spares reads.0 reads.1).owed in
+    let closed : ClosedWith a.life a.raw = step.answers.shut none shut in
+    subst (λ (s : Stream). ClosedWith s.life s.raw) (sym step.leaves)
+    (subst (λ (raw : Raw). ClosedWith (left_of a).life raw) (sym (left_raw a.life a)) (subst (λ (current : Life). ClosedWith current a.raw) (sym (left_life a.life a refl)) closed))
+
+pub step_shuts : (before : SessionView) (call : Call) (reply : Reply) (after : SessionView) → Answers before call reply after → OnlyReads before → ClosedWith (life_of before) (raw_of before) → ClosedWith (life_of after) (raw_of after)
+step_shuts (TextSession before) call reply (TextSession after) step reads shut = text_shuts (is_getter (file_call call)) before call (said reply) after step shut
+step_shuts (BinarySession before) call reply (BinarySession after) step reads shut = binary_shuts (is_getter (file_call call)) before (file_call call) (said reply) after step reads shut
+step_shuts (TextSession before) call reply (BinarySession after) step reads shut = absurd step
+step_shuts (BinarySession before) call reply (TextSession after) step reads shut = absurd step

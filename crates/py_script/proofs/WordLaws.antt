@@ -1,0 +1,53 @@
+-- Bytes are written in scripts by the words that replies have for them.
+use Rattle.std.proofs.Common.{◌≡◌, ℕ, true, false, ◌&&◌, eqb, List, [], ◌∷◌, ◌++◌, map, codes, Some, option_map, refl, ap, ◌∙◌}
+use Rattle.std.specs.List.{All}
+use Rattle.std.specs.Result.{result_ok}
+use Rattle.std.specs.Str.{bytes_eq}
+use Rattle.std.proofs.lemmas.List.Elements.{All-head, All-tail}
+use Rattle.hex.specs.Hex.{IsBytes, encode_with, encode_lower}
+use Rattle.hex.proofs.HexLemmas.{decode_of-encode_lower}
+use Rattle.py_open.specs.declared.call.Call.TheVariants.{Write, WriteLines}
+use Rattle.py_script.specs.Words.{spaced, hex_bytes, word_bytes, words_bytes}
+use Rattle.py_script.specs.LineCall.{words_call}
+use Rattle.py_script.specs.Script.{line_call}
+use Rattle.py_script.specs.ReplyLine.{hex_of}
+use Rattle.py_script.proofs.WordLemmas.{hex_word, hex_lines_words, words_apart}
+
+-- two digits are no `-`
+two_are_no_minus : (first second : ℕ) (rest : List ℕ) → bytes_eq (first ∷ second ∷ rest) (codes "-") ≡ false
+two_are_no_minus first second rest = elim (eqb first 45) as (λ b. (b && false) ≡ false) [
+  | true ↦ refl
+  | false ↦ refl
+]
+
+-- so they are read as hex
+word_of_two : (first second : ℕ) (rest : List ℕ) → word_bytes (first ∷ second ∷ rest) ≡ hex_bytes (first ∷ second ∷ rest)
+word_of_two first second rest = rw (two_are_no_minus first second rest) refl
+
+word_of_hex : (byte : ℕ) (bytes : List ℕ) → word_bytes (encode_lower (byte ∷ bytes)) ≡ hex_bytes (encode_lower (byte ∷ bytes))
+unfolding encode_with
+word_of_hex byte bytes = word_of_two _ _ _
+
+-- a reply's word for bytes is read as these
+word_of_bytes : (bytes : List ℕ) → IsBytes bytes → word_bytes (hex_of bytes) ≡ Some bytes
+word_of_bytes [] range = refl
+word_of_bytes (byte ∷ bytes) range = word_of_hex byte bytes ∙ ap result_ok (decode_of-encode_lower (byte ∷ bytes) range)
+
+-- and its words for lines as these
+words_of_lines : (lines : List (List ℕ)) → All IsBytes lines → words_bytes (map hex_of lines) ≡ Some lines
+words_of_lines [] all = refl
+words_of_lines (line ∷ lines) all =
+    let first = word_of_bytes line (All-head IsBytes line lines all) in
+    let more = words_of_lines lines (All-tail IsBytes line lines all) in
+    rw (first, more) refl
+
+-- so a line of them makes the call that writes them
+pub write_line : (bytes : List ℕ) → IsBytes bytes → line_call (codes "write" ++ spaced (hex_of bytes ∷ [])) ≡ Some (Write bytes)
+write_line bytes range =
+    ap words_call (words_apart (codes "write") (hex_of bytes ∷ []) refl (hex_word bytes, tt))
+    ∙ ap (option_map Write) (word_of_bytes bytes range)
+
+pub writelines_line : (lines : List (List ℕ)) → All IsBytes lines → line_call (codes "writelines" ++ spaced (map hex_of lines)) ≡ Some (WriteLines lines)
+writelines_line lines all =
+    ap words_call (words_apart (codes "writelines") (map hex_of lines) refl (hex_lines_words lines))
+    ∙ ap (option_map WriteLines) (words_of_lines lines all)

@@ -1,0 +1,71 @@
+-- The words of a script's line, and the call that they make: this project's script language, docs/PROGRAM.md.
+use Rattle.std.specs.Prelude.{ℕ, ℤ, pos, List, [], ◌∷◌, Option, Some, None, option_map, codes, if◌then◌else◌}
+use Rattle.std.specs.Option.{option_and_then}
+use Rattle.std.specs.Str.{bytes_eq}
+use Rattle.py_open.specs.declared.call.Call.{Call}
+use Rattle.py_open.specs.declared.call.Call.TheVariants.{Read, Read1, ReadLine, ReadLines, Peek, ReadInto, ReadInto1, Write, WriteLines, Seek, Tell, Flush, Close, Detach, Readable, Writable, Seekable, Closed}
+use Rattle.py_script.specs.Words.{decimal_value, integer_value, whence_value, word_bytes, words_bytes}
+
+-- the call of a word that stands alone: a reading without a size, and each call that takes nothing
+abbrev pub plain_call : List ℕ → Option Call
+plain_call name =
+    if bytes_eq name (codes "read") then Some (Read None)
+    else if bytes_eq name (codes "read1") then Some (Read1 None)
+    else if bytes_eq name (codes "readline") then Some (ReadLine None)
+    else if bytes_eq name (codes "readlines") then Some (ReadLines None)
+    else if bytes_eq name (codes "peek") then Some Peek
+    else if bytes_eq name (codes "tell") then Some Tell
+    else if bytes_eq name (codes "flush") then Some Flush
+    else if bytes_eq name (codes "close") then Some Close
+    else if bytes_eq name (codes "detach") then Some Detach
+    else if bytes_eq name (codes "readable") then Some Readable
+    else if bytes_eq name (codes "writable") then Some Writable
+    else if bytes_eq name (codes "seekable") then Some Seekable
+    else if bytes_eq name (codes "closed") then Some Closed
+    else None
+
+-- the call of a word with a size behind it: each reading of so much
+abbrev pub sized_call : List ℕ → ℕ → Option Call
+sized_call name size =
+    if bytes_eq name (codes "read") then Some (Read (Some size))
+    else if bytes_eq name (codes "read1") then Some (Read1 (Some size))
+    else if bytes_eq name (codes "readline") then Some (ReadLine (Some size))
+    else if bytes_eq name (codes "readlines") then Some (ReadLines (Some size))
+    else if bytes_eq name (codes "readinto") then Some (ReadInto size)
+    else if bytes_eq name (codes "readinto1") then Some (ReadInto1 size)
+    else None
+
+-- the call of a word with at most a size behind it
+abbrev pub reading_call : List ℕ → List (List ℕ) → Option Call
+reading_call name [] = plain_call name
+reading_call name (size ∷ []) = option_and_then (sized_call name) (decimal_value size)
+reading_call name _ = None
+
+-- a move by an offset and a whence; None where either is out of form
+abbrev pub seek_by : Option ℤ → Option ℤ → Option Call
+seek_by (Some offset) (Some whence) = Some (Seek offset whence)
+seek_by _ _ = None
+
+-- the call of what stands behind `seek`: an offset, and a whence, which is 0 (from the start) where there is none
+abbrev pub seek_call : List (List ℕ) → Option Call
+seek_call (offset ∷ []) = seek_by (integer_value offset) (Some (pos 0))
+seek_call (offset ∷ whence ∷ []) = seek_by (integer_value offset) (whence_value whence)
+seek_call _ = None
+
+-- the call of what stands behind `write`: bytes
+abbrev pub write_call : List (List ℕ) → Option Call
+write_call (bytes ∷ []) = option_map Write (word_bytes bytes)
+write_call _ = None
+
+-- the call of what stands behind `writelines`: the bytes of each line, of any number of them
+abbrev pub writelines_call : List (List ℕ) → Option Call
+writelines_call lines = option_map WriteLines (words_bytes lines)
+
+-- the call of a line's words; None where they are no form
+abbrev pub words_call : List (List ℕ) → Option Call
+words_call [] = None
+words_call (name ∷ words) =
+    if bytes_eq name (codes "seek") then seek_call words
+    else if bytes_eq name (codes "write") then write_call words
+    else if bytes_eq name (codes "writelines") then writelines_call words
+    else reading_call name words

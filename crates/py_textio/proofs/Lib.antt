@@ -1,0 +1,13 @@
+mod Reading
+mod Beginning
+mod Decoding
+mod Tying
+mod Holding
+mod Gathering
+mod Results
+mod Taking
+mod Waiting
+mod Enough
+mod Answering
+mod Closing
+mod Losing

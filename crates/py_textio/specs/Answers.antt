@@ -1,0 +1,130 @@
+-- The one clause of all calls of a text that is read: what a call may answer and leave, over any raw.
+use Rattle.std.specs.Prelude.{◌≡◌, ◌≢◌, ℕ, ◌≤◌, Bool, true, false, IsTrue, List, [], length, Option, Some, None, Result, Ok, Err}
+use Rattle.py_flat.specs.declared.fault.IoFault.{IoFault}
+use Rattle.py_flat.specs.declared.fault.IoFault.TheVariants as fault
+use Rattle.py_flat.specs.declared.life.Life.{Life}
+use Rattle.py_flat.specs.declared.life.Life.TheVariants as life
+use Rattle.py_flat.specs.Calls.{FileReply, Text, Done, NotReady, Refused}
+use Rattle.py_flat.specs.Causes.{rose}
+use Rattle.py_flat.specs.ExactStep.{is_closed}
+use Rattle.py_plain.specs.TextFile.{TextPlace, clean_at, TextFile}
+use Rattle.py_plain.specs.TextStep.{TextCall, Read, ReadLine, Close, text_refusal, asks_any, place_taking, TextStep}
+use Rattle.py_raw.specs.RawStream.{Raw, Keeps, WhereTold}
+use Rattle.py_stream.specs.Kinds.{says_fault}
+use Rattle.py_stream.specs.Answers.{ClosedWith, HasCauses}
+use Rattle.py_textio.specs.Waiting.{ShowsAll}
+use Rattle.py_textio.specs.TextState.{TextState}
+
+-- what the answer of a reading says, in the model's words
+abbrev pub text_reply : Result (Option (List ℕ)) IoFault → FileReply
+text_reply (Ok (Some characters)) = Text characters
+text_reply (Ok None) = NotReady
+text_reply (Err why) = Refused why
+
+-- Completeness.
+
+-- the replies that an accepted call may have where nothing waits or fails; want of memory is free
+abbrev pub IsAnswerTo : TextCall → FileReply → Type 0
+IsAnswerTo (Read size) (Text characters) = Unit {0}
+IsAnswerTo (Read size) (Refused (fault.UnicodeDecodeError start end)) = Unit {0}
+IsAnswerTo (ReadLine limit) (Text characters) = Unit {0}
+IsAnswerTo (ReadLine limit) (Refused (fault.UnicodeDecodeError start end)) = Unit {0}
+IsAnswerTo Close Done = Unit {0}
+IsAnswerTo call (Refused fault.NoMemory) = Unit {0}
+IsAnswerTo call reply = ⊥
+
+-- Life and place, whether the raw tells or not.
+
+abbrev pub life_after : TextCall → FileReply → Life → Life
+life_after Close Done current = life.Closed
+life_after Close (Refused fault.RawFault) current = life.Closed
+life_after call (Refused fault.RawFault) current = life.Failed
+life_after call reply current = current
+
+-- a whole read of all goes to where the bytes end, clean
+pub record GoesToEnd (before after : TextPlace) : Type 0 where
+  pub clean : after ≡ clean_at after.at before.order
+  pub forth : before.at ≤ after.at
+
+-- so many characters were taken, no more than asked for
+pub record TakesText (size : Option ℕ) (characters : List ℕ) (dirty : Bool) (before after : TextPlace) : Type 0 where
+  pub taken : after ≡ place_taking before (length characters) dirty
+  pub within : (limit : ℕ) → size ≡ Some limit → length characters ≤ limit
+
+-- the place after each reply; after a fault it isn't told
+abbrev pub PlaceMoves : TextCall → Bool → FileReply → TextPlace → TextPlace → Type 0
+PlaceMoves (Read None) false (Text characters) before after = GoesToEnd before after
+PlaceMoves (Read size) true (Text characters) before after = TakesText size characters true before after
+PlaceMoves (Read size) false (Text characters) before after = TakesText size characters (asks_any size) before after
+PlaceMoves (ReadLine limit) true (Text characters) before after = TakesText limit characters true before after
+PlaceMoves (ReadLine limit) false (Text characters) before after = TakesText limit characters (asks_any limit) before after
+PlaceMoves call short (Refused fault.RawFault) before after = Unit {0}
+PlaceMoves call short reply before after = after ≡ before
+
+-- what every call keeps of a text, and what it moves
+pub record TextMoves (before : TextFile) (call : TextCall) (short : Bool) (reply : FileReply) (after : TextFile) : Type 0 where
+  pub can : after.can ≡ before.can
+  pub settings : after.settings ≡ before.settings
+  pub life_is : after.life ≡ life_after call reply before.life
+  pub place : PlaceMoves call short reply before.place after.place
+
+-- The one clause of every call.
+
+-- whether a call closes a text that is closed: Python's `close` of a closed stream does nothing
+abbrev pub closes_again : TextFile → TextCall → Bool
+closes_again file Close = is_closed file.life
+closes_again file call = false
+
+-- a call of a text that calls no raw and leaves all as it was, with this answer
+pub record LeavesText (before : TextFile) (old : Raw) (expected reply : FileReply) (after : TextFile) (new : Raw) (short : Bool) : Type 0 where
+  pub says : reply ≡ expected
+  pub file : after ≡ before
+  pub raw : new ≡ old
+  pub whole : short ≡ false
+
+-- what is short: some characters, never none; and each reply that says by itself that the raw asked to wait, always
+abbrev pub IsShort : FileReply → Bool → Type 0
+IsShort (Text characters) true = characters ≢ []
+IsShort NotReady short = short ≡ true
+IsShort (Refused (fault.WouldBlock taken)) short = short ≡ true
+IsShort reply short = short ≡ false
+
+-- a close wants no memory but its raw's
+abbrev pub WantsMemory : TextCall → FileReply → Raw → Type 0
+WantsMemory Close (Refused fault.NoMemory) raw = IsTrue raw.takes_memory
+WantsMemory call reply raw = Unit {0}
+
+-- the replies that an accepted call may have at all
+abbrev pub IsReplyTo : TextCall → FileReply → Type 0
+IsReplyTo Close NotReady = ⊥
+IsReplyTo call (Refused fault.RawFault) = Unit {0}
+IsReplyTo call NotReady = Unit {0}
+IsReplyTo call reply = IsAnswerTo call reply
+
+-- an accepted call in which no count rose is answered so, and whole
+pub record IsComplete (call : TextCall) (reply : FileReply) (short : Bool) : Type 0 where
+  pub answer : IsAnswerTo call reply
+  pub whole : short ≡ false
+
+-- one call of a text: what the raw can do stays and its counts never fall; what the life or the kind refuses; a close
+-- of a closed text; that the raw is closed with the text; causes; what is short; life and place; completeness; and,
+-- where the raw tells, that its bytes stay, the step of the model, and that a wait hides nothing
+pub record AnswersText (before : TextFile) (old : Raw) (call : TextCall) (reply : FileReply) (after : TextFile) (new : Raw) (short : Bool) : Type 0 where
+  pub keeps : Keeps old new
+  pub refused : (refused : IoFault) → text_refusal before call ≡ Some refused → LeavesText before old (Refused refused) reply after new short
+  pub again : closes_again before call ≡ true → LeavesText before old Done reply after new short
+  pub shut : ClosedWith before.life old → ClosedWith after.life new
+  pub bytes : WhereTold old (new.bytes ≡ old.bytes)
+  pub causes : HasCauses old reply new short
+  pub shorts : IsShort reply short
+  pub wants : WantsMemory call reply old
+  pub moves : TextMoves before call short reply after
+  pub answer : text_refusal before call ≡ None → IsReplyTo call reply
+  pub complete : text_refusal before call ≡ None → rose old.waits new.waits ≡ false → rose old.faults new.faults ≡ false → IsComplete call reply short
+  pub told : WhereTold old (TextStep before call reply short (says_fault reply) after)
+  pub hides : IsTrue short → WhereTold old (ShowsAll after new)
+
+-- one call of a text that is read; the buffer's size stays
+pub record Answers (before : TextState) (call : TextCall) (reply : FileReply) (after : TextState) : Type 0 where
+  pub answers : AnswersText before.file before.raw call reply after.file after.raw after.short
+  pub buffer : after.buffer ≡ before.buffer
