@@ -1,18 +1,19 @@
 -- What the program did, by the status that it ends with.
-use Rattle.std.specs.Prelude.{◌≡◌, ℕ, ◌⊎◌, IsTrue, IsFalse, List, [], ◌∷◌, ◌++◌, Option, Some, None, unwrap_or, Result, Ok, Err, codes}
+use Rattle.std.specs.Prelude.{◌≡◌, ℕ, ◌⊎◌, IsTrue, IsFalse, List, [], ◌∷◌, ◌++◌, Option, Some, None, Result, Ok, Err}
 use Rattle.py_flat.specs.declared.fault.IoFault.TheVariants as fault
 use Rattle.py_flat.specs.Causes.{Rose}
 use Rattle.py_raw.specs.RawStream.{Raw}
 use Rattle.py_source_sink.specs.Source.{SourceView, SourceKeeps}
 use Rattle.py_source_sink.specs.Sink.{SinkView, SinkKeeps}
 use Rattle.py_raw.specs.Opener.{OpenerView, OpenKeeps, Opens, OpenFaults, OpenLacksMemory, HoldsTheSame, DoneKeeps, PutsAway}
-use Rattle.py_open.specs.declared.call.Call.{Call}
-use Rattle.py_open.specs.declared.call.Call.TheVariants.{Close}
-use Rattle.py_open.specs.declared.reply.Reply.{Reply}
-use Rattle.py_open.specs.Reader.{RefusesRaw, HandsRawBack}
-use Rattle.py_stream.specs.Opening.{StandsWhereItStood}
-use Rattle.py_open.specs.Session.{SessionView}
-use Rattle.py_open.specs.Run.{RunsCalls}
+use Rattle.py_raw.specs.RawMode.{raw_mode_text}
+use Rattle.py_calls.specs.declared.call.Call.{Call}
+use Rattle.py_calls.specs.declared.call.Call.TheVariants.{Close}
+use Rattle.py_calls.specs.declared.reply.Reply.{Reply}
+use Rattle.py_mode.specs.Mode.{letter_of}
+use Rattle.py_open.specs.Session.{SessionView, raw_of}
+use Rattle.py_open.specs.Opening.{RefusesSession}
+use Rattle.py_open.specs.Run.{RefusesOpening, RunsCalls}
 use Rattle.py_script.specs.ReplyLine.{reply_lines}
 use Rattle.py_script.specs.Faults.{refused_line}
 use Rattle.py_script.specs.CommandWords.{Command, Run, Help, Version, command_of}
@@ -20,9 +21,9 @@ use Rattle.py_script.specs.Help.{help_text, version_text}
 use Rattle.py_io_cli.specs.declared.status.Status.{Status}
 use Rattle.py_io_cli.specs.declared.status.Status.TheVariants as status
 use Rattle.py_flat.specs.declared.fault.IoFault.{IoFault}
-use Rattle.py_open.specs.declared.open_args.OpenArgs.{OpenArgs}
-use Rattle.py_open.specs.declared.plan.OpenPlan.{OpenPlan}
-use Rattle.py_open.specs.Plan.{plan_of}
+use Rattle.py_mode.specs.declared.open_args.OpenArgs.{OpenArgs}
+use Rattle.py_mode.specs.declared.plan.OpenPlan.{OpenPlan}
+use Rattle.py_mode.specs.Plan.{plan_of}
 use Rattle.py_raw.specs.declared.opener.OpenError.{OpenError}
 use Rattle.py_raw.specs.declared.opener.OpenError.TheVariants as open_error
 use Rattle.py_io_cli.specs.Status.{code_of}
@@ -35,11 +36,15 @@ pub record Outside : Type 0 where
 
 -- Over a raw that was opened.
 
--- what is asked of a raw: a session with a buffer and chunks of these sizes in bytes, and the calls of a script
+-- what is asked of a raw: a session as it is planned, of a text with chunks of this size in bytes, and the calls of a script
 pub record Asked : Type 0 where
-  pub buffer : ℕ
+  pub plan : OpenPlan
   pub chunk : ℕ
   pub calls : List Call
+
+-- the mode by which the raw is opened
+abbrev pub raw_mode : OpenPlan → List ℕ
+raw_mode plan = raw_mode_text (letter_of plan.mode.file) plan.mode.plus
 
 -- the calls of the script, and the Close that the program adds
 abbrev pub closed_calls : List Call → List Call
@@ -49,49 +54,49 @@ closed_calls calls = calls ++ Close ∷ []
 pub record RanCalls (raw : Raw) (asked : Asked) (back : Raw) (lines : List ℕ) : Type 0 where
   pub session : SessionView
   pub replies : List Reply
-  pub run : RunsCalls raw asked.buffer asked.chunk (closed_calls asked.calls) session replies
-  pub raw_is : back ≡ session.raw
+  pub run : RunsCalls raw asked.plan asked.chunk (closed_calls asked.calls) session replies
+  pub raw_is : back ≡ raw_of session
   pub lines_are : lines ≡ reply_lines replies
 
--- the session couldn't be opened, since the raw failed to say where it stands; `lines` is the refusal's
-pub record RefusedRaw (raw : Raw) (back : Raw) (lines : List ℕ) : Type 0 where
-  pub why : RefusesRaw raw fault.RawFault back
+-- the session couldn't be opened, since the raw failed to say where it stands or ends, or to move there; `lines` is the
+-- refusal's
+pub record RefusedRaw (raw : Raw) (asked : Asked) (back : Raw) (lines : List ℕ) : Type 0 where
+  pub why : RefusesSession raw asked.plan fault.RawFault back
   pub lines_are : lines ≡ refused_line fault.RawFault
 
 -- what a plan asks with the calls of a script
 abbrev pub asked_by : OpenPlan → OpenArgs → List Call → Asked
-asked_by plan args calls = record { buffer = unwrap_or plan.buffer_size 1; chunk = args.chunk_size; calls = calls }
+asked_by plan args calls = record { plan = plan; chunk = args.chunk_size; calls = calls }
 
 -- what there is to print over a raw
 abbrev pub HasLines : Raw → Asked → Raw → List ℕ → Type 0
-HasLines raw asked back lines = RanCalls raw asked back lines ⊎ RefusedRaw raw back lines
+HasLines raw asked back lines = RanCalls raw asked back lines ⊎ RefusedRaw raw asked back lines
 
 -- a front of what there is to print was printed
 abbrev pub PrintsSome : Raw → Asked → Raw → SinkView → SinkView → Type 0
 PrintsSome raw asked back old new = (lines : List ℕ) × HasLines raw asked back lines × PrintsFront old lines new
 
--- no call was made, and nothing printed
-pub record MakesNoCall (raw : Raw) (back : Raw) (old new : SinkView) : Type 0 where
-  pub hands : HandsRawBack raw back
-  pub place : StandsWhereItStood raw back
+-- no call was made for want of memory, before the opening or in it, and nothing printed
+pub record MakesNoCall (raw : Raw) (asked : Asked) (back : Raw) (old new : SinkView) : Type 0 where
+  pub hands : (back ≡ raw) ⊎ RefusesOpening raw asked.plan asked.chunk fault.NoMemory back
   pub sink : new ≡ old
 
 -- by the status: every reply was printed; or the refusal was; or a front of the one or the other, since the sink failed
 -- or there was no memory, for which no call may have been made
 abbrev pub RawOutcome : Raw → Asked → Status → Raw → SinkView → SinkView → Type 0
 RawOutcome raw asked status.Done back old new = (lines : List ℕ) × RanCalls raw asked back lines × Prints old lines new
-RawOutcome raw asked status.Refused back old new = (lines : List ℕ) × RefusedRaw raw back lines × Prints old lines new
+RawOutcome raw asked status.Refused back old new = (lines : List ℕ) × RefusedRaw raw asked back lines × Prints old lines new
 RawOutcome raw asked status.SinkFailed back old new = PrintsSome raw asked back old new × Rose old.faults new.faults
-RawOutcome raw asked status.NoMemory back old new = PrintsSome raw asked back old new ⊎ MakesNoCall raw back old new
+RawOutcome raw asked status.NoMemory back old new = PrintsSome raw asked back old new ⊎ MakesNoCall raw asked back old new
 RawOutcome raw asked _ back old new = ⊥
 
--- the path was opened to be read, the calls ended so, and the raw was put away again, whatever the opener answered
+-- the path was opened as it is planned, the calls ended so, and the raw was put away again, whatever the opener answered
 pub record OpensPath (path : List ℕ) (asked : Asked) (ended : Status) (before after : Outside) : Type 0 where
   pub raw : Raw
   pub mid : OpenerView
   pub back : Raw
   pub open_keeps : OpenKeeps before.opener mid
-  pub opens : Opens before.opener path (codes "rb") raw mid
+  pub opens : Opens before.opener path (raw_mode asked.plan) raw mid
   pub does : RawOutcome raw asked ended back before.sink after.sink
   pub done_keeps : DoneKeeps back mid after.opener
   pub puts : IsTrue before.opener.tells → PutsAway back mid path after.opener
@@ -104,11 +109,11 @@ pub record OpensNothing (before after : Outside) : Type 0 where
 
 -- the path couldn't be opened; or couldn't be put away when all was printed, which no opener that tells answers
 abbrev pub OpenerFails : List ℕ → Asked → Outside → Outside → Type 0
-OpenerFails path asked before after = (OpensNothing before after × OpenFaults before.opener path (codes "rb") after.opener) ⊎ (OpensPath path asked status.Done before after × Rose before.opener.faults after.opener.faults × IsFalse before.opener.tells)
+OpenerFails path asked before after = (OpensNothing before after × OpenFaults before.opener path (raw_mode asked.plan) after.opener) ⊎ (OpensPath path asked status.Done before after × Rose before.opener.faults after.opener.faults × IsFalse before.opener.tells)
 
 -- there was no memory: over the raw; or to put it away when all was printed; or the opener had none
 abbrev pub LacksMemory : List ℕ → Asked → Outside → Outside → Type 0
-LacksMemory path asked before after = OpensPath path asked status.NoMemory before after ⊎ (OpensPath path asked status.Done before after ⊎ (OpensNothing before after × OpenLacksMemory before.opener path (codes "rb") after.opener))
+LacksMemory path asked before after = OpensPath path asked status.NoMemory before after ⊎ (OpensPath path asked status.Done before after ⊎ (OpensNothing before after × OpenLacksMemory before.opener path (raw_mode asked.plan) after.opener))
 
 -- once the script was read
 abbrev pub CallsOutcome : List ℕ → Asked → Status → Outside → Outside → Type 0

@@ -5,7 +5,7 @@ use Rattle.py_flat.specs.Causes.{Rose}
 use Rattle.py_flat.specs.BinaryStep.{IsFrontOf}
 use Rattle.py_source_sink.specs.Source.{SourceView}
 use Rattle.py_source_sink.specs.Sink.{SinkView}
-use Rattle.py_open.specs.declared.call.Call.{Call}
+use Rattle.py_calls.specs.declared.call.Call.{Call}
 use Rattle.py_script.specs.Script.{script_calls}
 use Rattle.py_io_cli.specs.declared.status.Status.{Status}
 use Rattle.py_io_cli.specs.declared.status.Status.TheVariants as status

@@ -119,7 +119,7 @@ closed_refuses stream Seekable closed asks not_close known = absurd (cc)
 closed_refuses stream Closed closed asks not_close known = absurd (cc)
 closed_refuses stream call closed asks not_close known = rw closed refl
 
-closed_leaves : (before : Stream) (call : FileCall) (reply : FileReply) (answered : Stream) → before.life ≡ life.Closed → is_getter call ≡ false → AnswersWith has_reply_room before call reply answered → Leaves before (closed_file_reply call) reply answered
+pub closed_leaves : (before : Stream) (call : FileCall) (reply : FileReply) (answered : Stream) → before.life ≡ life.Closed → is_getter call ≡ false → AnswersWith has_reply_room before call reply answered → Leaves before (closed_file_reply call) reply answered
 closed_leaves before Close reply answered closed asks a = a.again (ap is_closed closed)
 closed_leaves before OtherGetter reply answered closed asks a = a.refused fault.Unsupported refl
 closed_leaves before Readable reply answered closed asks a = absurd (cc)

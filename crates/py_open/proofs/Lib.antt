@@ -1,4 +1,5 @@
 pub mod Steps
 pub mod Ending
+pub mod Resting
 pub mod Runs
 pub mod Running

@@ -40,7 +40,7 @@ left_buffer : (current : Life) (stream : Stream) → (left_by current stream).bu
 left_buffer life.Detached stream = refl
 left_buffer current stream = refl
 
-left_life : (current : Life) (stream : Stream) → stream.life ≡ current → (left_by current stream).life ≡ current
+pub left_life : (current : Life) (stream : Stream) → stream.life ≡ current → (left_by current stream).life ≡ current
 left_life life.Detached stream is = refl
 left_life current stream is = is
 

@@ -1,7 +1,7 @@
 //! Laws of the definitions that the contracts cite: what any run of a session has to be.
 //!
 //! No function here does anything; what each ensures is a law.
-ghost use Rattle.std.specs.Prelude.{◌≡◌, ℕ, ◌≤◌, IsTrue, List, ◌++◌, length};
+ghost use Rattle.std.specs.Prelude.{◌≡◌, ◌≢◌, ℕ, ◌≤◌, IsTrue, List, ◌++◌, length};
 ghost use Rattle.py_flat.specs.declared.life.Life.TheVariants as life;
 ghost use Rattle.py_flat.specs.Calls.{FileReply};
 ghost use Rattle.py_plain.specs.TextFile.{TextFile};
@@ -83,6 +83,12 @@ pub fn what_is_passed_on_is_in_the_raw()
     ensures passed { (before : SessionView) (call : Call) (reply : Reply) (after : SessionView) → Answers before call reply after → OwesAsWriter before → life_of before ≡ life.Live → PassesAll (file_call call) (said reply) → HoldsFlat before after }
     ensures opened { (raw : Raw) (plan : OpenPlan) (chunk : ℕ) (session : SessionView) → OpensSession raw plan chunk session → OwesAsWriter session }
     ensures kept { (before : SessionView) (calls : List Call) (replies : List Reply) (after : SessionView) → IsRun before calls replies after → OwesAsWriter before → OwesAsWriter after }
+{}
+
+/// A session that isn't live calls no raw, whatever calls are made on it, whether the raw tells or not: so what a closed or detached
+/// session passed on stays in its raw.
+pub fn an_ended_session_calls_no_raw()
+    ensures { (before : SessionView) (calls : List Call) (replies : List Reply) (after : SessionView) → IsRun before calls replies after → life_of before ≢ life.Live → raw_of after ≡ raw_of before }
 {}
 
 /// A raw that is closed just where its session is stays so over a run of a session that only reads: only a `Close` closes it, and

@@ -9,8 +9,8 @@ use Rattle.std.proofs.lemmas.Fmt.{decimal_injective, decimal_is_IsNumeral}
 use Rattle.std.proofs.lemmas.Str.{encodes_same}
 use Rattle.hex.specs.Hex.{IsBytes, encode_with, encode_lower, decode_of}
 use Rattle.hex.proofs.HexLemmas.{decode_of-encode_lower}
-use Rattle.py_open.specs.declared.reply.Reply.{Reply}
-use Rattle.py_open.specs.declared.reply.Reply.TheVariants.{Bytes, Text, Lines, Count, Place, Done, NotReady, Flag, Name, Unwritten, Refused}
+use Rattle.py_calls.specs.declared.reply.Reply.{Reply}
+use Rattle.py_calls.specs.declared.reply.Reply.TheVariants.{Bytes, Text, Lines, Count, Place, Done, NotReady, Flag, Name, Unwritten, Refused}
 use Rattle.py_flat.specs.declared.fault.IoFault.{IoFault}
 use Rattle.py_script.specs.Words.{spaced}
 use Rattle.py_script.specs.ReplyLine.{hex_of, place_of, reply_word, reply_fields, reply_line}

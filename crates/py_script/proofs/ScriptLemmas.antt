@@ -1,6 +1,6 @@
 -- The calls of a script, one line at a time.
 use Rattle.std.proofs.Common.{◌≡◌, ℕ, ◌+◌, ◌<◌, true, false, List, [], ◌∷◌, ◌++◌, Option, Some, None, map, length, get_or, drop, drop-cons, add-one, refl, Bor}
-use Rattle.py_open.specs.declared.call.Call.{Call}
+use Rattle.py_calls.specs.declared.call.Call.{Call}
 use Rattle.py_script.specs.Script.{is_skipped, line_call, lines_calls}
 use Rattle.py_script.proofs.Behind.{behind, behind_more}
 

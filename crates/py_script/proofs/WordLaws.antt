@@ -6,7 +6,7 @@ use Rattle.std.specs.Str.{bytes_eq}
 use Rattle.std.proofs.lemmas.List.Elements.{All-head, All-tail}
 use Rattle.hex.specs.Hex.{IsBytes, encode_with, encode_lower}
 use Rattle.hex.proofs.HexLemmas.{decode_of-encode_lower}
-use Rattle.py_open.specs.declared.call.Call.TheVariants.{Write, WriteLines}
+use Rattle.py_calls.specs.declared.call.Call.TheVariants.{Write, WriteLines}
 use Rattle.py_script.specs.Words.{spaced, hex_bytes, word_bytes, words_bytes}
 use Rattle.py_script.specs.LineCall.{words_call}
 use Rattle.py_script.specs.Script.{line_call}

@@ -1,8 +1,8 @@
 -- The line that a reply is written as: this project's script language, docs/PROGRAM.md.
 use Rattle.std.specs.Prelude.{ℕ, true, false, List, [], ◌∷◌, ◌++◌, map, length, Option, Some, None, codes, encode_utf8_all, decimal}
 use Rattle.hex.specs.Hex.{encode_lower}
-use Rattle.py_open.specs.declared.reply.Reply.{Reply}
-use Rattle.py_open.specs.declared.reply.Reply.TheVariants.{Bytes, Text, Lines, Count, Place, Done, NotReady, Flag, Name, Unwritten, Refused}
+use Rattle.py_calls.specs.declared.reply.Reply.{Reply}
+use Rattle.py_calls.specs.declared.reply.Reply.TheVariants.{Bytes, Text, Lines, Count, Place, Done, NotReady, Flag, Name, Unwritten, Refused}
 use Rattle.py_script.specs.Words.{spaced}
 use Rattle.py_script.specs.Faults.{fault_name, fault_numbers}
 

@@ -2,8 +2,8 @@
 use Rattle.std.specs.Prelude.{ℕ, ◌^◌, ◌<◌, List, [], ◌∷◌, IfSome, length, encode_utf8_all, ⊤}
 use Rattle.std.specs.List.{All}
 use Rattle.hex.specs.Hex.{IsBytes}
-use Rattle.py_open.specs.declared.reply.Reply.{Reply}
-use Rattle.py_open.specs.declared.reply.Reply.TheVariants.{Bytes, Text, Lines, Count, Place, Unwritten, Refused}
+use Rattle.py_calls.specs.declared.reply.Reply.{Reply}
+use Rattle.py_calls.specs.declared.reply.Reply.TheVariants.{Bytes, Text, Lines, Count, Place, Unwritten, Refused}
 use Rattle.py_script.specs.Faults.{fault_numbers}
 
 -- every number is one of 64 bits

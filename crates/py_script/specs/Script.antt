@@ -1,7 +1,7 @@
 -- The lines of a script, and the calls that they make: this project's script language, docs/PROGRAM.md.
 use Rattle.std.specs.Prelude.{ℕ, ◌==◌, Bool, true, List, [], ◌∷◌, Option, Some, if◌then◌else◌}
 use Rattle.std.specs.List.{slice_split}
-use Rattle.py_open.specs.declared.call.Call.{Call}
+use Rattle.py_calls.specs.declared.call.Call.{Call}
 use Rattle.py_script.specs.Words.{words_of, item_before}
 use Rattle.py_script.specs.LineCall.{words_call}
 

@@ -6,8 +6,8 @@ ghost use Rattle.py_script.specs.ReplyLine.{reply_line, reply_lines};
 ghost use Rattle.py_script.specs.Options.{arguments_of};
 ghost use Rattle.py_script.specs.CommandWords.{Run, Help, Version, command_of};
 
+use py_calls::{Call, Reply};
 use py_flat::{IoFault, ModeError, ParseModeError};
-use py_open::{Call, Reply};
 
 /// Worked examples of scripts in form, computed from the definition.
 #[tactic(auto, unfolding(crate::specs::Words::is_digit))]

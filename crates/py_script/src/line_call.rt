@@ -3,7 +3,7 @@ ghost use Rattle.py_script.specs.LineCall.{plain_call, sized_call, reading_call,
 
 use crate::decimal::{parse_decimal, parse_integer, parse_whence};
 use crate::hex_words::{word_bytes, words_bytes};
-use py_open::Call;
+use py_calls::Call;
 use std::alloc::{AllocError, Global};
 
 /// The call of a line's words, or `None` where they are no form; `Err` for want of memory.

@@ -4,7 +4,7 @@ ghost use Rattle.py_script.specs.Options.{text_of, hex_text, named_option, optio
 use crate::decimal::{parse_decimal, parse_integer};
 use crate::hex_words::hex_bytes;
 use py_flat::Chars;
-use py_open::OpenArgs;
+use py_mode::OpenArgs;
 use std::alloc::{AllocError, Global};
 
 /// An option of the command line.

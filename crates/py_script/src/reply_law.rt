@@ -6,8 +6,8 @@ ghost use Rattle.py_script.specs.ReplyLine.{reply_line};
 ghost use Rattle.py_script.specs.ReplyRange.{AreSmall, IsInRange};
 
 use crate::reply_line::utf8;
+use py_calls::Reply;
 use py_flat::{Data, IoFault};
-use py_open::Reply;
 
 /// A reply's line tells the reply: no two replies are printed alike.
 pub fn reply_lines_tell(first: &Reply, second: &Reply)

@@ -1,15 +1,15 @@
 ghost use Rattle.std.specs.Prelude.{◌≡◌, ◌++◌, ◌∷◌, [], length, map, decimal, encode_utf8_all, OnOk, OnErr, IfOk};
 ghost use Rattle.py_script.specs.Words.{spaced};
 ghost use Rattle.py_script.specs.Faults.{fault_name, fault_numbers};
-ghost use Rattle.py_open.specs.declared.reply.Reply.{Reply};
+ghost use Rattle.py_calls.specs.declared.reply.Reply.{Reply};
 ghost use Rattle.py_script.specs.ReplyRange.{IsInRange};
 ghost use Rattle.py_script.specs.ReplyLine.{hex_of, place_of, reply_word, reply_fields, reply_line};
 
 use crate::fault_name;
 use crate::reply_law::read_reply;
 use hex::encode;
+use py_calls::Reply;
 use py_flat::{Chars, Data, IoFault};
-use py_open::Reply;
 use std::alloc::{AllocError, Global};
 
 /// Adds the line of a reply, with its LF, at the end of some bytes. At `Err`, for want of memory, the bytes are

@@ -4,7 +4,7 @@ ghost use Rattle.std.specs.Option.{option_map};
 ghost use Rattle.py_script.specs.Script.{line_call, is_skipped, lines_calls, script_calls};
 
 use crate::line_call::words_call;
-use py_open::Call;
+use py_calls::Call;
 use std::alloc::{AllocError, Global};
 
 /// The most bytes that a script may have: a longer one is out of form. The program that reads it tests this.

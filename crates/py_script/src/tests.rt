@@ -1,6 +1,6 @@
 use super::*;
+use py_calls::Reply;
 use py_flat::{Chars, Data, IoFault, Lines, ModeError, ParseModeError};
-use py_open::Reply;
 use std::alloc::{AllocError, Global};
 use std::process::Abort;
 use std::test::Fail;

@@ -5,8 +5,8 @@ ghost use Rattle.py_script.specs.Script.{line_call};
 ghost use Rattle.py_script.specs.ReplyLine.{hex_of};
 
 use crate::reply_law::{read_bytes, read_lines};
+use py_calls::Call;
 use py_flat::Data;
-use py_open::Call;
 
 /// Bytes are written as they were answered: the word that a reply has for them stands behind `write`.
 pub fn answered_bytes_can_be_written(bytes: &[u8])

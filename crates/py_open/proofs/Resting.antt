@@ -1,0 +1,135 @@
+-- A session that isn't live calls no raw.
+use Rattle.std.proofs.Common.{◌≡◌, ◌≢◌, pos, suc, zero, Bool, true, false, IsTrue, [], Some, refl, sym, ap, ◌∙◌}
+use Rattle.py_flat.specs.declared.fault.IoFault.TheVariants as fault
+use Rattle.py_flat.specs.declared.life.Life.{Life}
+use Rattle.py_flat.specs.declared.life.Life.TheVariants as life
+use Rattle.py_flat.specs.Bytes.{lay}
+use Rattle.py_flat.specs.Calls.{FileCall, Seek, Close, Flush, Detach, Readable, Writable, Seekable, Closed, OtherGetter, FileReply, Done, Unwritten, Flag, Refused}
+use Rattle.py_flat.specs.Owed.{Owed}
+use Rattle.py_flat.specs.Refusals.{is_getter, or_else, refused_if}
+use Rattle.py_flat.specs.ExactStep.{is_closed}
+use Rattle.py_plain.specs.TextFile.{TextFile}
+use Rattle.py_plain.specs.TextStep.{TextCall, Read, ReadLine, OtherKind, text_life_refusal, text_lacks, TextSettled, TextStep}
+use Rattle.py_plain.specs.TextStep as plain
+use Rattle.py_raw.specs.RawStream.{Raw}
+use Rattle.py_stream.specs.Stream.{Stream, file_of, nothing_owed}
+use Rattle.py_stream.specs.Writing.{PassedOn}
+use Rattle.py_stream.specs.Answers.{AnswersWith, Leaves, refused_by}
+use Rattle.py_calls.specs.declared.call.Call.{Call}
+use Rattle.py_calls.specs.declared.reply.Reply.{Reply}
+use Rattle.py_calls.specs.Calls.{text_call, file_call, said}
+use Rattle.py_textio.specs.TextState.{TextState}
+use Rattle.py_textio.specs.Answers as text
+use Rattle.py_binary.specs.Binary.{has_reply_room, left_by, left_of, AnswersBy}
+use Rattle.py_open.specs.Session.{OfText, OfBinary, SessionView, TextSession, BinarySession, file_seen, raw_of, life_of, AnswersTextBy, Answers}
+use Rattle.py_open.specs.Laws.{OwesAsWriter, PassesAll, HoldsFlat, closed_text_reply, closed_file_reply, closed_by, closed_reply}
+use Rattle.std.proofs.Common.{inl, inr, ℕ, List, [], ◌∷◌, Option, None}
+use Rattle.py_stream.specs.Kinds.{goes_on, calls_none}
+use Rattle.py_stream.specs.Answers.{LifeMoves, StarvesTo}
+use Rattle.py_plain.specs.TextStep.{text_refusal}
+use Rattle.py_open.specs.Run.{IsRun}
+use Rattle.py_open.proofs.Steps.{left_raw, left_life}
+use Rattle.py_open.proofs.Ending.{closed_leaves}
+
+-- Streams.
+
+failed_refuses : (stream : Stream) (call : FileCall) → stream.life ≡ life.Failed → is_getter call ≡ false → call ≢ Detach → call ≢ OtherGetter → refused_by stream call ≡ Some fault.Failed
+failed_refuses stream (Seek offset (pos (suc (suc zero)))) failed asks stays known = rw failed refl
+failed_refuses stream Detach failed asks stays known = absurd (stays refl)
+failed_refuses stream OtherGetter failed asks stays known = absurd (known refl)
+failed_refuses stream Readable failed asks stays known = absurd (cc)
+failed_refuses stream Writable failed asks stays known = absurd (cc)
+failed_refuses stream Seekable failed asks stays known = absurd (cc)
+failed_refuses stream Closed failed asks stays known = absurd (cc)
+failed_refuses stream call failed asks stays known = rw failed refl
+
+detached_refuses : (stream : Stream) (call : FileCall) → stream.life ≡ life.Detached → is_getter call ≡ false → call ≢ OtherGetter → refused_by stream call ≡ Some fault.Detached
+detached_refuses stream (Seek offset (pos (suc (suc zero)))) gone asks known = rw gone refl
+detached_refuses stream OtherGetter gone asks known = absurd (known refl)
+detached_refuses stream Readable gone asks known = absurd (cc)
+detached_refuses stream Writable gone asks known = absurd (cc)
+detached_refuses stream Seekable gone asks known = absurd (cc)
+detached_refuses stream Closed gone asks known = absurd (cc)
+detached_refuses stream call gone asks known = rw gone refl
+
+left_as_was : (before : Stream) (expected reply : FileReply) (answered : Stream) → Leaves before expected reply answered → answered.raw ≡ before.raw
+left_as_was before expected reply answered left = ap (λ (s : Stream). s.raw) left.same
+
+-- the `detach` of a failed stream
+failed_detach : (writes : Bool) (buffer : Option ℕ) (before : Stream) (reply : FileReply) (answered : Stream) → before.can.writable ≡ writes → before.buffer ≡ buffer → before.life ≡ life.Failed → AnswersWith has_reply_room before Detach reply answered → answered.raw ≡ before.raw
+failed_detach true buffer before reply answered writes is failed a = (a.writes writes).rests (λ live. let wrong : life.Failed ≡ life.Live = sym failed ∙ live in absurd (cc))
+failed_detach false None before reply answered writes is failed a = left_as_was before _ reply answered (a.refused fault.Failed (rw failed (rw is refl)))
+failed_detach false (Some size) before reply answered writes is failed a = (a.idle (rw is (rw writes refl))).raw
+
+dead_raw : (current : Life) (before : Stream) (call : FileCall) (reply : FileReply) (answered : Stream) → before.life ≡ current → current ≢ life.Live → is_getter call ≡ false → AnswersWith has_reply_room before call reply answered → answered.raw ≡ before.raw
+dead_raw life.Live before call reply answered is dead asks a = absurd (dead refl)
+dead_raw life.Failed before Detach reply answered is dead asks a = failed_detach before.can.writable before.buffer before reply answered refl refl is a
+dead_raw life.Failed before OtherGetter reply answered is dead asks a = left_as_was before _ reply answered (a.refused fault.Unsupported refl)
+dead_raw life.Failed before call reply answered is dead asks a = left_as_was before _ reply answered (a.refused fault.Failed (failed_refuses before call is asks (λ it. cc) (λ it. cc)))
+dead_raw life.Closed before call reply answered is dead asks a = left_as_was before (closed_file_reply call) reply answered (closed_leaves before call reply answered is asks a)
+dead_raw life.Detached before OtherGetter reply answered is dead asks a = left_as_was before _ reply answered (a.refused fault.Unsupported refl)
+dead_raw life.Detached before call reply answered is dead asks a = left_as_was before _ reply answered (a.refused fault.Detached (detached_refuses before call is asks (λ it. cc)))
+
+starved_dead : (moved : Bool) (before after : Life) → StarvesTo moved before after → before ≢ life.Live → after ≢ life.Live
+starved_dead true before after (inl same) dead is = dead (sym same ∙ is)
+starved_dead true before after (inr failed) dead is = let wrong : life.Failed ≡ life.Live = sym failed ∙ is in absurd (cc)
+starved_dead false before after same dead is = dead (sym same ∙ is)
+
+dead_on : (buffer : Option ℕ) (call : FileCall) (reply : FileReply) (before after : Life) → LifeMoves buffer call reply before after → before ≢ life.Live → after ≢ life.Live
+dead_on buffer Close Done before after moves dead is = let wrong : life.Closed ≡ life.Live = sym moves ∙ is in absurd (cc)
+dead_on buffer Close (Refused fault.RawFault) before after moves dead is = let wrong : life.Closed ≡ life.Live = sym moves ∙ is in absurd (cc)
+dead_on buffer Detach (Unwritten bytes place) before after moves dead is = let wrong : life.Detached ≡ life.Live = sym moves ∙ is in absurd (cc)
+dead_on buffer call (Refused fault.RawFault) before after moves dead is = let wrong : life.Failed ≡ life.Live = sym moves ∙ is in absurd (cc)
+dead_on buffer call (Refused fault.NoMemory) before after moves dead is = starved_dead (goes_on buffer call) before after moves dead is
+dead_on buffer call reply before after moves dead is = dead (sym moves ∙ is)
+
+-- what a session that isn't live leaves: its raw, and that it isn't live
+pub record Rests (before after : SessionView) : Type 0 where
+  pub raw : raw_of after ≡ raw_of before
+  pub dead : life_of after ≢ life.Live
+
+binary_rests : (getter : Bool) (before : Stream) (call : FileCall) (reply : FileReply) (after : Stream) → is_getter call ≡ getter → before.life ≢ life.Live → AnswersBy getter before call reply after → Rests (BinarySession before) (BinarySession after)
+binary_rests true before call reply after is dead step = record { raw = ap (λ (s : Stream). s.raw) step.same; dead = λ live. dead (sym (ap (λ (s : Stream). s.life) step.same) ∙ live) }
+binary_rests false before call reply after is dead step =
+    let a : Stream = step.answered in
+    record {
+      raw = ap (λ (s : Stream). s.raw) step.leaves ∙ left_raw a.life a ∙ dead_raw before.life before call reply a refl dead is step.answers;
+      dead = λ live. dead_on before.buffer call reply before.life a.life step.answers.moves.life_is dead (sym (ap (λ (s : Stream). s.life) step.leaves ∙ left_life a.life a refl) ∙ live);
+    }
+
+-- Texts.
+
+text_dead_raw : (current : Life) (before : TextState) (call : TextCall) (reply : FileReply) (after : TextState) → before.file.life ≡ current → current ≢ life.Live → text.Answers before call reply after → (after.raw ≡ before.raw) × (after.file ≡ before.file)
+text_dead_raw life.Live before call reply after is dead step = absurd (dead refl)
+text_dead_raw life.Failed before (Read size) reply after is dead step = let left = step.answers.refused fault.Failed (rw is refl) in (left.raw, left.file)
+text_dead_raw life.Failed before (ReadLine limit) reply after is dead step = let left = step.answers.refused fault.Failed (rw is refl) in (left.raw, left.file)
+text_dead_raw life.Failed before plain.Close reply after is dead step = let left = step.answers.refused fault.Failed (rw is refl) in (left.raw, left.file)
+text_dead_raw life.Failed before OtherKind reply after is dead step = let left = step.answers.refused fault.Failed (rw is refl) in (left.raw, left.file)
+text_dead_raw life.Closed before (Read size) reply after is dead step = let left = step.answers.refused fault.Closed (rw is refl) in (left.raw, left.file)
+text_dead_raw life.Closed before (ReadLine limit) reply after is dead step = let left = step.answers.refused fault.Closed (rw is refl) in (left.raw, left.file)
+text_dead_raw life.Closed before plain.Close reply after is dead step = let left = step.answers.again (rw is refl) in (left.raw, left.file)
+text_dead_raw life.Closed before OtherKind reply after is dead step = let left = step.answers.refused fault.Closed (rw is refl) in (left.raw, left.file)
+text_dead_raw life.Detached before (Read size) reply after is dead step = let left = step.answers.refused fault.Detached (rw is refl) in (left.raw, left.file)
+text_dead_raw life.Detached before (ReadLine limit) reply after is dead step = let left = step.answers.refused fault.Detached (rw is refl) in (left.raw, left.file)
+text_dead_raw life.Detached before plain.Close reply after is dead step = let left = step.answers.refused fault.Detached (rw is refl) in (left.raw, left.file)
+text_dead_raw life.Detached before OtherKind reply after is dead step = let left = step.answers.refused fault.Detached (rw is refl) in (left.raw, left.file)
+
+text_rests : (getter : Bool) (before : TextState) (call : Call) (reply : FileReply) (after : TextState) → before.file.life ≢ life.Live → AnswersTextBy getter before call reply after → Rests (TextSession before) (TextSession after)
+text_rests true before call reply after dead step = record { raw = ap (λ (t : TextState). t.raw) step.same; dead = λ live. dead (sym (ap (λ (t : TextState). t.file.life) step.same) ∙ live) }
+text_rests false before call reply after dead step =
+    let left = text_dead_raw before.file.life before (text_call call) reply after refl dead step in
+    record { raw = left.0; dead = λ live. dead (sym (ap (λ (file : TextFile). file.life) left.1) ∙ live) }
+
+step_rests : (before : SessionView) (call : Call) (reply : Reply) (after : SessionView) → life_of before ≢ life.Live → Answers before call reply after → Rests before after
+step_rests (TextSession before) call reply (TextSession after) dead step = text_rests (is_getter (file_call call)) before call (said reply) after dead step
+step_rests (BinarySession before) call reply (BinarySession after) dead step = binary_rests (is_getter (file_call call)) before (file_call call) (said reply) after refl dead step
+step_rests (TextSession before) call reply (BinarySession after) dead step = absurd step
+step_rests (BinarySession before) call reply (TextSession after) dead step = absurd step
+
+pub run_rests : (before : SessionView) (calls : List Call) (replies : List Reply) (after : SessionView) → IsRun before calls replies after → life_of before ≢ life.Live → raw_of after ≡ raw_of before
+run_rests before [] [] after run dead = ap raw_of run
+run_rests before (call ∷ calls) (reply ∷ replies) after run dead =
+    let rests = step_rests before call reply run.0 dead run.1 in
+    run_rests run.0 calls replies after run.2 rests.dead ∙ rests.raw
+run_rests before [] (reply ∷ replies) after run dead = absurd run
+run_rests before (call ∷ calls) [] after run dead = absurd run
