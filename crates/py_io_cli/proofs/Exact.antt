@@ -1,42 +1,94 @@
--- A run of the program in which no raw failed or asked to wait prints what the model answers.
-use Rattle.std.proofs.Common.{◌≡◌, ℕ, Bool, true, false, IsTrue, List, [], ◌++◌, Option, Some, None, unwrap_or, inl, inr, sym, ◌∙◌, ap, subst, arith}
+-- A run of the program that ends with 0: what was printed, what the path holds, and, where no raw failed or asked to wait, that the
+-- replies are the model's.
+use Rattle.std.proofs.Common.{◌≡◌, ℕ, Bool, true, false, IsTrue, List, [], ◌++◌, length, Option, Some, None, unwrap_or, Ok, inl, inr, refl, sym, ◌∙◌, ap, subst, if◌then◌else◌, arith}
 use Rattle.std.proofs.lemmas.Bool.Decides.{nat_tests}
+use Rattle.py_flat.specs.declared.life.Life.TheVariants as life
+use Rattle.py_flat.specs.Bytes.{lay}
 use Rattle.py_flat.specs.Causes.{counted, rose}
+use Rattle.py_flat.specs.Owed.{Owed}
+use Rattle.py_flat.specs.FlatFile.{Abilities, FlatFile}
+use Rattle.py_flat.specs.declared.life.Life.{Life}
+use Rattle.py_flat.specs.Calls.{FileReply}
+use Rattle.py_plain.specs.TextFile.{TextFile}
+use Rattle.py_textio.specs.TextState.{TextState}
 use Rattle.py_raw.specs.RawStream.{Raw}
+use Rattle.py_raw.specs.RawMode.{raw_mode_text}
+use Rattle.py_raw.specs.Opener.{opened_bytes}
 use Rattle.py_source_sink.specs.Source.{SourceView}
-use Rattle.py_open.specs.declared.call.Call.{Call}
-use Rattle.py_open.specs.declared.reply.Reply.{Reply}
-use Rattle.py_open.specs.Session.{SessionFile, OfText, SessionView}
-use Rattle.py_open.specs.Opening.{text_opened, OpensText}
-use Rattle.py_open.specs.Run.{IsRun, IsSmooth, NoneLacksMemory, RunsCalls, exact_replies, all_said}
+use Rattle.py_stream.specs.Stream.{Stream, buffering_of, file_of}
+use Rattle.py_stream.specs.Opening.{Opens, begins_at}
+use Rattle.py_unbuffered.specs.Unbuffered.{can_of, is_able}
+use Rattle.py_unbuffered.specs.declared.access.Access.{Access}
+use Rattle.py_calls.specs.declared.call.Call.{Call}
+use Rattle.py_calls.specs.declared.reply.Reply.{Reply}
+use Rattle.py_mode.specs.declared.mode.EncodeMode.{EncodeMode}
+use Rattle.py_mode.specs.declared.mode.EncodeMode.TheVariants.{Text, Bytes}
+use Rattle.py_mode.specs.declared.mode.FileMode.{FileMode}
+use Rattle.py_mode.specs.declared.mode.FileMode.TheVariants.{Read}
+use Rattle.py_mode.specs.declared.open_args.OpenArgs.{OpenArgs}
+use Rattle.py_mode.specs.declared.plan.OpenPlan.{OpenPlan}
+use Rattle.py_mode.specs.Mode.{letter_of}
+use Rattle.py_mode.specs.Plan.{plan_of}
+use Rattle.py_mode.proofs.Planning.{planned_text_is_read}
+use Rattle.py_textio.specs.Opening.{text_opened, OpensText}
+use Rattle.py_open.specs.Session.{SessionFile, OfText, OfBinary, SessionView, TextSession, BinarySession, file_seen, raw_of}
+use Rattle.py_open.specs.Opening.{access_of, OpensBy}
+use Rattle.py_open.specs.Run.{IsRun, IsSmooth, NoneLacksMemory, RunsCalls, AllSettle, all_said}
 use Rattle.py_open.specs.Laws.{IsExact}
-use Rattle.py_open.specs.declared.open_args.OpenArgs.{OpenArgs}
+use Rattle.py_open.proofs.Runs.{run_keeps_raw, run_owes, opened_owes}
+use Rattle.py_open.proofs.Resting.{run_rests}
+use Rattle.py_open.proofs.Ending.{step_passes}
 use Rattle.py_script.specs.CommandWords.{Command, Run, command_of}
 use Rattle.py_io_cli.specs.declared.status.Status.{Status}
 use Rattle.py_io_cli.specs.declared.status.Status.TheVariants as status
 use Rattle.py_io_cli.specs.Status.{code_of}
-use Rattle.py_io_cli.specs.Outcome.{Outside, Asked, asked_by, own_text, closed_calls, OpensPath, FollowsPlan, PlannedOutcome, RunsScript, Outcome, Ends}
-use Rattle.py_io_cli.specs.Meaning.{RawsAreReady, PrintsExactly}
+use Rattle.py_io_cli.specs.Outcome.{Outside, Asked, raw_mode, asked_by, own_text, closed_calls, OpensPath, FollowsPlan, PlannedOutcome, RunsScript, Outcome, Ends}
+use Rattle.py_io_cli.specs.Meaning.{RawsAreReady, HoldsFlat, PrintsReplies, PrintsSettled, PrintsExactly, begins_with, file_by, opened_file}
+use Rattle.py_io_cli.proofs.Planned.{one_plan}
+use Rattle.py_io_cli.proofs.Keeping.{opening_keeps}
 
 -- a count that was added, and with which the sum didn't rise, was 0
 stays_unrisen : (before mid after opened back : ℕ) → mid ≡ before → after ≡ counted mid back → rose before after ≡ false → rose opened back ≡ false
 stays_unrisen before mid after opened back kept added still = grind (arith, nat_tests)
 
-smooth_raw : (opened back session : Raw) (faults mid_faults after_faults waits mid_waits after_waits : ℕ) → back ≡ session → mid_faults ≡ faults → after_faults ≡ counted mid_faults back.faults → rose faults after_faults ≡ false → mid_waits ≡ waits → after_waits ≡ counted mid_waits back.waits → rose waits after_waits ≡ false → IsSmooth opened session
-smooth_raw opened back session faults mid_faults after_faults waits mid_waits after_waits same faults_kept faults_added faults_still waits_kept waits_added waits_still =
-    let P : Raw → Type 0 = λ raw. IsSmooth opened raw in
-    subst P same (record {
-      waits = stays_unrisen waits mid_waits after_waits opened.waits back.waits waits_kept waits_added waits_still;
-      faults = stays_unrisen faults mid_faults after_faults opened.faults back.faults faults_kept faults_added faults_still;
-    })
+-- The file that was opened.
 
--- the file that was opened
-file_opened : (raw : Raw) (buffer chunk : ℕ) (session : SessionView) (bytes : List ℕ) → OpensText raw buffer chunk session → raw.tells ≡ true → raw.seekable ≡ true → raw.place ≡ 0 → raw.bytes ≡ bytes → session.file ≡ OfText (text_opened bytes 0 true chunk)
-file_opened raw buffer chunk session bytes opens tells seeks place are =
+text_file : (raw : Raw) (buffer chunk : ℕ) (bytes : List ℕ) (text : TextState) → OpensText raw buffer chunk text → raw.tells ≡ true → raw.seekable ≡ true → raw.place ≡ 0 → raw.bytes ≡ bytes → text.file ≡ text_opened bytes 0 true chunk
+text_file raw buffer chunk bytes text opens tells seeks place are =
     opens.file
-    ∙ ap (λ (all : List ℕ). OfText (text_opened all opens.place raw.seekable chunk)) ((opens.told tells).0 ∙ are)
-    ∙ ap (λ (at : ℕ). OfText (text_opened bytes at raw.seekable chunk)) ((opens.told tells).2 ∙ place)
-    ∙ ap (λ (can : Bool). OfText (text_opened bytes 0 can chunk)) seeks
+    ∙ ap (λ (all : List ℕ). text_opened all opens.place raw.seekable chunk) (opens.untouched.bytes tells ∙ are)
+    ∙ ap (λ (at : ℕ). text_opened bytes at raw.seekable chunk) ((opens.told tells).1 ∙ place)
+    ∙ ap (λ (can : Bool). text_opened bytes 0 can chunk) seeks
+
+-- where a stream begins on a raw that can seek and stands at its start
+begins : (appends : Bool) (raw : Raw) (bytes : List ℕ) → raw.seekable ≡ true → raw.place ≡ 0 → raw.bytes ≡ bytes → begins_at appends raw ≡ begins_with appends bytes
+begins true raw bytes seeks place are = ap (λ (can : Bool). if can then length raw.bytes else raw.place) seeks ∙ ap (λ (all : List ℕ). length all) are
+begins false raw bytes seeks place are = place
+
+stream_file : (stream : Stream) (bytes : List ℕ) (place : ℕ) (can : Abilities) (buffer : Option ℕ) → lay stream.raw.bytes stream.owed.place stream.owed.bytes ≡ bytes → stream.place ≡ place → stream.can ≡ can → stream.buffer ≡ buffer → stream.life ≡ life.Live → file_of stream ≡ record { bytes = bytes; place = place; can = can; buffering = buffering_of buffer; life = life.Live }
+stream_file stream bytes place can buffer bytes_are place_is can_is buffer_is live =
+    let F : List ℕ → ℕ → Abilities → Option ℕ → Life → FlatFile = λ b p c s l. record { bytes = b; place = p; can = c; buffering = buffering_of s; life = l } in
+    ap (λ (b : List ℕ). F b stream.place stream.can stream.buffer stream.life) bytes_are
+    ∙ ap (λ (p : ℕ). F bytes p stream.can stream.buffer stream.life) place_is
+    ∙ ap (λ (c : Abilities). F bytes place c stream.buffer stream.life) can_is
+    ∙ ap (λ (s : Option ℕ). F bytes place can s stream.life) buffer_is
+    ∙ ap (λ (l : Life). F bytes place can buffer l) live
+
+binary_file : (raw : Raw) (access : Access) (buffer : Option ℕ) (bytes : List ℕ) (stream : Stream) → Opens (is_able access) (can_of access) raw buffer stream → raw.tells ≡ true → raw.seekable ≡ true → raw.place ≡ 0 → raw.bytes ≡ bytes → file_of stream ≡ record { bytes = bytes; place = begins_with (can_of access true).appending bytes; can = can_of access true; buffering = buffering_of buffer; life = life.Live }
+binary_file raw access buffer bytes stream opens tells seeks place are =
+    let able : can_of access raw.seekable ≡ can_of access true = ap (can_of access) seeks in
+    stream_file stream bytes (begins_with (can_of access true).appending bytes) (can_of access true) buffer
+    (ap (λ (owed : Owed). lay stream.raw.bytes owed.place owed.bytes) opens.owed ∙ opens.untouched.bytes tells ∙ are)
+    (opens.place tells ∙ begins (can_of access raw.seekable).appending raw bytes seeks place are ∙ ap (λ (can : Abilities). begins_with can.appending bytes) able)
+    (opens.can_do ∙ able)
+    opens.buffer_is
+    opens.life_is
+
+file_opened : (encode : EncodeMode) (raw : Raw) (plan : OpenPlan) (chunk : ℕ) (bytes : List ℕ) (session : SessionView) → OpensBy encode raw plan chunk session → raw.tells ≡ true → raw.seekable ≡ true → raw.place ≡ 0 → raw.bytes ≡ bytes → file_seen session ≡ file_by encode plan chunk bytes
+file_opened Text raw plan chunk bytes (TextSession text) opens tells seeks place are = ap OfText (text_file raw _ chunk bytes text opens tells seeks place are)
+file_opened Bytes raw plan chunk bytes (BinarySession stream) opens tells seeks place are = ap OfBinary (binary_file raw (access_of plan.mode.file) plan.buffer_size bytes stream opens tells seeks place are)
+file_opened Text raw plan chunk bytes (BinarySession stream) opens tells seeks place are = absurd opens
+file_opened Bytes raw plan chunk bytes (TextSession text) opens tells seeks place are = absurd opens
 
 -- with 0 all was done
 all_done : (ended : Status) (words : List (List ℕ)) (old new : SourceView) (before after : Outside) → code_of ended ≡ 0 → Outcome ended words old new before after → Outcome status.Done words old new before after
@@ -50,21 +102,17 @@ all_done status.NoMemory words old new before after is did = absurd (omega arith
 all_done status.OpenerFailed words old new before after is did = absurd (omega arith)
 
 -- the replies over a raw that was opened, by the law of smooth runs
-abbrev pub SmoothRunsAreExact : Type 0
-SmoothRunsAreExact = (before : SessionView) (calls : List Call) (replies : List Reply) (after : SessionView) → IsRun before calls replies after → IsTrue before.raw.tells → IsSmooth before.raw after.raw → NoneLacksMemory (all_said replies) → IsExact before calls replies after
+abbrev pub SmoothRunsSettle : Type 0
+SmoothRunsSettle = (before : SessionView) (calls : List Call) (replies : List Reply) (after : SessionView) → IsRun before calls replies after → IsTrue (raw_of before).tells → IsSmooth (raw_of before) (raw_of after) → NoneLacksMemory (all_said replies) → AllSettle (file_seen before) calls (all_said replies) (file_seen after)
 
-exact_over : SmoothRunsAreExact → (raw : Raw) (buffer chunk : ℕ) (session : SessionView) (calls : List Call) (replies : List Reply) (bytes : List ℕ) → (run : RunsCalls raw buffer chunk calls session replies) → IsSmooth run.opened.raw session.raw → raw.tells ≡ true → raw.seekable ≡ true → raw.place ≡ 0 → raw.bytes ≡ bytes → NoneLacksMemory (all_said replies) → all_said replies ≡ exact_replies (OfText (text_opened bytes 0 true chunk)) calls
-exact_over law raw buffer chunk session calls replies bytes run smooth tells seeks place are memory =
-    (law run.opened calls replies session run.run (run.opens.keeps.tells ∙ tells) smooth memory).says
-    ∙ ap (λ (file : SessionFile). exact_replies file calls) (file_opened raw buffer chunk run.opened bytes run.opens tells seeks place are)
+settles_over : SmoothRunsSettle → (raw : Raw) (plan : OpenPlan) (chunk : ℕ) (session : SessionView) (calls : List Call) (replies : List Reply) (bytes : List ℕ) → (run : RunsCalls raw plan chunk calls session replies) → IsSmooth (raw_of run.opened) (raw_of session) → raw.tells ≡ true → raw.seekable ≡ true → raw.place ≡ 0 → raw.bytes ≡ bytes → NoneLacksMemory (all_said replies) → AllSettle (opened_file plan chunk bytes) calls (all_said replies) (file_seen session)
+settles_over law raw plan chunk session calls replies bytes run smooth tells seeks place are memory =
+    subst (λ (file : SessionFile). AllSettle file calls (all_said replies) (file_seen session)) (file_opened plan.mode.encode raw plan chunk bytes run.opened run.opens tells seeks place are)
+    (law run.opened calls replies session run.run ((opening_keeps plan.mode.encode raw plan chunk run.opened run.opens tells).1 ∙ tells) smooth memory)
 
 -- what the path holds is what the raw gives
 raw_bytes : (held : Option (List ℕ)) (bytes : List ℕ) → held ≡ Some bytes → unwrap_or held [] ≡ bytes
 raw_bytes held bytes is = ap (λ (some : Option (List ℕ)). unwrap_or some []) is
-
--- words ask for one run
-one_run : (path path' mode mode' : List ℕ) (args args' : OpenArgs) → Some (Run path mode args) ≡ Some (Run path' mode' args') → (path ≡ path') × (args ≡ args')
-one_run path path' mode mode' args args' same = (cc, cc)
 
 -- a run is no text of the program's own
 no_own_text : (command : Command) (path mode : List ℕ) (args : OpenArgs) (text : List ℕ) → Some command ≡ Some (Run path mode args) → own_text command ≡ Some text → ⊥
@@ -78,30 +126,103 @@ follows_done : (path mode : List ℕ) (args : OpenArgs) (calls : List Call) (bef
 follows_done path mode args calls before after (inl refuses) = absurd refuses.prints
 follows_done path mode args calls before after (inr follows) = follows
 
-exact_script : SmoothRunsAreExact → (words : List (List ℕ)) (old new : SourceView) (before after : Outside) (path mode bytes : List ℕ) (args : OpenArgs) → RunsScript words status.Done old new before after → command_of words ≡ Some (Run path mode args) → IsTrue old.tells → IsTrue before.opener.tells → before.opener.holds path ≡ Some bytes → RawsAreReady before after → PrintsExactly bytes args.chunk_size old before after
-exact_script law words old new before after path mode bytes args did form told tells holds ready =
-    let same = one_run did.path path did.mode mode did.args args (sym did.form ∙ form) in
-    let follows = follows_done did.path did.mode did.args did.calls before after did.does in
-    let asked : Asked = asked_by follows.plan did.args did.calls in
-    let opened : OpensPath did.path asked status.Done before after = follows.does in
+-- What was done with 0.
+
+done_script : (words : List (List ℕ)) (old new : SourceView) (before after : Outside) (path mode : List ℕ) (args : OpenArgs) → Outcome status.Done words old new before after → command_of words ≡ Some (Run path mode args) → RunsScript words status.Done old new before after
+done_script words old new before after path mode args (inl did) form = did
+done_script words old new before after path mode args (inr own) form = absurd (no_own_text own.command path mode args own.text (sym own.form ∙ form) own.asked)
+
+-- words ask for one run
+one_run : (path path' mode mode' : List ℕ) (args args' : OpenArgs) → Some (Run path mode args) ≡ Some (Run path' mode' args') → (path ≡ path') × (mode ≡ mode') × (args ≡ args')
+one_run path path' mode mode' args args' same = (cc, cc, cc)
+
+-- What the path holds.
+
+holds_flat : (path : List ℕ) (asked : Asked) (before after : Outside) → (opened : OpensPath path asked status.Done before after) → HoldsFlat path opened.does.1.run.opened opened.does.1.session before after
+holds_flat path asked before after opened front rest replies others mid next call reply first step second live ended passes tells =
     let ran = opened.does.1 in
-    let opens = opened.opens.told tells in
-    let held : before.opener.holds did.path ≡ Some bytes = ap before.opener.holds same.0 ∙ holds in
+    let told = opened.opens.told tells in
+    let begun = opening_keeps asked.plan.mode.encode opened.raw asked.plan asked.chunk ran.run.opened ran.run.opens told.tells in
+    let kept = run_keeps_raw ran.run.opened front replies mid first in
+    let owes = run_owes ran.run.opened front replies mid first (opened_owes opened.raw asked.plan asked.chunk ran.run.opened ran.run.opens) in
+    let flat = step_passes mid call reply next step owes live passes in
+    (opened.puts tells).held
+    ∙ ap Some (ap (λ (raw : Raw). raw.bytes) (ran.raw_is ∙ run_rests next rest others ran.session second ended) ∙ flat.holds (kept.tells ∙ begun.1 ∙ told.tells))
+
+replies_of : (path mode : List ℕ) (args : OpenArgs) (words : List (List ℕ)) (old new : SourceView) (before after : Outside) → (did : RunsScript words status.Done old new before after) → (did.path ≡ path) × (did.mode ≡ mode) × (did.args ≡ args) → IsTrue old.tells → PrintsReplies did.path did.mode did.args old new before after
+replies_of path mode args words old new before after did same told =
+    let follows = follows_done did.path did.mode did.args did.calls before after did.does in
+    let opened : OpensPath did.path (asked_by follows.plan did.args did.calls) status.Done before after = follows.does in
+    let ran = opened.does.1 in
     record {
       calls = did.calls;
-      form = (did.reads told).form;
+      reads = did.reads told;
+      plan = follows.plan;
+      planned = follows.planned;
+      raw = opened.raw;
+      is_opened = opened.opens.opened;
+      begins = λ tells. let opens = opened.opens.told tells in record { tells = opens.tells; seeks = opens.seeks; place = opens.place; bytes_are = opens.bytes };
+      session = ran.session;
       replies = ran.replies;
+      run = ran.run;
       prints = λ sink. opened.does.2 sink ∙ ap (λ (lines : List ℕ). before.sink.written ++ lines) ran.lines_are;
-      says = λ memory. exact_over law opened.raw asked.buffer asked.chunk ran.session (closed_calls did.calls) ran.replies bytes ran.run
-          (smooth_raw ran.run.opened.raw opened.back ran.session.raw before.opener.raw_faults opened.mid.raw_faults after.opener.raw_faults before.opener.raw_waits opened.mid.raw_waits after.opener.raw_waits ran.raw_is opened.open_keeps.raw_faults opened.done_keeps.raw_faults ready.faults opened.open_keeps.raw_waits opened.done_keeps.raw_waits ready.waits)
-          opens.tells opens.seeks opens.place (opens.bytes ∙ raw_bytes (before.opener.holds did.path) bytes held) memory
-          ∙ ap (λ (by : OpenArgs). exact_replies (OfText (text_opened bytes 0 true by.chunk_size)) (closed_calls did.calls)) same.1;
+      faults = opened.done_keeps.raw_faults ∙ ap (λ (old_count : ℕ). counted old_count opened.back.faults) opened.open_keeps.raw_faults ∙ ap (λ (raw : Raw). counted before.opener.raw_faults raw.faults) ran.raw_is;
+      waits = opened.done_keeps.raw_waits ∙ ap (λ (old_count : ℕ). counted old_count opened.back.waits) opened.open_keeps.raw_waits ∙ ap (λ (raw : Raw). counted before.opener.raw_waits raw.waits) ran.raw_is;
+      holds = λ tells. (opened.puts tells).held ∙ ap (λ (raw : Raw). Some raw.bytes) ran.raw_is;
+      flat = holds_flat did.path (asked_by follows.plan did.args did.calls) before after opened;
     }
 
-exact_done : SmoothRunsAreExact → (words : List (List ℕ)) (old new : SourceView) (before after : Outside) (path mode bytes : List ℕ) (args : OpenArgs) → Outcome status.Done words old new before after → command_of words ≡ Some (Run path mode args) → IsTrue old.tells → IsTrue before.opener.tells → before.opener.holds path ≡ Some bytes → RawsAreReady before after → PrintsExactly bytes args.chunk_size old before after
-exact_done law words old new before after path mode bytes args (inl did) form told tells holds ready = exact_script law words old new before after path mode bytes args did form told tells holds ready
-exact_done law words old new before after path mode bytes args (inr own) form told tells holds ready = absurd (no_own_text own.command path mode args own.text (sym own.form ∙ form) own.asked)
+pub prints_replies : (words : List (List ℕ)) (old new : SourceView) (before after : Outside) (path mode : List ℕ) (args : OpenArgs) → Ends 0 words old new before after → command_of words ≡ Some (Run path mode args) → IsTrue old.tells → PrintsReplies path mode args old new before after
+prints_replies words old new before after path mode args ends form told =
+    let did = done_script words old new before after path mode args (all_done ends.ended words old new before after (sym ends.code_is) ends.outcome) form in
+    let same = one_run did.path path did.mode mode did.args args (sym did.form ∙ form) in
+    subst (λ (named : List ℕ). PrintsReplies named mode args old new before after) same.0
+    (subst (λ (named : List ℕ). PrintsReplies did.path named args old new before after) same.1
+    (subst (λ (given : OpenArgs). PrintsReplies did.path did.mode given old new before after) same.2
+    (replies_of path mode args words old new before after did same told)))
 
-pub prints_exactly : SmoothRunsAreExact → (words : List (List ℕ)) (old new : SourceView) (before after : Outside) (path mode bytes : List ℕ) (args : OpenArgs) → Ends 0 words old new before after → command_of words ≡ Some (Run path mode args) → IsTrue old.tells → IsTrue before.opener.tells → before.opener.holds path ≡ Some bytes → RawsAreReady before after → PrintsExactly bytes args.chunk_size old before after
-prints_exactly law words old new before after path mode bytes args ends form told tells holds ready =
-    exact_done law words old new before after path mode bytes args (all_done ends.ended words old new before after (sym ends.code_is) ends.outcome) form told tells holds ready
+-- What was printed, where nothing went wrong.
+
+settled : SmoothRunsSettle → (path mode : List ℕ) (args : OpenArgs) (old new : SourceView) (before after : Outside) → (printed : PrintsReplies path mode args old new before after) → IsTrue before.opener.tells → RawsAreReady before after → PrintsSettled path printed.plan args.chunk_size old before after
+settled law path mode args old new before after printed tells ready =
+    let begun = printed.begins tells in
+    let smooth : IsSmooth (raw_of printed.run.opened) (raw_of printed.session) = record {
+      waits = stays_unrisen before.opener.raw_waits before.opener.raw_waits after.opener.raw_waits (raw_of printed.run.opened).waits (raw_of printed.session).waits refl printed.waits ready.waits;
+      faults = stays_unrisen before.opener.raw_faults before.opener.raw_faults after.opener.raw_faults (raw_of printed.run.opened).faults (raw_of printed.session).faults refl printed.faults ready.faults;
+    } in
+    record {
+      calls = printed.calls;
+      form = printed.reads.form;
+      replies = printed.replies;
+      prints = printed.prints;
+      says = λ memory. (file_seen printed.session, settles_over law printed.raw printed.plan args.chunk_size printed.session (closed_calls printed.calls) printed.replies (opened_bytes (raw_mode printed.plan) (before.opener.holds path)) printed.run smooth begun.tells begun.seeks begun.place begun.bytes_are memory);
+    }
+
+pub prints_settled : SmoothRunsSettle → (words : List (List ℕ)) (old new : SourceView) (before after : Outside) (path mode : List ℕ) (args : OpenArgs) (plan : OpenPlan) → Ends 0 words old new before after → command_of words ≡ Some (Run path mode args) → plan_of mode args ≡ Ok plan → IsTrue old.tells → IsTrue before.opener.tells → RawsAreReady before after → PrintsSettled path plan args.chunk_size old before after
+prints_settled law words old new before after path mode args plan ends form accepted told tells ready =
+    let printed = prints_replies words old new before after path mode args ends form told in
+    subst (λ (by : OpenPlan). PrintsSettled path by args.chunk_size old before after) (one_plan (plan_of mode args) printed.plan plan printed.planned accepted) (settled law path mode args old new before after printed tells ready)
+
+-- the text that is opened of what the path holds
+text_opened_of : (plan : OpenPlan) (chunk : ℕ) (held : Option (List ℕ)) (bytes : List ℕ) → plan.mode.encode ≡ Text → plan.mode.file ≡ Read → held ≡ Some bytes → opened_file plan chunk (opened_bytes (raw_mode plan) held) ≡ OfText (text_opened bytes 0 true chunk)
+text_opened_of plan chunk held bytes is_text reads holds =
+    ap (λ (encode : EncodeMode). file_by encode plan chunk (opened_bytes (raw_mode plan) held)) is_text
+    ∙ ap (λ (file : FileMode). OfText (text_opened (opened_bytes (raw_mode_text (letter_of file) plan.mode.plus) held) 0 true chunk)) reads
+    ∙ ap (λ (some : Option (List ℕ)). OfText (text_opened (unwrap_or some []) 0 true chunk)) holds
+
+-- calls of a text that all settle are answered by the exact replies
+abbrev pub SettledTextsAreExact : Type 0
+SettledTextsAreExact = (before : TextFile) (calls : List Call) (replies : List FileReply) (after : SessionFile) → AllSettle (OfText before) calls replies after → IsExact before calls replies after
+
+pub prints_exactly : SmoothRunsSettle → SettledTextsAreExact → (words : List (List ℕ)) (old new : SourceView) (before after : Outside) (path mode bytes : List ℕ) (args : OpenArgs) (plan : OpenPlan) → Ends 0 words old new before after → command_of words ≡ Some (Run path mode args) → plan_of mode args ≡ Ok plan → plan.mode.encode ≡ Text → IsTrue old.tells → IsTrue before.opener.tells → before.opener.holds path ≡ Some bytes → RawsAreReady before after → PrintsExactly bytes args.chunk_size old before after
+prints_exactly law exact words old new before after path mode bytes args plan ends form accepted is_text told tells holds ready =
+    let printed = prints_settled law words old new before after path mode args plan ends form accepted told tells ready in
+    let file = text_opened_of plan args.chunk_size (before.opener.holds path) bytes is_text (planned_text_is_read mode args plan accepted is_text) holds in
+    record {
+      calls = printed.calls;
+      form = printed.form;
+      replies = printed.replies;
+      prints = printed.prints;
+      says = λ memory. let settles = printed.says memory in
+          (exact (text_opened bytes 0 true args.chunk_size) (closed_calls printed.calls) (all_said printed.replies) settles.0 (subst (λ (begun : SessionFile). AllSettle begun (closed_calls printed.calls) (all_said printed.replies) settles.0) file settles.1)).says;
+    }

@@ -1,5 +1,5 @@
 -- What comes of a path that was opened, once the raw was put away again.
-use Rattle.std.proofs.Common.{◌≡◌, ℕ, true, false, inl, inr, IsTrue, IsSome, List, Option, Result, Ok, Err, codes, refl, sym, ◌∙◌, subst}
+use Rattle.std.proofs.Common.{◌≡◌, ℕ, true, false, inl, inr, IsTrue, IsSome, List, Option, Result, Ok, Err, refl, sym, ◌∙◌, subst}
 use Rattle.py_raw.specs.declared.opener.OpenError.{OpenError}
 use Rattle.py_raw.specs.declared.opener.OpenError.TheVariants as open_error
 use Rattle.py_raw.specs.RawStream.{Raw}
@@ -7,20 +7,20 @@ use Rattle.py_source_sink.specs.Sink.{SinkView}
 use Rattle.py_raw.specs.Opener.{OpenerView, OpenKeeps, Opens, DoneKeeps, DoneOutcome, PutsAway}
 use Rattle.py_io_cli.specs.declared.status.Status.{Status}
 use Rattle.py_io_cli.specs.declared.status.Status.TheVariants as status
-use Rattle.py_io_cli.specs.Outcome.{Asked, RawOutcome, OpensPath, CallsOutcome, after_done}
+use Rattle.py_io_cli.specs.Outcome.{Asked, raw_mode, RawOutcome, OpensPath, CallsOutcome, after_done}
 use Rattle.py_io_cli.proofs.Printed.{rose_later}
 
 -- whatever the opener answered, where it tells the path holds the raw's bytes
-puts_away : (path : List ℕ) (raw back : Raw) (before mid after : OpenerView) (done : Result (Unit {0}) OpenError) → OpenKeeps before mid → Opens before path (codes "rb") raw mid → DoneOutcome back mid path done after → IsTrue before.tells → PutsAway back mid path after
-puts_away path raw back before mid after (Ok done) keeps opens puts tells = puts (keeps.tells ∙ tells)
-puts_away path raw back before mid after (Err open_error.Fault) keeps opens puts tells = let both : true ≡ false = sym (keeps.tells ∙ tells) ∙ puts.untold in cc
-puts_away path raw back before mid after (Err open_error.Memory) keeps opens puts tells =
+puts_away : (path : List ℕ) (asked : Asked) (raw back : Raw) (before mid after : OpenerView) (done : Result (Unit {0}) OpenError) → OpenKeeps before mid → Opens before path (raw_mode asked.plan) raw mid → DoneOutcome back mid path done after → IsTrue before.tells → PutsAway back mid path after
+puts_away path asked raw back before mid after (Ok done) keeps opens puts tells = puts (keeps.tells ∙ tells)
+puts_away path asked raw back before mid after (Err open_error.Fault) keeps opens puts tells = let both : true ≡ false = sym (keeps.tells ∙ tells) ∙ puts.untold in cc
+puts_away path asked raw back before mid after (Err open_error.Memory) keeps opens puts tells =
     let put = puts (keeps.tells ∙ tells) in
     let P : Option (List ℕ) → Type 0 = λ held. IsSome held in
     record { held = put.held (subst P (sym (opens.told tells).held) refl); others = put.others }
 
 -- the whole of it, by how the calls ended
-opened : (path : List ℕ) (asked : Asked) (ended : Status) (raw back : Raw) (before mid after : OpenerView) (old new : SinkView) (done : Result (Unit {0}) OpenError) → OpenKeeps before mid → Opens before path (codes "rb") raw mid → RawOutcome raw asked ended back old new → DoneKeeps back mid after → DoneOutcome back mid path done after → OpensPath path asked ended (record { opener = before; sink = old }) (record { opener = after; sink = new })
+opened : (path : List ℕ) (asked : Asked) (ended : Status) (raw back : Raw) (before mid after : OpenerView) (old new : SinkView) (done : Result (Unit {0}) OpenError) → OpenKeeps before mid → Opens before path (raw_mode asked.plan) raw mid → RawOutcome raw asked ended back old new → DoneKeeps back mid after → DoneOutcome back mid path done after → OpensPath path asked ended (record { opener = before; sink = old }) (record { opener = after; sink = new })
 opened path asked ended raw back before mid after old new done keeps opens does kept puts = record {
   raw = raw;
   mid = mid;
@@ -29,10 +29,10 @@ opened path asked ended raw back before mid after old new done keeps opens does 
   opens = opens;
   does = does;
   done_keeps = kept;
-  puts = puts_away path raw back before mid after done keeps opens puts;
+  puts = puts_away path asked raw back before mid after done keeps opens puts;
 }
 
-put_away_outcome : (path : List ℕ) (asked : Asked) (ended : Status) (raw back : Raw) (before mid after : OpenerView) (old new : SinkView) (done : Result (Unit {0}) OpenError) → OpenKeeps before mid → Opens before path (codes "rb") raw mid → RawOutcome raw asked ended back old new → DoneKeeps back mid after → DoneOutcome back mid path done after → CallsOutcome path asked (after_done ended done) (record { opener = before; sink = old }) (record { opener = after; sink = new })
+put_away_outcome : (path : List ℕ) (asked : Asked) (ended : Status) (raw back : Raw) (before mid after : OpenerView) (old new : SinkView) (done : Result (Unit {0}) OpenError) → OpenKeeps before mid → Opens before path (raw_mode asked.plan) raw mid → RawOutcome raw asked ended back old new → DoneKeeps back mid after → DoneOutcome back mid path done after → CallsOutcome path asked (after_done ended done) (record { opener = before; sink = old }) (record { opener = after; sink = new })
 put_away_outcome path asked status.Done raw back before mid after old new (Ok done) keeps opens does kept puts = opened path asked status.Done raw back before mid after old new (Ok done) keeps opens does kept puts
 put_away_outcome path asked status.Done raw back before mid after old new (Err open_error.Fault) keeps opens does kept puts =
     inr (opened path asked status.Done raw back before mid after old new (Err open_error.Fault) keeps opens does kept puts, rose_later before.faults mid.faults after.faults keeps.faults puts.cause, sym keeps.tells ∙ puts.untold)
@@ -47,6 +47,6 @@ put_away_outcome path asked status.SourceFailed raw back before mid after old ne
 put_away_outcome path asked status.OpenerFailed raw back before mid after old new done keeps opens does kept puts = absurd does
 
 -- the same of the status that comes of both
-pub ended_outcome : (path : List ℕ) (asked : Asked) (ended last : Status) (raw back : Raw) (before mid after : OpenerView) (old new : SinkView) (done : Result (Unit {0}) OpenError) → last ≡ after_done ended done → OpenKeeps before mid → Opens before path (codes "rb") raw mid → RawOutcome raw asked ended back old new → DoneKeeps back mid after → DoneOutcome back mid path done after → CallsOutcome path asked last (record { opener = before; sink = old }) (record { opener = after; sink = new })
+pub ended_outcome : (path : List ℕ) (asked : Asked) (ended last : Status) (raw back : Raw) (before mid after : OpenerView) (old new : SinkView) (done : Result (Unit {0}) OpenError) → last ≡ after_done ended done → OpenKeeps before mid → Opens before path (raw_mode asked.plan) raw mid → RawOutcome raw asked ended back old new → DoneKeeps back mid after → DoneOutcome back mid path done after → CallsOutcome path asked last (record { opener = before; sink = old }) (record { opener = after; sink = new })
 ended_outcome path asked ended last raw back before mid after old new done is keeps opens does kept puts =
     subst (λ (as_told : Status). CallsOutcome path asked as_told (record { opener = before; sink = old }) (record { opener = after; sink = new })) (sym is) (put_away_outcome path asked ended raw back before mid after old new done keeps opens does kept puts)

@@ -1,67 +1,64 @@
--- What holds of a plan that is accepted: it reads, and a refusal behind it is the raw's.
-use Rattle.std.proofs.Common.{◌≡◌, ℕ, inl, Bool, true, false, not, ◌&&◌, List, Option, unwrap_or, Result, Ok, Err, MatchResult, codes, if◌then◌else◌, refl, sym, ap, ◌∙◌, subst}
+-- What holds of a plan that is accepted, and of one that refuses.
+use Rattle.std.proofs.Common.{◌≡◌, ◌≢◌, ℕ, ◌⊎◌, inl, inr, Bool, true, false, List, Some, Result, Ok, Err, MatchResult, refl, sym, ◌∙◌, subst}
 use Rattle.py_flat.specs.declared.fault.IoFault.{IoFault}
-use Rattle.py_flat.specs.declared.fault.IoFault.TheVariants.{Unsupported}
-use Rattle.py_flat.specs.declared.mode_error.ParseModeError.{ParseModeError}
+use Rattle.py_flat.specs.declared.fault.IoFault.TheVariants as fault
 use Rattle.py_raw.specs.RawMode.{raw_mode_text}
 use Rattle.py_source_sink.specs.Sink.{SinkView}
-use Rattle.py_raw.specs.Opener.{OpenerView}
+use Rattle.py_raw.specs.Opener.{OpenerView, IsOpened}
 use Rattle.py_raw.specs.RawStream.{Raw}
-use Rattle.py_open.specs.declared.call.Call.{Call}
-use Rattle.py_open.specs.declared.reply.Reply.{Reply}
-use Rattle.py_open.specs.declared.open_args.OpenArgs.{OpenArgs}
-use Rattle.py_open.specs.declared.plan.OpenPlan.{OpenPlan}
-use Rattle.py_open.specs.Reader.{RefusesRaw}
+use Rattle.py_unbuffered.specs.Unbuffered.{is_able}
+use Rattle.py_calls.specs.declared.call.Call.{Call}
+use Rattle.py_calls.specs.declared.reply.Reply.{Reply}
+use Rattle.py_mode.specs.declared.open_args.OpenArgs.{OpenArgs}
+use Rattle.py_mode.specs.declared.plan.OpenPlan.{OpenPlan}
+use Rattle.py_mode.specs.declared.mode.FileMode.{FileMode}
+use Rattle.py_mode.specs.declared.mode.FileMode.TheVariants.{Read, Write, Exclusive, Append}
+use Rattle.py_mode.specs.Mode.{letter_of}
+use Rattle.py_mode.specs.Plan.{plan_of}
+use Rattle.py_mode.proofs.Planning.{planned_buffer_is_not_empty}
 use Rattle.py_open.specs.Session.{SessionView}
-use Rattle.py_open.specs.Run.{RefusesPlanned, RunsCalls}
-use Rattle.py_open.specs.declared.mode.Mode.{Mode}
-use Rattle.py_open.specs.declared.mode.FileMode.{FileMode}
-use Rattle.py_open.specs.declared.mode.FileMode.TheVariants.{Read, Write, Exclusive, Append}
-use Rattle.py_open.specs.Mode.{mode_of, letter_of}
-use Rattle.py_open.specs.Plan.{is_read, is_text, is_planned, plan_by, plan_of}
+use Rattle.py_open.specs.Opening.{access_of, RefusesSession}
+use Rattle.py_open.specs.Run.{RefusesOpening, RefusesPlanned, RunsCalls}
 use Rattle.py_script.specs.Faults.{refused_line}
 use Rattle.py_io_cli.specs.declared.status.Status.{Status}
 use Rattle.py_io_cli.specs.declared.status.Status.TheVariants as status
 use Rattle.py_io_cli.specs.Outside.{PrintOutcome}
-use Rattle.py_io_cli.specs.Outcome.{RefusalPrinted, RefusesPlan, PlannedOutcome}
+use Rattle.py_io_cli.specs.Outcome.{raw_mode, RefusalPrinted, RefusesPlan, PlannedOutcome}
 
 -- the plan of a mode and arguments is one
-one_plan : (result : Result OpenPlan IoFault) (first second : OpenPlan) → result ≡ Ok first → result ≡ Ok second → first ≡ second
+pub one_plan : (result : Result OpenPlan IoFault) (first second : OpenPlan) → result ≡ Ok first → result ≡ Ok second → first ≡ second
 one_plan result first second one two = let both : Ok first ≡ Ok second = sym one ∙ two in cc
 
--- so the run is through the buffer of this one
-pub run_by : (raw : Raw) (mode : List ℕ) (args : OpenArgs) (first plan : OpenPlan) (calls : List Call) (session : SessionView) (replies : List Reply) → plan_of mode args ≡ Ok first → plan_of mode args ≡ Ok plan → RunsCalls raw (unwrap_or first.buffer_size 1) args.chunk_size calls session replies → RunsCalls raw (unwrap_or plan.buffer_size 1) args.chunk_size calls session replies
+-- so the run is by this one
+pub run_by : (raw : Raw) (mode : List ℕ) (args : OpenArgs) (first plan : OpenPlan) (calls : List Call) (session : SessionView) (replies : List Reply) → plan_of mode args ≡ Ok first → plan_of mode args ≡ Ok plan → RunsCalls raw first args.chunk_size calls session replies → RunsCalls raw plan args.chunk_size calls session replies
 run_by raw mode args first plan calls session replies one two run =
-    subst (λ (by : OpenPlan). RunsCalls raw (unwrap_or by.buffer_size 1) args.chunk_size calls session replies) (one_plan (plan_of mode args) first plan one two) run
+    subst (λ (by : OpenPlan). RunsCalls raw by args.chunk_size calls session replies) (one_plan (plan_of mode args) first plan one two) run
 
--- and a refusal is the raw's
-pub refused_raw : (raw : Raw) (mode : List ℕ) (args : OpenArgs) (plan : OpenPlan) (refused : IoFault) (back : Raw) → plan_of mode args ≡ Ok plan → RefusesPlanned raw (plan_of mode args) refused back → RefusesRaw raw refused back
-refused_raw raw mode args plan refused back accepted why = subst (λ (planned : Result OpenPlan IoFault). RefusesPlanned raw planned refused back) accepted why
+-- and a refusal is the opening's
+pub refused_raw : (raw : Raw) (mode : List ℕ) (args : OpenArgs) (plan : OpenPlan) (refused : IoFault) (back : Raw) → plan_of mode args ≡ Ok plan → RefusesPlanned raw (plan_of mode args) args.chunk_size refused back → RefusesOpening raw plan args.chunk_size refused back
+refused_raw raw mode args plan refused back accepted why = subst (λ (planned : Result OpenPlan IoFault). RefusesPlanned raw planned args.chunk_size refused back) accepted why
 
--- An accepted plan opens the path to be read.
+-- A raw that was opened as it is planned.
 
-read_text : (file : FileMode) (text plus rest : Bool) → ((is_read file && (text && not plus)) && rest) ≡ true → raw_mode_text (letter_of file) plus ≡ codes "rb"
-read_text Read text false rest is = refl
-read_text Read true true rest is = cc
-read_text Read false true rest is = cc
-read_text Write text plus rest is = cc
-read_text Exclusive text plus rest is = cc
-read_text Append text plus rest is = cc
+-- it is able to do what it is opened for
+opened_able : (file : FileMode) (plus : Bool) (raw : Raw) → IsOpened (raw_mode_text (letter_of file) plus) raw → is_able (access_of file) raw ≡ true
+opened_able Read plus raw opened = opened.reads
+opened_able Write plus raw opened = opened.writes
+opened_able Exclusive plus raw opened = opened.writes
+opened_able Append plus raw opened = opened.writes
 
-abbrev mode_in : Mode → Result OpenPlan IoFault → Mode
-mode_in other (Ok plan) = plan.mode
-mode_in other (Err refused) = other
+-- so it is refused by a fault of its own, or for want of memory
+refused_session : (raw back : Raw) (plan : OpenPlan) (refused : IoFault) → IsOpened (raw_mode plan) raw → plan.buffer_size ≢ Some 0 → RefusesSession raw plan refused back → (refused ≡ fault.NoMemory) ⊎ ((refused ≡ fault.RawFault) × RefusesSession raw plan fault.RawFault back)
+refused_session raw back plan fault.NoMemory opened some why = inl refl
+refused_session raw back plan fault.RawFault opened some why = inr (refl, why)
+refused_session raw back plan fault.Closed opened some why = let closed : true ≡ false = sym why.0 ∙ opened.live in cc
+refused_session raw back plan fault.Unsupported opened some why = let able : true ≡ false = sym (opened_able plan.mode.file plan.mode.plus raw opened) ∙ why.1 in cc
+refused_session raw back plan fault.BadArgument opened some why = absurd (some why.2)
+refused_session raw back plan _ opened some why = absurd why
 
-planned_text : (fits : Bool) (mode : Mode) (size : Option ℕ) (plan : OpenPlan) → (fits ≡ true → raw_mode_text (letter_of mode.file) mode.plus ≡ codes "rb") → (if fits then Ok (record { mode = mode; buffer_size = size }) else Err Unsupported) ≡ Ok plan → raw_mode_text (letter_of plan.mode.file) plan.mode.plus ≡ codes "rb"
-planned_text true mode size plan reads is = ap (λ (named : Mode). raw_mode_text (letter_of named.file) named.plus) (sym (ap (mode_in mode) is)) ∙ reads refl
-planned_text false mode size plan reads is = cc
-
-named_text : (named : Result Mode ParseModeError) (args : OpenArgs) (plan : OpenPlan) → plan_by named args ≡ Ok plan → raw_mode_text (letter_of plan.mode.file) plan.mode.plus ≡ codes "rb"
-named_text (Ok mode) args plan is = planned_text (is_planned mode args) mode _ plan (λ fits. read_text mode.file (is_text mode.encode) mode.plus _ fits) is
-named_text (Err why) args plan is = cc
-
-pub reads_text : (mode : List ℕ) (args : OpenArgs) (plan : OpenPlan) → plan_of mode args ≡ Ok plan → raw_mode_text (letter_of plan.mode.file) plan.mode.plus ≡ codes "rb"
-reads_text mode args plan accepted = named_text (mode_of mode) args plan accepted
+pub refused_by : (raw back : Raw) (mode : List ℕ) (args : OpenArgs) (plan : OpenPlan) (refused : IoFault) → plan_of mode args ≡ Ok plan → IsOpened (raw_mode plan) raw → RefusesOpening raw plan args.chunk_size refused back → (refused ≡ fault.NoMemory) ⊎ ((refused ≡ fault.RawFault) × RefusesSession raw plan fault.RawFault back)
+refused_by raw back mode args plan refused accepted opened (inl why) = refused_session raw back plan refused opened (planned_buffer_is_not_empty mode args plan accepted) why
+refused_by raw back mode args plan refused accepted opened (inr lacks) = inl lacks.0
 
 -- A plan that refuses.
 

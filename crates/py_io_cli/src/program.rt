@@ -1,25 +1,24 @@
 //! The program: from its words to the lines that it prints and the status that it ends with.
-ghost use Rattle.std.specs.Prelude.{◌≡◌, ◌≢◌, ◌≤◌, ◌⊎◌, ℕ, IsTrue, List, Ok, Some, None, codes, MatchResult};
+ghost use Rattle.std.specs.Prelude.{◌≡◌, ◌≢◌, ◌≤◌, ◌⊎◌, ℕ, true, IsTrue, List, Ok, Some, None, MatchResult};
 ghost use Rattle.py_flat.specs.Causes.{Rose};
 ghost use Rattle.py_source_sink.specs.Sink.{SinkKeeps};
-ghost use Rattle.py_raw.specs.Opener.{HoldsTheSame, IsOpened};
-ghost use Rattle.py_open.specs.declared.plan.OpenPlan.{OpenPlan as Plan};
-ghost use Rattle.py_open.specs.Plan.{plan_of};
-ghost use Rattle.py_script.specs.CommandWords.{Help, Version, command_of};
+ghost use Rattle.py_raw.specs.Opener.{HoldsTheSame, IsOpened, misses, opened_bytes};
+ghost use Rattle.py_stream.specs.Opening.{StandsAtStart};
+ghost use Rattle.py_mode.specs.declared.plan.OpenPlan.{OpenPlan as Plan};
+ghost use Rattle.py_mode.specs.declared.open_args.OpenArgs.{OpenArgs as Arguments};
+ghost use Rattle.py_mode.specs.Plan.{plan_of};
+ghost use Rattle.py_script.specs.CommandWords.{Run as Asks, Help, Version, command_of};
 ghost use Rattle.py_script.specs.Help.{help_text, version_text};
 ghost use Rattle.py_io_cli.specs.Outside.{texts, IsOutOfForm, Prints};
-ghost use Rattle.py_io_cli.specs.Outcome.{asked_by, RawOutcome, PlannedOutcome, Outcome, Ends, after_done};
-ghost use Rattle.py_io_cli.specs.Meaning.{AsksForRun, IsRefusedPlan, IsAcceptedAt, TellsForm, TellsNoForm, NothingFails, PrintsReplies};
+ghost use Rattle.py_io_cli.specs.Outcome.{raw_mode, asked_by, RawOutcome, PlannedOutcome, Outcome, Ends, after_done};
+ghost use Rattle.py_io_cli.specs.Meaning.{AsksForRun, IsRefusedPlan, IsAcceptedAt, TellsForm, TellsNoForm, NothingFails, LeavesPaths, KeepsOthers, PrintsReplies};
 
-use crate::laws::a_smooth_run_prints_the_exact_replies;
+use crate::laws::{a_smooth_run_prints_the_exact_replies, a_smooth_run_prints_what_settles};
 use crate::printing::{print_refused, print_replies, print_text};
 use crate::script::read_script;
 use crate::status::Status;
 use py_flat::IoFault;
-use py_open::{
-    Call, OpenArgs, OpenRefused, Run, a_run_keeps_the_bytes_and_the_settings, plan_open,
-    run_session,
-};
+use py_open::{Call, OpenArgs, OpenRefused, Run, plan_open, run_session};
 use py_raw::{OpenError, Opener, RawStream, Sink, Source};
 use py_script::{Command, help_text, parse_words, version_text};
 use std::alloc::Global;
@@ -41,12 +40,15 @@ use std::alloc::Global;
 ///   want of memory;
 /// - `out_of_form`, `form`: of a source that tells, 3 comes only of a script out of form, and such a script of a run ends
 ///   with 3 unless the source failed or memory was wanting;
-/// - `missing`, `found`: of an opener that tells, and an opening that the plan accepts, 8 comes only where the path holds
-///   nothing, and such a path, with a script that the source tells to be in form, ends with 8 unless the source failed or
+/// - `missing`, `found`: of an opener that tells, and an opening that the plan accepts, 8 comes only where `x` finds the path or
+///   `r` misses it, and such a path, with a script that the source tells to be in form, ends with 8 unless the source failed or
 ///   memory was wanting;
-/// - `kept`: of an opener that tells every path holds what it held, the path of the words too, whatever the status is;
-/// - `printed`: with 0, of a source that tells, the calls of a run are those of the whole script, and what was printed is
-///   the lines of a run of them;
+/// - `kept`: of an opener that tells every path holds what it held with 2, 3, 5 and 8, where the plan refuses, and where the
+///   path is only read;
+/// - `others`: whatever the status is, every path but that of the words holds what it held;
+/// - `left`: with 4 of an opening that the plan accepts the path holds what its opening left;
+/// - `printed`: with 0, of a source that tells, the calls of a run are those of the whole script, what was printed is the lines of
+///   a run of them, and the path holds the raw's bytes in the end, the flat ones where the session was closed or detached;
 /// - `help`, `version`: with 0 the text that was asked for was printed.
 pub fn run_program<O: Opener, I: Source, K: Sink>(
     alloc: Global,
@@ -73,19 +75,22 @@ pub fn run_program<O: Opener, I: Source, K: Sink>(
     ensures out_of_form { result ≡ 3 → IsTrue (I.shows script.old).tells → IsOutOfForm (I.shows script.old).left }
     ensures form { AsksForRun (command_of (texts words.now)) → TellsNoForm (I.shows script.old)
         → (result ≡ 3) ⊎ ((result ≡ 5) ⊎ (result ≡ 7)) }
-    ensures missing { (path : List ℕ) → IsAcceptedAt path (command_of (texts words.now)) → result ≡ 8 → IsTrue (O.shows opener.old).tells
-        → (O.shows opener.old).holds path ≡ None }
-    ensures found { (path : List ℕ) → IsAcceptedAt path (command_of (texts words.now)) → TellsForm (I.shows script.old)
-        → IsTrue (O.shows opener.old).tells → (O.shows opener.old).holds path ≡ None
+    ensures missing { (path : List ℕ) (plan : Plan) → IsAcceptedAt path plan (command_of (texts words.now)) → result ≡ 8 → IsTrue (O.shows opener.old).tells
+        → misses (raw_mode plan) ((O.shows opener.old).holds path) ≡ true }
+    ensures found { (path : List ℕ) (plan : Plan) → IsAcceptedAt path plan (command_of (texts words.now)) → TellsForm (I.shows script.old)
+        → IsTrue (O.shows opener.old).tells → misses (raw_mode plan) ((O.shows opener.old).holds path) ≡ true
         → (result ≡ 8) ⊎ ((result ≡ 5) ⊎ (result ≡ 7)) }
-    ensures kept { IsTrue (O.shows opener.old).tells → HoldsTheSame (O.shows opener.old) (O.shows opener.new) }
-    ensures printed { result ≡ 0 → AsksForRun (command_of (texts words.now)) → IsTrue (I.shows script.old).tells → PrintsReplies (I.shows script.old) (I.shows script.new)
+    ensures kept { IsTrue (O.shows opener.old).tells → LeavesPaths result (command_of (texts words.now)) → HoldsTheSame (O.shows opener.old) (O.shows opener.new) }
+    ensures others { IsTrue (O.shows opener.old).tells → KeepsOthers (command_of (texts words.now)) (O.shows opener.old) (O.shows opener.new) }
+    ensures left { (path : List ℕ) (plan : Plan) → IsAcceptedAt path plan (command_of (texts words.now)) → result ≡ 4 → IsTrue (O.shows opener.old).tells
+        → (O.shows opener.new).holds path ≡ Some (opened_bytes (raw_mode plan) ((O.shows opener.old).holds path)) }
+    ensures printed { (path mode : List ℕ) (args : Arguments) → result ≡ 0 → command_of (texts words.now) ≡ Some (Asks path mode args) → IsTrue (I.shows script.old).tells → PrintsReplies path mode args (I.shows script.old) (I.shows script.new)
         (record { opener = O.shows opener.old; sink = K.shows out.old }) (record { opener = O.shows opener.new; sink = K.shows out.new }) }
     ensures help { result ≡ 0 → command_of (texts words.now) ≡ Some Help → Prints (K.shows out.old) help_text (K.shows out.new) }
     ensures version { result ≡ 0 → command_of (texts words.now) ≡ Some Version → Prints (K.shows out.old) version_text (K.shows out.new) }
 {
+    a_smooth_run_prints_what_settles();
     a_smooth_run_prints_the_exact_replies();
-    a_run_keeps_the_bytes_and_the_settings();
     run_to_status(alloc, words, opener, script, out).code()
 }
 
@@ -161,7 +166,8 @@ fn run_raw<R: RawStream, K: Sink>(
     calls: Vec<Call>,
     out: &mut K,
 ) -> (Status, R)
-    requires { IsOpened (codes "rb") (R.shows raw) }
+    requires opened { (plan : Plan) → plan_of mode.now args ≡ Ok plan → IsOpened (raw_mode plan) (R.shows raw) }
+    requires start { StandsAtStart (R.shows raw) }
     ensures sink { SinkKeeps (K.shows out.old) (K.shows out.new) }
     ensures outcome { (plan : Plan) → plan_of mode.now args ≡ Ok plan
         → RawOutcome (R.shows raw) (asked_by plan args calls.items) result.0 (R.shows result.1) (K.shows out.old) (K.shows out.new) }

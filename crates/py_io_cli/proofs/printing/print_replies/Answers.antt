@@ -1,6 +1,6 @@
 use Rattle.std.proofs.Common.{List, ℕ, take, subst, sym, arith}
 use Rattle.std.proofs.lemmas.Result.{err_from_is_err_and}
-use Rattle.py_open.specs.declared.reply.Reply.{Reply}
+use Rattle.py_calls.specs.declared.reply.Reply.{Reply}
 use Rattle.py_source_sink.specs.Sink.{SinkView}
 use Rattle.py_script.specs.ReplyLine.{reply_line, reply_lines}
 use Rattle.py_io_cli.specs.Outside.{Prints}
