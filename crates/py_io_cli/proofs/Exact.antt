@@ -35,7 +35,7 @@ use Rattle.py_open.specs.Session.{SessionFile, OfText, OfBinary, SessionView, Te
 use Rattle.py_open.specs.Opening.{access_of, OpensBy}
 use Rattle.py_open.specs.Run.{IsRun, IsSmooth, NoneLacksMemory, RunsCalls, AllSettle, all_said}
 use Rattle.py_open.specs.Laws.{IsExact}
-use Rattle.py_open.proofs.Runs.{run_keeps_raw, run_owes, opened_owes}
+use Rattle.py_open.proofs.Runs.{run_keeps_raw, run_owes, opened_owes, smooth_completes}
 use Rattle.py_open.proofs.Resting.{run_rests}
 use Rattle.py_open.proofs.Ending.{step_passes}
 use Rattle.py_script.specs.CommandWords.{Command, Run, command_of}
@@ -50,6 +50,13 @@ use Rattle.py_io_cli.proofs.Keeping.{opening_keeps}
 -- a count that was added, and with which the sum didn't rise, was 0
 stays_unrisen : (before mid after opened back : ℕ) → mid ≡ before → after ≡ counted mid back → rose before after ≡ false → rose opened back ≡ false
 stays_unrisen before mid after opened back kept added still = grind (arith, nat_tests)
+
+-- so no count of the raw rose
+smooth_raw : (before after : Outside) (opened session : Raw) → RawsAreReady before after → after.opener.raw_waits ≡ counted before.opener.raw_waits session.waits → after.opener.raw_faults ≡ counted before.opener.raw_faults session.faults → IsSmooth opened session
+smooth_raw before after opened session ready waits faults = record {
+  waits = stays_unrisen before.opener.raw_waits before.opener.raw_waits after.opener.raw_waits opened.waits session.waits refl waits ready.waits;
+  faults = stays_unrisen before.opener.raw_faults before.opener.raw_faults after.opener.raw_faults opened.faults session.faults refl faults ready.faults;
+}
 
 -- The file that was opened.
 
@@ -170,6 +177,9 @@ replies_of path mode args words old new before after did same told =
       waits = opened.done_keeps.raw_waits ∙ ap (λ (old_count : ℕ). counted old_count opened.back.waits) opened.open_keeps.raw_waits ∙ ap (λ (raw : Raw). counted before.opener.raw_waits raw.waits) ran.raw_is;
       holds = λ tells. (opened.puts tells).held ∙ ap (λ (raw : Raw). Some raw.bytes) ran.raw_is;
       flat = holds_flat did.path (asked_by follows.plan did.args did.calls) before after opened;
+      complete = λ ready. smooth_completes ran.run.opened (closed_calls did.calls) ran.replies ran.session ran.run.run (smooth_raw before after (raw_of ran.run.opened) (raw_of ran.session) ready
+          (opened.done_keeps.raw_waits ∙ ap (λ (old_count : ℕ). counted old_count opened.back.waits) opened.open_keeps.raw_waits ∙ ap (λ (raw : Raw). counted before.opener.raw_waits raw.waits) ran.raw_is)
+          (opened.done_keeps.raw_faults ∙ ap (λ (old_count : ℕ). counted old_count opened.back.faults) opened.open_keeps.raw_faults ∙ ap (λ (raw : Raw). counted before.opener.raw_faults raw.faults) ran.raw_is));
     }
 
 pub prints_replies : (words : List (List ℕ)) (old new : SourceView) (before after : Outside) (path mode : List ℕ) (args : OpenArgs) → Ends 0 words old new before after → command_of words ≡ Some (Run path mode args) → IsTrue old.tells → PrintsReplies path mode args old new before after
@@ -186,10 +196,7 @@ prints_replies words old new before after path mode args ends form told =
 settled : SmoothRunsSettle → (path mode : List ℕ) (args : OpenArgs) (old new : SourceView) (before after : Outside) → (printed : PrintsReplies path mode args old new before after) → IsTrue before.opener.tells → RawsAreReady before after → PrintsSettled path printed.plan args.chunk_size old before after
 settled law path mode args old new before after printed tells ready =
     let begun = printed.begins tells in
-    let smooth : IsSmooth (raw_of printed.run.opened) (raw_of printed.session) = record {
-      waits = stays_unrisen before.opener.raw_waits before.opener.raw_waits after.opener.raw_waits (raw_of printed.run.opened).waits (raw_of printed.session).waits refl printed.waits ready.waits;
-      faults = stays_unrisen before.opener.raw_faults before.opener.raw_faults after.opener.raw_faults (raw_of printed.run.opened).faults (raw_of printed.session).faults refl printed.faults ready.faults;
-    } in
+    let smooth : IsSmooth (raw_of printed.run.opened) (raw_of printed.session) = smooth_raw before after (raw_of printed.run.opened) (raw_of printed.session) ready printed.waits printed.faults in
     record {
       calls = printed.calls;
       form = printed.reads.form;

@@ -20,7 +20,7 @@ use Rattle.py_textio.specs.Opening.{text_opened}
 use Rattle.py_open.specs.Session.{SessionFile, OfText, OfBinary, SessionView, Answers, raw_of, life_of, flat_bytes}
 use Rattle.py_open.specs.Opening.{access_of}
 use Rattle.py_open.specs.Run.{IsRun, NoneLacksMemory, RunsCalls, AllSettle, all_said}
-use Rattle.py_open.specs.Laws.{PassesAll, exact_replies}
+use Rattle.py_open.specs.Laws.{PassesAll, RunsComplete, exact_replies}
 use Rattle.py_script.specs.CommandWords.{Command, Run}
 use Rattle.py_script.specs.Script.{script_calls}
 use Rattle.py_script.specs.ReplyLine.{reply_lines}
@@ -44,6 +44,11 @@ pub record NothingFails (old new : SourceView) (before after : Outside) : Type 0
   pub opener : rose before.opener.faults after.opener.faults ≡ false
   pub raws : rose before.opener.raw_faults after.opener.raw_faults ≡ false
 
+-- no fault and no wait of a raw was added
+pub record RawsAreReady (before after : Outside) : Type 0 where
+  pub faults : rose before.opener.raw_faults after.opener.raw_faults ≡ false
+  pub waits : rose before.opener.raw_waits after.opener.raw_waits ≡ false
+
 -- What the path holds in the end.
 
 -- a `close` or a `detach` of a live session that was done, anywhere in a run over a raw: where the opener tells, the path holds the
@@ -64,7 +69,8 @@ pub record BeginsWith (raw : Raw) (bytes : List ℕ) : Type 0 where
 -- the script was read to its end, and the path was opened as it is planned; its calls and a Close were made over the raw; the
 -- lines of their replies were printed; the faults and waits of the raw were added to the opener's; and where the opener
 -- tells, the raw began at the start of what the mode leaves of the path's bytes, and the path holds the raw's bytes in the end, the flat
--- ones where the session was closed or detached
+-- ones where the session was closed or detached. Where no raw failed or asked to wait, each call that isn't refused is answered by an
+-- answer of its own, or for want of memory
 pub record PrintsReplies (path mode : List ℕ) (args : OpenArgs) (old new : SourceView) (before after : Outside) : Type 0 where
   pub calls : List Call
   pub reads : ReadsScript old calls new
@@ -81,11 +87,7 @@ pub record PrintsReplies (path mode : List ℕ) (args : OpenArgs) (old new : Sou
   pub waits : RoseBy (raw_of session).waits before.opener.raw_waits after.opener.raw_waits
   pub holds : IsTrue before.opener.tells → after.opener.holds path ≡ Some (raw_of session).bytes
   pub flat : HoldsFlat path run.opened session before after
-
--- no fault and no wait of a raw was added
-pub record RawsAreReady (before after : Outside) : Type 0 where
-  pub faults : rose before.opener.raw_faults after.opener.raw_faults ≡ false
-  pub waits : rose before.opener.raw_waits after.opener.raw_waits ≡ false
+  pub complete : RawsAreReady before after → RunsComplete run.opened (closed_calls calls) replies session
 
 -- the words ask for an opening that the plan refuses
 abbrev pub IsRefusedPlan : Option Command → Type 0

@@ -18,7 +18,10 @@ use crate::printing::{print_refused, print_replies, print_text};
 use crate::script::read_script;
 use crate::status::Status;
 use py_flat::IoFault;
-use py_open::{Call, OpenArgs, OpenRefused, Run, plan_open, run_session};
+use py_open::{
+    Call, OpenArgs, OpenRefused, Run, a_smooth_run_is_complete, an_ended_session_calls_no_raw,
+    plan_open, run_session, what_is_passed_on_is_in_the_raw,
+};
 use py_raw::{OpenError, Opener, RawStream, Sink, Source};
 use py_script::{Command, help_text, parse_words, version_text};
 use std::alloc::Global;
@@ -48,7 +51,8 @@ use std::alloc::Global;
 /// - `others`: whatever the status is, every path but that of the words holds what it held;
 /// - `left`: with 4 of an opening that the plan accepts the path holds what its opening left;
 /// - `printed`: with 0, of a source that tells, the calls of a run are those of the whole script, what was printed is the lines of
-///   a run of them, and the path holds the raw's bytes in the end, the flat ones where the session was closed or detached;
+///   a run of them, and the path holds the raw's bytes in the end, the flat ones where the session was closed or detached; where
+///   no raw failed or asked to wait, each call that isn't refused is answered by an answer of its own, or for want of memory;
 /// - `help`, `version`: with 0 the text that was asked for was printed.
 pub fn run_program<O: Opener, I: Source, K: Sink>(
     alloc: Global,
@@ -91,6 +95,9 @@ pub fn run_program<O: Opener, I: Source, K: Sink>(
 {
     a_smooth_run_prints_what_settles();
     a_smooth_run_prints_the_exact_replies();
+    a_smooth_run_is_complete();
+    what_is_passed_on_is_in_the_raw();
+    an_ended_session_calls_no_raw();
     run_to_status(alloc, words, opener, script, out).code()
 }
 
