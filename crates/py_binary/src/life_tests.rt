@@ -232,13 +232,48 @@ fn a_raw_is_refused_and_handed_back(rt: HostRuntime) -> Result<(), Fail> {
         (reads, true, 0, Access::Read, Some(4), IoFault::Closed),
         (writes, true, 0, Access::Read, Some(0), IoFault::Closed),
         (writes, true, 0, Access::Append, None, IoFault::Closed),
-        (writes, false, 0, Access::Read, Some(4), IoFault::Unsupported),
-        (reads, false, 0, Access::Write, Some(0), IoFault::Unsupported),
-        (reads, false, 0, Access::Append, Some(4), IoFault::Unsupported),
+        (
+            writes,
+            false,
+            0,
+            Access::Read,
+            Some(4),
+            IoFault::Unsupported,
+        ),
+        (
+            reads,
+            false,
+            0,
+            Access::Write,
+            Some(0),
+            IoFault::Unsupported,
+        ),
+        (
+            reads,
+            false,
+            0,
+            Access::Append,
+            Some(4),
+            IoFault::Unsupported,
+        ),
         (writes, false, 0, Access::Read, None, IoFault::Unsupported),
         (reads, false, 1, Access::Read, Some(0), IoFault::BadArgument),
-        (writes, false, 1, Access::Write, Some(0), IoFault::BadArgument),
-        (writes, false, 1, Access::Append, Some(0), IoFault::BadArgument),
+        (
+            writes,
+            false,
+            1,
+            Access::Write,
+            Some(0),
+            IoFault::BadArgument,
+        ),
+        (
+            writes,
+            false,
+            1,
+            Access::Append,
+            Some(0),
+            IoFault::BadArgument,
+        ),
         (reads, false, 1, Access::Read, Some(4), IoFault::RawFault),
         (writes, false, 1, Access::Write, Some(4), IoFault::RawFault),
         (writes, false, 1, Access::Append, Some(4), IoFault::RawFault),
@@ -252,8 +287,8 @@ fn a_raw_is_refused_and_handed_back(rt: HostRuntime) -> Result<(), Fail> {
         let bytes = b"abc".to_vec(alloc)?;
         let flags = RawFlags::able(able.0, able.1, true);
         let mut raw = MemRaw::new(bytes, flags, Vec::new(alloc), numbers);
-        if closed {
-            raw.close().unwrap();
+        if closed && raw.close().is_err() {
+            return Err(Fail::from("not closed"));
         }
         let Err(refused) = BinarySession::new(alloc, raw, access, buffer) else {
             return Err(Fail::from("taken"));

@@ -206,10 +206,7 @@ fn a_buffer_that_has_no_memory_reads_nothing(rt: HostRuntime) -> Result<(), Fail
         let raw = raw_of(alloc, b"ab", Vec::new(alloc), &[])?;
         let mut session = session_of(&rt, alloc, raw, Access::Read, buffer);
         let rows = [
-            (
-                Call::ReadInto(usize::MAX),
-                Want::Refused(IoFault::NoMemory),
-            ),
+            (Call::ReadInto(usize::MAX), Want::Refused(IoFault::NoMemory)),
             (Call::Tell, Want::Place(0)),
             (Call::Read(None), Want::Bytes(b"ab")),
         ];
@@ -329,10 +326,7 @@ fn lines_are_written_one_behind_the_other(rt: HostRuntime) -> Result<(), Fail> {
         let raw = raw_of(alloc, b"", plan, &[])?;
         let mut session = session_of(&rt, alloc, raw, Access::Write, buffer);
         let rows = [
-            (
-                write_lines(alloc, &[b"a\n", b"", b"b"])?,
-                Want::Done,
-            ),
+            (write_lines(alloc, &[b"a\n", b"", b"b"])?, Want::Done),
             (Call::Flush, Want::Done),
         ];
         answers(&rt, alloc, &mut session, &rows);
