@@ -255,7 +255,7 @@ fn a_fault_of_any_call_loses_nothing(rt: HostRuntime) -> Result<(), Fail> {
     let alloc = rt.alloc();
     for size in 0..10 {
         let buffer = buffer_of(size);
-        let mut closes = 0;
+        let mut failures = 0u32;
         // The raw's call 0 asks where it stands.
         for number in 1..80 {
             let plan = vec![in alloc; Cut::Take(2); 200]?;
@@ -267,11 +267,11 @@ fn a_fault_of_any_call_loses_nothing(rt: HostRuntime) -> Result<(), Fail> {
             let raw = raw_of(alloc, BYTES, plan, &[number])?;
             let (_, failed) = write_all(&rt, alloc, raw, buffer, &steps, 0)?;
             if failed {
-                closes += 1u32;
+                failures = failures.saturating_add(1);
             }
         }
         // One transfer or more, and the raw's close.
-        assert!(rt; closes > 1);
+        assert!(rt; failures > 1);
     }
     Ok(())
 }
