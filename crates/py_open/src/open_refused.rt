@@ -5,7 +5,7 @@ use py_flat::IoFault;
 /// are.
 #[derive(Debug, Drop)]
 pub struct OpenRefused<R> {
-    /// The raw stream, with nothing read from it, and open or closed as it came.
+    /// The raw stream, with nothing read from it or written to it, and open or closed as it came.
     pub raw: R,
     /// Why it was refused.
     pub fault: IoFault,

@@ -108,8 +108,8 @@ impl<R: RawStream> Session<R> {
     ///   every life of a stream of bytes.
     /// - `UnicodeDecodeError`, with byte places from the start of the stream, where a range that is no UTF-8 stands before the end of a
     ///   text's answer: place and life stay, and a shorter read gives the characters before it.
-    /// - `WouldBlock` where the raw asked to wait and a buffer had no room for the rest: the first `taken` bytes were taken; of every
-    ///   other call but a write `taken` is 0, and it may be made again.
+    /// - `WouldBlock` where the raw asked to wait and the rest of a write had no room in the buffer, or there is none: the first `taken`
+    ///   bytes were taken. A `Seek`, `Flush`, `Close` or `Detach` that had to wait took none, and may be made again.
     /// - `RawFault` where the raw failed: the session is failed from then on; after `Close` it is closed.
     /// - `NoMemory`: place and life stay, and the call may be made again; but a reading call of bytes is failed by it once bytes left
     ///   the raw, and a write once the raw took some of its bytes.

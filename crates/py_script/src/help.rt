@@ -31,7 +31,7 @@ Each call is answered by a line:
   bytes HEX, text HEX, lines N HEX ..   what was read, of a text its UTF-8
   count N, place N, true, false, ok     how many, where, yes, no, done
   notready          the file was not ready: make the call again
-  detached HEX N    handed back: HEX may be unwritten, and belongs at place N
+  detached HEX N    handed back: HEX may be unwritten, of place N (-: unknown)
   err NAME ..       refused: Closed, Detached or Failed by an earlier call,
                     RawFault where the file failed, WouldBlock N where it was
                     not ready and took N bytes; other names say why
