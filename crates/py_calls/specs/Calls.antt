@@ -38,7 +38,10 @@ file_call call.Closed = file.Closed
 file_call call.ChunkSize = file.OtherGetter
 file_call call.Encoding = file.OtherGetter
 file_call call.Errors = file.OtherGetter
-file_call _ = file.OtherKind
+file_call (call.Truncate size) = file.OtherKind
+file_call (call.WriteText text) = file.OtherKind
+file_call (call.SeekText cookie whence) = file.OtherKind
+file_call (call.SetChunkSize size) = file.OtherKind
 
 -- what a reply says
 abbrev pub said : Reply → FileReply
