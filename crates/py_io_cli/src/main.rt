@@ -1,7 +1,11 @@
 //! A program that opens a file and runs a script of calls on it, printing each reply (docs/PROGRAM.md).
 #![tactic(auto)]
 
+#[cfg(test)]
+mod binary_tests;
 mod laws;
+#[cfg(test)]
+mod line_tests;
 mod printing;
 mod program;
 #[cfg(test)]

@@ -16,7 +16,7 @@ const FILE: [u8; 4] = [0xC3, 0xA9, 0x0A, 0x78];
 const SCRIPT: &[u8] = b"readline\nread\n";
 
 /// An opener whose path `f` holds these bytes, or nothing.
-fn opener_of(alloc: Global, held: Option<&[u8]>) -> Result<MemOpener, AllocError> {
+pub(crate) fn opener_of(alloc: Global, held: Option<&[u8]>) -> Result<MemOpener, AllocError> {
     let mut opener = MemOpener::new(alloc);
     if let Some(bytes) = held {
         opener.put(alloc, "f", bytes.to_vec(alloc)?)?;
@@ -25,7 +25,7 @@ fn opener_of(alloc: Global, held: Option<&[u8]>) -> Result<MemOpener, AllocError
 }
 
 /// Words as the program gets them.
-fn words_of(alloc: Global, words: &[&str]) -> Result<Vec<String>, AllocError> {
+pub(crate) fn words_of(alloc: Global, words: &[&str]) -> Result<Vec<String>, AllocError> {
     let mut texts = Vec::new(alloc);
     for word in words {
         texts.push(String::from_str(alloc, word)?)?;
@@ -34,7 +34,7 @@ fn words_of(alloc: Global, words: &[&str]) -> Result<Vec<String>, AllocError> {
 }
 
 /// A script whose reads all succeed, and an output that takes all.
-fn sound(alloc: Global, script: Vec<u8>) -> Result<(MemSource, MemSink), AllocError> {
+pub(crate) fn sound(alloc: Global, script: Vec<u8>) -> Result<(MemSource, MemSink), AllocError> {
     let source = MemSource::new(script, Vec::new(alloc));
     let sink = MemSink::with_room(alloc, 100, Vec::new(alloc))?;
     Ok((source, sink))
@@ -111,7 +111,8 @@ fn words_are_a_form_and_then_an_opening(rt: HostRuntime) -> Result<(), Fail> {
     let alloc = rt.alloc();
     let whole = "text c3a90a\ntext 78\nok\n";
     let unsupported = "refused Unsupported\n";
-    let cases: [(&[&str], u8, &str); 22] = [
+    let bad_argument = "refused BadArgument\n";
+    let cases: [(&[&str], u8, &str); 30] = [
         (&[], 2, ""),
         (&["run"], 2, ""),
         (&["run", "f"], 2, ""),
@@ -149,13 +150,21 @@ fn words_are_a_form_and_then_an_opening(rt: HostRuntime) -> Result<(), Fail> {
         (&["run", "f", "+"], 4, "refused NoFile\n"),
         (&["run", "f", "r"], 4, unsupported),
         (&["run", "f", "w", "newline=0a"], 4, unsupported),
-        (&["run", "f", "rb"], 4, unsupported),
+        (&["run", "f", "x", "newline=0a"], 4, unsupported),
+        (&["run", "f", "at", "newline=0a"], 4, unsupported),
+        (&["run", "f", "r+", "newline=0a"], 4, unsupported),
+        (&["run", "f", "rb+"], 4, unsupported),
+        (&["run", "f", "wb+"], 4, unsupported),
+        (&["run", "f", "rb", "newline=0a"], 4, bad_argument),
+        (&["run", "f", "wb", "encoding=utf-8"], 4, bad_argument),
+        (&["run", "f", "ab", "errors=strict"], 4, bad_argument),
+        (&["run", "f", "wb", "chunk=0"], 4, bad_argument),
         (
             &["run", "f", "r", "newline=0a", "buffering=0"],
             4,
             unsupported,
         ),
-        (&["run", "f", "r", "newline=0a", "chunk=0"], 4, unsupported),
+        (&["run", "f", "r", "newline=0a", "chunk=0"], 4, bad_argument),
         (&["run", "missing", "w"], 4, unsupported),
     ];
     for (words, status, printed) in cases {
