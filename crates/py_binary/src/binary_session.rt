@@ -116,8 +116,8 @@ impl<R: RawStream> BinarySession<R> {
     /// `ChunkSize`, `Encoding` and `Errors` are `Unsupported` in every life.
     ///
     /// `Detach` answers `Unwritten`, the bytes that the stream still owed (none of a live one, which passes them on first) and the
-    /// place of the first of them (`None` where the raw can't seek); the raw stays with the session, and every call but the
-    /// questions is `Detached` from then on.
+    /// place of the first of them (`None` where the raw can't seek); the raw stays with the session, and every call is `Detached`
+    /// from then on, but the four questions, and those three.
     pub fn call(&mut self, alloc: Global, call: &Call) -> Reply
         ensures { AnswersBinary self.old call.now result self.new }
     {

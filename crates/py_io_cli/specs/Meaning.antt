@@ -69,7 +69,7 @@ pub record BeginsWith (raw : Raw) (bytes : List ℕ) : Type 0 where
 -- the script was read to its end, and the path was opened as it is planned; its calls and a Close were made over the raw; the
 -- lines of their replies were printed; the faults and waits of the raw were added to the opener's; and where the opener
 -- tells, the raw began at the start of what the mode leaves of the path's bytes, and the path holds the raw's bytes in the end, the flat
--- ones where the session was closed or detached. Where no raw failed or asked to wait, each call that isn't refused is answered by an
+-- ones where a close or detach of a live session was done. Where no raw failed or asked to wait, each call that isn't refused is answered by an
 -- answer of its own, or for want of memory
 pub record PrintsReplies (path mode : List ℕ) (args : OpenArgs) (old new : SourceView) (before after : Outside) : Type 0 where
   pub calls : List Call

@@ -51,8 +51,8 @@ use std::alloc::Global;
 /// - `others`: whatever the status is, every path but that of the words holds what it held;
 /// - `left`: with 4 of an opening that the plan accepts the path holds what its opening left;
 /// - `printed`: with 0, of a source that tells, the calls of a run are those of the whole script, what was printed is the lines of
-///   a run of them, and the path holds the raw's bytes in the end, the flat ones where the session was closed or detached; where
-///   no raw failed or asked to wait, each call that isn't refused is answered by an answer of its own, or for want of memory;
+///   a run of them, and the path holds the raw's bytes in the end, the flat ones where a `Close` or `Detach` of a live session was
+///   done; where no raw failed or asked to wait, each call that isn't refused is answered by an answer of its own, or for want of memory;
 /// - `help`, `version`: with 0 the text that was asked for was printed.
 pub fn run_program<O: Opener, I: Source, K: Sink>(
     alloc: Global,

@@ -2,7 +2,6 @@
 use Rattle.std.specs.Prelude.{◌≡◌, ℕ, Bool, true, false, List, []}
 use Rattle.py_flat.specs.declared.life.Life.{Life}
 use Rattle.py_flat.specs.declared.life.Life.TheVariants as life
-use Rattle.py_flat.specs.Bytes.{lay}
 use Rattle.py_flat.specs.Calls.{FileReply, Flag}
 use Rattle.py_flat.specs.FlatFile.{FlatFile}
 use Rattle.py_flat.specs.Refusals.{is_getter}
@@ -52,10 +51,10 @@ abbrev pub owed_of : SessionView → List ℕ
 owed_of (TextSession text) = []
 owed_of (BinarySession stream) = stream.owed.bytes
 
--- the bytes of the flat file: the raw's, with the owed ones laid at their place
+-- the bytes of the flat file: of a text, which writes nothing, the raw's; else the raw's with the owed ones laid at their place
 abbrev pub flat_bytes : SessionView → List ℕ
 flat_bytes (TextSession text) = text.raw.bytes
-flat_bytes (BinarySession stream) = lay stream.raw.bytes stream.owed.place stream.owed.bytes
+flat_bytes (BinarySession stream) = (file_of stream).bytes
 
 -- The one clause of every call.
 

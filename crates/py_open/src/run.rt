@@ -30,8 +30,7 @@ pub struct Run<R: RawStream> {
 /// Refused, the raw is handed back with nothing read or written: by the plan (`plan_open`), then `Closed`, `Unsupported` where
 /// it can't do what the mode needs, `NoMemory`, and `RawFault` where it fails to say where it stands or ends, or to move there.
 /// Space for the replies is taken before the first call: where there is none it is `NoMemory` too, and the raw stands where
-/// the session would have begun. Else a raw that tells still stands where it stood, but after `RawFault` and, where it was to be
-/// moved to its end, `NoMemory`.
+/// the session would have begun. Else a raw that tells still stands where it stood, but after `RawFault`.
 pub fn run_session<R: RawStream>(
     alloc: Global,
     raw: R,

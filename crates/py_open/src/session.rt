@@ -50,8 +50,8 @@ impl<R: RawStream> Session<R> {
     /// end, to which a raw that can seek is moved; one that can't stands at place 0.
     ///
     /// Refused, the raw is handed back with nothing read or written: `Closed`, then `Unsupported` where it can't do what it is
-    /// opened for, `NoMemory`, and `RawFault` where it fails to say where it stands or ends, or to move there. One that tells
-    /// still stands where it stood, but after `RawFault` and, of one that appends, `NoMemory`.
+    /// opened for, `NoMemory`, and `RawFault` where it fails to say where it stands or ends, or to move there. But for the last one
+    /// that tells still stands where it stood.
     pub(crate) fn open(
         alloc: Global,
         raw: R,
@@ -98,21 +98,21 @@ impl<R: RawStream> Session<R> {
     ///   `NotReady` with nothing taken; `short` says so.
     /// - `Write` answers how many bytes were taken: all, or without a buffer those of one transfer; `WriteLines` is `Done`.
     /// - `Seek` and `Tell` answer the place, `Flush` and `Close` `Done`. `Detach` answers what is unwritten, and its place; the
-    ///   raw stays with the session, and every call but the questions is `Detached` from then on.
+    ///   raw stays with the session, and every call is `Detached` from then on, but the questions.
     ///
-    /// Else it is `Refused`:
+    /// A write without a buffer that had to wait is `NotReady`, with nothing taken. Else a call is `Refused`:
     ///
-    /// - `Failed` after an earlier fault (a stream with a buffer may still be detached), `Closed` after a `Close` (which may be made again), `Detached`
-    ///   after a `Detach`; then `Unsupported` to a call that the session lacks, `BadWhence`, `NegativeSeek` and `TooFar`: no raw is
-    ///   called, but for a `Seek` from the end, and all stays as it was. `ChunkSize`, `Encoding` and `Errors` are `Unsupported` in
-    ///   every life of a stream of bytes.
+    /// - `Failed` once a fault or want of memory failed the session (a stream with a buffer may still be detached), `Closed` after a
+    ///   `Close` (which may be made again), `Detached` after a `Detach`; then `Unsupported` to a call that the session lacks,
+    ///   `BadWhence`, `NegativeSeek` and `TooFar`: no raw is called, but for a `Seek` from the end, and all stays as it was.
+    ///   `ChunkSize`, `Encoding` and `Errors` are `Unsupported` in every life of a stream of bytes.
     /// - `UnicodeDecodeError`, with byte places from the start of the stream, where a range that is no UTF-8 stands before the end of a
     ///   text's answer: place and life stay, and a shorter read gives the characters before it.
-    /// - `WouldBlock` where the raw asked to wait and the rest of a write had no room in the buffer, or there is none: the first `taken`
-    ///   bytes were taken. A `Seek`, `Flush`, `Close` or `Detach` that had to wait took none, and may be made again.
+    /// - `WouldBlock` where the raw asked to wait and the rest of a `Write` had no room in the buffer, or some of `WriteLines` wasn't
+    ///   taken: the first `taken` bytes were. A `Seek`, `Flush`, `Close` or `Detach` that had to wait took none, and may be made again.
     /// - `RawFault` where the raw failed: the session is failed from then on; after `Close` it is closed.
-    /// - `NoMemory`: place and life stay, and the call may be made again; but a reading call of bytes is failed by it once bytes left
-    ///   the raw, and a write once the raw took some of its bytes.
+    /// - `NoMemory`: place and life stay, and the call may be made again; but a `Read`, `ReadInto`, `ReadLine` or `ReadLines` of bytes
+    ///   fails the session once bytes left the raw, and a write once the raw took some of its bytes.
     ///
     /// The rules are those of Python's `io`; what waits, faults and refused ranges leave is this project's choice
     /// (docs/DECISIONS.md).

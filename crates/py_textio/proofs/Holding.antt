@@ -30,7 +30,7 @@ text_over old new at taken chunk held pending keeps forth still is = record {
 
 -- a reader that lives after a close was left where it was
 closed_raw : (old new : ReaderView) (result : Result (Unit {0}) IoFault) → old.life ≡ life.Live → ClosesRaw old result new → new.life ≡ life.Live → (old.life ≡ life.Live) × (new.place ≡ old.place)
-closed_raw old new (Ok done) before outcome live = absurd (cc)
+closed_raw old new (Ok done) before outcome live = absurd (let closed = outcome.0 in cc)
 closed_raw old new (Err fault.RawFault) before outcome live = absurd (let closed = outcome.1 in cc)
 closed_raw old new (Err fault.NoMemory) before outcome live = (before, outcome.1.place)
 closed_raw old new (Err other) before outcome live = absurd outcome

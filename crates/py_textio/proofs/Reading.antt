@@ -207,7 +207,7 @@ closing_lives None before after starves = starves
 closing_lives (Some holds) before after starves = starves
 
 closes_live : (old new : Stream) (place : ℕ) (result : Result (Unit {0}) IoFault) → IsReader old place → old.life ≡ life.Live → Answers old Close (done_reply result) new → ClosesRaw (seen_at old place) result (seen_at new place)
-closes_live old new place (Ok done) is live answers = answers.moves.life_is
+closes_live old new place (Ok done) is live answers = (answers.moves.life_is, λ exact. (answers.counted exact).faults refl)
 closes_live old new place (Err fault.RawFault) is live answers = (answers.causes.faults refl, answers.moves.life_is)
 closes_live old new place (Err fault.NoMemory) is live answers = (answers.wants refl refl, record { place = refl; life = closing_lives old.buffer old.life new.life answers.moves.life_is })
 closes_live old new place (Err (fault.WouldBlock taken)) is live answers =

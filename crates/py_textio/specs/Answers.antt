@@ -9,7 +9,7 @@ use Rattle.py_flat.specs.Causes.{rose}
 use Rattle.py_flat.specs.ExactStep.{is_closed}
 use Rattle.py_plain.specs.TextFile.{TextPlace, clean_at, TextFile}
 use Rattle.py_plain.specs.TextStep.{TextCall, Read, ReadLine, Close, text_refusal, asks_any, place_taking, TextStep}
-use Rattle.py_raw.specs.RawStream.{Raw, Keeps, WhereTold}
+use Rattle.py_raw.specs.RawStream.{Raw, Keeps, WhereTold, NoFault}
 use Rattle.py_stream.specs.Kinds.{says_fault}
 use Rattle.py_stream.specs.Answers.{ClosedWith, HasCauses}
 use Rattle.py_textio.specs.Waiting.{ShowsAll}
@@ -94,6 +94,11 @@ abbrev pub WantsMemory : TextCall → FileReply → Raw → Type 0
 WantsMemory Close (Refused fault.NoMemory) raw = IsTrue raw.takes_memory
 WantsMemory call reply raw = Unit {0}
 
+-- a close that is done hides no fault, of a raw that counts exactly
+abbrev pub ClosesSound : TextCall → FileReply → Raw → Raw → Type 0
+ClosesSound Close Done old new = NoFault old new
+ClosesSound call reply old new = Unit {0}
+
 -- the replies that an accepted call may have at all
 abbrev pub IsReplyTo : TextCall → FileReply → Type 0
 IsReplyTo Close NotReady = ⊥
@@ -107,7 +112,7 @@ pub record IsComplete (call : TextCall) (reply : FileReply) (short : Bool) : Typ
   pub whole : short ≡ false
 
 -- one call of a text: what the raw can do stays and its counts never fall; what the life or the kind refuses; a close
--- of a closed text; that the raw is closed with the text; causes; what is short; life and place; completeness; and,
+-- of a closed text; that the raw is closed with the text; causes, and that a close hides no fault; what is short; life and place; completeness; and,
 -- where the raw tells, that its bytes stay, the step of the model, and that a wait hides nothing
 pub record AnswersText (before : TextFile) (old : Raw) (call : TextCall) (reply : FileReply) (after : TextFile) (new : Raw) (short : Bool) : Type 0 where
   pub keeps : Keeps old new
@@ -118,6 +123,7 @@ pub record AnswersText (before : TextFile) (old : Raw) (call : TextCall) (reply 
   pub causes : HasCauses old reply new short
   pub shorts : IsShort reply short
   pub wants : WantsMemory call reply old
+  pub sound : ClosesSound call reply old new
   pub moves : TextMoves before call short reply after
   pub answer : text_refusal before call ≡ None → IsReplyTo call reply
   pub complete : text_refusal before call ≡ None → rose old.waits new.waits ≡ false → rose old.faults new.faults ≡ false → IsComplete call reply short

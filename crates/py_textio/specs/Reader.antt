@@ -10,7 +10,7 @@ use Rattle.py_flat.specs.Bytes.{left_at}
 use Rattle.py_flat.specs.Causes.{Rose}
 use Rattle.py_flat.specs.Refusals.{life_fault}
 use Rattle.py_flat.specs.BinaryStep.{IsFrontOf}
-use Rattle.py_raw.specs.RawStream.{Raw, Keeps, WhereTold, LeavesCounts}
+use Rattle.py_raw.specs.RawStream.{NoFault, Raw, Keeps, WhereTold, LeavesCounts}
 use Rattle.py_stream.specs.Stream.{Stream, nothing_owed}
 use Rattle.py_stream.specs.Answers.{ClosedWith}
 use Rattle.py_stream.specs.Opening.{Untouched, RefusesRaw}
@@ -81,10 +81,10 @@ ChunkReadOutcome old size (Ok (Some part)) new = Gives old size part.items new
 ChunkReadOutcome old size (Ok None) new = WaitsEmpty old new
 ChunkReadOutcome old size (Err fault) new = ReadFails old fault new
 
--- closing a live reader: closed, after a fault of the raw too; want of memory comes of a raw that takes some, and leaves
--- place and life
+-- closing a live reader: closed, after a fault of the raw too, which then is the answer; want of memory comes of a raw that takes
+-- some, and leaves place and life
 abbrev pub ClosesRaw : ReaderView → Result (Unit {0}) IoFault → ReaderView → Type 0
-ClosesRaw old (Ok done) new = new.life ≡ life.Closed
+ClosesRaw old (Ok done) new = (new.life ≡ life.Closed) × NoFault old.raw new.raw
 ClosesRaw old (Err fault.RawFault) new = Rose old.raw.faults new.raw.faults × (new.life ≡ life.Closed)
 ClosesRaw old (Err fault.NoMemory) new = IsTrue old.raw.takes_memory × GivesNothing old new
 ClosesRaw old (Err other) new = ⊥
