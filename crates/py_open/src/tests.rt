@@ -1,10 +1,13 @@
 //! Sessions over raws in memory, compared with worked examples and with the plain slow text.
-ghost use Rattle.std.specs.Prelude.{◌≡◌, ◌<◌, true, IfOk};
+ghost use Rattle.std.specs.Prelude.{◌≡◌, ◌<◌, ℕ, true, IfOk};
 ghost use Rattle.py_raw.specs.MemRaw.{shown};
 ghost use Rattle.py_stream.specs.Opening.{StandsAtStart};
+ghost use Rattle.py_open.specs.Kinds.{IsPlanned};
 
 use crate::run::run_opened;
-use crate::{Call, OpenArgs, OpenRefused, Reply, Run, run_session};
+use crate::{
+    Call, EncodeMode, FileMode, Mode, OpenArgs, OpenPlan, OpenRefused, Reply, Run, run_session,
+};
 use py_flat::{Chars, IoFault, Life, ParseModeError};
 use py_plain::{Newlines, PlainText};
 use py_raw::{Cut, MemRaw, RawFlags};
@@ -36,6 +39,22 @@ fn line_feed(alloc: Global) -> Result<OpenArgs, AllocError> {
     Ok(args)
 }
 
+/// The plan of a text that is read through a buffer of so many bytes.
+fn text_plan(size: usize) -> OpenPlan
+    requires { 0 < size }
+    ensures { (chunk : ℕ) → 0 < chunk → IsPlanned result chunk }
+{
+    let mode = Mode {
+        file: FileMode::Read,
+        encode: EncodeMode::Text,
+        plus: false,
+    };
+    OpenPlan {
+        mode,
+        buffer_size: Some(size),
+    }
+}
+
 /// A run over a raw with a small buffer and small chunks.
 fn small_run(
     rt: &impl Abort,
@@ -48,14 +67,14 @@ fn small_run(
     requires chunk { 0 < sizes.1 }
     requires start { StandsAtStart (shown raw) }
 {
-    match run_opened(alloc, raw, sizes.0, sizes.1, calls) {
+    match run_opened(alloc, raw, text_plan(sizes.0), sizes.1, calls) {
         Ok(run) => run,
         Err(_) => panic!(rt; "the opening was refused"),
     }
 }
 
 /// Whether a session may go to another thread, which its type decides.
-fn may_be_sent<T: Send>(_: &T) -> bool
+pub(crate) fn may_be_sent<T: Send>(_: &T) -> bool
     ensures { result ≡ true }
 {
     true
@@ -264,7 +283,7 @@ fn a_fault_at_any_call_fails_the_session(rt: HostRuntime) -> Result<(), Fail> {
             let flags = RawFlags::able(true, false, true);
             let plan = bytes_and_a_wait(alloc, 16)?;
             let raw = MemRaw::new(bytes.to_vec(alloc)?, flags, plan, vec![in alloc; fault]?);
-            match run_opened(alloc, raw, 2, 3, &MIXED) {
+            match run_opened(alloc, raw, text_plan(2), 3, &MIXED) {
                 Err(refused) => {
                     assert_eq!(rt; (fault, refused.fault), (0, IoFault::RawFault));
                     assert_eq!(rt; refused.raw.bytes_of(), bytes);
@@ -314,7 +333,7 @@ fn lives_and_kinds_refuse(rt: HostRuntime) -> Result<(), Fail> {
     let run = small_run(&rt, alloc, raw, (4, 4), &calls);
     let replies = [
         Reply::Refused(IoFault::Unsupported),
-        Reply::Refused(IoFault::Unsupported),
+        Reply::Flag(true),
         Reply::Done,
         Reply::Refused(IoFault::Closed),
         Reply::Refused(IoFault::Closed),
@@ -349,7 +368,9 @@ fn a_refused_opening_hands_the_raw_back(rt: HostRuntime) -> Result<(), Fail> {
     let readable = RawFlags::able(true, false, true);
     let writable = RawFlags::able(false, true, true);
     for (mode, flags, fault) in [
-        ("rb", readable, IoFault::Unsupported),
+        ("rb", readable, IoFault::BadArgument),
+        ("r+", readable, IoFault::Unsupported),
+        ("w", writable, IoFault::Unsupported),
         (
             "rr",
             readable,
