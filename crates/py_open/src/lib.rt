@@ -4,7 +4,11 @@
 //! run of the model from the opening's flat file to the session's own.
 #![tactic(auto)]
 
+#[cfg(test)]
+mod binary_tests;
 mod laws;
+#[cfg(test)]
+mod life_tests;
 mod open_refused;
 mod run;
 mod session;

@@ -1,0 +1,413 @@
+//! Sessions over streams of bytes in memory: worked runs, what a session hands back, and what an opening refuses.
+ghost use Rattle.std.specs.Prelude.{IfOk};
+ghost use Rattle.py_raw.specs.MemRaw.{shown};
+ghost use Rattle.py_stream.specs.Opening.{StandsAtStart};
+
+use crate::tests::may_be_sent;
+use crate::{Call, OpenArgs, OpenRefused, Reply, Run, run_session};
+use py_flat::{Chars, Data, IoFault, Life, Lines};
+use py_raw::{Cut, MemRaw, RawFlags, RawStream};
+use std::alloc::{AllocError, Global};
+use std::process::Abort;
+use std::test::Fail;
+
+/// A raw over some bytes that can be read, written and moved, and follows a plan; the listed calls fail.
+pub(crate) fn raw_of(
+    alloc: Global,
+    bytes: &[u8],
+    plan: Vec<Cut>,
+    faults: &[u64],
+) -> Result<MemRaw, AllocError>
+    ensures { IfOk result (λ raw. StandsAtStart (shown raw)) }
+{
+    let flags = RawFlags::able(true, true, true);
+    let bytes = bytes.to_vec(alloc)?;
+    let faults = faults.to_vec(alloc)?;
+    Ok(MemRaw::new(bytes, flags, plan, faults))
+}
+
+/// The arguments of an opening with that buffering, and no others.
+pub(crate) fn buffered_by(buffering: i64) -> OpenArgs {
+    let mut args = OpenArgs::default();
+    args.buffering = buffering;
+    args
+}
+
+/// A run of calls that isn't refused.
+pub(crate) fn run_of(
+    rt: &impl Abort,
+    alloc: Global,
+    raw: MemRaw,
+    mode: &str,
+    buffering: i64,
+    calls: &[Call],
+) -> Run<MemRaw>
+    requires start { StandsAtStart (shown raw) }
+{
+    match run_session(alloc, raw, mode, buffered_by(buffering), calls) {
+        Ok(run) => run,
+        Err(_) => panic!(rt; "refused: {mode} by {buffering}"),
+    }
+}
+
+pub(crate) fn bytes(alloc: Global, bytes: &[u8]) -> Result<Reply, AllocError> {
+    Ok(Reply::Bytes(Data::from_slice(alloc, bytes)?))
+}
+
+pub(crate) fn write(alloc: Global, bytes: &[u8]) -> Result<Call, AllocError> {
+    Ok(Call::Write(Data::from_slice(alloc, bytes)?))
+}
+
+pub(crate) fn lines_of(alloc: Global, lines: &[&[u8]]) -> Result<Lines, AllocError> {
+    let mut list = Lines::new(alloc);
+    for line in lines {
+        list.push(Data::from_slice(alloc, line)?)?;
+    }
+    Ok(list)
+}
+
+fn unwritten(alloc: Global, bytes: &[u8], place: u64) -> Result<Reply, AllocError> {
+    Ok(Reply::Unwritten {
+        bytes: Data::from_slice(alloc, bytes)?,
+        place: Some(place),
+    })
+}
+
+const UNSUPPORTED: Reply = Reply::Refused(IoFault::Unsupported);
+
+#[test]
+fn bytes_are_read_in_two_readings(rt: HostRuntime) -> Result<(), Fail> {
+    let alloc = rt.alloc();
+    for buffering in [-1, 0, 1, 2, 3, 8192] {
+        let raw = raw_of(alloc, b"abc", Vec::new(alloc), &[])?;
+        let calls = [Call::Read(Some(2)), Call::Read(None), Call::Close];
+        let run = run_of(&rt, alloc, raw, "rb", buffering, &calls);
+        let replies = [bytes(alloc, b"ab")?, bytes(alloc, b"c")?, Reply::Done];
+        assert_eq!(rt; run.replies.as_slice(), replies.as_slice(), "by {buffering}");
+        assert_eq!(rt; run.session.life(), Life::Closed);
+        assert!(rt; !run.session.short());
+        assert!(rt; may_be_sent(&run.session));
+        let handed = run.session.finish();
+        assert_eq!(rt; handed.raw.bytes_of(), b"abc".as_slice());
+        assert!(rt; handed.raw.closed() && handed.unwritten.is_empty());
+        assert_eq!(rt; handed.place, Some(3), "by {buffering}");
+    }
+    Ok(())
+}
+
+#[test]
+fn lines_are_written_whole_with_a_buffer_and_without(rt: HostRuntime) -> Result<(), Fail> {
+    let alloc = rt.alloc();
+    for buffering in [-1, 0, 2] {
+        for mode in ["wb", "xb", "ab"] {
+            let raw = raw_of(alloc, b"", vec![in alloc; Cut::Take(1)]?, &[])?;
+            let calls = [
+                Call::WriteLines(lines_of(alloc, &[b"a\n", b"", b"b"])?),
+                Call::Flush,
+            ];
+            let run = run_of(&rt, alloc, raw, mode, buffering, &calls);
+            let replies = [Reply::Done, Reply::Done];
+            assert_eq!(rt;
+                run.replies.as_slice(),
+                replies.as_slice(),
+                "of {mode} by {buffering}"
+            );
+            assert_eq!(rt; run.session.life(), Life::Live);
+            let handed = run.session.finish();
+            assert_eq!(rt; handed.raw.bytes_of(), b"a\nb".as_slice());
+            assert!(rt; !handed.raw.closed() && handed.unwritten.is_empty());
+            assert_eq!(rt; handed.place, Some(3), "of {mode} by {buffering}");
+        }
+    }
+    Ok(())
+}
+
+#[test]
+fn what_is_appended_comes_behind_all_that_is_there(rt: HostRuntime) -> Result<(), Fail> {
+    let alloc = rt.alloc();
+    for buffering in [-1, 0, 2] {
+        let raw = raw_of(alloc, b"xy", Vec::new(alloc), &[])?;
+        let calls = [
+            Call::Tell,
+            write(alloc, b"z")?,
+            Call::Seek(0, 0),
+            Call::Seekable,
+            Call::Tell,
+            Call::Close,
+        ];
+        let run = run_of(&rt, alloc, raw, "ab", buffering, &calls);
+        let replies = [
+            Reply::Place(2),
+            Reply::Count(1),
+            UNSUPPORTED,
+            Reply::Flag(true),
+            Reply::Place(3),
+            Reply::Done,
+        ];
+        assert_eq!(rt; run.replies.as_slice(), replies.as_slice(), "by {buffering}");
+        let handed = run.session.finish();
+        assert_eq!(rt; handed.raw.bytes_of(), b"xyz".as_slice(), "by {buffering}");
+        assert_eq!(rt; handed.place, Some(3), "by {buffering}");
+    }
+    Ok(())
+}
+
+#[test]
+fn what_is_written_begins_where_the_raw_stands(rt: HostRuntime) -> Result<(), Fail> {
+    let alloc = rt.alloc();
+    for mode in ["wb", "xb"] {
+        for buffering in [-1, 0, 2] {
+            let raw = raw_of(alloc, b"abcd", Vec::new(alloc), &[])?;
+            let calls = [write(alloc, b"xy")?, Call::Tell, Call::Close];
+            let run = run_of(&rt, alloc, raw, mode, buffering, &calls);
+            let replies = [Reply::Count(2), Reply::Place(2), Reply::Done];
+            assert_eq!(rt; run.replies.as_slice(), replies.as_slice(), "of {mode}");
+            let handed = run.session.finish();
+            assert_eq!(rt; handed.raw.bytes_of(), b"xycd".as_slice(), "of {mode}");
+        }
+    }
+    Ok(())
+}
+
+#[test]
+fn what_a_fault_left_is_handed_back_by_a_detach(rt: HostRuntime) -> Result<(), Fail> {
+    let alloc = rt.alloc();
+    let raw = raw_of(
+        alloc,
+        b"",
+        vec![in alloc; Cut::Take(2), Cut::Break(0)]?,
+        &[],
+    )?;
+    let calls = [
+        write(alloc, b"abcdef")?,
+        Call::Flush,
+        Call::Flush,
+        Call::Detach,
+        Call::Detach,
+        Call::Flush,
+        Call::Close,
+    ];
+    let run = run_of(&rt, alloc, raw, "wb", 8, &calls);
+    let replies = [
+        Reply::Count(6),
+        Reply::Refused(IoFault::RawFault),
+        Reply::Refused(IoFault::Failed),
+        unwritten(alloc, b"cdef", 2)?,
+        Reply::Refused(IoFault::Detached),
+        Reply::Refused(IoFault::Detached),
+        Reply::Refused(IoFault::Detached),
+    ];
+    assert_eq!(rt; run.replies.as_slice(), replies.as_slice());
+    assert_eq!(rt; run.session.life(), Life::Detached);
+    let handed = run.session.finish();
+    assert_eq!(rt; handed.raw.bytes_of(), b"ab".as_slice());
+    assert_eq!(rt; handed.raw.fault_count(), 1);
+    assert!(rt; handed.unwritten.is_empty());
+    assert_eq!(rt; handed.place, None);
+    Ok(())
+}
+
+#[test]
+fn what_a_fault_left_is_handed_back_at_the_finish(rt: HostRuntime) -> Result<(), Fail> {
+    let alloc = rt.alloc();
+    let raw = raw_of(
+        alloc,
+        b"",
+        vec![in alloc; Cut::Take(2), Cut::Break(0)]?,
+        &[],
+    )?;
+    let calls = [write(alloc, b"abcdef")?, Call::Flush, Call::Flush];
+    let run = run_of(&rt, alloc, raw, "wb", 8, &calls);
+    let replies = [
+        Reply::Count(6),
+        Reply::Refused(IoFault::RawFault),
+        Reply::Refused(IoFault::Failed),
+    ];
+    assert_eq!(rt; run.replies.as_slice(), replies.as_slice());
+    assert_eq!(rt; run.session.life(), Life::Failed);
+    let handed = run.session.finish();
+    assert_eq!(rt; handed.raw.bytes_of(), b"ab".as_slice());
+    assert_eq!(rt; handed.unwritten.as_slice(), b"cdef".as_slice());
+    assert_eq!(rt; handed.place, Some(2));
+    Ok(())
+}
+
+#[test]
+fn a_detach_of_a_live_writer_passes_all_on(rt: HostRuntime) -> Result<(), Fail> {
+    let alloc = rt.alloc();
+    let raw = raw_of(alloc, b"", vec![in alloc; Cut::Take(2)]?, &[])?;
+    let calls = [write(alloc, b"abcdef")?, Call::Detach];
+    let run = run_of(&rt, alloc, raw, "wb", 8, &calls);
+    let replies = [Reply::Count(6), unwritten(alloc, b"", 6)?];
+    assert_eq!(rt; run.replies.as_slice(), replies.as_slice());
+    let handed = run.session.finish();
+    assert_eq!(rt; handed.raw.bytes_of(), b"abcdef".as_slice());
+    assert!(rt; !handed.raw.closed());
+    Ok(())
+}
+
+#[test]
+fn a_wait_is_told_until_the_next_call(rt: HostRuntime) -> Result<(), Fail> {
+    let alloc = rt.alloc();
+    for (mode, buffering, call, waits, goes_on) in [
+        (
+            "rb",
+            -1,
+            Call::Read(None),
+            Reply::NotReady,
+            bytes(alloc, b"abc")?,
+        ),
+        (
+            "rb",
+            0,
+            Call::Read(Some(2)),
+            Reply::NotReady,
+            bytes(alloc, b"ab")?,
+        ),
+        (
+            "wb",
+            2,
+            write(alloc, b"12345")?,
+            Reply::Refused(IoFault::WouldBlock { taken: 2 }),
+            Reply::Count(5),
+        ),
+        (
+            "wb",
+            0,
+            write(alloc, b"12")?,
+            Reply::NotReady,
+            Reply::Count(2),
+        ),
+    ] {
+        let raw = raw_of(alloc, b"abc", vec![in alloc; Cut::Wait]?, &[])?;
+        let run = run_of(&rt, alloc, raw, mode, buffering, &[]);
+        let mut session = run.session;
+        assert!(rt; !session.short());
+        assert_eq!(rt; session.call(alloc, &call), waits, "of {mode} by {buffering}");
+        assert!(rt; session.short() && session.life() == Life::Live);
+        assert_eq!(rt; session.call(alloc, &Call::Readable), Reply::Flag(mode == "rb"));
+        assert!(rt; !session.short());
+        assert_eq!(rt; session.call(alloc, &call), goes_on, "of {mode} by {buffering}");
+        assert!(rt; !session.short());
+        assert_eq!(rt; session.finish().raw.wait_count(), 1);
+    }
+    Ok(())
+}
+
+#[test]
+fn a_raw_that_is_not_fit_is_refused_and_handed_back(rt: HostRuntime) -> Result<(), Fail> {
+    let alloc = rt.alloc();
+    for (mode, reads, writes, closed, fault) in [
+        ("rb", false, true, false, IoFault::Unsupported),
+        ("wb", true, false, false, IoFault::Unsupported),
+        ("xb", true, false, false, IoFault::Unsupported),
+        ("ab", true, false, false, IoFault::Unsupported),
+        ("rb", true, true, true, IoFault::Closed),
+        ("wb", true, true, true, IoFault::Closed),
+        ("ab", false, false, true, IoFault::Closed),
+        ("rb+", true, true, false, IoFault::Unsupported),
+        ("rb+", true, true, true, IoFault::Unsupported),
+    ] {
+        for buffering in [-1, 0, 2] {
+            let flags = RawFlags::able(reads, writes, true);
+            let held = b"abc".to_vec(alloc)?;
+            let mut raw = MemRaw::new(held, flags, Vec::new(alloc), Vec::new(alloc));
+            if closed {
+                raw.close().unwrap();
+            }
+            let args = buffered_by(buffering);
+            let Err(OpenRefused { raw, fault: why }) =
+                run_session(alloc, raw, mode, args, &[Call::Close])
+            else {
+                return Err(Fail::from("opened"));
+            };
+            assert_eq!(rt; why, fault, "of {mode} by {buffering}");
+            assert_eq!(rt; raw.bytes_of(), b"abc".as_slice());
+            assert_eq!(rt; raw.closed(), closed, "of {mode} by {buffering}");
+            assert_eq!(rt; raw.fault_count(), 0);
+        }
+    }
+    Ok(())
+}
+
+#[test]
+fn a_stream_of_bytes_takes_no_newline_argument(rt: HostRuntime) -> Result<(), Fail> {
+    let alloc = rt.alloc();
+    for mode in ["rb", "wb", "xb", "ab"] {
+        let raw = raw_of(alloc, b"abc", Vec::new(alloc), &[])?;
+        let mut args = OpenArgs::default();
+        args.newline = Some(Chars::from_text(alloc, "\n")?);
+        let Err(refused) = run_session(alloc, raw, mode, args, &[Call::Close]) else {
+            return Err(Fail::from("opened"));
+        };
+        assert_eq!(rt; refused.fault, IoFault::BadArgument, "of {mode}");
+        assert_eq!(rt; refused.raw.bytes_of(), b"abc".as_slice());
+        assert!(rt; !refused.raw.closed());
+    }
+    Ok(())
+}
+
+#[test]
+fn a_raw_that_fails_at_the_opening_is_handed_back(rt: HostRuntime) -> Result<(), Fail> {
+    let alloc = rt.alloc();
+    // A raw is asked where it stands; one that is appended to, where it ends, and is then moved there.
+    for (mode, number) in [("rb", 0), ("wb", 0), ("xb", 0), ("ab", 0), ("ab", 1)] {
+        for buffering in [-1, 0, 2] {
+            let raw = raw_of(alloc, b"abc", Vec::new(alloc), &[number])?;
+            let args = buffered_by(buffering);
+            let Err(refused) = run_session(alloc, raw, mode, args, &[Call::Close]) else {
+                return Err(Fail::from("opened"));
+            };
+            assert_eq!(rt; refused.fault, IoFault::RawFault, "of {mode} at {number}");
+            assert_eq!(rt; refused.raw.bytes_of(), b"abc".as_slice());
+            assert_eq!(rt; refused.raw.fault_count(), 1, "of {mode} at {number}");
+            assert!(rt; !refused.raw.closed());
+        }
+    }
+    Ok(())
+}
+
+#[test]
+fn a_raw_that_cannot_seek_begins_at_its_start(rt: HostRuntime) -> Result<(), Fail> {
+    let alloc = rt.alloc();
+    for (mode, call, reply, left) in [
+        (
+            "rb",
+            Call::Read(Some(2)),
+            bytes(alloc, b"ab")?,
+            b"abc".as_slice(),
+        ),
+        (
+            "ab",
+            write(alloc, b"x")?,
+            Reply::Count(1),
+            b"xbc".as_slice(),
+        ),
+    ] {
+        for buffering in [-1, 0, 2] {
+            let flags = RawFlags::able(true, true, false);
+            let held = b"abc".to_vec(alloc)?;
+            let raw = MemRaw::new(held, flags, Vec::new(alloc), Vec::new(alloc));
+            let calls = [
+                Call::Tell,
+                Call::Seek(0, 0),
+                Call::Seekable,
+                call.try_clone(alloc)?,
+                Call::Flush,
+            ];
+            let run = run_of(&rt, alloc, raw, mode, buffering, &calls);
+            let replies = [
+                UNSUPPORTED,
+                UNSUPPORTED,
+                Reply::Flag(false),
+                reply.try_clone(alloc)?,
+                Reply::Done,
+            ];
+            assert_eq!(rt; run.replies.as_slice(), replies.as_slice(), "of {mode}");
+            let handed = run.session.finish();
+            assert_eq!(rt; handed.raw.bytes_of(), left, "of {mode} by {buffering}");
+            assert_eq!(rt; handed.place, None, "of {mode} by {buffering}");
+        }
+    }
+    Ok(())
+}
