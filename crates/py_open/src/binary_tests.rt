@@ -83,7 +83,11 @@ fn bytes_are_read_in_two_readings(rt: HostRuntime) -> Result<(), Fail> {
         let calls = [Call::Read(Some(2)), Call::Read(None), Call::Close];
         let run = run_of(&rt, alloc, raw, "rb", buffering, &calls);
         let replies = [bytes(alloc, b"ab")?, bytes(alloc, b"c")?, Reply::Done];
-        assert_eq!(rt; run.replies.as_slice(), replies.as_slice(), "by {buffering}");
+        assert_eq!(rt;
+            run.replies.as_slice(),
+            replies.as_slice(),
+            "by {buffering}"
+        );
         assert_eq!(rt; run.session.life(), Life::Closed);
         assert!(rt; !run.session.short());
         assert!(rt; may_be_sent(&run.session));
@@ -144,7 +148,11 @@ fn what_is_appended_comes_behind_all_that_is_there(rt: HostRuntime) -> Result<()
             Reply::Place(3),
             Reply::Done,
         ];
-        assert_eq!(rt; run.replies.as_slice(), replies.as_slice(), "by {buffering}");
+        assert_eq!(rt;
+            run.replies.as_slice(),
+            replies.as_slice(),
+            "by {buffering}"
+        );
         let handed = run.session.finish();
         assert_eq!(rt; handed.raw.bytes_of(), b"xyz".as_slice(), "by {buffering}");
         assert_eq!(rt; handed.place, Some(3), "by {buffering}");
@@ -283,11 +291,22 @@ fn a_wait_is_told_until_the_next_call(rt: HostRuntime) -> Result<(), Fail> {
         let run = run_of(&rt, alloc, raw, mode, buffering, &[]);
         let mut session = run.session;
         assert!(rt; !session.short());
-        assert_eq!(rt; session.call(alloc, &call), waits, "of {mode} by {buffering}");
+        assert_eq!(rt;
+            session.call(alloc, &call),
+            waits,
+            "of {mode} by {buffering}"
+        );
         assert!(rt; session.short() && session.life() == Life::Live);
-        assert_eq!(rt; session.call(alloc, &Call::Readable), Reply::Flag(mode == "rb"));
+        assert_eq!(rt;
+            session.call(alloc, &Call::Readable),
+            Reply::Flag(mode == "rb")
+        );
         assert!(rt; !session.short());
-        assert_eq!(rt; session.call(alloc, &call), goes_on, "of {mode} by {buffering}");
+        assert_eq!(rt;
+            session.call(alloc, &call),
+            goes_on,
+            "of {mode} by {buffering}"
+        );
         assert!(rt; !session.short());
         assert_eq!(rt; session.finish().raw.wait_count(), 1);
     }
@@ -316,9 +335,13 @@ fn a_raw_that_is_not_fit_is_refused_and_handed_back(rt: HostRuntime) -> Result<(
                 raw.close().unwrap();
             }
             let args = buffered_by(buffering);
-            let Err(OpenRefused { raw, fault: why }) =
-                run_session(alloc, raw, mode, args, &[Call::Close])
-            else {
+            let Err(OpenRefused { raw, fault: why }) = run_session(
+                alloc,
+                raw,
+                mode,
+                args,
+                &[Call::Close],
+            ) else {
                 return Err(Fail::from("opened"));
             };
             assert_eq!(rt; why, fault, "of {mode} by {buffering}");
