@@ -254,62 +254,59 @@ fn a_detach_of_a_live_writer_passes_all_on(rt: HostRuntime) -> Result<(), Fail> 
     Ok(())
 }
 
+/// A call that waits once is answered so, and short, up to the next call; made again, it is answered in full.
+fn waits_once(
+    rt: &impl Abort,
+    alloc: Global,
+    opening: (&str, i64),
+    call: &Call,
+    waits: &Reply,
+    goes_on: &Reply,
+) -> Result<(), AllocError> {
+    let (mode, buffering) = opening;
+    let raw = raw_of(alloc, b"abc", vec![in alloc; Cut::Wait]?, &[])?;
+    let mut session = run_of(rt, alloc, raw, mode, buffering, &[]).session;
+    assert!(rt; !session.short());
+    assert!(rt;
+        session.call(alloc, call) == *waits,
+        "of {mode} by {buffering}"
+    );
+    assert!(rt; session.short() && session.life() == Life::Live);
+    assert!(rt; session.call(alloc, &Call::Readable) == Reply::Flag(mode == "rb"));
+    assert!(rt; !session.short());
+    assert!(rt;
+        session.call(alloc, call) == *goes_on,
+        "of {mode} by {buffering}"
+    );
+    assert!(rt; !session.short() && session.finish().raw.wait_count() == 1);
+    Ok(())
+}
+
 #[test]
-fn a_wait_is_told_until_the_next_call(rt: HostRuntime) -> Result<(), Fail> {
+fn a_reading_that_waits_is_short_until_the_next_call(rt: HostRuntime) -> Result<(), Fail> {
     let alloc = rt.alloc();
-    for (mode, buffering, call, waits, goes_on) in [
-        (
-            "rb",
-            -1,
-            Call::Read(None),
-            Reply::NotReady,
-            bytes(alloc, b"abc")?,
-        ),
-        (
-            "rb",
-            0,
-            Call::Read(Some(2)),
-            Reply::NotReady,
-            bytes(alloc, b"ab")?,
-        ),
-        (
-            "wb",
-            2,
-            write(alloc, b"12345")?,
-            Reply::Refused(IoFault::WouldBlock { taken: 2 }),
-            Reply::Count(5),
-        ),
-        (
-            "wb",
-            0,
-            write(alloc, b"12")?,
-            Reply::NotReady,
-            Reply::Count(2),
-        ),
-    ] {
-        let raw = raw_of(alloc, b"abc", vec![in alloc; Cut::Wait]?, &[])?;
-        let run = run_of(&rt, alloc, raw, mode, buffering, &[]);
-        let mut session = run.session;
-        assert!(rt; !session.short());
-        assert_eq!(rt;
-            session.call(alloc, &call),
-            waits,
-            "of {mode} by {buffering}"
-        );
-        assert!(rt; session.short() && session.life() == Life::Live);
-        assert_eq!(rt;
-            session.call(alloc, &Call::Readable),
-            Reply::Flag(mode == "rb")
-        );
-        assert!(rt; !session.short());
-        assert_eq!(rt;
-            session.call(alloc, &call),
-            goes_on,
-            "of {mode} by {buffering}"
-        );
-        assert!(rt; !session.short());
-        assert_eq!(rt; session.finish().raw.wait_count(), 1);
+    let whole = bytes(alloc, b"abc")?;
+    for buffering in [-1, 0, 2] {
+        let opening = ("rb", buffering);
+        let waits = Reply::NotReady;
+        waits_once(&rt, alloc, opening, &Call::Read(None), &waits, &whole)?;
+        waits_once(&rt, alloc, opening, &Call::Read(Some(3)), &waits, &whole)?;
     }
+    Ok(())
+}
+
+#[test]
+fn a_writing_that_waits_is_short_until_the_next_call(rt: HostRuntime) -> Result<(), Fail> {
+    let alloc = rt.alloc();
+    let call = write(alloc, b"12345")?;
+    let whole = Reply::Count(5);
+    for buffering in [2, 3, 4] {
+        let taken = u64::try_from(buffering).unwrap_or(0);
+        let waits = Reply::Refused(IoFault::WouldBlock { taken });
+        waits_once(&rt, alloc, ("wb", buffering), &call, &waits, &whole)?;
+        waits_once(&rt, alloc, ("ab", buffering), &call, &waits, &whole)?;
+    }
+    waits_once(&rt, alloc, ("wb", 0), &call, &Reply::NotReady, &whole)?;
     Ok(())
 }
 
@@ -390,47 +387,45 @@ fn a_raw_that_fails_at_the_opening_is_handed_back(rt: HostRuntime) -> Result<(),
     Ok(())
 }
 
+/// Over a raw that can't seek a session has no place: a call there is answered so, and leaves these bytes.
+fn works_without_a_place(
+    rt: &impl Abort,
+    alloc: Global,
+    opening: (&str, i64),
+    call: &Call,
+    reply: &Reply,
+    left: &[u8],
+) -> Result<(), AllocError> {
+    let (mode, buffering) = opening;
+    let flags = RawFlags::able(true, true, false);
+    let held = b"abc".to_vec(alloc)?;
+    let raw = MemRaw::new(held, flags, Vec::new(alloc), Vec::new(alloc));
+    let mut session = run_of(rt, alloc, raw, mode, buffering, &[]).session;
+    assert!(rt; session.call(alloc, &Call::Tell) == UNSUPPORTED);
+    assert!(rt; session.call(alloc, &Call::Seek(0, 0)) == UNSUPPORTED);
+    assert!(rt; session.call(alloc, &Call::Seekable) == Reply::Flag(false));
+    assert!(rt;
+        session.call(alloc, call) == *reply,
+        "of {mode} by {buffering}"
+    );
+    assert!(rt; session.call(alloc, &Call::Flush) == Reply::Done);
+    let handed = session.finish();
+    assert!(rt; handed.raw.bytes_of() == left, "of {mode} by {buffering}");
+    assert!(rt; handed.place.is_none(), "of {mode} by {buffering}");
+    Ok(())
+}
+
 #[test]
 fn a_raw_that_cannot_seek_begins_at_its_start(rt: HostRuntime) -> Result<(), Fail> {
     let alloc = rt.alloc();
-    for (mode, call, reply, left) in [
-        (
-            "rb",
-            Call::Read(Some(2)),
-            bytes(alloc, b"ab")?,
-            b"abc".as_slice(),
-        ),
-        (
-            "ab",
-            write(alloc, b"x")?,
-            Reply::Count(1),
-            b"xbc".as_slice(),
-        ),
-    ] {
-        for buffering in [-1, 0, 2] {
-            let flags = RawFlags::able(true, true, false);
-            let held = b"abc".to_vec(alloc)?;
-            let raw = MemRaw::new(held, flags, Vec::new(alloc), Vec::new(alloc));
-            let calls = [
-                Call::Tell,
-                Call::Seek(0, 0),
-                Call::Seekable,
-                call.try_clone(alloc)?,
-                Call::Flush,
-            ];
-            let run = run_of(&rt, alloc, raw, mode, buffering, &calls);
-            let replies = [
-                UNSUPPORTED,
-                UNSUPPORTED,
-                Reply::Flag(false),
-                reply.try_clone(alloc)?,
-                Reply::Done,
-            ];
-            assert_eq!(rt; run.replies.as_slice(), replies.as_slice(), "of {mode}");
-            let handed = run.session.finish();
-            assert_eq!(rt; handed.raw.bytes_of(), left, "of {mode} by {buffering}");
-            assert_eq!(rt; handed.place, None, "of {mode} by {buffering}");
-        }
+    let read = Call::Read(Some(2));
+    let front = bytes(alloc, b"ab")?;
+    let writes = write(alloc, b"x")?;
+    let one = Reply::Count(1);
+    for buffering in [-1, 0, 2] {
+        works_without_a_place(&rt, alloc, ("rb", buffering), &read, &front, b"abc")?;
+        works_without_a_place(&rt, alloc, ("wb", buffering), &writes, &one, b"xbc")?;
+        works_without_a_place(&rt, alloc, ("ab", buffering), &writes, &one, b"xbc")?;
     }
     Ok(())
 }

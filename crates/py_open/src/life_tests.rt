@@ -67,38 +67,40 @@ fn refuses_each(
     }
 }
 
-/// The calls that a text doesn't have.
-fn calls_of_bytes(alloc: Global) -> Result<Vec<Call>, AllocError> {
-    Ok(vec![in alloc;
-        Call::Read1(None),
-        Call::ReadLines(None),
-        Call::Peek,
-        Call::ReadInto(1),
-        Call::ReadInto1(1),
-        write(alloc, b"a")?,
-        Call::WriteLines(lines_of(alloc, &[b"a"])?),
-        Call::WriteText(Chars::from_text(alloc, "a")?),
-        Call::Seek(0, 0),
-        Call::SeekText(Data::new(alloc), 0),
-        Call::Tell,
-        Call::Truncate(None),
-        Call::Flush,
-        Call::Detach,
-        Call::ChunkSize,
-        Call::SetChunkSize(1),
-        Call::Encoding,
-        Call::Errors,
-    ]?)
+/// Calls that a text doesn't have.
+const OF_BYTES: [Call; 14] = [
+    Call::Read1(None),
+    Call::ReadLines(None),
+    Call::Peek,
+    Call::ReadInto(1),
+    Call::ReadInto1(1),
+    Call::Seek(0, 0),
+    Call::Tell,
+    Call::Truncate(None),
+    Call::Flush,
+    Call::Detach,
+    Call::ChunkSize,
+    Call::SetChunkSize(1),
+    Call::Encoding,
+    Call::Errors,
+];
+
+/// Calls that write; a text has none of them.
+fn writings(alloc: Global) -> Result<Vec<Call>, AllocError> {
+    let mut calls = Vec::new(alloc);
+    calls.push(write(alloc, b"a")?)?;
+    calls.push(Call::WriteLines(lines_of(alloc, &[b"a"])?))?;
+    Ok(calls)
 }
 
 /// The calls that no stream of bytes has, which its life refuses first.
 fn calls_of_texts(alloc: Global) -> Result<Vec<Call>, AllocError> {
-    Ok(vec![in alloc;
-        Call::WriteText(Chars::from_text(alloc, "a")?),
-        Call::SeekText(Data::new(alloc), 0),
-        Call::Truncate(None),
-        Call::SetChunkSize(1),
-    ]?)
+    let mut calls = Vec::new(alloc);
+    calls.push(Call::WriteText(Chars::from_text(alloc, "a")?))?;
+    calls.push(Call::SeekText(Data::new(alloc), 0))?;
+    calls.push(Call::Truncate(None))?;
+    calls.push(Call::SetChunkSize(1))?;
+    Ok(calls)
 }
 
 /// The questions for what only a text has, which a stream of bytes refuses in every life.
@@ -128,66 +130,103 @@ fn a_text_answers_the_four_questions_in_every_life(rt: HostRuntime) -> Result<()
     Ok(())
 }
 
+/// A text refuses all calls that it doesn't have, by that fault.
+fn refuses_other_calls(
+    rt: &impl Abort,
+    alloc: Global,
+    session: &mut Session<MemRaw>,
+    fault: IoFault,
+) -> Result<(), AllocError> {
+    refuses_each(rt, alloc, session, &OF_BYTES, fault);
+    refuses_each(rt, alloc, session, &writings(alloc)?, fault);
+    refuses_each(rt, alloc, session, &calls_of_texts(alloc)?, fault);
+    Ok(())
+}
+
+/// The calls of a text, but for `Close`.
+const OF_TEXT: [Call; 3] = [Call::Read(None), Call::Read(Some(0)), Call::ReadLine(None)];
+
 #[test]
 fn a_text_refuses_the_calls_that_it_lacks(rt: HostRuntime) -> Result<(), Fail> {
     let alloc = rt.alloc();
-    let lacking = calls_of_bytes(alloc)?;
     let raw = raw_of(alloc, b"ab\n", Vec::new(alloc), &[])?;
     let mut session = text_of(&rt, alloc, raw)?;
-    refuses_each(&rt, alloc, &mut session, &lacking, IoFault::Unsupported);
-    assert_eq!(rt; session.call(alloc, &Call::Close), Reply::Done);
-    refuses_each(&rt, alloc, &mut session, &lacking, IoFault::Closed);
-    let own = [Call::Read(None), Call::Read(Some(0)), Call::ReadLine(None)];
-    refuses_each(&rt, alloc, &mut session, &own, IoFault::Closed);
-    assert_eq!(rt; session.call(alloc, &Call::Close), Reply::Done);
+    refuses_other_calls(&rt, alloc, &mut session, IoFault::Unsupported)?;
+    assert!(rt; session.call(alloc, &Call::Close) == Reply::Done);
+    refuses_other_calls(&rt, alloc, &mut session, IoFault::Closed)?;
+    refuses_each(&rt, alloc, &mut session, &OF_TEXT, IoFault::Closed);
+    assert!(rt; session.call(alloc, &Call::Close) == Reply::Done);
+    Ok(())
+}
 
+#[test]
+fn a_text_that_failed_refuses_every_call(rt: HostRuntime) -> Result<(), Fail> {
+    let alloc = rt.alloc();
     let raw = raw_of(alloc, b"ab\n", vec![in alloc; Cut::Break(0)]?, &[])?;
     let mut session = text_of(&rt, alloc, raw)?;
-    let fault = Reply::Refused(IoFault::RawFault);
-    assert_eq!(rt; session.call(alloc, &Call::ReadLine(None)), fault);
-    refuses_each(&rt, alloc, &mut session, &lacking, IoFault::Failed);
-    refuses_each(&rt, alloc, &mut session, &own, IoFault::Failed);
+    let reply = session.call(alloc, &Call::ReadLine(None));
+    assert!(rt; reply == Reply::Refused(IoFault::RawFault));
+    refuses_other_calls(&rt, alloc, &mut session, IoFault::Failed)?;
+    refuses_each(&rt, alloc, &mut session, &OF_TEXT, IoFault::Failed);
     refuses_each(&rt, alloc, &mut session, &[Call::Close], IoFault::Failed);
     Ok(())
 }
 
-/// Calls of a stream of bytes: one that moves bytes for each of reading and writing, and others that both have.
+/// How a session comes to a life: whether its first transfer breaks off, and its last call.
+const LIVES: [(bool, Call, Life, IoFault); 4] = [
+    (false, Call::Flush, Life::Live, IoFault::Unsupported),
+    (true, Call::Flush, Life::Failed, IoFault::Failed),
+    (false, Call::Close, Life::Closed, IoFault::Closed),
+    (false, Call::Detach, Life::Detached, IoFault::Detached),
+];
+
+/// Calls of a stream of bytes of a mode: one that moves bytes, and others.
 fn working(alloc: Global, mode: &str) -> Result<Vec<Call>, AllocError> {
-    let moving = if mode == "rb" {
-        Call::Read(None)
+    let mut calls = Vec::new(alloc);
+    if mode == "rb" {
+        calls.push(Call::Read(None))?;
     } else {
-        Call::WriteLines(lines_of(alloc, &[b"1234567890"])?)
-    };
-    Ok(vec![in alloc; moving, Call::Tell, Call::Flush]?)
+        calls.push(Call::WriteLines(lines_of(alloc, &[b"1234567890"])?))?;
+    }
+    calls.push(Call::Tell)?;
+    calls.push(Call::Flush)?;
+    Ok(calls)
+}
+
+/// A session that those calls were made on, and a last one, over a raw that can seek or not and may break off at once.
+fn worked(
+    rt: &impl Abort,
+    alloc: Global,
+    opening: (&str, i64),
+    raw: (bool, bool),
+    last: &Call,
+) -> Result<Session<MemRaw>, AllocError> {
+    let (seekable, breaks) = raw;
+    let (mode, buffering) = opening;
+    let mut calls = working(alloc, mode)?;
+    calls.push(last.try_clone(alloc)?)?;
+    let flags = RawFlags::able(true, true, seekable);
+    let cut = if breaks { Cut::Break(1) } else { Cut::Take(1) };
+    let held = b"ab\n".to_vec(alloc)?;
+    let raw = MemRaw::new(held, flags, vec![in alloc; cut]?, Vec::new(alloc));
+    Ok(run_of(rt, alloc, raw, mode, buffering, &calls).session)
 }
 
 #[test]
 fn a_stream_of_bytes_answers_the_four_questions_in_every_life(rt: HostRuntime) -> Result<(), Fail> {
     let alloc = rt.alloc();
-    for mode in ["rb", "wb", "xb", "ab"] {
-        for buffering in [0, 2, 8192] {
-            for seekable in [true, false] {
-                let able = (mode == "rb", mode != "rb", seekable);
-                for (breaks, last, life) in [
-                    (true, Call::Flush, Life::Failed),
-                    (false, Call::Flush, Life::Live),
-                    (false, Call::Close, Life::Closed),
-                    (false, Call::Detach, Life::Detached),
-                ] {
-                    if buffering == 0 && life == Life::Detached {
+    for (breaks, last, life, _) in &LIVES {
+        for mode in ["rb", "wb", "xb", "ab"] {
+            for buffering in [0, 2, 8192] {
+                for seekable in [true, false] {
+                    // Only a stream with a buffer is detached.
+                    if buffering == 0 && *life == Life::Detached {
                         continue;
                     }
-                    let flags = RawFlags::able(true, true, seekable);
-                    let cut = if breaks { Cut::Break(1) } else { Cut::Take(1) };
-                    let held = b"ab\n".to_vec(alloc)?;
-                    let raw = MemRaw::new(held, flags, vec![in alloc; cut]?, Vec::new(alloc));
-                    let mut session = run_of(&rt, alloc, raw, mode, buffering, &[]).session;
-                    answers_questions(&rt, alloc, &mut session, able, Life::Live);
-                    for call in &working(alloc, mode)? {
-                        session.call(alloc, call);
-                    }
-                    session.call(alloc, &last);
-                    answers_questions(&rt, alloc, &mut session, able, life);
+                    let able = (mode == "rb", mode != "rb", seekable);
+                    let raw = (seekable, *breaks);
+                    let mut session = worked(&rt, alloc, (mode, buffering), raw, last)?;
+                    answers_questions(&rt, alloc, &mut session, able, *life);
                 }
             }
         }
@@ -195,43 +234,38 @@ fn a_stream_of_bytes_answers_the_four_questions_in_every_life(rt: HostRuntime) -
     Ok(())
 }
 
+/// A session refuses by its life the calls that its kind lacks, and all others too once it isn't live; only a live or closed one
+/// is closed.
+fn refuses_by_life(
+    rt: &impl Abort,
+    alloc: Global,
+    session: &mut Session<MemRaw>,
+    mode: &str,
+    fault: IoFault,
+) -> Result<(), AllocError> {
+    refuses_each(rt, alloc, session, &calls_of_texts(alloc)?, fault);
+    refuses_each(rt, alloc, session, &OF_TEXTS_ALONE, IoFault::Unsupported);
+    if fault != IoFault::Unsupported {
+        refuses_each(rt, alloc, session, &working(alloc, mode)?, fault);
+    }
+    let closes = session.call(alloc, &Call::Close) == Reply::Done;
+    let may = matches!(fault, IoFault::Unsupported | IoFault::Closed);
+    assert!(rt; closes == may, "of {mode}");
+    Ok(())
+}
+
 #[test]
 fn a_stream_of_bytes_refuses_by_its_life(rt: HostRuntime) -> Result<(), Fail> {
     let alloc = rt.alloc();
-    let of_texts = calls_of_texts(alloc)?;
-    for mode in ["rb", "wb", "xb", "ab"] {
-        let own = working(alloc, mode)?;
-        for buffering in [0, 2, 8192] {
-            for (breaks, last, fault) in [
-                (false, Call::Flush, IoFault::Unsupported),
-                (true, Call::Flush, IoFault::Failed),
-                (false, Call::Close, IoFault::Closed),
-                (false, Call::Detach, IoFault::Detached),
-            ] {
-                if buffering == 0 && fault == IoFault::Detached {
+    for (breaks, last, life, fault) in &LIVES {
+        for mode in ["rb", "wb", "xb", "ab"] {
+            for buffering in [0, 2, 8192] {
+                if buffering == 0 && *life == Life::Detached {
                     continue;
                 }
-                let cut = if breaks { Cut::Break(1) } else { Cut::Take(1) };
-                let raw = raw_of(alloc, b"ab\n", vec![in alloc; cut]?, &[])?;
-                let mut session = run_of(&rt, alloc, raw, mode, buffering, &[]).session;
-                for call in &own {
-                    session.call(alloc, call);
-                }
-                session.call(alloc, &last);
-                refuses_each(&rt, alloc, &mut session, &of_texts, fault);
-                refuses_each(
-                    &rt,
-                    alloc,
-                    &mut session,
-                    &OF_TEXTS_ALONE,
-                    IoFault::Unsupported,
-                );
-                if fault != IoFault::Unsupported {
-                    refuses_each(&rt, alloc, &mut session, &own, fault);
-                }
-                let closes = session.call(alloc, &Call::Close);
-                let closed = matches!(fault, IoFault::Unsupported | IoFault::Closed);
-                assert_eq!(rt; closes == Reply::Done, closed, "of {mode} by {buffering}");
+                let raw = (true, *breaks);
+                let mut session = worked(&rt, alloc, (mode, buffering), raw, last)?;
+                refuses_by_life(&rt, alloc, &mut session, mode, *fault)?;
             }
         }
     }
@@ -262,33 +296,30 @@ fn a_stream_without_a_buffer_lacks_what_needs_one(rt: HostRuntime) -> Result<(),
     Ok(())
 }
 
+const READINGS: [Call; 7] = [
+    Call::Read(Some(1)),
+    Call::Read1(Some(1)),
+    Call::ReadLine(None),
+    Call::ReadLines(None),
+    Call::Peek,
+    Call::ReadInto(1),
+    Call::ReadInto1(1),
+];
+
 #[test]
 fn a_stream_of_bytes_does_what_it_is_opened_for(rt: HostRuntime) -> Result<(), Fail> {
     let alloc = rt.alloc();
-    let reading = [
-        Call::Read(Some(1)),
-        Call::Read1(Some(1)),
-        Call::ReadLine(None),
-        Call::ReadLines(None),
-        Call::Peek,
-        Call::ReadInto(1),
-        Call::ReadInto1(1),
-    ];
-    let writing = [
-        write(alloc, b"a")?,
-        Call::WriteLines(lines_of(alloc, &[b"a"])?),
-    ];
-    for (mode, lacking) in [
-        ("rb", writing.as_slice()),
-        ("wb", reading.as_slice()),
-        ("xb", reading.as_slice()),
-        ("ab", reading.as_slice()),
-    ] {
+    let writing = writings(alloc)?;
+    for mode in ["rb", "wb", "xb", "ab"] {
         for buffering in [0, 2, 8192] {
             let raw = raw_of(alloc, b"abc", Vec::new(alloc), &[])?;
             let mut session = run_of(&rt, alloc, raw, mode, buffering, &[]).session;
-            refuses_each(&rt, alloc, &mut session, lacking, IoFault::Unsupported);
-            assert_eq!(rt; session.finish().raw.bytes_of(), b"abc".as_slice());
+            if mode == "rb" {
+                refuses_each(&rt, alloc, &mut session, &writing, IoFault::Unsupported);
+            } else {
+                refuses_each(&rt, alloc, &mut session, &READINGS, IoFault::Unsupported);
+            }
+            assert!(rt; session.finish().raw.bytes_of() == b"abc".as_slice());
         }
     }
     Ok(())

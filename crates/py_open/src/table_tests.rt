@@ -3,9 +3,9 @@
 ghost use Rattle.py_raw.specs.MemRaw.{shown};
 ghost use Rattle.py_stream.specs.Opening.{StandsAtStart};
 
-use crate::binary_tests::{buffered_by, lines_of, raw_of, run_of, write};
+use crate::binary_tests::{lines_of, raw_of, run_of, write};
 use crate::flat_file::{Flat, answers};
-use crate::{Call, Detached, Reply, Session, run_session};
+use crate::{Call, Detached, Reply, Session};
 use py_flat::{IoFault, Life};
 use py_raw::{Cut, MemRaw, RawStream};
 use std::alloc::{AllocError, Global};
@@ -17,78 +17,103 @@ const BUFFERINGS: [i64; 6] = [0, 2, 3, 4, 5, 8192];
 
 const HELD: &[u8] = b"ab\ncd\n\nefgh\nijklmnop";
 
-fn reading_calls(alloc: Global) -> Result<Vec<Call>, AllocError> {
-    Ok(vec![in alloc;
-        Call::Peek,
-        Call::Read1(Some(0)),
-        Call::Read(Some(2)),
-        Call::ReadInto(3),
-        Call::ReadLine(Some(2)),
-        Call::ReadLine(None),
-        Call::Tell,
-        Call::ReadLines(Some(4)),
-        Call::Seek(1, 0),
-        write(alloc, b"no")?,
-        Call::ReadInto1(3),
-        Call::Read1(None),
-        Call::Seek(-1, 1),
-        Call::Read(Some(9)),
-        Call::Peek,
-        Call::Seek(-12, 2),
-        Call::ReadLines(None),
-        Call::ReadLine(None),
-        Call::Seek(3, 0),
-        Call::Read(None),
-        Call::Read(Some(5)),
-        Call::Seek(30, 0),
-        Call::Read(Some(1)),
-        Call::ReadInto(0),
-        Call::Seek(0, 0),
-        Call::Truncate(None),
-        Call::ReadLines(Some(3)),
-        Call::Flush,
-        Call::Seek(0, 0),
-        Call::Read(None),
-    ]?)
+const READING: [Call; 29] = [
+    Call::Peek,
+    Call::Read1(Some(0)),
+    Call::Read(Some(2)),
+    Call::ReadInto(3),
+    Call::ReadLine(Some(2)),
+    Call::ReadLine(None),
+    Call::Tell,
+    Call::ReadLines(Some(4)),
+    Call::Seek(1, 0),
+    Call::ReadInto1(3),
+    Call::Read1(None),
+    Call::Seek(-1, 1),
+    Call::Read(Some(9)),
+    Call::Peek,
+    Call::Seek(-12, 2),
+    Call::ReadLines(None),
+    Call::ReadLine(None),
+    Call::Seek(3, 0),
+    Call::Read(None),
+    Call::Read(Some(5)),
+    Call::Seek(30, 0),
+    Call::Read(Some(1)),
+    Call::ReadInto(0),
+    Call::Seek(0, 0),
+    Call::Truncate(None),
+    Call::ReadLines(Some(3)),
+    Call::Flush,
+    Call::Seek(0, 0),
+    Call::Read(None),
+];
+
+/// A call of a writer, as a table holds it.
+#[derive(Clone, Copy)]
+enum Given {
+    Write(&'static [u8]),
+    Lines(&'static [&'static [u8]]),
+    Seek(i64, i32),
+    Tell,
+    Flush,
+    Read,
+    Truncate,
 }
 
-fn writing_calls(alloc: Global) -> Result<Vec<Call>, AllocError> {
-    Ok(vec![in alloc;
-        write(alloc, b"")?,
-        Call::Tell,
-        write(alloc, b"1")?,
-        write(alloc, b"234")?,
-        Call::Read(Some(1)),
-        Call::WriteLines(lines_of(alloc, &[b"5\n", b"", b"67\n"])?),
-        write(alloc, b"ABCDE")?,
-        Call::Seek(2, 0),
-        write(alloc, b"XYZ")?,
-        Call::Seek(-1, 1),
-        write(alloc, b"abcdefghijkl")?,
-        Call::Flush,
-        write(alloc, b"!")?,
-        Call::Seek(3, 2),
-        Call::Tell,
-        Call::WriteLines(lines_of(alloc, &[b"m", b"nopqr", b"stuvwxyzABCD"])?),
-        write(alloc, b"E")?,
-        Call::Truncate(Some(1)),
-        Call::Seek(-5, 2),
-        Call::WriteLines(lines_of(alloc, &[])?),
-        write(alloc, b"12345")?,
-        write(alloc, b"67890")?,
-        Call::Seek(40, 0),
-        write(alloc, b"end")?,
-        Call::Flush,
-    ]?)
+const WRITING: &[Given] = &[
+    Given::Write(b""),
+    Given::Tell,
+    Given::Write(b"1"),
+    Given::Write(b"234"),
+    Given::Read,
+    Given::Lines(&[b"5\n", b"", b"67\n"]),
+    Given::Write(b"ABCDE"),
+    Given::Seek(2, 0),
+    Given::Write(b"XYZ"),
+    Given::Seek(-1, 1),
+    Given::Write(b"abcdefghijkl"),
+    Given::Flush,
+    Given::Write(b"!"),
+    Given::Seek(3, 2),
+    Given::Tell,
+    Given::Lines(&[b"m", b"nopqr", b"stuvwxyzABCD"]),
+    Given::Write(b"E"),
+    Given::Truncate,
+    Given::Seek(-5, 2),
+    Given::Lines(&[]),
+    Given::Write(b"12345"),
+    Given::Write(b"67890"),
+    Given::Seek(40, 0),
+    Given::Write(b"end"),
+    Given::Flush,
+];
+
+fn call_of(alloc: Global, given: Given) -> Result<Call, AllocError> {
+    Ok(match given {
+        Given::Write(bytes) => write(alloc, bytes)?,
+        Given::Lines(lines) => Call::WriteLines(lines_of(alloc, lines)?),
+        Given::Seek(offset, whence) => Call::Seek(offset, whence),
+        Given::Tell => Call::Tell,
+        Given::Flush => Call::Flush,
+        Given::Read => Call::Read(Some(1)),
+        Given::Truncate => Call::Truncate(Some(1)),
+    })
 }
 
 /// The calls of a mode.
 fn calls_of(alloc: Global, mode: &str) -> Result<Vec<Call>, AllocError> {
+    let mut calls = Vec::new(alloc);
     if mode == "rb" {
-        reading_calls(alloc)
+        for call in &READING {
+            calls.push(call.try_clone(alloc)?)?;
+        }
     } else {
-        writing_calls(alloc)
+        for given in WRITING {
+            calls.push(call_of(alloc, *given)?)?;
+        }
     }
+    Ok(calls)
 }
 
 /// A plan that moves so many bytes in each transfer, but in one, which does otherwise.
@@ -113,6 +138,37 @@ fn flat_of(alloc: Global, mode: &str, buffering: i64) -> Result<Flat, AllocError
     })
 }
 
+/// Each reply is the flat file's, and none is short.
+fn answers_each(
+    rt: &impl Abort,
+    alloc: Global,
+    flat: &mut Flat,
+    calls: &[Call],
+    replies: &[Reply],
+) -> Result<(), Fail> {
+    assert_eq!(rt; replies.len(), calls.len());
+    for (call, reply) in calls.iter().zip(replies) {
+        assert!(rt;
+            answers(alloc, flat, call, reply, false)?,
+            "{reply:?} to {call:?}"
+        );
+    }
+    Ok(())
+}
+
+/// A session that a fault left, closed by a `Close` and else failed, refuses every call.
+fn is_left_by_a_fault(rt: &impl Abort, alloc: Global, session: &mut Session<MemRaw>, closes: bool) {
+    let (life, fault) = if closes {
+        (Life::Closed, IoFault::Closed)
+    } else {
+        (Life::Failed, IoFault::Failed)
+    };
+    assert!(rt; session.life() == life);
+    for next in &[Call::Flush, Call::Tell, Call::Read(None)] {
+        assert!(rt; session.call(alloc, next) == Reply::Refused(fault));
+    }
+}
+
 /// Makes calls, each answered as the flat file has it, up to one that a fault answers. Where one was, its call; it left the session
 /// failed, or closed where it is a `Close`, and every call but a question is refused from then on.
 fn follow<'a>(
@@ -125,15 +181,7 @@ fn follow<'a>(
     for call in calls {
         let reply = session.call(alloc, call);
         if reply.says_fault() {
-            let (life, fault) = match call {
-                Call::Close => (Life::Closed, IoFault::Closed),
-                _ => (Life::Failed, IoFault::Failed),
-            };
-            assert_eq!(rt; session.life(), life, "after {call:?}");
-            for next in [Call::Flush, Call::Tell, Call::Read(None)] {
-                let refused = Reply::Refused(fault);
-                assert_eq!(rt; session.call(alloc, &next), refused, "after {call:?}");
-            }
+            is_left_by_a_fault(rt, alloc, session, *call == Call::Close);
             return Ok(Some(call));
         }
         let short = session.short();
@@ -240,13 +288,7 @@ fn sessions_over_any_pieces_answer_exactly(rt: HostRuntime) -> Result<(), Fail> 
                 let raw = raw_of(alloc, HELD, plan, &[])?;
                 let run = run_of(&rt, alloc, raw, mode, buffering, &calls);
                 let mut flat = flat_of(alloc, mode, buffering)?;
-                assert_eq!(rt; run.replies.len(), calls.len());
-                for (call, reply) in calls.iter().zip(&run.replies) {
-                    assert!(rt;
-                        answers(alloc, &mut flat, call, reply, false)?,
-                        "{reply:?} to {call:?} of {mode} by {buffering}"
-                    );
-                }
+                answers_each(&rt, alloc, &mut flat, &calls, &run.replies)?;
                 let handed = run.session.finish();
                 assert_eq!(rt; handed.raw.bytes_of(), flat.bytes.as_slice());
                 assert!(rt; handed.unwritten.is_empty(), "of {mode} by {buffering}");
@@ -260,7 +302,7 @@ fn sessions_over_any_pieces_answer_exactly(rt: HostRuntime) -> Result<(), Fail> 
 #[test]
 fn what_is_handed_back_after_any_call_is_all_that_was_taken(rt: HostRuntime) -> Result<(), Fail> {
     let alloc = rt.alloc();
-    let calls = writing_calls(alloc)?;
+    let calls = calls_of(alloc, "wb")?;
     for mode in ["wb", "ab"] {
         for buffering in BUFFERINGS {
             for count in 0..calls.len() {
@@ -269,12 +311,7 @@ fn what_is_handed_back_after_any_call_is_all_that_was_taken(rt: HostRuntime) -> 
                 let made = &calls[..count.min(calls.len())];
                 let run = run_of(&rt, alloc, raw, mode, buffering, made);
                 let mut flat = flat_of(alloc, mode, buffering)?;
-                for (call, reply) in made.iter().zip(&run.replies) {
-                    assert!(rt;
-                        answers(alloc, &mut flat, call, reply, false)?,
-                        "{reply:?} to {call:?}"
-                    );
-                }
+                answers_each(&rt, alloc, &mut flat, made, &run.replies)?;
                 let handed = run.session.finish();
                 let most = usize::try_from(buffering).unwrap_or(0);
                 assert!(rt; handed.unwritten.len() <= most, "of {mode} by {buffering}");
@@ -323,25 +360,14 @@ fn a_raw_that_waits_each_time_loses_nothing(rt: HostRuntime) -> Result<(), Fail>
 #[test]
 fn a_fault_at_any_call_is_told_once_and_loses_nothing(rt: HostRuntime) -> Result<(), Fail> {
     let alloc = rt.alloc();
-    for mode in ["rb", "wb", "xb", "ab"] {
-        // The calls by which an opening finds its place.
-        let opens: u64 = if mode == "ab" { 2 } else { 1 };
+    // The calls of the raw before these find the place where a session begins.
+    for (mode, first) in [("rb", 1u64), ("wb", 1), ("xb", 1), ("ab", 2)] {
         for buffering in BUFFERINGS {
-            for number in 0..13u64 {
+            for number in first..13 {
                 let plan = vec![in alloc; Cut::Take(1); 300]?;
                 let raw = raw_of(alloc, HELD, plan, &[number])?;
-                if number < opens {
-                    let args = buffered_by(buffering);
-                    let Err(refused) = run_session(alloc, raw, mode, args, &[]) else {
-                        return Err(Fail::from("opened"));
-                    };
-                    assert_eq!(rt; refused.fault, IoFault::RawFault);
-                    assert_eq!(rt; refused.raw.bytes_of(), HELD, "of {mode}");
-                    assert!(rt; !refused.raw.closed(), "of {mode}");
-                } else {
-                    let came = run_beside(&rt, alloc, (mode, buffering), raw, 0)?;
-                    assert_eq!(rt; came, (true, 0), "of {mode} by {buffering} at {number}");
-                }
+                let came = run_beside(&rt, alloc, (mode, buffering), raw, 0)?;
+                assert_eq!(rt; came, (true, 0), "of {mode} by {buffering} at {number}");
             }
         }
     }
@@ -374,29 +400,38 @@ fn a_piece_that_breaks_off_loses_nothing(rt: HostRuntime) -> Result<(), Fail> {
     Ok(())
 }
 
+/// A session of a writer whose run a piece that breaks off has failed.
+fn failed_at(
+    rt: &impl Abort,
+    alloc: Global,
+    opening: (&str, i64),
+    piece: usize,
+) -> Result<Session<MemRaw>, AllocError> {
+    let calls = calls_of(alloc, "wb")?;
+    let plan = plan_but(alloc, 3, piece, Cut::Break(1))?;
+    let raw = raw_of(alloc, HELD, plan, &[])?;
+    let (mode, buffering) = opening;
+    let session = run_of(rt, alloc, raw, mode, buffering, &calls).session;
+    assert!(rt; session.life() == Life::Failed, "of {mode} by {buffering}");
+    Ok(session)
+}
+
 #[test]
 fn a_detach_hands_over_what_a_finish_would(rt: HostRuntime) -> Result<(), Fail> {
     let alloc = rt.alloc();
-    let calls = writing_calls(alloc)?;
     for mode in ["wb", "ab"] {
         for buffering in [2, 3, 5, 8192] {
             for piece in 0..4 {
-                let plan = plan_but(alloc, 3, piece, Cut::Break(1))?;
-                let raw = raw_of(alloc, HELD, plan, &[])?;
-                let finished = run_of(&rt, alloc, raw, mode, buffering, &calls);
-                let handed = finished.session.finish();
-
-                let plan = plan_but(alloc, 3, piece, Cut::Break(1))?;
-                let raw = raw_of(alloc, HELD, plan, &[])?;
-                let mut session = run_of(&rt, alloc, raw, mode, buffering, &calls).session;
-                assert_eq!(rt; session.life(), Life::Failed, "of {mode} by {buffering}");
+                let opening = (mode, buffering);
+                let handed = failed_at(&rt, alloc, opening, piece)?.finish();
+                let mut session = failed_at(&rt, alloc, opening, piece)?;
                 let Reply::Unwritten { bytes, place } = session.call(alloc, &Call::Detach) else {
                     return Err(Fail::from("not detached"));
                 };
-                assert_eq!(rt; bytes.as_slice(), handed.unwritten.as_slice());
-                assert_eq!(rt; place, handed.place, "of {mode} by {buffering}");
+                assert!(rt; bytes.as_slice() == handed.unwritten.as_slice());
+                assert!(rt; place == handed.place, "of {mode} by {buffering}");
                 let left = session.finish();
-                assert_eq!(rt; left.raw.bytes_of(), handed.raw.bytes_of());
+                assert!(rt; left.raw.bytes_of() == handed.raw.bytes_of());
                 assert!(rt; left.unwritten.is_empty() && left.place.is_none());
             }
         }
