@@ -4,7 +4,7 @@ ghost use Rattle.py_raw.specs.MemRaw.{shown};
 ghost use Rattle.py_stream.specs.Opening.{StandsAtStart};
 
 use crate::tests::may_be_sent;
-use crate::{Call, OpenArgs, OpenRefused, Reply, Run, run_session};
+use crate::{Call, OpenArgs, OpenRefused, Reply, Run, Session, run_session};
 use py_flat::{Chars, Data, IoFault, Life, Lines};
 use py_raw::{Cut, MemRaw, RawFlags, RawStream};
 use std::alloc::{AllocError, Global};
@@ -74,6 +74,22 @@ fn unwritten(alloc: Global, bytes: &[u8], place: u64) -> Result<Reply, AllocErro
 }
 
 const UNSUPPORTED: Reply = Reply::Refused(IoFault::Unsupported);
+
+const RAW_FAULT: Reply = Reply::Refused(IoFault::RawFault);
+
+const FAILED: Reply = Reply::Refused(IoFault::Failed);
+
+const DETACHED: Reply = Reply::Refused(IoFault::Detached);
+
+fn answers(
+    rt: &impl Abort,
+    alloc: Global,
+    session: &mut Session<MemRaw>,
+    call: &Call,
+    reply: &Reply,
+) {
+    assert!(rt; session.call(alloc, call) == *reply);
+}
 
 #[test]
 fn bytes_are_read_in_two_readings(rt: HostRuntime) -> Result<(), Fail> {
@@ -186,28 +202,18 @@ fn what_a_fault_left_is_handed_back_by_a_detach(rt: HostRuntime) -> Result<(), F
         vec![in alloc; Cut::Take(2), Cut::Break(0)]?,
         &[],
     )?;
-    let calls = [
-        write(alloc, b"abcdef")?,
-        Call::Flush,
-        Call::Flush,
-        Call::Detach,
-        Call::Detach,
-        Call::Flush,
-        Call::Close,
-    ];
-    let run = run_of(&rt, alloc, raw, "wb", 8, &calls);
-    let replies = [
-        Reply::Count(6),
-        Reply::Refused(IoFault::RawFault),
-        Reply::Refused(IoFault::Failed),
-        unwritten(alloc, b"cdef", 2)?,
-        Reply::Refused(IoFault::Detached),
-        Reply::Refused(IoFault::Detached),
-        Reply::Refused(IoFault::Detached),
-    ];
-    assert_eq!(rt; run.replies.as_slice(), replies.as_slice());
-    assert_eq!(rt; run.session.life(), Life::Detached);
-    let handed = run.session.finish();
+    let mut session = run_of(&rt, alloc, raw, "wb", 8, &[]).session;
+    let writes = write(alloc, b"abcdef")?;
+    answers(&rt, alloc, &mut session, &writes, &Reply::Count(6));
+    answers(&rt, alloc, &mut session, &Call::Flush, &RAW_FAULT);
+    answers(&rt, alloc, &mut session, &Call::Flush, &FAILED);
+    let left = unwritten(alloc, b"cdef", 2)?;
+    answers(&rt, alloc, &mut session, &Call::Detach, &left);
+    answers(&rt, alloc, &mut session, &Call::Detach, &DETACHED);
+    answers(&rt, alloc, &mut session, &Call::Flush, &DETACHED);
+    answers(&rt, alloc, &mut session, &Call::Close, &DETACHED);
+    assert_eq!(rt; session.life(), Life::Detached);
+    let handed = session.finish();
     assert_eq!(rt; handed.raw.bytes_of(), b"ab".as_slice());
     assert_eq!(rt; handed.raw.fault_count(), 1);
     assert!(rt; handed.unwritten.is_empty());

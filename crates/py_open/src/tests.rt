@@ -390,44 +390,57 @@ fn a_refused_opening_hands_the_raw_back(rt: HostRuntime) -> Result<(), Fail> {
     Ok(())
 }
 
+/// A reading of all that waits is answered so, and short; made again, it gives the rest.
+fn is_short_once(
+    rt: &impl Abort,
+    alloc: Global,
+    plan: Vec<Cut>,
+    waits: &Reply,
+    rest: &Reply,
+) -> Result<(), AllocError> {
+    let raw = raw_of(alloc, "ab".as_bytes(), plan)?;
+    let mut session = small_run(rt, alloc, raw, (4, 4), &[]).session;
+    assert!(rt; session.call(alloc, &Call::Read(None)) == *waits);
+    assert!(rt; session.short());
+    assert!(rt; session.call(alloc, &Call::Read(None)) == *rest);
+    assert!(rt; !session.short());
+    Ok(())
+}
+
 #[test]
 fn a_wait_makes_the_answer_short(rt: HostRuntime) -> Result<(), Fail> {
     let alloc = rt.alloc();
-    let cases = [
-        (
-            vec![in alloc; Cut::Take(1), Cut::Wait]?,
-            text(alloc, "a")?,
-            "b",
-        ),
-        (vec![in alloc; Cut::Wait]?, Reply::NotReady, "ab"),
-    ];
-    for (plan, short, rest) in cases {
-        let raw = raw_of(alloc, "ab".as_bytes(), plan)?;
-        let run = small_run(&rt, alloc, raw, (4, 4), &[Call::Read(None)]);
-        assert_eq!(rt; run.replies.as_slice(), [short].as_slice());
-        assert!(rt; run.session.short());
-        let mut session = run.session;
-        assert_eq!(rt; session.call(alloc, &Call::Read(None)), text(alloc, rest)?);
-        assert!(rt; !session.short());
-    }
+    let waits = text(alloc, "a")?;
+    let rest = text(alloc, "b")?;
+    let plan = vec![in alloc; Cut::Take(1), Cut::Wait]?;
+    is_short_once(&rt, alloc, plan, &waits, &rest)?;
+    let whole = text(alloc, "ab")?;
+    let plan = vec![in alloc; Cut::Wait]?;
+    is_short_once(&rt, alloc, plan, &Reply::NotReady, &whole)?;
+    Ok(())
+}
+
+fn call_is_copied(rt: &impl Abort, alloc: Global, call: &Call) -> Result<(), AllocError> {
+    let copy = call.try_clone(alloc)?;
+    assert!(rt; copy == *call);
+    Ok(())
+}
+
+fn reply_is_copied(rt: &impl Abort, alloc: Global, reply: &Reply) -> Result<(), AllocError> {
+    let copy = reply.try_clone(alloc)?;
+    assert!(rt; copy == *reply);
     Ok(())
 }
 
 #[test]
 fn copies_are_equal(rt: HostRuntime) -> Result<(), Fail> {
     let alloc = rt.alloc();
-    let calls = [
-        Call::Read(None),
-        Call::ReadLine(Some(3)),
-        Call::WriteText(Chars::from_text(alloc, "é")?),
-        Call::Close,
-    ];
-    for call in &calls {
-        assert_eq!(rt; call.try_clone(alloc)?, *call);
-    }
-    let replies = [text(alloc, "é")?, decode_error(2, 3), Reply::NotReady];
-    for reply in &replies {
-        assert_eq!(rt; reply.try_clone(alloc)?, *reply);
-    }
+    call_is_copied(&rt, alloc, &Call::Read(None))?;
+    call_is_copied(&rt, alloc, &Call::ReadLine(Some(3)))?;
+    call_is_copied(&rt, alloc, &Call::WriteText(Chars::from_text(alloc, "é")?))?;
+    call_is_copied(&rt, alloc, &Call::Close)?;
+    reply_is_copied(&rt, alloc, &text(alloc, "é")?)?;
+    reply_is_copied(&rt, alloc, &decode_error(2, 3))?;
+    reply_is_copied(&rt, alloc, &Reply::NotReady)?;
     Ok(())
 }
