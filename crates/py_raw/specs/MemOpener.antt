@@ -14,7 +14,7 @@ use Rattle.py_raw.specs.declared.mem_opener.MemOpener.{MemOpener}
 abbrev pub bytes_in : List (Entry (Vec ℕ Global)) → List ℕ → Option (List ℕ)
 bytes_in entries path = option_map (λ bytes. bytes.items) (held_in entries path)
 
--- it tells what each path holds
+-- it tells what each path holds, and counts exactly
 abbrev pub shown_opener : MemOpener → OpenerView
 shown_opener opener = record {
   tells = true;
@@ -22,6 +22,7 @@ shown_opener opener = record {
   faults = opener.faults;
   raw_faults = opener.raw_faults;
   raw_waits = opener.raw_waits;
+  counts_exactly = true;
 }
 
 -- its own faults, and the faults and waits of the raws that it took back, are as many as before

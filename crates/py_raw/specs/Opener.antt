@@ -6,13 +6,15 @@ use Rattle.py_raw.specs.declared.opener.OpenError.TheVariants.{Fault, Memory}
 use Rattle.py_raw.specs.RawStream.{Raw}
 use Rattle.py_raw.specs.RawMode.{letter_r, letter_w, letter_x, file_letter, mode_reads, mode_writes}
 
--- what each path holds means something only where the opener tells it; a path is the bytes of its text
+-- what each path holds means something only where the opener tells it; a path is the bytes of its text. An opener that counts
+-- exactly counts a fault of its own only where a call answers it
 pub record OpenerView : Type 0 where
   pub tells : Bool
   pub holds : List ℕ → Option (List ℕ)
   pub faults : ℕ
   pub raw_faults : ℕ
   pub raw_waits : ℕ
+  pub counts_exactly : Bool
 
 -- every path holds what it held
 abbrev pub HoldsTheSame : OpenerView → OpenerView → Type 0
@@ -22,6 +24,10 @@ HoldsTheSame old new = (path : List ℕ) → new.holds path ≡ old.holds path
 abbrev pub OthersHoldTheSame : List ℕ → OpenerView → OpenerView → Type 0
 OthersHoldTheSame path old new = (other : List ℕ) → other ≢ path → new.holds other ≡ old.holds other
 
+-- of an opener that counts exactly, no fault was counted
+abbrev pub NoOpenerFault : OpenerView → OpenerView → Type 0
+NoOpenerFault old new = IsTrue old.counts_exactly → new.faults ≡ old.faults
+
 -- `open_raw`
 
 -- it raises no count of raws
@@ -30,6 +36,7 @@ pub record OpenKeeps (old new : OpenerView) : Type 0 where
   pub faults : old.faults ≤ new.faults
   pub raw_faults : new.raw_faults ≡ old.raw_faults
   pub raw_waits : new.raw_waits ≡ old.raw_waits
+  pub counts_exactly : new.counts_exactly ≡ old.counts_exactly
 
 -- whether a mode can't open what a path holds: x finds it, or r misses it
 abbrev pub misses : List ℕ → Option (List ℕ) → Bool
@@ -87,6 +94,7 @@ pub record DoneKeeps (raw : Raw) (old new : OpenerView) : Type 0 where
   pub faults : old.faults ≤ new.faults
   pub raw_faults : RoseBy raw.faults old.raw_faults new.raw_faults
   pub raw_waits : RoseBy raw.waits old.raw_waits new.raw_waits
+  pub counts_exactly : new.counts_exactly ≡ old.counts_exactly
 
 -- told: the path holds the raw's bytes, every other what it held
 pub record PutsAway (raw : Raw) (old : OpenerView) (path : List ℕ) (new : OpenerView) : Type 0 where

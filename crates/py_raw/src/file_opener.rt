@@ -23,12 +23,12 @@ pub struct FileOpener<'a, R: Files> {
 }
 
 impl<'a, R: Files> FileOpener<'a, R> {
-    ghost use Rattle.std.specs.Prelude.{false, None};
+    ghost use Rattle.std.specs.Prelude.{true, false, None};
     ghost use Rattle.py_raw.specs.FileOpener.{shown_file_opener};
 
     /// An opener of the files that these give.
     pub fn new(files: &'a R) -> Self
-        ensures { shown_file_opener result ≡ record { tells = false; holds = λ path. None; faults = 0; raw_faults = 0; raw_waits = 0 } }
+        ensures { shown_file_opener result ≡ record { tells = false; holds = λ path. None; faults = 0; raw_faults = 0; raw_waits = 0; counts_exactly = true } }
     {
         FileOpener {
             files,
@@ -78,7 +78,7 @@ where
 {
     ghost use Rattle.std.specs.Prelude.{OnErr};
     ghost use Rattle.py_flat.specs.Causes.{counted};
-    ghost use Rattle.py_raw.specs.Opener.{OpenKeeps, OpenOutcome, DoneKeeps, DoneOutcome};
+    ghost use Rattle.py_raw.specs.Opener.{OpenKeeps, OpenOutcome, DoneKeeps, DoneOutcome, NoOpenerFault};
     ghost use Rattle.py_raw.specs.FileRaw.{shown};
     ghost use Rattle.py_raw.specs.FileOpener.{shown_file_opener};
 
@@ -96,6 +96,7 @@ where
         requires { IsRawMode mode.now }
         ensures keeps { OpenKeeps (shown_file_opener self.old) (shown_file_opener self.new) }
         ensures outcome { OpenOutcome shown (shown_file_opener self.old) path.now mode.now result (shown_file_opener self.new) }
+        ensures exact { OnOk result (NoOpenerFault (shown_file_opener self.old) (shown_file_opener self.new)) }
         ensures counts { OnOk result (shown_file_opener self.new ≡ shown_file_opener self.old) }
         ensures one_fault { OnErr result (shown_file_opener self.new ≡ record (shown_file_opener self.old) { faults = counted (shown_file_opener self.old).faults 1 }) }
         ensures fault { IfErr result (λ error. error ≡ OpenError.Fault) }
@@ -118,6 +119,7 @@ where
     fn done(&mut self, _path: &str, raw: FileRaw<R::File>) -> Result<(), OpenError>
         ensures keeps { DoneKeeps (shown raw) (shown_file_opener self.old) (shown_file_opener self.new) }
         ensures outcome { DoneOutcome (shown raw) (shown_file_opener self.old) _path.now result (shown_file_opener self.new) }
+        ensures exact { OnOk result (NoOpenerFault (shown_file_opener self.old) (shown_file_opener self.new)) }
         ensures faults { (shown_file_opener self.new).faults ≡ (shown_file_opener self.old).faults }
         ensures always { IsOk result }
     {

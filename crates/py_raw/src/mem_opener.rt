@@ -114,7 +114,7 @@ impl MemOpener {
     /// An opener none of whose paths holds anything or has a plan.
     pub fn new(alloc: Global) -> Self
         ensures plans { (path : List ℕ) → plan_at result path ≡ no_plan }
-        ensures shows { shown_opener result ≡ record { tells = true; holds = λ path. None; faults = 0; raw_faults = 0; raw_waits = 0 } }
+        ensures shows { shown_opener result ≡ record { tells = true; holds = λ path. None; faults = 0; raw_faults = 0; raw_waits = 0; counts_exactly = true } }
     {
         MemOpener {
             alloc,
@@ -193,7 +193,7 @@ impl MemOpener {
 
 impl Opener for MemOpener {
     ghost use Rattle.py_flat.specs.Causes.{counted};
-    ghost use Rattle.py_raw.specs.Opener.{HoldsTheSame, OpenKeeps, OpenOutcome, DoneKeeps, DoneOutcome};
+    ghost use Rattle.py_raw.specs.Opener.{HoldsTheSame, OpenKeeps, OpenOutcome, DoneKeeps, DoneOutcome, NoOpenerFault};
     ghost use Rattle.py_raw.specs.MemRaw.{shown};
     ghost use Rattle.py_raw.specs.MemOpener.{shown_opener, plan_at, KeepsPlans};
 
@@ -208,6 +208,7 @@ impl Opener for MemOpener {
         requires { IsRawMode mode.now }
         ensures keeps { OpenKeeps (shown_opener self.old) (shown_opener self.new) }
         ensures outcome { OpenOutcome shown (shown_opener self.old) path.now mode.now result (shown_opener self.new) }
+        ensures exact { OnOk result (NoOpenerFault (shown_opener self.old) (shown_opener self.new)) }
         ensures faults { OnOk result ((shown_opener self.new).faults ≡ (shown_opener self.old).faults) }
         ensures one_fault { IfErr result (λ error. error ≡ OpenError.Fault → (shown_opener self.new).faults ≡ counted (shown_opener self.old).faults 1) }
         ensures opened { IfOk result (λ raw. view_of raw ≡ opened_view mode.now (opened_bytes mode.now ((shown_opener self.old).holds path.now)) (plan_at self.old path.now)) }
@@ -229,6 +230,7 @@ impl Opener for MemOpener {
     fn done(&mut self, path: &str, raw: MemRaw) -> Result<(), OpenError>
         ensures keeps { DoneKeeps (shown raw) (shown_opener self.old) (shown_opener self.new) }
         ensures outcome { DoneOutcome (shown raw) (shown_opener self.old) path.now result (shown_opener self.new) }
+        ensures exact { OnOk result (NoOpenerFault (shown_opener self.old) (shown_opener self.new)) }
         ensures same { OnErr result (HoldsTheSame (shown_opener self.old) (shown_opener self.new)) }
         ensures faults { (shown_opener self.new).faults ≡ (shown_opener self.old).faults }
         ensures complete { IsSome ((shown_opener self.old).holds path.now) → IsOk result }

@@ -7,9 +7,9 @@ use Rattle.py_source_sink.specs.declared.mem_sink.MemSink.{MemSink}
 abbrev pub written_in : MemSink → List ℕ
 written_in sink = sink.bytes.items
 
--- what it shows: it tells what was written
+-- what it shows: it tells what was written, and counts exactly
 abbrev pub shown_sink : MemSink → SinkView
-shown_sink sink = record { tells = true; written = written_in sink; faults = sink.failed }
+shown_sink sink = record { tells = true; written = written_in sink; faults = sink.failed; counts_exactly = true }
 
 -- how many bytes it holds at most
 abbrev pub room_of : MemSink → ℕ

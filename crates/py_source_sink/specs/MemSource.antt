@@ -7,9 +7,9 @@ use Rattle.py_source_sink.specs.declared.mem_source.MemSource.{MemSource}
 abbrev pub left_in : MemSource → List ℕ
 left_in source = drop source.place source.bytes.items
 
--- what it shows: it tells what is left
+-- what it shows: it tells what is left, and counts exactly
 abbrev pub shown_source : MemSource → SourceView
-shown_source source = record { tells = true; left = left_in source; faults = source.failed }
+shown_source source = record { tells = true; left = left_in source; faults = source.failed; counts_exactly = true }
 
 -- the numbers of the reads that fail, counted from 0
 abbrev pub failing_reads : MemSource → List ℕ

@@ -1,5 +1,5 @@
 -- What a source over a reader shows.
-use Rattle.std.specs.Prelude.{false, []}
+use Rattle.std.specs.Prelude.{true, false, []}
 use Rattle.py_source_sink.specs.Source.{SourceView}
 use Rattle.py_source_sink.specs.declared.read_source.ReadSource.{ReadSource}
 
@@ -7,6 +7,6 @@ use Rattle.py_source_sink.specs.declared.read_source.ReadSource.{ReadSource}
 abbrev pub reader_of : {R : Type 0} → ReadSource R → R
 reader_of source = source.reader
 
--- what it shows: its faults alone
+-- what it shows: its faults alone, which it counts exactly
 abbrev pub shown_read_source : {R : Type 0} → ReadSource R → SourceView
-shown_read_source source = record { tells = false; left = []; faults = source.failed }
+shown_read_source source = record { tells = false; left = []; faults = source.failed; counts_exactly = true }

@@ -3,15 +3,22 @@ use Rattle.std.specs.Prelude.{◌≡◌, ℕ, ◌≤◌, Bool, IsTrue, List, ◌
 use Rattle.py_flat.specs.Causes.{Rose}
 use Rattle.py_source_sink.specs.declared.source.Failed.{Failed}
 
--- what was written means something only where the sink tells it
+-- what was written means something only where the sink tells it; one that counts exactly counts a fault only where a write
+-- answers that it failed
 pub record SinkView : Type 0 where
   pub tells : Bool
   pub written : List ℕ
   pub faults : ℕ
+  pub counts_exactly : Bool
 
 pub record SinkKeeps (old new : SinkView) : Type 0 where
   pub tells : new.tells ≡ old.tells
   pub faults : old.faults ≤ new.faults
+  pub counts_exactly : new.counts_exactly ≡ old.counts_exactly
+
+-- of a sink that counts exactly, no fault was counted
+abbrev pub NoSinkFault : SinkView → SinkView → Type 0
+NoSinkFault old new = IsTrue old.counts_exactly → new.faults ≡ old.faults
 
 -- a failed write leaves a front of the piece written
 pub record SinkFails (old : SinkView) (piece : List ℕ) (new : SinkView) : Type 0 where

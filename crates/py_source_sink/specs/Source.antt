@@ -3,15 +3,22 @@ use Rattle.std.specs.Prelude.{◌≡◌, ◌≢◌, ℕ, ◌≤◌, Bool, IsTrue
 use Rattle.py_flat.specs.Causes.{Rose}
 use Rattle.py_source_sink.specs.declared.source.Failed.{Failed}
 
--- what is left means something only where the source tells it
+-- what is left means something only where the source tells it; one that counts exactly counts a fault only where a read
+-- answers that it failed
 pub record SourceView : Type 0 where
   pub tells : Bool
   pub left : List ℕ
   pub faults : ℕ
+  pub counts_exactly : Bool
 
 pub record SourceKeeps (old new : SourceView) : Type 0 where
   pub tells : new.tells ≡ old.tells
   pub faults : old.faults ≤ new.faults
+  pub counts_exactly : new.counts_exactly ≡ old.counts_exactly
+
+-- of a source that counts exactly, no fault was counted
+abbrev pub NoSourceFault : SourceView → SourceView → Type 0
+NoSourceFault old new = IsTrue old.counts_exactly → new.faults ≡ old.faults
 
 -- told: the next `count` bytes were read; 0 into a buffer that isn't empty only at the end
 pub record SourceTold (old : SourceView) (before : List ℕ) (count : ℕ) (after : List ℕ) (new : SourceView) : Type 0 where

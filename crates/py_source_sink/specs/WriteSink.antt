@@ -1,5 +1,5 @@
 -- What a sink over a writer shows.
-use Rattle.std.specs.Prelude.{false, []}
+use Rattle.std.specs.Prelude.{true, false, []}
 use Rattle.py_source_sink.specs.Sink.{SinkView}
 use Rattle.py_source_sink.specs.declared.write_sink.WriteSink.{WriteSink}
 
@@ -7,6 +7,6 @@ use Rattle.py_source_sink.specs.declared.write_sink.WriteSink.{WriteSink}
 abbrev pub writer_of : {W : Type 0} → WriteSink W → W
 writer_of sink = sink.writer
 
--- what it shows: its faults alone
+-- what it shows: its faults alone, which it counts exactly
 abbrev pub shown_write_sink : {W : Type 0} → WriteSink W → SinkView
-shown_write_sink sink = record { tells = false; written = []; faults = sink.failed }
+shown_write_sink sink = record { tells = false; written = []; faults = sink.failed; counts_exactly = true }

@@ -23,7 +23,7 @@ impl MemSink {
     /// A sink that holds at most `room` bytes. `faults` lists the numbers of the writes that fail outright, counted
     /// from 0.
     pub fn with_room(alloc: Global, room: usize, faults: Vec<u64>) -> Result<Self, AllocError>
-        ensures shows { IfOk result (λ sink. shown_sink sink ≡ record { tells = true; written = []; faults = 0 }) }
+        ensures shows { IfOk result (λ sink. shown_sink sink ≡ record { tells = true; written = []; faults = 0; counts_exactly = true }) }
         ensures room { IfOk result (λ sink. room_of sink ≡ room) }
         ensures failing { IfOk result (λ sink. failing_writes sink ≡ faults.items) }
         ensures unwritten { IfOk result (λ sink. writes_made sink ≡ 0) }
@@ -56,7 +56,7 @@ impl MemSink {
 impl Sink for MemSink {
     ghost use Rattle.std.specs.Prelude.{◌+◌, ◌-◌, ◌++◌, ◌↔◌, length, take, IsOk, IsErr, OnOk, OnErr};
     ghost use Rattle.py_flat.specs.Causes.{counted};
-    ghost use Rattle.py_source_sink.specs.Sink.{SinkKeeps, SinkOutcome};
+    ghost use Rattle.py_source_sink.specs.Sink.{SinkKeeps, SinkOutcome, NoSinkFault};
     ghost use Rattle.py_source_sink.specs.MemSink.{shown_sink, written_in, room_of, failing_writes, writes_made, NextWriteFails, HasRoomFor};
 
     ghost shows = { shown_sink };
@@ -67,6 +67,7 @@ impl Sink for MemSink {
     fn write(&mut self, piece: &[u8]) -> Result<(), Failed>
         ensures keeps { SinkKeeps (shown_sink self.old) (shown_sink self.new) }
         ensures outcome { SinkOutcome (shown_sink self.old) piece.now result (shown_sink self.new) }
+        ensures exact { OnOk result (NoSinkFault (shown_sink self.old) (shown_sink self.new)) }
         ensures listed { NextWriteFails self.old → IsErr result }
         ensures nothing { NextWriteFails self.old → written_in self.new ≡ written_in self.old }
         ensures complete { ¬ (NextWriteFails self.old) → (IsOk result ↔ HasRoomFor self.old piece.now) }

@@ -19,7 +19,7 @@ impl MemSource {
 
     /// A source that gives these bytes. `faults` lists the numbers of the reads that fail, counted from 0.
     pub fn new(bytes: Vec<u8>, faults: Vec<u64>) -> Self
-        ensures shows { shown_source result ≡ record { tells = true; left = bytes.items; faults = 0 } }
+        ensures shows { shown_source result ≡ record { tells = true; left = bytes.items; faults = 0; counts_exactly = true } }
         ensures failing { failing_reads result ≡ faults.items }
         ensures unread { reads_made result ≡ 0 }
     {
@@ -46,7 +46,7 @@ fn copy_front(from: &[u8], to: &mut [u8]) -> usize
 impl Source for MemSource {
     ghost use Rattle.std.specs.Prelude.{◌↔◌, IsErr, IfOk, OnOk, OnErr};
     ghost use Rattle.py_flat.specs.Causes.{counted};
-    ghost use Rattle.py_source_sink.specs.Source.{SourceKeeps, SourceOutcome};
+    ghost use Rattle.py_source_sink.specs.Source.{SourceKeeps, SourceOutcome, NoSourceFault};
     ghost use Rattle.py_source_sink.specs.MemSource.{shown_source, left_in, failing_reads, reads_made, NextReadFails};
 
     ghost shows = { shown_source };
@@ -56,6 +56,7 @@ impl Source for MemSource {
     fn read(&mut self, buf: &mut [u8]) -> Result<usize, Failed>
         ensures keeps { SourceKeeps (shown_source self.old) (shown_source self.new) }
         ensures outcome { SourceOutcome (shown_source self.old) buf.old result buf.new (shown_source self.new) }
+        ensures exact { OnOk result (NoSourceFault (shown_source self.old) (shown_source self.new)) }
         ensures fails { IsErr result ↔ NextReadFails self.old }
         ensures count { IfOk result (λ count. count ≡ min (length (left_in self.old)) (length buf.old)) }
         ensures failing { failing_reads self.new ≡ failing_reads self.old }

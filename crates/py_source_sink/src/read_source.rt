@@ -9,12 +9,12 @@ pub struct ReadSource<R> {
 }
 
 impl<R: Read> ReadSource<R> {
-    ghost use Rattle.std.specs.Prelude.{◌≡◌, false, []};
+    ghost use Rattle.std.specs.Prelude.{◌≡◌, true, false, []};
     ghost use Rattle.py_source_sink.specs.ReadSource.{reader_of, shown_read_source};
 
     /// A source that reads from this reader.
     pub fn new(reader: R) -> Self
-        ensures shows { shown_read_source result ≡ record { tells = false; left = []; faults = 0 } }
+        ensures shows { shown_read_source result ≡ record { tells = false; left = []; faults = 0; counts_exactly = true } }
         ensures reader { reader_of result ≡ reader }
     {
         ReadSource { reader, failed: 0 }
@@ -25,7 +25,7 @@ impl<R: Read> Source for ReadSource<R> {
     ghost use Rattle.std.specs.Prelude.{◌≡◌, OnOk, OnErr};
     ghost use Rattle.std.specs.Io.KnownBytes.{ReadConsumes};
     ghost use Rattle.py_flat.specs.Causes.{counted};
-    ghost use Rattle.py_source_sink.specs.Source.{SourceKeeps, SourceOutcome};
+    ghost use Rattle.py_source_sink.specs.Source.{SourceKeeps, SourceOutcome, NoSourceFault};
     ghost use Rattle.py_source_sink.specs.ReadSource.{reader_of, shown_read_source};
 
     ghost shows = { shown_read_source };
@@ -35,6 +35,7 @@ impl<R: Read> Source for ReadSource<R> {
     fn read(&mut self, buf: &mut [u8]) -> Result<usize, Failed>
         ensures keeps { SourceKeeps (shown_read_source self.old) (shown_read_source self.new) }
         ensures outcome { SourceOutcome (shown_read_source self.old) buf.old result buf.new (shown_read_source self.new) }
+        ensures exact { OnOk result (NoSourceFault (shown_read_source self.old) (shown_read_source self.new)) }
         ensures bytes { ReadConsumes (R.remaining (reader_of self.old)) (R.remaining (reader_of self.new)) result buf.new }
         ensures quiet { OnOk result ((shown_read_source self.new).faults ≡ (shown_read_source self.old).faults) }
         ensures one_fault { OnErr result ((shown_read_source self.new).faults ≡ counted (shown_read_source self.old).faults 1) }

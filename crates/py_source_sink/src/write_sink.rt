@@ -13,12 +13,12 @@ pub struct WriteSink<W> {
 }
 
 impl<W: Write> WriteSink<W> {
-    ghost use Rattle.std.specs.Prelude.{◌≡◌, false, []};
+    ghost use Rattle.std.specs.Prelude.{◌≡◌, true, false, []};
     ghost use Rattle.py_source_sink.specs.WriteSink.{writer_of, shown_write_sink};
 
     /// A sink that writes to this writer.
     pub fn new(writer: W) -> Self
-        ensures shows { shown_write_sink result ≡ record { tells = false; written = []; faults = 0 } }
+        ensures shows { shown_write_sink result ≡ record { tells = false; written = []; faults = 0; counts_exactly = true } }
         ensures writer { writer_of result ≡ writer }
     {
         WriteSink { writer, failed: 0 }
@@ -36,7 +36,7 @@ fn write_through<W: Write>(writer: &mut W, piece: &[u8]) -> io::Result<()>
 impl<W: Write> Sink for WriteSink<W> {
     ghost use Rattle.std.specs.Prelude.{◌≡◌, OnErr};
     ghost use Rattle.py_flat.specs.Causes.{counted};
-    ghost use Rattle.py_source_sink.specs.Sink.{SinkKeeps, SinkOutcome};
+    ghost use Rattle.py_source_sink.specs.Sink.{SinkKeeps, SinkOutcome, NoSinkFault};
     ghost use Rattle.py_source_sink.specs.WriteSink.{writer_of, shown_write_sink};
 
     ghost shows = { shown_write_sink };
@@ -46,6 +46,7 @@ impl<W: Write> Sink for WriteSink<W> {
     fn write(&mut self, piece: &[u8]) -> Result<(), Failed>
         ensures keeps { SinkKeeps (shown_write_sink self.old) (shown_write_sink self.new) }
         ensures outcome { SinkOutcome (shown_write_sink self.old) piece.now result (shown_write_sink self.new) }
+        ensures exact { OnOk result (NoSinkFault (shown_write_sink self.old) (shown_write_sink self.new)) }
         ensures bytes { OnOk result (Appends (W.contents (writer_of self.old)) (W.contents (writer_of self.new)) piece.now) }
         ensures quiet { OnOk result ((shown_write_sink self.new).faults ≡ (shown_write_sink self.old).faults) }
         ensures one_fault { OnErr result ((shown_write_sink self.new).faults ≡ counted (shown_write_sink self.old).faults 1) }
