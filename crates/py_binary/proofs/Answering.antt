@@ -37,6 +37,7 @@ with_reply_room old call reply new a = record {
   spares = a.spares;
   writes = a.writes;
   answer = a.answer;
+  at_once = a.at_once;
   complete = a.complete;
   told = a.told;
   reach = a.reach;

@@ -53,7 +53,7 @@ writes_none stream size live = record {
 -- a live stream that reads
 pub starved_into : (stream : Stream) (size : ℕ) → IsHeld stream → stream.life ≡ life.Live → stream.can.readable ≡ true → AnswersWith has_reply_room stream (ReadInto size) (Refused fault.NoMemory) (record stream { short = false })
 starved_into stream size is live reads = record {
-  keeps = record { buffer = refl; can = refl; raw = keeps_same stream.raw };
+  keeps = record { buffer = refl; can = refl; raw = keeps_same stream.raw; bare = λ _ none. none };
   refused = λ why refused. let wrong : None ≡ Some why = sym (accepts stream size live reads) ∙ refused in absurd (cc);
   again = λ closes. absurd (cc);
   shut = λ none closed. closed;
@@ -76,6 +76,7 @@ starved_into stream size is live reads = record {
   spares = λ reading none. record { bytes = λ tells. refl; owed = none };
   writes = λ writing. writes_none stream size live;
   answer = λ accepted. tt;
+  at_once = λ failed is. absurd (cc);
   complete = λ accepted calm sound. (tt, refl);
   told = λ tells. out_of_memory refl (reaches stream size live reads, inl refl);
   reach = λ reading tells. omega arith;

@@ -140,7 +140,7 @@ answers_coming old new call reply short reads live comes =
     let unrefused : refused_by (stream_of old) call ≡ None = refused_alone (stream_of old) call (no_end (file_of (stream_of old)) call reads) ∙ accepted old call reads live in
     let left : EngineView = record new { short = short } in
     record {
-      keeps = record { buffer = ap Some comes.kept.size; can = ap reader_can comes.kept.raw.seekable; raw = comes.kept.raw };
+      keeps = record { buffer = ap Some comes.kept.size; can = ap reader_can comes.kept.raw.seekable; raw = comes.kept.raw; bare = λ bare. absurd (cc) };
       refused = λ why refuses. absurd (let wrong : None ≡ Some why = sym unrefused ∙ refuses in cc);
       again = λ closes. absurd (cc (not_closing (stream_of old) call reads));
       shut = λ none closed. comes.kept.stays ∙ closed ∙ ap is_closed live ∙ sym comes.is_open;
@@ -159,6 +159,7 @@ answers_coming old new call reply short reads live comes =
       held = λ reads apart one. comes.held apart one;
       spares = λ writes none. record { bytes = comes.kept.bytes; owed = refl };
       answer = λ accepts. comes.answers;
+      at_once = λ failed. absurd (cc);
       complete = λ accepts calm sound. completes old.raw new.raw (Some old.window.size) false call reply short comes.causes comes.shorts comes.answers calm sound;
       told = comes.told;
       reach = λ reading. comes.reach;

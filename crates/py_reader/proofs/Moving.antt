@@ -56,7 +56,7 @@ flush_is_done : (old : EngineView) → IsEngine old.raw old.window old.life → 
 flush_is_done old is live =
     let none : refused_by (stream_of old) Flush ≡ None = flush_passes old live in
     record {
-      keeps = record { buffer = refl; can = refl; raw = keeps_same old.raw };
+      keeps = record { buffer = refl; can = refl; raw = keeps_same old.raw; bare = λ bare. absurd (cc) };
       refused = λ why refused. not_refused (stream_of old) Flush (Refused why) Done (stream_of (begun old)) why none refused;
       again = λ again. absurd (cc);
       shut = λ none shut. shut;
@@ -75,6 +75,7 @@ flush_is_done old is live =
       spares = λ _ _. record { bytes = λ _. refl; owed = refl };
       writes = λ can. absurd (cc);
       answer = λ _. tt;
+      at_once = λ failed is. absurd (cc);
       complete = λ _ _ _. (tt, refl);
       told = λ _. settled (subst (λ (refused : Option IoFault). SettledBy (file_of (stream_of old)) Flush refused Done (file_of (stream_of old))) (sym none) refl);
       reach = λ reads. absurd (cc);
@@ -128,7 +129,7 @@ goes_on current (inr failed) = ap is_closed failed
 
 seek_tells : (old new : EngineView) (offset whence : ℤ) (reply : FileReply) → MaySeek old → KeepsEngine (begun old) new → (new.life ≡ life.Live) ⊎ (new.life ≡ life.Failed) → SeekTells old (Seek offset whence) reply new → Answers (stream_of old) (Seek offset whence) reply (stream_of new)
 seek_tells old new offset whence reply may kept goes tells = record {
-  keeps = record { buffer = ap Some kept.size; can = ap reader_can kept.raw.seekable; raw = kept.raw };
+  keeps = record { buffer = ap Some kept.size; can = ap reader_can kept.raw.seekable; raw = kept.raw; bare = λ bare. absurd (cc) };
   refused = λ why refused. not_refused (stream_of old) (Seek offset whence) (Refused why) reply (stream_of new) why tells.passes refused;
   again = λ again. absurd (cc);
   shut = λ none shut. kept.stays ∙ may.is.is_open may.live ∙ sym (goes_on new.life goes);
@@ -147,6 +148,7 @@ seek_tells old new offset whence reply may kept goes tells = record {
   spares = λ _ _. record { bytes = kept.bytes; owed = refl };
   writes = λ can. absurd (cc);
   answer = λ _. tells.answer;
+  at_once = λ failed is. absurd (cc);
   complete = λ _ _ sound. (tells.complete sound, kept.short);
   told = λ tell. subst (λ (short : Bool). BinaryStep (file_of (stream_of old)) (Seek offset whence) reply short (says_fault reply) (file_of (stream_of new))) (sym kept.short) (tells.told tell);
   reach = λ reads. absurd (cc);

@@ -40,7 +40,7 @@ stands_anywhere false place bytes = (0, refl)
 -- a live reader, or a failed one, hands its raw back as it is
 hands_back : (current : Life) (raw : Raw) (window : WindowView) (short : Bool) → current ≢ life.Closed → current ≢ life.Detached → place_of window ≤ greatest_place → Answers (stream_of (made raw window current short)) Detach (Unwritten [] (handed raw.seekable (place_of window))) (handed_over (stream_of (made raw window current short)) raw (nothing_owed (place_of window)))
 hands_back life.Live raw window short unclosed attached far = record {
-  keeps = record { buffer = refl; can = refl; raw = keeps_same raw };
+  keeps = record { buffer = refl; can = refl; raw = keeps_same raw; bare = λ bare. absurd (cc) };
   refused = λ why refused. absurd (cc);
   again = λ closes. absurd (cc);
   shut = λ none closed. closed;
@@ -59,6 +59,7 @@ hands_back life.Live raw window short unclosed attached far = record {
   spares = λ reads none. record { bytes = λ tells. refl; owed = refl };
   writes = λ can. absurd (cc);
   answer = λ accepted. tt;
+  at_once = λ failed. absurd (cc);
   complete = λ accepted calm sound. (tt, refl);
   told = λ tells. settled refl;
   reach = λ reads. absurd (cc);
@@ -66,7 +67,7 @@ hands_back life.Live raw window short unclosed attached far = record {
   hides = λ short. absurd (cc);
 }
 hands_back life.Failed raw window short unclosed attached far = record {
-  keeps = record { buffer = refl; can = refl; raw = keeps_same raw };
+  keeps = record { buffer = refl; can = refl; raw = keeps_same raw; bare = λ bare. absurd (cc) };
   refused = λ why refused. absurd (cc);
   again = λ closes. absurd (cc);
   shut = λ none closed. closed;
@@ -85,6 +86,7 @@ hands_back life.Failed raw window short unclosed attached far = record {
   spares = λ reads none. record { bytes = λ tells. refl; owed = refl };
   writes = λ can. absurd (cc);
   answer = λ accepted. tt;
+  at_once = λ failed is accepted. ([], handed raw.seekable (place_of window), refl);
   complete = λ accepted calm sound. (tt, refl);
   told = λ tells. settled (record { bytes = []; place = handed raw.seekable (place_of window); says = refl; stand = stands_anywhere raw.seekable (place_of window) raw.bytes; leaves = refl });
   reach = λ reads. absurd (cc);

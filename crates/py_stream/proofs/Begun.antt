@@ -100,7 +100,7 @@ module _ (short : Bool) where
   -- a call of a stream, as of one whose last answer was short, or wasn't
   answers_as : (room : FileCall → Bool) (before after : Stream) (call : FileCall) (reply : FileReply) → AnswersWith room (seen short before) call reply after → AnswersWith room before call reply after
   answers_as room before after call reply answers = record {
-    keeps = record { buffer = answers.keeps.buffer; can = answers.keeps.can; raw = answers.keeps.raw };
+    keeps = record { buffer = answers.keeps.buffer; can = answers.keeps.can; raw = answers.keeps.raw; bare = answers.keeps.bare };
     refused = λ why refuses. leaves before after (Refused why) reply (answers.refused why refuses);
     again = again before after call reply answers.again;
     shut = answers.shut;
@@ -119,6 +119,7 @@ module _ (short : Bool) where
     spares = λ reads none. let spared = answers.spares reads none in record { bytes = spared.bytes; owed = spared.owed };
     writes = λ can. writes_seen before after call reply (answers.writes can);
     answer = answers.answer;
+    at_once = answers.at_once;
     complete = answers.complete;
     told = answers.told;
     reach = answers.reach;
@@ -159,6 +160,7 @@ answers_with room less before after call reply fewer answers = record {
   spares = answers.spares;
   writes = answers.writes;
   answer = answers.answer;
+  at_once = answers.at_once;
   complete = answers.complete;
   told = answers.told;
   reach = answers.reach;

@@ -3,7 +3,7 @@ use Rattle.std.proofs.Common.{◌≡◌, ℕ, Option, Bool, true, false, IsTrue,
 use Rattle.std.proofs.lemmas.Bool.{le-leb}
 use Rattle.py_flat.specs.declared.fault.IoFault.TheVariants as fault
 use Rattle.py_flat.specs.Causes.{Rose, rose, counted}
-use Rattle.py_flat.specs.Calls.{FileCall, Read1, FileReply, NotReady, Refused}
+use Rattle.py_flat.specs.Calls.{FileCall, Read1, Tell, FileReply, NotReady, Refused}
 use Rattle.py_raw.specs.RawStream.{Raw}
 use Rattle.py_stream.specs.Kinds.{says_fault}
 use Rattle.py_stream.specs.Answers.{IsAnswerTo, IsReplyTo, IsShort, HasCauses}
@@ -20,6 +20,7 @@ answers_whole : (buffer : Option ℕ) (writes : Bool) (call : FileCall) (reply :
 answers_whole buffer writes call NotReady short answers shorts whole sound = absurd (let waits = not_ready call short shorts in cc)
 answers_whole buffer writes call (Refused (fault.WouldBlock taken)) short answers shorts whole sound = absurd (let waits = blocked call taken short shorts in cc)
 answers_whole buffer writes call (Refused fault.RawFault) short answers shorts whole sound = absurd (cc)
+answers_whole buffer writes Tell reply short answers shorts whole sound = answers
 answers_whole buffer writes call reply short answers shorts whole sound = answers
 
 -- a test that what has its cause in a count that rose didn't come about

@@ -115,7 +115,7 @@ detached_answers can buffer call asks known =
     let refuses : refusal (file_of stream) call ≡ Some fault.Detached = refuses_all can buffer call asks known in
     let by : refused_by stream call ≡ Some fault.Detached = ap (λ (end : Bool). if end then None else refusal (file_of stream) call) (asks_no_end can buffer call) ∙ refuses in
     record {
-      keeps = record { buffer = refl; can = refl; raw = keeps_same no_raw };
+      keeps = record { buffer = refl; can = refl; raw = keeps_same no_raw; bare = λ _ _. refl };
       refused = λ why refused. record { says = let same : Some fault.Detached ≡ Some why = sym by ∙ refused in cc; same = refl };
       again = λ closes. absurd (let never : closes_again stream call ≡ false = never_closes can buffer call in cc);
       shut = λ none shut. shut;
@@ -134,6 +134,7 @@ detached_answers can buffer call asks known =
       spares = λ _ _. record { bytes = λ _. refl; owed = refl };
       writes = λ _. leaves_all stream call fault.Detached refl refl;
       answer = λ accepted. absurd (let wrong : Some fault.Detached ≡ None = sym by ∙ accepted in cc);
+      at_once = λ failed. absurd (cc);
       complete = λ accepted. absurd (let wrong : Some fault.Detached ≡ None = sym by ∙ accepted in cc);
       told = λ tells. absurd (cc);
       reach = λ reads tells. absurd (cc);

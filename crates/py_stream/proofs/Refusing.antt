@@ -73,7 +73,7 @@ refused_with before after call why is refuses alone own first same =
     let by : refused_by before call ≡ Some why = refused_alone before call alone ∙ refuses in
     let writes : Writes left call (Refused why) left = leaves_all left call why own refl in
     let answers : Answers before call (Refused why) left = record {
-      keeps = record { buffer = refl; can = refl; raw = keeps_same before.raw };
+      keeps = record { buffer = refl; can = refl; raw = keeps_same before.raw; bare = λ _ none. none };
       refused = λ other refused. record { says = let same_why : Some why ≡ Some other = sym by ∙ refused in cc; same = refl };
       again = λ closes. absurd (cc);
       shut = λ none closed. closed;
@@ -97,6 +97,7 @@ refused_with before after call why is refuses alone own first same =
       spares = λ reads none. record { bytes = λ tells. refl; owed = none };
       writes = λ can. writes_whole before left call (Refused why) writes;
       answer = λ accepted. absurd (let wrong : Some why ≡ None = sym by ∙ accepted in cc);
+      at_once = λ failed is accepted. absurd (let wrong : Some why ≡ None = sym by ∙ accepted in cc);
       complete = λ accepted calm sound. absurd (let wrong : Some why ≡ None = sym by ∙ accepted in cc);
       told = λ tells. settled (subst (λ (refused : Option IoFault). SettledBy (file_of before) call refused (Refused why) (file_of left)) (sym refuses) (refl, refl));
       reach = λ reads tells. omega arith;

@@ -18,11 +18,13 @@ use Rattle.py_stream.specs.Writing.{Writes}
 
 -- What every call keeps.
 
--- the buffer's size and what the stream can do stay; so does what the raw can do, and its counts never fall
+-- the buffer's size and what the stream can do stay; so does what the raw can do, and its counts never fall; a stream without a
+-- buffer that owes nothing, at its place, goes on so
 pub record KeepsStream (before after : Stream) : Type 0 where
   pub buffer : after.buffer ≡ before.buffer
   pub can : after.can ≡ before.can
   pub raw : Keeps before.raw after.raw
+  pub bare : before.buffer ≡ None → before.owed ≡ nothing_owed before.place → after.owed ≡ nothing_owed after.place
 
 -- a call that calls no raw and leaves all as it was, with this answer
 pub record Leaves (before : Stream) (expected reply : FileReply) (after : Stream) : Type 0 where
@@ -63,9 +65,10 @@ IsAnswerTo Tell (Refused fault.NoMemory) = ⊥
 IsAnswerTo call (Refused fault.NoMemory) = Unit {0}
 IsAnswerTo call reply = ⊥
 
--- and where its raw asked to wait, or failed
+-- and where its raw asked to wait, or failed, which stop no `tell`
 abbrev pub IsReplyTo : Option ℕ → Bool → FileCall → FileReply → Type 0
 IsReplyTo buffer writes call NotReady = IsTrue (waits_unready buffer call)
+IsReplyTo buffer writes Tell (Refused (fault.WouldBlock taken)) = ⊥
 IsReplyTo buffer writes call (Refused (fault.WouldBlock taken)) = IsTrue (writes && not (waits_unready buffer call))
 IsReplyTo buffer writes Tell (Refused fault.RawFault) = ⊥
 IsReplyTo buffer writes call (Refused fault.RawFault) = Unit {0}
@@ -263,9 +266,10 @@ pub record SparesBytes (before after : Stream) : Type 0 where
 -- One call of a stream, by which calls have their room: what it keeps; what the life, the stream or an argument refuses; a
 -- close of a closed stream; that the raw is closed with a stream that owes nothing then; causes, and that no fault and no wait
 -- goes unanswered; what is short; life and place; a seek from the end; memory; which calls call no raw, and which make at most
--- one transfer, or none where bytes are held, as the raw stands further on; that a stream that doesn't write spares the raw's bytes; what one that writes does with those that it took;
--- completeness; where the raw tells, the step of the model, and that no reading moves the place past the end; how near the raw
--- stands; and that a wait hides nothing
+-- one transfer, or none where bytes are held, as the raw stands further on; that a stream that doesn't write spares the raw's
+-- bytes; what one that writes does with those that it took; that neither the raw nor want of memory stops a `detach` of a failed
+-- stream; completeness; where the raw tells, the step of the model, and that no reading moves the place past the end; how near
+-- the raw stands; and that a wait hides nothing
 pub record AnswersWith (room : FileCall → Bool) (before : Stream) (call : FileCall) (reply : FileReply) (after : Stream) : Type 0 where
   pub keeps : KeepsStream before after
   pub refused : (why : IoFault) → refused_by before call ≡ Some why → Leaves before (Refused why) reply after
@@ -286,6 +290,7 @@ pub record AnswersWith (room : FileCall → Bool) (before : Stream) (call : File
   pub spares : before.can.writable ≡ false → before.owed ≡ nothing_owed before.place → SparesBytes before after
   pub writes : before.can.writable ≡ true → Writes before call reply after
   pub answer : refused_by before call ≡ None → IsReplyTo before.buffer before.can.writable call reply
+  pub at_once : before.life ≡ life.Failed → call ≡ Detach → refused_by before call ≡ None → (bytes : List ℕ) × (place : Option ℕ) × (reply ≡ Unwritten bytes place)
   pub complete : refused_by before call ≡ None → rose before.raw.waits after.raw.waits ≡ false → rose before.raw.faults after.raw.faults ≡ false → IsAnswerTo call reply × (after.short ≡ false)
   pub told : WhereTold before.raw (BinaryStep (file_of before) call reply after.short (says_fault reply) (file_of after))
   pub reach : IsTrue (is_reading call) → WhereTold before.raw (after.place ≤ max before.place (length before.raw.bytes))

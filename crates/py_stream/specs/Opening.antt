@@ -76,9 +76,10 @@ pub record PlaceOf (appends : Bool) (old : Raw) (place : ℕ) (new : Raw) : Type
   pub stands : WhereTold old (new.place ≡ begins_at appends old)
   pub told : WhereTold old (IsTrue old.seekable → place ≡ begins_at appends old)
 
--- want of memory leaves a raw as it was; one that was to be moved to its end may have been asked where that is
+-- want of memory leaves a raw as it was; one that was to be moved to its end may have been asked where that is, and counted
+-- nothing
 abbrev pub Lacking : Bool → Raw → Raw → Type 0
-Lacking true raw back = Untouched raw back × StandsWhereItStood raw back
+Lacking true raw back = Untouched raw back × LeavesCounts raw back × StandsWhereItStood raw back
 Lacking false raw back = back ≡ raw
 
 abbrev pub PlaceOutcome : Bool → Raw → Result ℕ RawError → Raw → Type 0

@@ -1,5 +1,5 @@
 -- What the buffered reader's opening says of the bytes under a text.
-use Rattle.std.proofs.Common.{◌≡◌, ℕ, Bool, true, ◌&&◌, IsTrue, IsFalse, IsOk, not, Option, Some, None, unwrap_or, Result, Ok, Err, sym, ap, ◌∙◌, subst, refl, arith}
+use Rattle.std.proofs.Common.{◌≡◌, ℕ, Bool, true, IsFalse, IsOk, Option, Some, None, unwrap_or, Result, Ok, Err, sym, ap, ◌∙◌, subst, refl, arith}
 use Rattle.py_flat.specs.declared.fault.IoFault.{IoFault}
 use Rattle.py_flat.specs.declared.fault.IoFault.TheVariants as fault
 use Rattle.py_flat.specs.declared.life.Life.TheVariants as life
@@ -7,7 +7,7 @@ use Rattle.py_flat.specs.Calls.{Place, Tell}
 use Rattle.py_flat.specs.FlatFile.{Abilities}
 use Rattle.py_raw.specs.RawStream.{Raw, LeavesCounts}
 use Rattle.py_stream.specs.Stream.{Stream, reader_can}
-use Rattle.py_stream.specs.Kinds.{calls_none, waits_unready}
+use Rattle.py_stream.specs.Kinds.{calls_none}
 use Rattle.py_stream.specs.Answers.{Answers, refused_by}
 use Rattle.py_stream.specs.Replies.{place_reply}
 use Rattle.py_stream.specs.Opening.{Opens as OpensStream, Untouched}
@@ -37,7 +37,7 @@ accepts_tell reader live can = rw live (rw can refl)
 -- so the asking is never refused
 pub tells_place : (old new : Stream) (result : Result ℕ IoFault) → IsNew old → old.can.seekable ≡ true → Answers old Tell (place_reply result) new → IsOk result
 tells_place old new (Ok place) is can answers = refl
-tells_place old new (Err (fault.WouldBlock taken)) is can answers = absurd (let never = subst (λ (writes : Bool). IsTrue (writes && not (waits_unready old.buffer Tell))) is.writes (answers.answer (accepts_tell old is.live can)) in cc)
+tells_place old new (Err (fault.WouldBlock taken)) is can answers = absurd (answers.answer (accepts_tell old is.live can))
 tells_place old new (Err other) is can answers = absurd (answers.answer (accepts_tell old is.live can))
 
 -- a `tell` calls no raw

@@ -38,7 +38,7 @@ flush_is_done : (old : EngineView) → Stands old → old.life ≡ life.Live →
 flush_is_done old stands live =
     let none : refused_by (stream_of old) Flush ≡ None = flush_passes old live in
     record {
-      keeps = record { buffer = refl; can = refl; raw = keeps_same old.raw };
+      keeps = record { buffer = refl; can = refl; raw = keeps_same old.raw; bare = λ _ _. refl };
       refused = λ why refused. absurd (let wrong : None ≡ Some why = sym none ∙ refused in cc);
       again = λ again. absurd (cc);
       shut = λ none shut. shut;
@@ -57,6 +57,7 @@ flush_is_done old stands live =
       spares = λ _ _. record { bytes = λ _. refl; owed = refl };
       writes = λ _. passes_nothing old;
       answer = λ _. tt;
+      at_once = λ failed is. absurd (cc);
       complete = λ _ _ _. (tt, refl);
       told = λ _. settled (subst (λ (refused : Option IoFault). SettledBy (file_of (stream_of old)) Flush refused Done (file_of (stream_of old))) (sym none) refl);
       reach = λ reads. absurd (cc);

@@ -204,7 +204,7 @@ answers_coming old new call reply short reads begun comes =
     let never : (can_of old.access old.raw.seekable).writable ≡ false = unwritable old begun.reader in
     let left : EngineView = record new { short = short } in
     record {
-      keeps = record { buffer = refl; can = can_stays old new comes.kept; raw = comes.kept.raw };
+      keeps = record { buffer = refl; can = can_stays old new comes.kept; raw = comes.kept.raw; bare = λ _ _. refl };
       refused = λ why refuses. absurd (let wrong : None ≡ Some why = sym unrefused ∙ refuses in cc);
       again = λ closes. absurd (cc (not_closing (stream_of old) call reads));
       shut = λ none closed. comes.kept.stays ∙ closed ∙ ap is_closed begun.live ∙ sym comes.is_open;
@@ -223,6 +223,7 @@ answers_coming old new call reply short reads begun comes =
       spares = λ writes none. record { bytes = comes.bytes; owed = refl };
       writes = λ can. absurd (let both : true ≡ false = sym can ∙ never in cc);
       answer = λ accepts. subst (λ (writes : Bool). IsReplyTo None writes call reply) (sym never) comes.answers;
+      at_once = λ failed. absurd (cc (begun.live));
       complete = λ accepts calm sound. completes old.raw new.raw None false call reply short comes.causes comes.shorts comes.answers calm sound;
       told = comes.told;
       reach = λ reading. comes.reach;

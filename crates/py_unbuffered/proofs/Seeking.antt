@@ -120,7 +120,7 @@ owes_nothing old new offset whence reply may kept tells = record {
 
 seek_tells : (old new : EngineView) (offset whence : ℤ) (reply : FileReply) → MaySeek old → KeepsEngine (begun old) new → (new.life ≡ life.Live) ⊎ (new.life ≡ life.Failed) → SeekTells old (Seek offset whence) reply new → Answers (stream_of old) (Seek offset whence) reply (stream_of new)
 seek_tells old new offset whence reply may kept goes tells = record {
-  keeps = record { buffer = refl; can = can_stays old new kept; raw = kept.raw };
+  keeps = record { buffer = refl; can = can_stays old new kept; raw = kept.raw; bare = λ _ _. refl };
   refused = λ why refused. not_refused (stream_of old) (Seek offset whence) (Refused why) reply (stream_of new) why tells.passes refused;
   again = λ again. absurd (cc);
   shut = λ none shut. kept.stays ∙ may.is.is_open may.live ∙ sym (goes_on new.life goes);
@@ -139,6 +139,7 @@ seek_tells old new offset whence reply may kept goes tells = record {
   spares = λ _ _. record { bytes = tells.bytes; owed = refl };
   writes = λ _. owes_nothing old new offset whence reply may kept tells;
   answer = λ _. tells.answer;
+  at_once = λ failed is. absurd (cc);
   complete = λ _ _ sound. (tells.complete sound, kept.short);
   told = λ tell. subst (λ (short : Bool). BinaryStep (file_of (stream_of old)) (Seek offset whence) reply short (says_fault reply) (file_of (stream_of new))) (sym kept.short) (tells.told tell);
   reach = λ reads. absurd (cc);

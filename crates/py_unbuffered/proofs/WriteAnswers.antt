@@ -192,7 +192,7 @@ write_tells old now call reply short write may tells stands =
     let none : refused_by (stream_of old) call ≡ None = passes old call write may in
     let answer : IsReplyTo None (can_of old.access old.raw.seekable).writable call reply = subst (λ (writes : Bool). IsReplyTo None writes call reply) (sym may.can) tells.answer in
     record {
-      keeps = record { buffer = refl; can = can_stays old now tells.kept; raw = tells.kept.raw };
+      keeps = record { buffer = refl; can = can_stays old now tells.kept; raw = tells.kept.raw; bare = λ _ _. refl };
       refused = λ why refused. absurd (let wrong : None ≡ Some why = sym none ∙ refused in cc);
       again = λ again. absurd (let open_still = write.closes (stream_of old) in cc);
       shut = λ none shut. tells.kept.stays ∙ may.is.is_open may.live ∙ sym (not_closed now.life tells.goes);
@@ -211,6 +211,7 @@ write_tells old now call reply short write may tells stands =
       spares = λ reads. absurd (let can = may.can in cc);
       writes = λ _. owes_nothing old now call reply short write may tells stands;
       answer = λ _. answer;
+      at_once = λ failed. absurd (cc (may.live));
       complete = λ _ calm sound. completes old.raw now.raw None (can_of old.access old.raw.seekable).writable call reply short tells.causes tells.shorts answer calm sound;
       told = tells.told;
       reach = λ reads. absurd (let none = write.reads in cc);

@@ -1,5 +1,5 @@
 //! The stream without a buffer.
-ghost use Rattle.std.specs.Prelude.{◌≡◌, false, length};
+ghost use Rattle.std.specs.Prelude.{◌≡◌, false, [], length};
 ghost use Rattle.py_flat.specs.Calls.{FileCall, Read, ReadLine, ReadLines, ReadInto, Write, WriteLines, Seek, Tell, Flush, Close, Refused};
 ghost use Rattle.py_flat.specs.ExactStep.{is_closed};
 ghost use Rattle.py_stream.specs.Answers.{Answers, RefusesAlone};
@@ -198,7 +198,8 @@ impl<R: RawStream> UnbufferedStream<R> {
     /// The raw, with nothing unwritten, and the place (`None` where the raw can't seek), in every life. It calls no raw and
     /// takes no memory.
     pub fn into_parts(self, alloc: Global) -> Detached<R>
-        ensures { HandsParts self (R.shows result.raw) result.unwritten.items result.place }
+        ensures hands { HandsParts self (R.shows result.raw) result.unwritten.items result.place }
+        ensures none { result.unwritten.items ≡ [] }
     {
         let UnbufferedStream { data } = self;
         let seekable = data.seekable();

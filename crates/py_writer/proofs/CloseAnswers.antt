@@ -74,6 +74,7 @@ shuts_down old mid new whole passed closes =
         buffer = ap (λ (pending : PendingView). Some pending.size) still ∙ ap Some took.kept.size;
         can = ap (λ (appending : Bool). writer_can appending new.raw.seekable) (closes.appending ∙ took.kept.appending) ∙ ap (writer_can old.appending) (closes.keeps.seekable ∙ took.kept.raw.seekable);
         raw = raw_keeps_then old.raw mid.raw new.raw took.kept.raw closes.keeps;
+        bare = λ bare. absurd (cc);
       };
       closed = closes.closed;
       no_wait = no_wait_then old mid new took.kept passed.1 closes.no_wait;
@@ -132,6 +133,7 @@ closed_well old new live shuts no_fault =
       settles = λ none. omega (arith, ap length none);
       unclosed = λ some. absurd (some shuts.none);
       rests = rested old new.raw live;
+      at_once = λ failed. absurd (cc);
       answer = tt;
       told = λ tells. settled (subst (λ (refused : Option IoFault). SettledBy (file_of (stream_of old)) Close refused Done (file_of (stream_of new))) (sym asked.passes) (ap (λ (file : FlatFile). (Done, file)) (closed_file old new shuts tells)));
       near = λ lives. absurd (let dead : life.Closed ≡ life.Live = sym shuts.life_is ∙ lives in cc);
@@ -163,6 +165,7 @@ closed_badly old new live shuts rose =
       settles = λ none. omega (arith, ap length none);
       unclosed = λ some. absurd (some shuts.none);
       rests = rested old new.raw live;
+      at_once = λ failed. absurd (cc);
       answer = tt;
       told = λ tells. raw_faulted refl refl (asked.reaches, record { life_is = shuts.life_is; bytes_are = shut_file old new shuts tells; can = shuts.keeps.can; buffering = ap buffering_of shuts.keeps.buffer });
       near = λ lives. absurd (let dead : life.Closed ≡ life.Live = sym shuts.life_is ∙ lives in cc);

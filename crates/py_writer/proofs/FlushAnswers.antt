@@ -46,6 +46,7 @@ flushed old new live whole passed =
       settles = λ none. omega (arith, ap length none);
       unclosed = λ some. took.kept.stays;
       rests = rested old new.raw live;
+      at_once = λ failed. absurd (cc);
       answer = tt;
       told = λ tells. settled (subst (λ (refused : Option IoFault). SettledBy (file_of (stream_of old)) Flush refused Done (file_of (stream_of new))) (sym asked.passes) (ap (λ (file : FlatFile). (Done, file)) (passing_file old new passes same tells)));
       near = is_near new took.kept.is;

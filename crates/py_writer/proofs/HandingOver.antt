@@ -75,7 +75,7 @@ detached_live old new live far passed =
     works_answers old Detach reply after asked.none (record {
       passes = asked.passes;
       again = λ closes. absurd (cc);
-      keeps = record { buffer = refl; can = refl; raw = took.kept.raw };
+      keeps = record { buffer = refl; can = refl; raw = took.kept.raw; bare = λ bare. absurd (cc) };
       shut = λ none closed. took.kept.stays ∙ closed ∙ ap is_closed live;
       causes = record { waits = λ waited. absurd (cc); faults = λ faults. absurd (cc) };
       no_fault = λ _. took.no_fault;
@@ -95,6 +95,7 @@ detached_live old new live far passed =
       settles = λ none. omega (arith, ap length none);
       unclosed = λ some. absurd (some refl);
       rests = rested old new.raw live;
+      at_once = λ failed. absurd (cc);
       answer = tt;
       told = λ tells. settled (subst (λ (refused : Option IoFault). SettledBy (file_of (stream_of old)) Detach refused reply (file_of after)) (sym asked.passes)
           (subst (λ (current : Life). DetachesIn current (file_of (stream_of old)) reply (file_of after)) (sym live) (ap (λ (file : FlatFile). (reply, file)) (given_file old new passes passed.2 tells))));
@@ -124,7 +125,7 @@ detached_failed old failed far =
     works_answers old Detach reply after detach_takes_none (record {
       passes = passes;
       again = λ closes. absurd (cc);
-      keeps = record { buffer = refl; can = refl; raw = keeps_same old.raw };
+      keeps = record { buffer = refl; can = refl; raw = keeps_same old.raw; bare = λ bare. absurd (cc) };
       shut = λ none closed. closed ∙ ap is_closed failed;
       causes = record { waits = λ waited. absurd (cc); faults = λ faults. absurd (cc) };
       no_fault = λ _ _. refl;
@@ -144,6 +145,7 @@ detached_failed old failed far =
       settles = λ none. omega (arith, ap length none);
       unclosed = λ some. refl;
       rests = λ dead. refl;
+      at_once = λ _. (old.pending.bytes, place_handed (stream_of old) (stream_of old).owed, refl);
       answer = tt;
       told = λ tells. settled (subst (λ (refused : Option IoFault). SettledBy (file_of (stream_of old)) Detach refused reply (file_of after)) (sym passes)
           (subst (λ (current : Life). DetachesIn current (file_of (stream_of old)) reply (file_of after)) (sym failed) (hands_back old)));

@@ -8,7 +8,7 @@ use Rattle.py_flat.specs.declared.life.Life.TheVariants as life
 use Rattle.py_flat.specs.Bytes.{lay}
 use Rattle.py_flat.specs.Limits.{greatest_place}
 use Rattle.py_flat.specs.Causes.{Rose}
-use Rattle.py_flat.specs.Calls.{FileCall, Write, Seek, Flush, Close, Detach, FileReply, Done, Refused}
+use Rattle.py_flat.specs.Calls.{FileCall, Write, Seek, Flush, Close, Detach, FileReply, Done, Unwritten, Refused}
 use Rattle.py_flat.specs.FlatFile.{FlatFile, Buffered}
 use Rattle.py_flat.specs.Refusals.{refusal, is_getter, or_else, lets_through, life_fault, life_refusal, is_close, is_detach}
 use Rattle.py_flat.specs.ExactStep.{is_closed}
@@ -99,6 +99,7 @@ pub record Works (old : WriterView) (call : FileCall) (reply : FileReply) (after
   pub settles : after.owed.bytes ≡ [] → after.owed.place ≡ after.place
   pub unclosed : after.owed.bytes ≢ [] → after.raw.closed ≡ old.raw.closed
   pub rests : old.life ≢ life.Live → after.raw ≡ old.raw
+  pub at_once : old.life ≡ life.Failed → (bytes : List ℕ) × (place : Option ℕ) × (reply ≡ Unwritten bytes place)
   pub answer : IsReplyTo (Some old.pending.size) true call reply
   pub told : WhereTold old.raw (BinaryStep (file_of (stream_of old)) call reply after.short (says_fault reply) (file_of after))
   pub near : after.life ≡ life.Live → IsNear after
@@ -143,6 +144,7 @@ works_answers old call reply after none works = record {
     rests = works.rests;
   };
   answer = λ accepted. works.answer;
+  at_once = λ failed is accepted. works.at_once failed;
   complete = λ accepted calm sound. completes old.raw after.raw (Some old.pending.size) true call reply after.short works.causes works.shorts works.answer calm sound;
   told = works.told;
   reach = λ reads. absurd (cc (none.reading));
@@ -217,7 +219,7 @@ pub passing_lays : (old new : WriterView) → PassesSome old new → WhereTold o
 passing_lays old new passes tells = let laid = passes.told tells in record { owed = laid.0; more = 0; order = λ some. absurd (some refl); bytes = laid.3 }
 
 pub passing_keeps : (old new : WriterView) → PassesSome old new → KeepsStream (stream_of old) (stream_of new)
-passing_keeps old new passes = record { buffer = ap Some passes.kept.size; can = same_abilities old new passes.kept; raw = passes.kept.raw }
+passing_keeps old new passes = record { buffer = ap Some passes.kept.size; can = same_abilities old new passes.kept; raw = passes.kept.raw; bare = λ bare. absurd (cc) }
 
 pub passing_file : (old new : WriterView) → PassesSome old new → new.life ≡ old.life → WhereTold old.raw (file_of (stream_of new) ≡ file_of (stream_of old))
 passing_file old new passes same tells =
@@ -262,7 +264,7 @@ waiting_works old new call accepts took short rose once =
     record {
       passes = asked.passes;
       again = λ closes. absurd (cc (asked.again));
-      keeps = record { buffer = ap Some passes.kept.size; can = same_abilities old left passes.kept; raw = passes.kept.raw };
+      keeps = record { buffer = ap Some passes.kept.size; can = same_abilities old left passes.kept; raw = passes.kept.raw; bare = λ bare. absurd (cc) };
       shut = λ none. stays_open old new asked.live took.kept.stays (ap is_closed took.live);
       causes = record { waits = λ _. rose; faults = λ faults. absurd (cc) };
       no_fault = λ _. took.no_fault;
@@ -282,6 +284,7 @@ waiting_works old new call accepts took short rose once =
       settles = λ none. omega (arith, ap length none);
       unclosed = λ some. took.kept.stays;
       rests = rested old new.raw asked.live;
+      at_once = λ failed. absurd (cc (asked.live));
       answer = asked.none.wait_answer old.pending.size;
       told = λ tells. waited_for short (accepts.works tells, subst (λ (file : FlatFile). WaitedBy (file_of (stream_of old)) call (Refused (fault.WouldBlock 0)) file) (sym (passing_file old left passes same tells)) (asked.none.wait_step (file_of (stream_of old))));
       near = is_near new took.kept.is;
@@ -317,6 +320,7 @@ lacking_works old new call asked whole lacks no_wait =
       settles = λ none. omega (arith, ap length none);
       unclosed = λ some. passes.kept.stays;
       rests = rested old new.raw asked.live;
+      at_once = λ failed. absurd (cc (asked.live));
       answer = asked.none.lack_answer old.pending.size;
       told = λ tells. out_of_memory refl (asked.reaches, subst (λ (file : FlatFile). StarvedBy (file_of (stream_of old)) call file) (sym (passing_file old new passes same tells)) (asked.none.lack_step (file_of (stream_of old))));
       near = is_near new passes.kept.is;
@@ -332,7 +336,7 @@ failing_works old failed call left asked leaves whole fails no_wait alive =
     record {
       passes = asked.passes;
       again = λ closes. absurd (cc (asked.again));
-      keeps = record { buffer = ap Some passes.kept.size; can = same_abilities old failed passes.kept; raw = passes.kept.raw };
+      keeps = record { buffer = ap Some passes.kept.size; can = same_abilities old failed passes.kept; raw = passes.kept.raw; bare = λ bare. absurd (cc) };
       shut = λ none. stays_open old new asked.live passes.kept.stays (alive none);
       causes = record { waits = λ waited. absurd (cc); faults = λ _. fails.cause };
       no_fault = λ sound. absurd (cc);
@@ -352,6 +356,7 @@ failing_works old failed call left asked leaves whole fails no_wait alive =
       settles = λ none. omega (arith, ap length none);
       unclosed = λ some. passes.kept.stays;
       rests = rested old failed.raw asked.live;
+      at_once = λ failed. absurd (cc (asked.live));
       answer = asked.none.fault_answer old.pending.size;
       told = λ tells. raw_faulted refl refl (asked.reaches, leaves.step (file_of (stream_of old)) (file_of (stream_of new)) (record { life_is = refl; bytes_are = passing_keeps_bytes old failed passes tells; can = same_abilities old failed passes.kept; buffering = ap Buffered passes.kept.size }));
       near = λ live. absurd (let dead : is_live left ≡ false = leaves.dead in let alive : is_live left ≡ true = ap is_live live in cc);

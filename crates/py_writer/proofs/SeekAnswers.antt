@@ -221,6 +221,7 @@ end_refuses old new offset why end may asks refuses =
       settles = λ none. omega (arith, ap length none);
       unclosed = λ some. took.kept.stays;
       rests = rested old new.raw may.live;
+      at_once = λ failed. absurd (cc (may.live));
       answer = at.answer old.pending.size;
       told = λ tells.
           let by : refusal (file_of (stream_of old)) call ≡ Some why = seek_refusal_is old offset (pos 2) may ∙ ap (λ (base : ℕ). target_refusal (moved_by base offset)) (sym (end_is old new end asks tells)) ∙ refuses in
@@ -371,6 +372,7 @@ gone old found mid new offset whence target may finds passed goes =
         buffer = ap Some (goes.kept.size ∙ took.kept.size);
         can = same_abilities old new (keeps_then old mid new took.kept goes.kept);
         raw = (keeps_then old mid new took.kept goes.kept).raw;
+        bare = λ bare. absurd (cc);
       };
       shut = λ none. stays_open old new may.live (goes.kept.stays ∙ took.kept.stays) (ap is_closed goes.live);
       causes = record { waits = λ waited. absurd (cc); faults = λ faults. absurd (cc) };
@@ -397,6 +399,7 @@ gone old found mid new offset whence target may finds passed goes =
       settles = λ none. omega (arith, ap length none);
       unclosed = λ some. absurd (some none);
       rests = rested old new.raw may.live;
+      at_once = λ failed. absurd (cc (may.live));
       answer = tt;
       told = λ tells.
           let lies : (seek_target (file_of (stream_of old)) offset whence ≡ target) × (refusal (file_of (stream_of old)) call ≡ None) = finds.lies tells in

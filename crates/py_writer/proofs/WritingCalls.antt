@@ -171,7 +171,7 @@ answers_coming old new call reply short may comes =
     let giving : IsGiving before call reply (stream_of left) = is_giving before call reply (stream_of left) may.writing in
     let unrefused : refused_by before call ≡ None = refused_alone before call (no_end (file_of before) call may.writing) ∙ accepted old call may in
     record {
-      keeps = record { buffer = ap Some comes.kept.size; can = same_abilities old new comes.kept; raw = comes.kept.raw };
+      keeps = record { buffer = ap Some comes.kept.size; can = same_abilities old new comes.kept; raw = comes.kept.raw; bare = λ bare. absurd (cc) };
       refused = λ why refuses. absurd (let wrong : None ≡ Some why = sym unrefused ∙ refuses in cc);
       again = λ closes. absurd (cc (no_close before call may.writing));
       shut = λ none closed. comes.kept.stays ∙ closed ∙ ap is_closed may.live ∙ sym comes.is_open;
@@ -201,6 +201,7 @@ answers_coming old new call reply short may comes =
         rests = λ dead. absurd (dead may.live);
       };
       answer = λ accepts. comes.answers;
+      at_once = λ failed. absurd (cc (may.live));
       complete = λ accepts calm sound. completes old.raw new.raw (Some old.pending.size) true call reply short comes.causes comes.shorts comes.answers calm sound;
       told = comes.told;
       reach = λ reads. absurd (cc (giving.reads));
