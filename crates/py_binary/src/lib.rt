@@ -11,12 +11,8 @@ mod life_tests;
 mod reader_calls;
 mod replies;
 #[cfg(test)]
-mod table_tests;
-#[cfg(test)]
 mod tests;
 mod unbuffered_calls;
-#[cfg(test)]
-mod write_table_tests;
 mod writer_calls;
 
 pub use binary_session::BinarySession;

@@ -5,6 +5,8 @@
 
 mod call;
 mod reply;
+#[cfg(test)]
+mod tests;
 
 pub use call::Call;
 pub use reply::Reply;

@@ -14,7 +14,7 @@ ghost use Rattle.py_open.specs.Session.{SessionFile, OfText, SessionView, Answer
 ghost use Rattle.py_mode.specs.declared.plan.OpenPlan.{OpenPlan};
 ghost use Rattle.py_open.specs.Opening.{OpensSession};
 ghost use Rattle.py_open.specs.Run.{Entry, IsRun, IsHistory, IsCalm, IsSmooth, NoneLacksMemory, AllSettle, all_said, calls_of, replies_of};
-ghost use Rattle.py_open.specs.Laws.{IsExact, HasHistory, RunsInTwo, RunsComplete, KeepsSettings, OnlyReads, OwesAsWriter, PassesAll, HoldsFlat, StaysClosed};
+ghost use Rattle.py_open.specs.Laws.{IsExact, HasHistory, RunsInTwo, RunsComplete, KeepsSettings, OnlyReads, IsInStep, PassesAll, HoldsFlat, StaysClosed};
 
 /// A run over a raw that tells, in which no count of the raw rose and no call lacked memory, is the model's: there is a flat file
 /// between any two calls, and each reply is what the file there answers, exactly, but that a single transfer gives some front of
@@ -78,11 +78,12 @@ pub fn a_session_that_reads_spares_the_bytes()
 /// What is passed on is in the raw: after a `flush`, a `close` or a `detach` of a live session that was done nothing is owed, and the
 /// raw holds the flat bytes of the session that the call came to.
 ///
-/// Only a session that writes owes anything: so it is where a session opens, and over every run.
+/// For this the session is in step with its raw: a text has the raw's bytes, and only a stream that writes through a buffer owes
+/// anything. So it is where a session opens, and over every run.
 pub fn what_is_passed_on_is_in_the_raw()
-    ensures passed { (before : SessionView) (call : Call) (reply : Reply) (after : SessionView) → Answers before call reply after → OwesAsWriter before → life_of before ≡ life.Live → PassesAll (file_call call) (said reply) → HoldsFlat before after }
-    ensures opened { (raw : Raw) (plan : OpenPlan) (chunk : ℕ) (session : SessionView) → OpensSession raw plan chunk session → OwesAsWriter session }
-    ensures kept { (before : SessionView) (calls : List Call) (replies : List Reply) (after : SessionView) → IsRun before calls replies after → OwesAsWriter before → OwesAsWriter after }
+    ensures passed { (before : SessionView) (call : Call) (reply : Reply) (after : SessionView) → Answers before call reply after → IsInStep before → life_of before ≡ life.Live → PassesAll (file_call call) (said reply) → HoldsFlat before after }
+    ensures opened { (raw : Raw) (plan : OpenPlan) (chunk : ℕ) (session : SessionView) → OpensSession raw plan chunk session → IsInStep session }
+    ensures kept { (before : SessionView) (calls : List Call) (replies : List Reply) (after : SessionView) → IsRun before calls replies after → IsInStep before → IsInStep after }
 {}
 
 /// A session that isn't live calls no raw, whatever calls are made on it, whether the raw tells or not: so what a closed or detached

@@ -4,18 +4,10 @@
 //! run of the model from the opening's flat file to the session's own.
 #![tactic(auto)]
 
-#[cfg(test)]
-mod binary_tests;
-#[cfg(test)]
-mod flat_file;
 mod laws;
-#[cfg(test)]
-mod life_tests;
 mod open_refused;
 mod run;
 mod session;
-#[cfg(test)]
-mod table_tests;
 #[cfg(test)]
 mod tests;
 mod text_calls;

@@ -1,11 +1,10 @@
 //! Runs: a session that is opened, and a list of calls that are made on it in order.
-ghost use Rattle.std.specs.Prelude.{◌≡◌, MatchResult};
 ghost use Rattle.py_stream.specs.Opening.{StandsAtStart};
 ghost use Rattle.py_open.specs.Kinds.{IsPlanned};
-ghost use Rattle.py_open.specs.Session.{raw_of};
-ghost use Rattle.py_open.specs.Run.{IsRun, OpenedOutcome, RunOutcome};
+ghost use Rattle.py_open.specs.Run.{OpenedOutcome, RunOutcome};
 
-use crate::{Call, Detached, OpenArgs, OpenPlan, OpenRefused, Reply, Session, plan_open};
+use crate::session::raw_refusal;
+use crate::{Call, OpenArgs, OpenPlan, OpenRefused, Reply, Session, plan_open};
 use py_flat::IoFault;
 use py_raw::RawStream;
 use py_stream::NewRefused;
@@ -29,8 +28,8 @@ pub struct Run<R: RawStream> {
 ///
 /// Refused, the raw is handed back with nothing read or written: by the plan (`plan_open`), then `Closed`, `Unsupported` where
 /// it can't do what the mode needs, `NoMemory`, and `RawFault` where it fails to say where it stands or ends, or to move there.
-/// Space for the replies is taken before the first call: where there is none it is `NoMemory` too, and the raw stands where
-/// the session would have begun. Else a raw that tells still stands where it stood, but after `RawFault`.
+/// Space for the replies is taken once the raw is known to be open and able, before it is asked for anything: where there is
+/// none it is `NoMemory` too, with the raw as it was. But for `RawFault` a raw that tells still stands where it stood.
 pub fn run_session<R: RawStream>(
     alloc: Global,
     raw: R,
@@ -59,38 +58,23 @@ pub(crate) fn run_opened<R: RawStream>(
     requires start { StandsAtStart (R.shows raw) }
     ensures { OpenedOutcome R.shows raw plan chunk_size calls.now result }
 {
-    match Session::open(alloc, raw, plan, chunk_size) {
-        Ok(session) => answer_all(alloc, session, calls),
-        Err(refused) => {
-            let NewRefused { raw, fault } = refused;
-            Err(OpenRefused { raw, fault })
-        }
+    if let Some(fault) = raw_refusal(&raw, plan) {
+        return Err(OpenRefused { raw, fault });
     }
-}
-
-/// Makes calls in order, once there is space for their replies.
-fn answer_all<R: RawStream>(
-    alloc: Global,
-    session: Session<R>,
-    calls: &[Call],
-) -> Result<Run<R>, OpenRefused<R>>
-    ensures { MatchResult result
-        (λ run. IsRun session calls.now run.replies.items run.session)
-        (λ refused. (refused.fault ≡ IoFault.NoMemory) × (R.shows refused.raw ≡ raw_of session)) }
-{
-    let mut session = session;
     let mut replies = Vec::new(alloc);
     if replies.reserve(calls.len()).is_err() {
-        let Detached {
-            raw,
-            unwritten: _,
-            place: _,
-        } = session.finish();
         return Err(OpenRefused {
             raw,
             fault: IoFault::NoMemory,
         });
     }
+    let mut session = match Session::open(alloc, raw, plan, chunk_size) {
+        Ok(session) => session,
+        Err(refused) => {
+            let NewRefused { raw, fault } = refused;
+            return Err(OpenRefused { raw, fault });
+        }
+    };
     for call in calls {
         let reply = session.call(alloc, call);
         replies.push(reply).unwrap();

@@ -1,6 +1,7 @@
 //! Sessions: what a plan opens over a raw stream, and on which calls are made.
 ghost use Rattle.std.specs.Prelude.{◌≡◌};
-ghost use Rattle.py_stream.specs.Opening.{StandsAtStart};
+ghost use Rattle.py_stream.specs.Opening.{StandsAtStart, first_refusal};
+ghost use Rattle.py_unbuffered.specs.Unbuffered.{is_able};
 ghost use Rattle.py_open.specs.Session.{Answers, life_of, short_of, raw_of, owed_of};
 ghost use Rattle.py_open.specs.Kinds.{IsPlanned};
 ghost use Rattle.py_open.specs.Opening.{SessionOutcome, access_of, place_handed};
@@ -8,9 +9,9 @@ ghost use Rattle.py_open.specs.Opening.{SessionOutcome, access_of, place_handed}
 use crate::text_calls::answer_text;
 use crate::{Call, EncodeMode, FileMode, OpenPlan, Reply};
 use py_binary::{Access, BinarySession};
-use py_flat::Life;
+use py_flat::{IoFault, Life};
 use py_raw::RawStream;
-use py_stream::{Detached, NewRefused};
+use py_stream::{Detached, NewRefused, refused_at_first};
 use py_textio::TextReader;
 use std::alloc::Global;
 use std::marker::Model;
@@ -148,9 +149,10 @@ impl<R: RawStream> Session<R> {
     }
 
     /// Hands the raw back, in every life, with the bytes that it isn't known to have, and the place of the first of them: with
-    /// none unwritten the session's own place, of a text in bytes. No place comes where the raw can't seek, nor of a session that was
-    /// detached, whose reply had what was unwritten. The raw is closed where a `Close` closed it, and else stands wherever its
-    /// last call left it. What was read and not taken is let go. It takes no memory.
+    /// none unwritten a stream's own place, and of a text the byte from which its place counts characters, where it was opened, or
+    /// the end once all was read. No place comes where the raw can't seek, nor of a session that was detached, whose reply had what
+    /// was unwritten. The raw is closed where a `Close` closed it, and else stands wherever its last call left it. What was read and
+    /// not taken is let go. It takes no memory.
     pub fn finish(self) -> Detached<R>
         ensures raw { R.shows result.raw ≡ raw_of self }
         ensures unwritten { result.unwritten.items ≡ owed_of self }
@@ -173,4 +175,16 @@ fn access_of(file: FileMode) -> Access
         FileMode::Write | FileMode::Exclusive => Access::Write,
         FileMode::Append => Access::Append,
     }
+}
+
+/// Why a plan's opening refuses a raw before it is asked for anything: `Closed` where it is closed, then `Unsupported` where it
+/// can't do what the mode needs, then `BadArgument` for a buffer of 0 bytes. `None` where nothing refuses it.
+pub(crate) fn raw_refusal<R: RawStream>(raw: &R, plan: OpenPlan) -> Option<IoFault>
+    ensures { result ≡ first_refusal (is_able (access_of plan.mode.file) (R.shows raw.now)) (R.shows raw.now) plan.buffer_size }
+{
+    let able = match access_of(plan.mode.file) {
+        Access::Read => raw.readable(),
+        Access::Write | Access::Append => raw.writable(),
+    };
+    refused_at_first(raw, able, plan.buffer_size)
 }

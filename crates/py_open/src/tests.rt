@@ -1,15 +1,10 @@
-//! Sessions over raws in memory, compared with worked examples and with the plain slow text.
-ghost use Rattle.std.specs.Prelude.{◌≡◌, ◌<◌, ℕ, true, IfOk};
+//! Sessions over raws in memory: worked examples. More stand in `py_session_tests`.
+ghost use Rattle.std.specs.Prelude.{◌≡◌, true, IfOk};
 ghost use Rattle.py_raw.specs.MemRaw.{shown};
 ghost use Rattle.py_stream.specs.Opening.{StandsAtStart};
-ghost use Rattle.py_open.specs.Kinds.{IsPlanned};
 
-use crate::run::run_opened;
-use crate::{
-    Call, EncodeMode, FileMode, Mode, OpenArgs, OpenPlan, OpenRefused, Reply, Run, run_session,
-};
-use py_flat::{Chars, IoFault, Life, ParseModeError};
-use py_plain::{Newlines, PlainText};
+use crate::{Call, OpenArgs, OpenRefused, Reply, Run, run_session};
+use py_flat::{Chars, Data, IoFault, Life, ParseModeError};
 use py_raw::{Cut, MemRaw, RawFlags};
 use std::alloc::{AllocError, Global};
 use std::process::Abort;
@@ -39,42 +34,28 @@ fn line_feed(alloc: Global) -> Result<OpenArgs, AllocError> {
     Ok(args)
 }
 
-/// The plan of a text that is read through a buffer of so many bytes.
-fn text_plan(size: usize) -> OpenPlan
-    requires { 0 < size }
-    ensures { (chunk : ℕ) → 0 < chunk → IsPlanned result chunk }
-{
-    let mode = Mode {
-        file: FileMode::Read,
-        encode: EncodeMode::Text,
-        plus: false,
-    };
-    OpenPlan {
-        mode,
-        buffer_size: Some(size),
-    }
-}
-
-/// A run over a raw with a small buffer and small chunks.
-fn small_run(
+/// A run that isn't refused, of a text that is read through a small buffer in small chunks.
+fn text_run(
     rt: &impl Abort,
     alloc: Global,
     raw: MemRaw,
-    sizes: (usize, usize),
     calls: &[Call],
-) -> Run<MemRaw>
-    requires buffer { 0 < sizes.0 }
-    requires chunk { 0 < sizes.1 }
+) -> Result<Run<MemRaw>, AllocError>
     requires start { StandsAtStart (shown raw) }
 {
-    match run_opened(alloc, raw, text_plan(sizes.0), sizes.1, calls) {
-        Ok(run) => run,
-        Err(_) => panic!(rt; "the opening was refused"),
+    let args = OpenArgs {
+        buffering: 4,
+        chunk_size: 4,
+        ..line_feed(alloc)?
+    };
+    match run_session(alloc, raw, "r", args, calls) {
+        Ok(run) => Ok(run),
+        Err(_) => panic!(rt; "refused"),
     }
 }
 
 /// Whether a session may go to another thread, which its type decides.
-pub(crate) fn may_be_sent<T: Send>(_: &T) -> bool
+fn may_be_sent<T: Send>(_: &T) -> bool
     ensures { result ≡ true }
 {
     true
@@ -99,6 +80,33 @@ fn a_text_is_read_by_a_line_and_then_to_its_end(rt: HostRuntime) -> Result<(), F
 }
 
 #[test]
+fn bytes_are_written_and_read_back(rt: HostRuntime) -> Result<(), Fail> {
+    let alloc = rt.alloc();
+    let flags = RawFlags::able(true, true, true);
+    let raw = MemRaw::new(Vec::new(alloc), flags, Vec::new(alloc), Vec::new(alloc));
+    let calls = [
+        Call::Write(Data::from_slice(alloc, b"a\n")?),
+        Call::Flush,
+        Call::Seek(0, 0),
+    ];
+    let Ok(run) = run_session(alloc, raw, "wb", OpenArgs::default(), &calls) else {
+        return Err(Fail::from("refused"));
+    };
+    let replies = [Reply::Count(2), Reply::Done, Reply::Place(0)];
+    assert_eq!(rt; run.replies.as_slice(), replies.as_slice());
+    let handed = run.session.finish();
+    assert_eq!(rt; (handed.unwritten.len(), handed.place), (0, Some(0)));
+    let calls = [Call::ReadLine(None), Call::Close];
+    let Ok(run) = run_session(alloc, handed.raw, "rb", OpenArgs::default(), &calls) else {
+        return Err(Fail::from("refused"));
+    };
+    let line = Reply::Bytes(Data::from_slice(alloc, b"a\n")?);
+    assert_eq!(rt; run.replies.as_slice(), [line, Reply::Done].as_slice());
+    assert!(rt; may_be_sent(&run.session) && !run.session.short());
+    Ok(())
+}
+
+#[test]
 fn waits_cuts_and_refused_ranges_lose_nothing(rt: HostRuntime) -> Result<(), Fail> {
     let alloc = rt.alloc();
     let euro = [0xE2, 0x82, 0xAC];
@@ -114,7 +122,7 @@ fn waits_cuts_and_refused_ranges_lose_nothing(rt: HostRuntime) -> Result<(), Fai
         Call::Read(Some(1)),
         Call::Read(Some(1)),
     ];
-    let run = small_run(&rt, alloc, raw_of(alloc, &euro, plan)?, (4, 4), &calls);
+    let run = text_run(&rt, alloc, raw_of(alloc, &euro, plan)?, &calls)?;
     let replies = [Reply::NotReady, Reply::NotReady, text(alloc, "€")?];
     assert_eq!(rt; run.replies.as_slice(), replies.as_slice());
 
@@ -125,13 +133,8 @@ fn waits_cuts_and_refused_ranges_lose_nothing(rt: HostRuntime) -> Result<(), Fai
         Call::Read(Some(1)),
         Call::Read(None),
     ];
-    let run = small_run(
-        &rt,
-        alloc,
-        raw_of(alloc, &bad, Vec::new(alloc))?,
-        (4, 4),
-        &calls,
-    );
+    let raw = raw_of(alloc, &bad, Vec::new(alloc))?;
+    let run = text_run(&rt, alloc, raw, &calls)?;
     let replies = [
         decode_error(2, 3),
         text(alloc, "ab")?,
@@ -139,182 +142,6 @@ fn waits_cuts_and_refused_ranges_lose_nothing(rt: HostRuntime) -> Result<(), Fai
         decode_error(2, 3),
     ];
     assert_eq!(rt; run.replies.as_slice(), replies.as_slice());
-    Ok(())
-}
-
-/// Good and bad UTF-8, with cut sequences at the end.
-fn texts() -> [&'static [u8]; 6] {
-    [
-        "".as_bytes(),
-        "a\nbb\nccc".as_bytes(),
-        "é\n€\n😀".as_bytes(),
-        &[0x61, 0x0A, 0xE2, 0x82],
-        &[0xF0, 0x9F, 0x98, 0x80, 0xC0, 0x61],
-        &[0xC3, 0xA9, 0x61, 0x0A, 0xC3, 0x0A],
-    ]
-}
-
-const MIXED: [Call; 8] = [
-    Call::ReadLine(None),
-    Call::Read(Some(2)),
-    Call::ReadLine(Some(1)),
-    Call::Read(Some(0)),
-    Call::Read(None),
-    Call::Read(None),
-    Call::ReadLine(None),
-    Call::Close,
-];
-
-/// What the plain slow text answers to calls.
-fn plain_replies(alloc: Global, bytes: &[u8], calls: &[Call]) -> Result<Vec<Reply>, AllocError> {
-    let mut plain = PlainText::new(bytes.to_vec(alloc)?, Newlines::Lf);
-    let mut replies = Vec::new(alloc);
-    for call in calls {
-        let answer = match call {
-            Call::Read(size) => plain.read(alloc, *size).map(Reply::Text),
-            Call::ReadLine(limit) => plain.readline(alloc, *limit).map(Reply::Text),
-            Call::Close => plain.close().map(|()| Reply::Done),
-            _ => Err(IoFault::Unsupported),
-        };
-        replies.push(answer.unwrap_or_else(Reply::Refused))?;
-    }
-    Ok(replies)
-}
-
-/// Transfers of one byte each, with a wait before one of them.
-fn bytes_and_a_wait(alloc: Global, wait: usize) -> Result<Vec<Cut>, AllocError> {
-    let mut plan = Vec::new(alloc);
-    for transfer in 0..16 {
-        if transfer == wait {
-            plan.push(Cut::Wait)?;
-        }
-        plan.push(Cut::Take(1))?;
-    }
-    Ok(plan)
-}
-
-#[test]
-fn every_size_answers_as_the_plain_text(rt: HostRuntime) -> Result<(), Fail> {
-    let alloc = rt.alloc();
-    for bytes in texts() {
-        let expected = plain_replies(alloc, bytes, &MIXED)?;
-        for buffer in 1..4 {
-            for chunk in 1..4 {
-                let raw = raw_of(alloc, bytes, Vec::new(alloc))?;
-                let run = small_run(&rt, alloc, raw, (buffer, chunk), &MIXED);
-                assert_eq!(rt;
-                    run.replies,
-                    expected,
-                    "of {bytes:?} by {buffer} and {chunk}"
-                );
-            }
-        }
-    }
-    Ok(())
-}
-
-#[test]
-fn every_size_that_is_asked_for_answers_as_the_plain_text(rt: HostRuntime) -> Result<(), Fail> {
-    let alloc = rt.alloc();
-    for bytes in texts() {
-        let expected = plain_replies(alloc, bytes, &MIXED)?;
-        for buffering in 2..10 {
-            for chunk_size in 1..10 {
-                let args = OpenArgs {
-                    buffering,
-                    chunk_size,
-                    ..line_feed(alloc)?
-                };
-                let raw = raw_of(alloc, bytes, Vec::new(alloc))?;
-                let Ok(run) = run_session(alloc, raw, "r", args, &MIXED) else {
-                    return Err(Fail::from("refused"));
-                };
-                assert_eq!(rt;
-                    run.replies,
-                    expected,
-                    "of {bytes:?} by {buffering} and {chunk_size}"
-                );
-            }
-        }
-    }
-    Ok(())
-}
-
-#[test]
-fn a_wait_before_any_transfer_loses_nothing(rt: HostRuntime) -> Result<(), Fail> {
-    let alloc = rt.alloc();
-    let mut calls = Vec::new(alloc);
-    for _ in 0..12 {
-        calls.push(Call::Read(Some(1)))?;
-    }
-    for bytes in texts() {
-        let plain = plain_replies(alloc, bytes, &calls)?;
-        for wait in 0..16 {
-            let raw = raw_of(alloc, bytes, bytes_and_a_wait(alloc, wait)?)?;
-            let run = small_run(&rt, alloc, raw, (2, 3), &calls);
-            let mut waits = 0u64;
-            let mut expected = plain.iter();
-            for reply in &run.replies {
-                if reply.says_wait() {
-                    waits = waits.saturating_add(1);
-                } else {
-                    assert_eq!(rt;
-                        Some(reply),
-                        expected.next(),
-                        "of {bytes:?}, waiting at {wait}"
-                    );
-                }
-            }
-            // One reply for the raw's one wait, if it was asked so often.
-            let waited = run.session.finish().raw.wait_count();
-            assert_eq!(rt; waits, waited, "of {bytes:?}, waiting at {wait}");
-            assert!(rt; waited == 1 || wait > 0);
-        }
-    }
-    Ok(())
-}
-
-#[test]
-fn a_fault_at_any_call_fails_the_session(rt: HostRuntime) -> Result<(), Fail> {
-    let alloc = rt.alloc();
-    for bytes in texts() {
-        let plain = plain_replies(alloc, bytes, &MIXED)?;
-        for fault in 0..18 {
-            let flags = RawFlags::able(true, false, true);
-            let plan = bytes_and_a_wait(alloc, 16)?;
-            let raw = MemRaw::new(bytes.to_vec(alloc)?, flags, plan, vec![in alloc; fault]?);
-            match run_opened(alloc, raw, text_plan(2), 3, &MIXED) {
-                Err(refused) => {
-                    assert_eq!(rt; (fault, refused.fault), (0, IoFault::RawFault));
-                    assert_eq!(rt; refused.raw.bytes_of(), bytes);
-                }
-                Ok(run) => {
-                    let mut faults = 0u64;
-                    for (reply, expected) in run.replies.iter().zip(&plain) {
-                        if faults > 0 {
-                            assert_eq!(rt; *reply, Reply::Refused(IoFault::Failed));
-                        } else if reply.says_fault() {
-                            faults = 1;
-                        } else {
-                            assert_eq!(rt; reply, expected, "of {bytes:?}, failing at {fault}");
-                        }
-                    }
-                    // A fault of the Close itself leaves the session closed.
-                    let last = Some(&Reply::Refused(IoFault::Failed));
-                    let life = if run.replies.last() == last {
-                        Life::Failed
-                    } else {
-                        Life::Closed
-                    };
-                    assert_eq!(rt; run.session.life(), life);
-                    // One reply for the raw's one fault, if it was called so often.
-                    let failed = run.session.finish().raw.fault_count();
-                    assert_eq!(rt; faults, failed, "of {bytes:?}, failing at {fault}");
-                    assert!(rt; failed == 1 || fault > 1);
-                }
-            }
-        }
-    }
     Ok(())
 }
 
@@ -330,7 +157,7 @@ fn lives_and_kinds_refuse(rt: HostRuntime) -> Result<(), Fail> {
         Call::Read(None),
         Call::Close,
     ];
-    let run = small_run(&rt, alloc, raw, (4, 4), &calls);
+    let run = text_run(&rt, alloc, raw, &calls)?;
     let replies = [
         Reply::Refused(IoFault::Unsupported),
         Reply::Flag(true),
@@ -350,7 +177,7 @@ fn lives_and_kinds_refuse(rt: HostRuntime) -> Result<(), Fail> {
         faults,
     );
     let calls = [Call::Read(None), Call::Read(None), Call::Close];
-    let run = small_run(&rt, alloc, raw, (4, 4), &calls);
+    let run = text_run(&rt, alloc, raw, &calls)?;
     let replies = [
         Reply::Refused(IoFault::RawFault),
         Reply::Refused(IoFault::Failed),
@@ -399,7 +226,7 @@ fn is_short_once(
     rest: &Reply,
 ) -> Result<(), AllocError> {
     let raw = raw_of(alloc, "ab".as_bytes(), plan)?;
-    let mut session = small_run(rt, alloc, raw, (4, 4), &[]).session;
+    let mut session = text_run(rt, alloc, raw, &[])?.session;
     assert!(rt; session.call(alloc, &Call::Read(None)) == *waits);
     assert!(rt; session.short());
     assert!(rt; session.call(alloc, &Call::Read(None)) == *rest);
@@ -417,30 +244,5 @@ fn a_wait_makes_the_answer_short(rt: HostRuntime) -> Result<(), Fail> {
     let whole = text(alloc, "ab")?;
     let plan = vec![in alloc; Cut::Wait]?;
     is_short_once(&rt, alloc, plan, &Reply::NotReady, &whole)?;
-    Ok(())
-}
-
-fn call_is_copied(rt: &impl Abort, alloc: Global, call: &Call) -> Result<(), AllocError> {
-    let copy = call.try_clone(alloc)?;
-    assert!(rt; copy == *call);
-    Ok(())
-}
-
-fn reply_is_copied(rt: &impl Abort, alloc: Global, reply: &Reply) -> Result<(), AllocError> {
-    let copy = reply.try_clone(alloc)?;
-    assert!(rt; copy == *reply);
-    Ok(())
-}
-
-#[test]
-fn copies_are_equal(rt: HostRuntime) -> Result<(), Fail> {
-    let alloc = rt.alloc();
-    call_is_copied(&rt, alloc, &Call::Read(None))?;
-    call_is_copied(&rt, alloc, &Call::ReadLine(Some(3)))?;
-    call_is_copied(&rt, alloc, &Call::WriteText(Chars::from_text(alloc, "é")?))?;
-    call_is_copied(&rt, alloc, &Call::Close)?;
-    reply_is_copied(&rt, alloc, &text(alloc, "é")?)?;
-    reply_is_copied(&rt, alloc, &decode_error(2, 3))?;
-    reply_is_copied(&rt, alloc, &Reply::NotReady)?;
     Ok(())
 }

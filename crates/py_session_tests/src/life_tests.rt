@@ -2,9 +2,9 @@
 ghost use Rattle.py_raw.specs.MemRaw.{shown};
 ghost use Rattle.py_stream.specs.Opening.{StandsAtStart};
 
-use crate::binary_tests::{buffered_by, lines_of, raw_of, run_of, write};
-use crate::{Call, OpenArgs, Reply, Session, run_session};
+use crate::runs::{buffered_by, lines_of, raw_of, run_of, write};
 use py_flat::{Chars, Data, IoFault, Life};
+use py_open::{Call, OpenArgs, Reply, Session, run_session};
 use py_raw::{Cut, MemRaw, RawFlags};
 use std::alloc::{AllocError, Global};
 use std::process::Abort;

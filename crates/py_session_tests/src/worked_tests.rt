@@ -1,70 +1,11 @@
 //! Sessions over streams of bytes in memory: worked runs, what a session hands back, and what an opening refuses.
-ghost use Rattle.std.specs.Prelude.{IfOk};
-ghost use Rattle.py_raw.specs.MemRaw.{shown};
-ghost use Rattle.py_stream.specs.Opening.{StandsAtStart};
-
-use crate::tests::may_be_sent;
-use crate::{Call, OpenArgs, OpenRefused, Reply, Run, Session, run_session};
-use py_flat::{Chars, Data, IoFault, Life, Lines};
+use crate::runs::{buffered_by, bytes, lines_of, raw_of, run_of, write};
+use py_flat::{Chars, Data, IoFault, Life};
+use py_open::{Call, OpenArgs, OpenRefused, Reply, Session, run_session};
 use py_raw::{Cut, MemRaw, RawFlags, RawStream};
 use std::alloc::{AllocError, Global};
 use std::process::Abort;
 use std::test::Fail;
-
-/// A raw over some bytes that can be read, written and moved, and follows a plan; the listed calls fail.
-pub(crate) fn raw_of(
-    alloc: Global,
-    bytes: &[u8],
-    plan: Vec<Cut>,
-    faults: &[u64],
-) -> Result<MemRaw, AllocError>
-    ensures { IfOk result (λ raw. StandsAtStart (shown raw)) }
-{
-    let flags = RawFlags::able(true, true, true);
-    let bytes = bytes.to_vec(alloc)?;
-    let faults = faults.to_vec(alloc)?;
-    Ok(MemRaw::new(bytes, flags, plan, faults))
-}
-
-/// The arguments of an opening with that buffering, and no others.
-pub(crate) fn buffered_by(buffering: i64) -> OpenArgs {
-    let mut args = OpenArgs::default();
-    args.buffering = buffering;
-    args
-}
-
-/// A run of calls that isn't refused.
-pub(crate) fn run_of(
-    rt: &impl Abort,
-    alloc: Global,
-    raw: MemRaw,
-    mode: &str,
-    buffering: i64,
-    calls: &[Call],
-) -> Run<MemRaw>
-    requires start { StandsAtStart (shown raw) }
-{
-    match run_session(alloc, raw, mode, buffered_by(buffering), calls) {
-        Ok(run) => run,
-        Err(_) => panic!(rt; "refused: {mode} by {buffering}"),
-    }
-}
-
-pub(crate) fn bytes(alloc: Global, bytes: &[u8]) -> Result<Reply, AllocError> {
-    Ok(Reply::Bytes(Data::from_slice(alloc, bytes)?))
-}
-
-pub(crate) fn write(alloc: Global, bytes: &[u8]) -> Result<Call, AllocError> {
-    Ok(Call::Write(Data::from_slice(alloc, bytes)?))
-}
-
-pub(crate) fn lines_of(alloc: Global, lines: &[&[u8]]) -> Result<Lines, AllocError> {
-    let mut list = Lines::new(alloc);
-    for line in lines {
-        list.push(Data::from_slice(alloc, line)?)?;
-    }
-    Ok(list)
-}
 
 fn unwritten(alloc: Global, bytes: &[u8], place: u64) -> Result<Reply, AllocError> {
     Ok(Reply::Unwritten {
@@ -106,7 +47,6 @@ fn bytes_are_read_in_two_readings(rt: HostRuntime) -> Result<(), Fail> {
         );
         assert_eq!(rt; run.session.life(), Life::Closed);
         assert!(rt; !run.session.short());
-        assert!(rt; may_be_sent(&run.session));
         let handed = run.session.finish();
         assert_eq!(rt; handed.raw.bytes_of(), b"abc".as_slice());
         assert!(rt; handed.raw.closed() && handed.unwritten.is_empty());

@@ -3,17 +3,17 @@
 ghost use Rattle.py_raw.specs.MemRaw.{shown};
 ghost use Rattle.py_stream.specs.Opening.{StandsAtStart};
 
-use crate::binary_tests::{lines_of, raw_of, run_of, write};
 use crate::flat_file::{Flat, answers};
-use crate::{Call, Detached, Reply, Session};
+use crate::runs::{lines_of, raw_of, run_of, write};
 use py_flat::{IoFault, Life};
+use py_open::{Call, Detached, Reply, Session};
 use py_raw::{Cut, MemRaw, RawStream};
 use std::alloc::{AllocError, Global};
 use std::process::Abort;
 use std::test::Fail;
 
-/// Each way of buffering: none, some small sizes, and the default's.
-const BUFFERINGS: [i64; 6] = [0, 2, 3, 4, 5, 8192];
+/// Each way of buffering: none, the small sizes, and the default's, which 1 means too.
+const BUFFERINGS: [i64; 10] = [0, 2, 3, 4, 5, 6, 7, 8, 9, 8192];
 
 const HELD: &[u8] = b"ab\ncd\n\nefgh\nijklmnop";
 
@@ -327,10 +327,14 @@ fn a_wait_before_any_transfer_loses_nothing(rt: HostRuntime) -> Result<(), Fail>
     let alloc = rt.alloc();
     for mode in ["rb", "wb", "xb", "ab"] {
         for buffering in BUFFERINGS {
-            for at in 0..12 {
+            for at in 0..60 {
                 let raw = raw_of(alloc, HELD, plan_but(alloc, 1, at, Cut::Wait)?, &[])?;
-                let came = run_beside(&rt, alloc, (mode, buffering), raw, 0)?;
-                assert_eq!(rt; came, (false, 1), "of {mode} by {buffering} at {at}");
+                let (failed, waits) = run_beside(&rt, alloc, (mode, buffering), raw, 0)?;
+                // The transfers of some runs end before the wait.
+                assert!(rt;
+                    !failed && (waits == 1 || at >= 12 && waits == 0),
+                    "of {mode} by {buffering} at {at}"
+                );
             }
         }
     }
@@ -363,11 +367,15 @@ fn a_fault_at_any_call_is_told_once_and_loses_nothing(rt: HostRuntime) -> Result
     // The calls of the raw before these find the place where a session begins.
     for (mode, first) in [("rb", 1u64), ("wb", 1), ("xb", 1), ("ab", 2)] {
         for buffering in BUFFERINGS {
-            for number in first..13 {
+            for number in first..60 {
                 let plan = vec![in alloc; Cut::Take(1); 300]?;
                 let raw = raw_of(alloc, HELD, plan, &[number])?;
-                let came = run_beside(&rt, alloc, (mode, buffering), raw, 0)?;
-                assert_eq!(rt; came, (true, 0), "of {mode} by {buffering} at {number}");
+                let (failed, waits) = run_beside(&rt, alloc, (mode, buffering), raw, 0)?;
+                // The calls of some runs end before the fault.
+                assert!(rt;
+                    waits == 0 && (failed || number > 12),
+                    "of {mode} by {buffering} at {number}"
+                );
             }
         }
     }
@@ -400,39 +408,49 @@ fn a_piece_that_breaks_off_loses_nothing(rt: HostRuntime) -> Result<(), Fail> {
     Ok(())
 }
 
-/// A session of a writer whose run a piece that breaks off has failed.
-fn failed_at(
+/// Detaches a session of a writer that a piece which breaks off left failed. What it hands over is all that it took.
+fn detaches_all(
     rt: &impl Abort,
     alloc: Global,
     opening: (&str, i64),
     piece: usize,
-) -> Result<Session<MemRaw>, AllocError> {
-    let calls = calls_of(alloc, "wb")?;
-    let plan = plan_but(alloc, 3, piece, Cut::Break(1))?;
-    let raw = raw_of(alloc, HELD, plan, &[])?;
+) -> Result<Detached<MemRaw>, Fail> {
     let (mode, buffering) = opening;
-    let session = run_of(rt, alloc, raw, mode, buffering, &calls).session;
-    assert!(rt; session.life() == Life::Failed, "of {mode} by {buffering}");
-    Ok(session)
+    let calls = calls_of(alloc, mode)?;
+    let raw = raw_of(alloc, HELD, plan_but(alloc, 3, piece, Cut::Break(1))?, &[])?;
+    let mut session = run_of(rt, alloc, raw, mode, buffering, &[]).session;
+    let mut flat = flat_of(alloc, mode, buffering)?;
+    let failed = follow(rt, alloc, &mut session, &mut flat, &calls)?;
+    assert!(rt; failed.is_some(), "of {mode} by {buffering} at {piece}");
+    let Reply::Unwritten { bytes, place } = session.call(alloc, &Call::Detach) else {
+        return Err(Fail::from("not detached"));
+    };
+    let left = session.finish();
+    assert!(rt; left.unwritten.is_empty() && left.place.is_none());
+    let handed = Detached {
+        raw: left.raw,
+        unwritten: Vec::from_slice(alloc, bytes.as_slice())?,
+        place,
+    };
+    holds_all_taken(rt, alloc, &handed, &mut flat, failed, 1)?;
+    Ok(handed)
 }
 
 #[test]
 fn a_detach_hands_over_what_a_finish_would(rt: HostRuntime) -> Result<(), Fail> {
     let alloc = rt.alloc();
     for mode in ["wb", "ab"] {
+        let calls = calls_of(alloc, mode)?;
         for buffering in [2, 3, 5, 8192] {
             for piece in 0..4 {
-                let opening = (mode, buffering);
-                let handed = failed_at(&rt, alloc, opening, piece)?.finish();
-                let mut session = failed_at(&rt, alloc, opening, piece)?;
-                let Reply::Unwritten { bytes, place } = session.call(alloc, &Call::Detach) else {
-                    return Err(Fail::from("not detached"));
-                };
-                assert!(rt; bytes.as_slice() == handed.unwritten.as_slice());
-                assert!(rt; place == handed.place, "of {mode} by {buffering}");
-                let left = session.finish();
-                assert!(rt; left.raw.bytes_of() == handed.raw.bytes_of());
-                assert!(rt; left.unwritten.is_empty() && left.place.is_none());
+                let plan = plan_but(alloc, 3, piece, Cut::Break(1))?;
+                let raw = raw_of(alloc, HELD, plan, &[])?;
+                let session = run_of(&rt, alloc, raw, mode, buffering, &calls).session;
+                let finished = session.finish();
+                let detached = detaches_all(&rt, alloc, (mode, buffering), piece)?;
+                assert!(rt; detached.unwritten == finished.unwritten);
+                assert!(rt; detached.place == finished.place);
+                assert!(rt; detached.raw.bytes_of() == finished.raw.bytes_of());
             }
         }
     }

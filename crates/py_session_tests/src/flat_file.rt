@@ -1,6 +1,6 @@
 //! A flat file for the tests, written apart from the model: a list of bytes with a place, and what its stream is opened for.
-use crate::{Call, Reply};
 use py_flat::{IoFault, Lines};
+use py_open::{Call, Reply};
 use std::alloc::{AllocError, Global};
 
 #[derive(Drop)]
