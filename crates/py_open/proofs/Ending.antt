@@ -1,5 +1,5 @@
 -- Calls that end something: what is passed on, and what a closed session answers.
-use Rattle.std.proofs.Common.{◌≡◌, ◌≢◌, pos, suc, zero, Bool, true, false, IsTrue, [], Some, refl, sym, ap, ◌∙◌}
+use Rattle.std.proofs.Common.{inl, ◌≡◌, ◌≢◌, pos, suc, zero, Bool, true, false, IsTrue, [], Some, refl, sym, ap, ◌∙◌}
 use Rattle.py_flat.specs.declared.fault.IoFault.TheVariants as fault
 use Rattle.py_flat.specs.declared.life.Life.{Life}
 use Rattle.py_flat.specs.declared.life.Life.TheVariants as life
@@ -22,8 +22,8 @@ use Rattle.py_textio.specs.TextState.{TextState}
 use Rattle.py_textio.specs.Answers as text
 use Rattle.py_binary.specs.Binary.{has_reply_room, left_by, left_of, AnswersBy}
 use Rattle.py_open.specs.Session.{OfText, OfBinary, SessionView, TextSession, BinarySession, file_seen, raw_of, life_of, AnswersTextBy, Answers}
-use Rattle.py_open.specs.Laws.{OwesAsWriter, PassesAll, HoldsFlat, closed_text_reply, closed_file_reply, closed_by, closed_reply}
-use Rattle.py_open.proofs.Steps.{left_raw, left_none}
+use Rattle.py_open.specs.Laws.{IsInStep, PassesAll, HoldsFlat, closed_text_reply, closed_file_reply, closed_by, closed_reply}
+use Rattle.py_open.proofs.Steps.{left_raw, left_none, text_bytes}
 
 -- What is passed on.
 
@@ -51,9 +51,9 @@ spared before call reply answered a reads none =
       holds = λ tells. spares.bytes tells ∙ sym (ap (λ (owed : Owed). lay before.raw.bytes owed.place owed.bytes) none);
     }
 
-passes_by : (writes : Bool) (before : Stream) (call : FileCall) (reply : FileReply) (answered : Stream) → before.can.writable ≡ writes → AnswersWith has_reply_room before call reply answered → OwesAsWriter (BinarySession before) → before.life ≡ life.Live → PassesAll call reply → Passes before answered
-passes_by true before call reply answered is a owes live all = written before call reply answered a is live all
-passes_by false before call reply answered is a owes live all = spared before call reply answered a is (owes is)
+passes_by : (writes : Bool) (before : Stream) (call : FileCall) (reply : FileReply) (answered : Stream) → before.can.writable ≡ writes → AnswersWith has_reply_room before call reply answered → IsInStep (BinarySession before) → before.life ≡ life.Live → PassesAll call reply → Passes before answered
+passes_by true before call reply answered is a is_in live all = written before call reply answered a is live all
+passes_by false before call reply answered is a is_in live all = spared before call reply answered a is (is_in (inl is))
 
 no_question : (call : FileCall) (reply : FileReply) → is_getter call ≡ true → PassesAll call reply → ⊥
 no_question Flush reply asks all = let wrong : false ≡ true = asks in absurd (cc)
@@ -61,25 +61,24 @@ no_question Close reply asks all = let wrong : false ≡ true = asks in absurd (
 no_question Detach reply asks all = let wrong : false ≡ true = asks in absurd (cc)
 no_question call reply asks all = all
 
-binary_passes : (getter : Bool) (before : Stream) (call : FileCall) (reply : FileReply) (after : Stream) → is_getter call ≡ getter → AnswersBy getter before call reply after → OwesAsWriter (BinarySession before) → before.life ≡ life.Live → PassesAll call reply → HoldsFlat (BinarySession before) (BinarySession after)
-binary_passes true before call reply after is step owes live all = absurd (no_question call reply is all)
-binary_passes false before call reply after is step owes live all =
+binary_passes : (getter : Bool) (before : Stream) (call : FileCall) (reply : FileReply) (after : Stream) → is_getter call ≡ getter → AnswersBy getter before call reply after → IsInStep (BinarySession before) → before.life ≡ life.Live → PassesAll call reply → HoldsFlat (BinarySession before) (BinarySession after)
+binary_passes true before call reply after is step is_in live all = absurd (no_question call reply is all)
+binary_passes false before call reply after is step is_in live all =
     let a : Stream = step.answered in
-    let passes = passes_by before.can.writable before call reply a refl step.answers owes live all in
+    let passes = passes_by before.can.writable before call reply a refl step.answers is_in live all in
     record {
       none = ap (λ (s : Stream). s.owed.bytes) step.leaves ∙ left_none a.life a passes.none;
       holds = λ tells. ap (λ (s : Stream). s.raw.bytes) step.leaves ∙ ap (λ (raw : Raw). raw.bytes) (left_raw a.life a) ∙ passes.holds tells;
     }
 
-text_holds : (getter : Bool) (before : TextState) (call : Call) (reply : FileReply) (after : TextState) → AnswersTextBy getter before call reply after → HoldsFlat (TextSession before) (TextSession after)
-text_holds true before call reply after step = record { none = refl; holds = λ tells. ap (λ (t : TextState). t.raw.bytes) step.same }
-text_holds false before call reply after step = record { none = refl; holds = step.answers.bytes }
+text_holds : (getter : Bool) (before : TextState) (call : Call) (reply : FileReply) (after : TextState) → AnswersTextBy getter before call reply after → IsInStep (TextSession before) → HoldsFlat (TextSession before) (TextSession after)
+text_holds getter before call reply after step is_in = record { none = refl; holds = λ tells. text_bytes getter before call reply after step tells ∙ sym (is_in tells) }
 
-pub step_passes : (before : SessionView) (call : Call) (reply : Reply) (after : SessionView) → Answers before call reply after → OwesAsWriter before → life_of before ≡ life.Live → PassesAll (file_call call) (said reply) → HoldsFlat before after
-step_passes (TextSession before) call reply (TextSession after) step owes live all = text_holds (is_getter (file_call call)) before call (said reply) after step
-step_passes (BinarySession before) call reply (BinarySession after) step owes live all = binary_passes (is_getter (file_call call)) before (file_call call) (said reply) after refl step owes live all
-step_passes (TextSession before) call reply (BinarySession after) step owes live all = absurd step
-step_passes (BinarySession before) call reply (TextSession after) step owes live all = absurd step
+pub step_passes : (before : SessionView) (call : Call) (reply : Reply) (after : SessionView) → Answers before call reply after → IsInStep before → life_of before ≡ life.Live → PassesAll (file_call call) (said reply) → HoldsFlat before after
+step_passes (TextSession before) call reply (TextSession after) step is_in live all = text_holds (is_getter (file_call call)) before call (said reply) after step is_in
+step_passes (BinarySession before) call reply (BinarySession after) step is_in live all = binary_passes (is_getter (file_call call)) before (file_call call) (said reply) after refl step is_in live all
+step_passes (TextSession before) call reply (BinarySession after) step is_in live all = absurd step
+step_passes (BinarySession before) call reply (TextSession after) step is_in live all = absurd step
 
 -- Closed sessions.
 

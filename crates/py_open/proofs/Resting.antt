@@ -1,30 +1,25 @@
 -- A session that isn't live calls no raw.
-use Rattle.std.proofs.Common.{◌≡◌, ◌≢◌, pos, suc, zero, Bool, true, false, IsTrue, [], Some, refl, sym, ap, ◌∙◌}
+use Rattle.std.proofs.Common.{◌≡◌, ◌≢◌, pos, suc, zero, Bool, true, false, [], Some, refl, sym, ap, ◌∙◌}
 use Rattle.py_flat.specs.declared.fault.IoFault.TheVariants as fault
 use Rattle.py_flat.specs.declared.life.Life.{Life}
 use Rattle.py_flat.specs.declared.life.Life.TheVariants as life
-use Rattle.py_flat.specs.Bytes.{lay}
-use Rattle.py_flat.specs.Calls.{FileCall, Seek, Close, Flush, Detach, Readable, Writable, Seekable, Closed, OtherGetter, FileReply, Done, Unwritten, Flag, Refused}
-use Rattle.py_flat.specs.Owed.{Owed}
-use Rattle.py_flat.specs.Refusals.{is_getter, or_else, refused_if}
-use Rattle.py_flat.specs.ExactStep.{is_closed}
+use Rattle.py_flat.specs.Calls.{FileCall, Seek, Close, Detach, Readable, Writable, Seekable, Closed, OtherGetter, FileReply, Done, Unwritten, Refused}
+use Rattle.py_flat.specs.Refusals.{is_getter}
 use Rattle.py_plain.specs.TextFile.{TextFile}
 use Rattle.py_plain.specs.TextStep.{TextCall, Read, ReadLine, OtherKind, text_life_refusal, text_lacks, TextSettled, TextStep}
 use Rattle.py_plain.specs.TextStep as plain
-use Rattle.py_raw.specs.RawStream.{Raw}
-use Rattle.py_stream.specs.Stream.{Stream, file_of, nothing_owed}
-use Rattle.py_stream.specs.Writing.{PassedOn}
+use Rattle.py_stream.specs.Stream.{Stream}
 use Rattle.py_stream.specs.Answers.{AnswersWith, Leaves, refused_by}
 use Rattle.py_calls.specs.declared.call.Call.{Call}
 use Rattle.py_calls.specs.declared.reply.Reply.{Reply}
 use Rattle.py_calls.specs.Calls.{text_call, file_call, said}
 use Rattle.py_textio.specs.TextState.{TextState}
 use Rattle.py_textio.specs.Answers as text
-use Rattle.py_binary.specs.Binary.{has_reply_room, left_by, left_of, AnswersBy}
-use Rattle.py_open.specs.Session.{OfText, OfBinary, SessionView, TextSession, BinarySession, file_seen, raw_of, life_of, AnswersTextBy, Answers}
-use Rattle.py_open.specs.Laws.{OwesAsWriter, PassesAll, HoldsFlat, closed_text_reply, closed_file_reply, closed_by, closed_reply}
+use Rattle.py_binary.specs.Binary.{has_reply_room, AnswersBy}
+use Rattle.py_open.specs.Session.{SessionView, TextSession, BinarySession, raw_of, life_of, AnswersTextBy, Answers}
+use Rattle.py_open.specs.Laws.{closed_file_reply}
 use Rattle.std.proofs.Common.{inl, inr, ℕ, List, [], ◌∷◌, Option, None}
-use Rattle.py_stream.specs.Kinds.{goes_on, calls_none}
+use Rattle.py_stream.specs.Kinds.{goes_on}
 use Rattle.py_stream.specs.Answers.{LifeMoves, StarvesTo}
 use Rattle.py_plain.specs.TextStep.{text_refusal}
 use Rattle.py_open.specs.Run.{IsRun}

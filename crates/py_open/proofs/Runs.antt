@@ -18,8 +18,8 @@ use Rattle.py_mode.specs.declared.plan.OpenPlan.{OpenPlan}
 use Rattle.py_open.specs.Session.{SessionFile, OfText, OfBinary, SessionView, TextSession, BinarySession, SettlesBy, file_seen, raw_of, life_of, short_of}
 use Rattle.py_open.specs.Opening.{OpensBy, OpensSession}
 use Rattle.py_open.specs.Run.{Entry, IsRun, IsHistory, IsCalm, IsSmooth, NoneLacksMemory, AllSettle, all_said, calls_of, replies_of}
-use Rattle.py_open.specs.Laws.{exact_by, exact_replies, exact_after, IsExact, HasHistory, RunsInTwo, RunsComplete, KeepsSettings, OnlyReads, OwesAsWriter, closed_replies, StaysClosed}
-use Rattle.py_open.proofs.Steps.{keeps_self, step_keeps, step_told, step_settles, smooth_step, step_completes, step_owes, step_reads, step_spares, step_shuts}
+use Rattle.py_open.specs.Laws.{exact_by, exact_replies, exact_after, IsExact, HasHistory, RunsInTwo, RunsComplete, KeepsSettings, OnlyReads, IsInStep, closed_replies, StaysClosed}
+use Rattle.py_open.proofs.Steps.{keeps_self, step_keeps, step_told, step_settles, smooth_step, step_completes, step_in_step, step_reads, step_spares, step_shuts}
 use Rattle.py_open.proofs.Ending.{step_closed}
 
 pub one_reply_each : (before : SessionView) (calls : List Call) (replies : List Reply) (after : SessionView) → IsRun before calls replies after → length replies ≡ length calls
@@ -80,20 +80,20 @@ run_shuts before (call ∷ calls) (reply ∷ replies) after run reads shut = run
 run_shuts before [] (reply ∷ replies) after run reads shut = absurd run
 run_shuts before (call ∷ calls) [] after run reads shut = absurd run
 
-pub run_owes : (before : SessionView) (calls : List Call) (replies : List Reply) (after : SessionView) → IsRun before calls replies after → OwesAsWriter before → OwesAsWriter after
-run_owes before [] [] after run owes = subst OwesAsWriter (sym run) owes
-run_owes before (call ∷ calls) (reply ∷ replies) after run owes = run_owes run.0 calls replies after run.2 (step_owes before call reply run.0 run.1 owes)
-run_owes before [] (reply ∷ replies) after run owes = absurd run
-run_owes before (call ∷ calls) [] after run owes = absurd run
+pub run_in_step : (before : SessionView) (calls : List Call) (replies : List Reply) (after : SessionView) → IsRun before calls replies after → IsInStep before → IsInStep after
+run_in_step before [] [] after run is = subst IsInStep (sym run) is
+run_in_step before (call ∷ calls) (reply ∷ replies) after run is = run_in_step run.0 calls replies after run.2 (step_in_step before call reply run.0 run.1 is)
+run_in_step before [] (reply ∷ replies) after run is = absurd run
+run_in_step before (call ∷ calls) [] after run is = absurd run
 
-opened_by : (encode : EncodeMode) (raw : Raw) (plan : OpenPlan) (chunk : ℕ) (session : SessionView) → OpensBy encode raw plan chunk session → OwesAsWriter session
-opened_by Text raw plan chunk (TextSession text) opens = tt
+opened_by : (encode : EncodeMode) (raw : Raw) (plan : OpenPlan) (chunk : ℕ) (session : SessionView) → OpensBy encode raw plan chunk session → IsInStep session
+opened_by Text raw plan chunk (TextSession text) opens = λ _. ap (λ (file : TextFile). file.bytes) opens.file
 opened_by Bytes raw plan chunk (BinarySession stream) opens = λ _. opens.owed
 opened_by Text raw plan chunk (BinarySession stream) opens = absurd opens
 opened_by Bytes raw plan chunk (TextSession text) opens = absurd opens
 
-pub opened_owes : (raw : Raw) (plan : OpenPlan) (chunk : ℕ) (session : SessionView) → OpensSession raw plan chunk session → OwesAsWriter session
-opened_owes raw plan chunk session opens = opened_by plan.mode.encode raw plan chunk session opens
+pub opened_in_step : (raw : Raw) (plan : OpenPlan) (chunk : ℕ) (session : SessionView) → OpensSession raw plan chunk session → IsInStep session
+opened_in_step raw plan chunk session opens = opened_by plan.mode.encode raw plan chunk session opens
 
 -- Runs in which no count rose.
 

@@ -1,9 +1,12 @@
 -- What one call of a session does, by its kind.
-use Rattle.std.proofs.Common.{◌≡◌, ◌≢◌, ℕ, Bool, true, false, IsTrue, [], refl, sym, ap, ◌∙◌, subst, arith}
+use Rattle.std.proofs.Common.{inl, inr, ◌≡◌, ◌≢◌, ◌⊎◌, ℕ, Bool, true, false, not, IsTrue, List, [], length, Option, Some, None, refl, sym, ap, ◌∙◌, subst, arith}
 use Rattle.std.proofs.lemmas.Bool.{le-leb}
+use Rattle.py_flat.specs.declared.fault.IoFault.{IoFault}
 use Rattle.py_flat.specs.declared.fault.IoFault.TheVariants as fault
 use Rattle.py_flat.specs.declared.life.Life.{Life}
 use Rattle.py_flat.specs.declared.life.Life.TheVariants as life
+use Rattle.py_flat.specs.Bytes.{first_of}
+use Rattle.py_flat.specs.Lines.{first_line, is_ended}
 use Rattle.py_flat.specs.Causes.{Rose, rose}
 use Rattle.py_flat.specs.Calls.{FileCall, FileReply, Refused}
 use Rattle.py_flat.specs.FlatFile.{Abilities, FlatFile}
@@ -11,8 +14,11 @@ use Rattle.py_flat.specs.Owed.{Owed}
 use Rattle.py_flat.specs.Refusals.{is_getter}
 use Rattle.py_flat.specs.AllowedStep.{settled, waited_for, raw_faulted, out_of_memory}
 use Rattle.py_flat.specs.BinaryStep.{Settled, BinaryStep}
+use Rattle.py_plain.specs.NewlineRule.{line_end}
 use Rattle.py_plain.specs.TextFile.{TextFile}
-use Rattle.py_plain.specs.TextStep.{TextCall, TextSettled, TextStep}
+use Rattle.py_plain.specs.Rest.{Rest, text_rest}
+use Rattle.py_plain.specs.TextStep.{TextCall, Read, ReadLine, OtherKind, text_refusal, range_refusal, asks_past, asks_any, after_taking, after_text_read, answered_text, text_read, text_line, text_answered, ReadsTextPart, TextWaitedBy, TextSettled, TextStep}
+use Rattle.py_plain.specs.TextStep as plain
 use Rattle.py_raw.specs.RawStream.{Raw, Keeps}
 use Rattle.py_stream.specs.Stream.{Stream, file_of, nothing_owed}
 use Rattle.py_stream.specs.Kinds.{says_fault}
@@ -21,10 +27,10 @@ use Rattle.py_calls.specs.declared.call.Call.{Call}
 use Rattle.py_calls.specs.declared.reply.Reply.{Reply}
 use Rattle.py_calls.specs.Calls.{text_call, file_call, said}
 use Rattle.py_textio.specs.TextState.{TextState}
-use Rattle.py_binary.specs.Binary.{left_by, left_of, AnswersBy}
+use Rattle.py_binary.specs.Binary.{left_by, left_of, AnswersCall, AnswersBy}
 use Rattle.py_open.specs.Session.{SessionFile, OfText, OfBinary, SessionView, TextSession, BinarySession, FileLeftBy, FileLeft, StepBy, SessionStep, SettlesBy, Settles, file_seen, raw_of, life_of, short_of, AnswersTextBy, Answers}
 use Rattle.py_open.specs.Run.{IsSmooth}
-use Rattle.py_open.specs.Laws.{CompletesBy, Completes, KeepsSettings, OnlyReads, OwesAsWriter}
+use Rattle.py_open.specs.Laws.{CompletesBy, Completes, KeepsSettings, OnlyReads, IsInStep}
 
 -- What is left of a stream.
 
@@ -190,37 +196,91 @@ step_completes (BinarySession before) call reply (BinarySession after) step smoo
 step_completes (TextSession before) call reply (BinarySession after) step smooth = absurd step
 step_completes (BinarySession before) call reply (TextSession after) step smooth = absurd step
 
--- Sessions that only read, or owe nothing.
+-- A step of a text leaves its bytes.
 
-owes_on : (getter : Bool) (before : Stream) (call : FileCall) (reply : FileReply) (after : Stream) → AnswersBy getter before call reply after → OwesAsWriter (BinarySession before) → OwesAsWriter (BinarySession after)
-owes_on true before call reply after step owes reads = subst (λ (s : Stream). s.owed ≡ nothing_owed s.place) (sym step.same) (owes (sym (ap (λ (s : Stream). s.can.writable) step.same) ∙ reads))
-owes_on false before call reply after step owes reads =
+answered_bytes : (file : TextFile) (refused : Option IoFault) (characters : List ℕ) (after : TextFile) → after.bytes ≡ file.bytes → (answered_text file refused characters after).1.bytes ≡ file.bytes
+answered_bytes file (Some why) characters after same = refl
+answered_bytes file None characters after same = same
+
+after_read_bytes : (file : TextFile) (size : Option ℕ) (characters : List ℕ) → (after_text_read file size characters).bytes ≡ file.bytes
+after_read_bytes file None characters = refl
+after_read_bytes file (Some size) characters = refl
+
+read_bytes : (file : TextFile) (size : Option ℕ) (rest : Rest) → (text_read file size rest).1.bytes ≡ file.bytes
+read_bytes file size rest =
+    let characters : List ℕ = first_of size rest.characters in
+    answered_bytes file (range_refusal (asks_past size rest.characters) rest.refusal) characters (after_text_read file size characters) (after_read_bytes file size characters)
+
+line_bytes : (file : TextFile) (limit : Option ℕ) (rest : Rest) → (text_line file limit rest).1.bytes ≡ file.bytes
+line_bytes file limit rest =
+    let end = line_end file.settings.newline in
+    let line : List ℕ = first_line end limit rest.characters in
+    answered_bytes file (range_refusal (not (is_ended end limit rest.characters)) rest.refusal) line (after_taking file (length line) (asks_any limit)) refl
+
+exact_bytes : (file : TextFile) (call : TextCall) (refused : Option IoFault) → (text_answered file call refused).1.bytes ≡ file.bytes
+exact_bytes file call (Some why) = refl
+exact_bytes file (Read size) None = read_bytes file size (text_rest file)
+exact_bytes file (ReadLine limit) None = line_bytes file limit (text_rest file)
+exact_bytes file plain.Close None = refl
+exact_bytes file OtherKind None = refl
+
+part_bytes : (file : TextFile) (wanted : List ℕ) (reply : FileReply) (after : TextFile) → ReadsTextPart file wanted reply after → after.bytes ≡ file.bytes
+part_bytes file wanted reply after (inl none) = ap (λ (f : TextFile). f.bytes) none.1
+part_bytes file wanted reply after (inr some) = ap (λ (f : TextFile). f.bytes) some.4
+
+waited_bytes : (file : TextFile) (call : TextCall) (reply : FileReply) (after : TextFile) → TextWaitedBy file call reply after → after.bytes ≡ file.bytes
+waited_bytes file (Read size) reply after part = part_bytes file (first_of size (text_rest file).characters) reply after part
+waited_bytes file (ReadLine limit) reply after part = part_bytes file (first_line (line_end file.settings.newline) limit (text_rest file).characters) reply after part
+waited_bytes file plain.Close reply after part = ap (λ (f : TextFile). f.bytes) part.1
+waited_bytes file OtherKind reply after part = absurd part
+
+kept_bytes : (before : TextFile) (call : TextCall) (reply : FileReply) (waited faulted : Bool) (after : TextFile) → TextStep before call reply waited faulted after → after.bytes ≡ before.bytes
+kept_bytes before call reply waited faulted after (settled exact) = ap (λ (p : FileReply × TextFile). p.1.bytes) exact ∙ exact_bytes before call (text_refusal before call)
+kept_bytes before call reply waited faulted after (waited_for rose part) = waited_bytes before call reply after part.1
+kept_bytes before call reply waited faulted after (raw_faulted rose said left) = left.1.bytes
+kept_bytes before call reply waited faulted after (out_of_memory said left) = ap (λ (f : TextFile). f.bytes) left.1
+
+-- Sessions that are in step with their raw, or only read.
+
+pub text_bytes : (getter : Bool) (before : TextState) (call : Call) (reply : FileReply) (after : TextState) → AnswersTextBy getter before call reply after → IsTrue before.raw.tells → after.raw.bytes ≡ before.raw.bytes
+text_bytes true before call reply after step tells = ap (λ (t : TextState). t.raw.bytes) step.same
+text_bytes false before call reply after step tells = step.answers.bytes tells
+
+text_in_step : (getter : Bool) (before : TextState) (call : Call) (reply : FileReply) (after : TextState) → AnswersTextBy getter before call reply after → IsInStep (TextSession before) → IsInStep (TextSession after)
+text_in_step true before call reply after step is = subst (λ (t : TextState). IsInStep (TextSession t)) (sym step.same) is
+text_in_step false before call reply after step is = λ tells.
+    let told : IsTrue before.raw.tells = sym step.answers.keeps.tells ∙ tells in
+    kept_bytes before.file (text_call call) reply after.short (says_fault reply) after.file (step.answers.told told) ∙ is told ∙ sym (step.answers.bytes told)
+
+-- what a stream that doesn't write, or has no buffer, leaves owed
+owes_none : (before : Stream) (call : FileCall) (reply : FileReply) (after : Stream) → (step : AnswersCall before call reply after) → IsInStep (BinarySession before) → (after.can.writable ≡ false) ⊎ (after.buffer ≡ None) → step.answered.owed ≡ nothing_owed step.answered.place
+owes_none before call reply after step is (inl reads) =
     let a : Stream = step.answered in
     let read : before.can.writable ≡ false = sym (ap (λ (s : Stream). s.can.writable) step.leaves ∙ ap (λ (can : Abilities). can.writable) (left_can a.life a ∙ step.answers.keeps.can)) ∙ reads in
-    subst (λ (s : Stream). s.owed ≡ nothing_owed s.place) (sym step.leaves) (left_settled a.life a (step.answers.spares read (owes read)).owed)
+    (step.answers.spares read (is (inl read))).owed
+owes_none before call reply after step is (inr bare) =
+    let a : Stream = step.answered in
+    let none : before.buffer ≡ None = sym (ap (λ (s : Stream). s.buffer) step.leaves ∙ left_buffer a.life a ∙ step.answers.keeps.buffer) ∙ bare in
+    step.answers.keeps.bare none (is (inr none))
 
-pub step_owes : (before : SessionView) (call : Call) (reply : Reply) (after : SessionView) → Answers before call reply after → OwesAsWriter before → OwesAsWriter after
-step_owes (TextSession before) call reply (TextSession after) step owes = tt
-step_owes (BinarySession before) call reply (BinarySession after) step owes = owes_on (is_getter (file_call call)) before (file_call call) (said reply) after step owes
-step_owes (TextSession before) call reply (BinarySession after) step owes = absurd step
-step_owes (BinarySession before) call reply (TextSession after) step owes = absurd step
+binary_in_step : (getter : Bool) (before : Stream) (call : FileCall) (reply : FileReply) (after : Stream) → AnswersBy getter before call reply after → IsInStep (BinarySession before) → IsInStep (BinarySession after)
+binary_in_step true before call reply after step is = subst (λ (s : Stream). IsInStep (BinarySession s)) (sym step.same) is
+binary_in_step false before call reply after step is = λ none. subst (λ (s : Stream). s.owed ≡ nothing_owed s.place) (sym step.leaves) (left_settled step.answered.life step.answered (owes_none before call reply after step is none))
 
-pub reads_owe : (session : SessionView) → OnlyReads session → OwesAsWriter session
-reads_owe (TextSession text) reads = tt
-reads_owe (BinarySession stream) reads = λ _. reads.1
+pub step_in_step : (before : SessionView) (call : Call) (reply : Reply) (after : SessionView) → Answers before call reply after → IsInStep before → IsInStep after
+step_in_step (TextSession before) call reply (TextSession after) step is = text_in_step (is_getter (file_call call)) before call (said reply) after step is
+step_in_step (BinarySession before) call reply (BinarySession after) step is = binary_in_step (is_getter (file_call call)) before (file_call call) (said reply) after step is
+step_in_step (TextSession before) call reply (BinarySession after) step is = absurd step
+step_in_step (BinarySession before) call reply (TextSession after) step is = absurd step
 
 pub step_reads : (before : SessionView) (call : Call) (reply : Reply) (after : SessionView) → Answers before call reply after → OnlyReads before → OnlyReads after
 step_reads (TextSession before) call reply (TextSession after) step reads = tt
 step_reads (BinarySession before) call reply (BinarySession after) step reads =
     let can = (binary_keeps (is_getter (file_call call)) before (file_call call) (said reply) after step).1.0 in
     let read : after.can.writable ≡ false = ap (λ (can : Abilities). can.writable) can ∙ reads.0 in
-    (read, owes_on (is_getter (file_call call)) before (file_call call) (said reply) after step (λ _. reads.1) read)
+    (read, binary_in_step (is_getter (file_call call)) before (file_call call) (said reply) after step (λ _. reads.1) (inl read))
 step_reads (TextSession before) call reply (BinarySession after) step reads = absurd step
 step_reads (BinarySession before) call reply (TextSession after) step reads = absurd step
-
-text_bytes : (getter : Bool) (before : TextState) (call : Call) (reply : FileReply) (after : TextState) → AnswersTextBy getter before call reply after → IsTrue before.raw.tells → after.raw.bytes ≡ before.raw.bytes
-text_bytes true before call reply after step tells = ap (λ (t : TextState). t.raw.bytes) step.same
-text_bytes false before call reply after step tells = step.answers.bytes tells
 
 binary_bytes : (getter : Bool) (before : Stream) (call : FileCall) (reply : FileReply) (after : Stream) → AnswersBy getter before call reply after → OnlyReads (BinarySession before) → IsTrue before.raw.tells → after.raw.bytes ≡ before.raw.bytes
 binary_bytes true before call reply after step reads tells = ap (λ (s : Stream). s.raw.bytes) step.same

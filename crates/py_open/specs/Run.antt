@@ -1,5 +1,5 @@
 -- Runs: what a list of calls may be answered, one call after another, and which opening they begin from.
-use Rattle.std.specs.Prelude.{◌≡◌, ◌≢◌, ℕ, Bool, false, List, [], ◌∷◌, Result, Ok, Err, ◌⊎◌}
+use Rattle.std.specs.Prelude.{◌≡◌, ◌≢◌, ℕ, Bool, false, List, [], ◌∷◌, Result, Ok, Err}
 use Rattle.py_flat.specs.declared.fault.IoFault.{IoFault}
 use Rattle.py_flat.specs.declared.fault.IoFault.TheVariants as fault
 use Rattle.py_flat.specs.Calls.{FileReply, Refused}
@@ -14,7 +14,7 @@ use Rattle.py_mode.specs.declared.open_args.OpenArgs.{OpenArgs}
 use Rattle.py_mode.specs.Plan.{plan_of}
 use Rattle.py_open.specs.declared.run.Run.{Run}
 use Rattle.py_open.specs.declared.open_refused.OpenRefused.{OpenRefused}
-use Rattle.py_open.specs.Session.{SessionFile, SessionView, SessionStep, Settles, raw_of, short_of, Answers}
+use Rattle.py_open.specs.Session.{SessionFile, SessionView, SessionStep, Settles, short_of, Answers}
 use Rattle.py_open.specs.Opening.{OpensSession, RefusesSession}
 
 -- from `before` the calls may be answered so, and leave `after`: there is a session between any two calls, and each
@@ -81,20 +81,15 @@ pub record IsSmooth (before after : Raw) : Type 0 where
 
 -- The opening, and the whole run.
 
--- the session opened, and then there was no space for the replies; the raw is as the opening left it
-pub record LacksSpace (raw : Raw) (plan : OpenPlan) (chunk : ℕ) (back : Raw) : Type 0 where
-  pub opened : SessionView
-  pub opens : OpensSession raw plan chunk opened
-  pub back_is : back ≡ raw_of opened
-
--- why a planned opening is refused, and the raw that is handed back
-abbrev pub RefusesOpening : Raw → OpenPlan → ℕ → IoFault → Raw → Type 0
-RefusesOpening raw plan chunk refused back = RefusesSession raw plan refused back ⊎ ((refused ≡ fault.NoMemory) × LacksSpace raw plan chunk back)
+-- why a planned opening is refused, and the raw that is handed back: as its session is, whose want of memory is also that of
+-- space for the replies
+abbrev pub RefusesOpening : Raw → OpenPlan → IoFault → Raw → Type 0
+RefusesOpening raw plan refused back = RefusesSession raw plan refused back
 
 -- why an opening is refused: by its plan, with the raw as it was; or as it says
-abbrev pub RefusesPlanned : Raw → Result OpenPlan IoFault → ℕ → IoFault → Raw → Type 0
-RefusesPlanned raw (Err planned) chunk refused back = (refused ≡ planned) × (back ≡ raw)
-RefusesPlanned raw (Ok plan) chunk refused back = RefusesOpening raw plan chunk refused back
+abbrev pub RefusesPlanned : Raw → Result OpenPlan IoFault → IoFault → Raw → Type 0
+RefusesPlanned raw (Err planned) refused back = (refused ≡ planned) × (back ≡ raw)
+RefusesPlanned raw (Ok plan) refused back = RefusesOpening raw plan refused back
 
 -- the session opens over the raw, and the replies are a run from there to the session
 pub record RunsCalls (raw : Raw) (plan : OpenPlan) (chunk : ℕ) (calls : List Call) (session : SessionView) (replies : List Reply) : Type 0 where
@@ -104,9 +99,9 @@ pub record RunsCalls (raw : Raw) (plan : OpenPlan) (chunk : ℕ) (calls : List C
 
 abbrev pub OpenedOutcome : {R : Type 0} → (R → Raw) → R → OpenPlan → ℕ → List Call → Result (Run R) (OpenRefused R) → Type 0
 OpenedOutcome shows raw plan chunk calls (Ok run) = RunsCalls (shows raw) plan chunk calls run.session run.replies.items
-OpenedOutcome shows raw plan chunk calls (Err refused) = RefusesOpening (shows raw) plan chunk refused.fault (shows refused.raw)
+OpenedOutcome shows raw plan chunk calls (Err refused) = RefusesOpening (shows raw) plan refused.fault (shows refused.raw)
 
 -- a run comes only of a plan that is accepted
 abbrev pub RunOutcome : {R : Type 0} → (R → Raw) → R → List ℕ → OpenArgs → List Call → Result (Run R) (OpenRefused R) → Type 0
 RunOutcome shows raw mode args calls (Ok run) = (plan : OpenPlan) × (plan_of mode args ≡ Ok plan) × RunsCalls (shows raw) plan args.chunk_size calls run.session run.replies.items
-RunOutcome shows raw mode args calls (Err refused) = RefusesPlanned (shows raw) (plan_of mode args) args.chunk_size refused.fault (shows refused.raw)
+RunOutcome shows raw mode args calls (Err refused) = RefusesPlanned (shows raw) (plan_of mode args) refused.fault (shows refused.raw)

@@ -51,9 +51,9 @@ abbrev pub owed_of : SessionView → List ℕ
 owed_of (TextSession text) = []
 owed_of (BinarySession stream) = stream.owed.bytes
 
--- the bytes of the flat file: of a text, which writes nothing, the raw's; else the raw's with the owed ones laid at their place
+-- the bytes of the flat file: of a text those of its file; of a stream the raw's, with the owed ones laid at their place
 abbrev pub flat_bytes : SessionView → List ℕ
-flat_bytes (TextSession text) = text.raw.bytes
+flat_bytes (TextSession text) = text.file.bytes
 flat_bytes (BinarySession stream) = (file_of stream).bytes
 
 -- The one clause of every call.
