@@ -35,15 +35,13 @@ use Rattle.py_open.specs.Session.{SessionFile, OfText, OfBinary, SessionView, Te
 use Rattle.py_open.specs.Opening.{access_of, OpensBy}
 use Rattle.py_open.specs.Run.{IsRun, IsSmooth, NoneLacksMemory, RunsCalls, AllSettle, all_said}
 use Rattle.py_open.specs.Laws.{IsExact}
-use Rattle.py_open.proofs.Runs.{run_keeps_raw, run_owes, opened_owes, smooth_completes}
-use Rattle.py_open.proofs.Resting.{run_rests}
-use Rattle.py_open.proofs.Ending.{step_passes}
+use Rattle.py_open.proofs.Runs.{smooth_completes}
 use Rattle.py_script.specs.CommandWords.{Command, Run, command_of}
 use Rattle.py_io_cli.specs.declared.status.Status.{Status}
 use Rattle.py_io_cli.specs.declared.status.Status.TheVariants as status
 use Rattle.py_io_cli.specs.Status.{code_of}
-use Rattle.py_io_cli.specs.Outcome.{Outside, Asked, raw_mode, asked_by, own_text, closed_calls, OpensPath, FollowsPlan, PlannedOutcome, RunsScript, Outcome, Ends}
-use Rattle.py_io_cli.specs.Meaning.{RawsAreReady, HoldsFlat, PrintsReplies, PrintsSettled, PrintsExactly, begins_with, file_by, opened_file}
+use Rattle.py_io_cli.specs.Outcome.{Outside, raw_mode, asked_by, own_text, closed_calls, OpensPath, FollowsPlan, PlannedOutcome, RunsScript, Outcome, Ends}
+use Rattle.py_io_cli.specs.Meaning.{RawsAreReady, PrintsReplies, PrintsSettled, PrintsExactly, begins_with, file_by, opened_file}
 use Rattle.py_io_cli.proofs.Planned.{one_plan}
 use Rattle.py_io_cli.proofs.Keeping.{opening_keeps}
 
@@ -143,27 +141,14 @@ done_script words old new before after path mode args (inr own) form = absurd (n
 one_run : (path path' mode mode' : List ℕ) (args args' : OpenArgs) → Some (Run path mode args) ≡ Some (Run path' mode' args') → (path ≡ path') × (mode ≡ mode') × (args ≡ args')
 one_run path path' mode mode' args args' same = (cc, cc, cc)
 
--- What the path holds.
-
-holds_flat : (path : List ℕ) (asked : Asked) (before after : Outside) → (opened : OpensPath path asked status.Done before after) → HoldsFlat path opened.does.1.run.opened opened.does.1.session before after
-holds_flat path asked before after opened front rest replies others mid next call reply first step second live ended passes tells =
-    let ran = opened.does.1 in
-    let told = opened.opens.told tells in
-    let begun = opening_keeps asked.plan.mode.encode opened.raw asked.plan asked.chunk ran.run.opened ran.run.opens told.tells in
-    let kept = run_keeps_raw ran.run.opened front replies mid first in
-    let owes = run_owes ran.run.opened front replies mid first (opened_owes opened.raw asked.plan asked.chunk ran.run.opened ran.run.opens) in
-    let flat = step_passes mid call reply next step owes live passes in
-    (opened.puts tells).held
-    ∙ ap Some (ap (λ (raw : Raw). raw.bytes) (ran.raw_is ∙ run_rests next rest others ran.session second ended) ∙ flat.holds (kept.tells ∙ begun.1 ∙ told.tells))
-
-replies_of : (path mode : List ℕ) (args : OpenArgs) (words : List (List ℕ)) (old new : SourceView) (before after : Outside) → (did : RunsScript words status.Done old new before after) → (did.path ≡ path) × (did.mode ≡ mode) × (did.args ≡ args) → IsTrue old.tells → PrintsReplies did.path did.mode did.args old new before after
-replies_of path mode args words old new before after did same told =
+replies_of : (path mode : List ℕ) (args : OpenArgs) (words : List (List ℕ)) (old new : SourceView) (before after : Outside) → (did : RunsScript words status.Done old new before after) → (did.path ≡ path) × (did.mode ≡ mode) × (did.args ≡ args) → PrintsReplies did.path did.mode did.args old new before after
+replies_of path mode args words old new before after did same =
     let follows = follows_done did.path did.mode did.args did.calls before after did.does in
     let opened : OpensPath did.path (asked_by follows.plan did.args did.calls) status.Done before after = follows.does in
     let ran = opened.does.1 in
     record {
       calls = did.calls;
-      reads = did.reads told;
+      reads = did.reads;
       plan = follows.plan;
       planned = follows.planned;
       raw = opened.raw;
@@ -176,30 +161,30 @@ replies_of path mode args words old new before after did same told =
       faults = opened.done_keeps.raw_faults ∙ ap (λ (old_count : ℕ). counted old_count opened.back.faults) opened.open_keeps.raw_faults ∙ ap (λ (raw : Raw). counted before.opener.raw_faults raw.faults) ran.raw_is;
       waits = opened.done_keeps.raw_waits ∙ ap (λ (old_count : ℕ). counted old_count opened.back.waits) opened.open_keeps.raw_waits ∙ ap (λ (raw : Raw). counted before.opener.raw_waits raw.waits) ran.raw_is;
       holds = λ tells. (opened.puts tells).held ∙ ap (λ (raw : Raw). Some raw.bytes) ran.raw_is;
-      flat = holds_flat did.path (asked_by follows.plan did.args did.calls) before after opened;
+      flat = opened.flat opened.does.0 ran;
       complete = λ ready. smooth_completes ran.run.opened (closed_calls did.calls) ran.replies ran.session ran.run.run (smooth_raw before after (raw_of ran.run.opened) (raw_of ran.session) ready
           (opened.done_keeps.raw_waits ∙ ap (λ (old_count : ℕ). counted old_count opened.back.waits) opened.open_keeps.raw_waits ∙ ap (λ (raw : Raw). counted before.opener.raw_waits raw.waits) ran.raw_is)
           (opened.done_keeps.raw_faults ∙ ap (λ (old_count : ℕ). counted old_count opened.back.faults) opened.open_keeps.raw_faults ∙ ap (λ (raw : Raw). counted before.opener.raw_faults raw.faults) ran.raw_is));
     }
 
-pub prints_replies : (words : List (List ℕ)) (old new : SourceView) (before after : Outside) (path mode : List ℕ) (args : OpenArgs) → Ends 0 words old new before after → command_of words ≡ Some (Run path mode args) → IsTrue old.tells → PrintsReplies path mode args old new before after
-prints_replies words old new before after path mode args ends form told =
+pub prints_replies : (words : List (List ℕ)) (old new : SourceView) (before after : Outside) (path mode : List ℕ) (args : OpenArgs) → Ends 0 words old new before after → command_of words ≡ Some (Run path mode args) → PrintsReplies path mode args old new before after
+prints_replies words old new before after path mode args ends form =
     let did = done_script words old new before after path mode args (all_done ends.ended words old new before after (sym ends.code_is) ends.outcome) form in
     let same = one_run did.path path did.mode mode did.args args (sym did.form ∙ form) in
     subst (λ (named : List ℕ). PrintsReplies named mode args old new before after) same.0
     (subst (λ (named : List ℕ). PrintsReplies did.path named args old new before after) same.1
     (subst (λ (given : OpenArgs). PrintsReplies did.path did.mode given old new before after) same.2
-    (replies_of path mode args words old new before after did same told)))
+    (replies_of path mode args words old new before after did same)))
 
 -- What was printed, where nothing went wrong.
 
-settled : SmoothRunsSettle → (path mode : List ℕ) (args : OpenArgs) (old new : SourceView) (before after : Outside) → (printed : PrintsReplies path mode args old new before after) → IsTrue before.opener.tells → RawsAreReady before after → PrintsSettled path printed.plan args.chunk_size old before after
-settled law path mode args old new before after printed tells ready =
+settled : SmoothRunsSettle → (path mode : List ℕ) (args : OpenArgs) (old new : SourceView) (before after : Outside) → (printed : PrintsReplies path mode args old new before after) → IsTrue old.tells → IsTrue before.opener.tells → RawsAreReady before after → PrintsSettled path printed.plan args.chunk_size old before after
+settled law path mode args old new before after printed told tells ready =
     let begun = printed.begins tells in
     let smooth : IsSmooth (raw_of printed.run.opened) (raw_of printed.session) = smooth_raw before after (raw_of printed.run.opened) (raw_of printed.session) ready printed.waits printed.faults in
     record {
       calls = printed.calls;
-      form = printed.reads.form;
+      form = (printed.reads told).form;
       replies = printed.replies;
       prints = printed.prints;
       says = λ memory. (file_seen printed.session, settles_over law printed.raw printed.plan args.chunk_size printed.session (closed_calls printed.calls) printed.replies (opened_bytes (raw_mode printed.plan) (before.opener.holds path)) printed.run smooth begun.tells begun.seeks begun.place begun.bytes_are memory);
@@ -207,8 +192,8 @@ settled law path mode args old new before after printed tells ready =
 
 pub prints_settled : SmoothRunsSettle → (words : List (List ℕ)) (old new : SourceView) (before after : Outside) (path mode : List ℕ) (args : OpenArgs) (plan : OpenPlan) → Ends 0 words old new before after → command_of words ≡ Some (Run path mode args) → plan_of mode args ≡ Ok plan → IsTrue old.tells → IsTrue before.opener.tells → RawsAreReady before after → PrintsSettled path plan args.chunk_size old before after
 prints_settled law words old new before after path mode args plan ends form accepted told tells ready =
-    let printed = prints_replies words old new before after path mode args ends form told in
-    subst (λ (by : OpenPlan). PrintsSettled path by args.chunk_size old before after) (one_plan (plan_of mode args) printed.plan plan printed.planned accepted) (settled law path mode args old new before after printed tells ready)
+    let printed = prints_replies words old new before after path mode args ends form in
+    subst (λ (by : OpenPlan). PrintsSettled path by args.chunk_size old before after) (one_plan (plan_of mode args) printed.plan plan printed.planned accepted) (settled law path mode args old new before after printed told tells ready)
 
 -- the text that is opened of what the path holds
 text_opened_of : (plan : OpenPlan) (chunk : ℕ) (held : Option (List ℕ)) (bytes : List ℕ) → plan.mode.encode ≡ Text → plan.mode.file ≡ Read → held ≡ Some bytes → opened_file plan chunk (opened_bytes (raw_mode plan) held) ≡ OfText (text_opened bytes 0 true chunk)

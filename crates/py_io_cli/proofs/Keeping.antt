@@ -73,10 +73,9 @@ lacking_keeps : (appends : Bool) (raw back : Raw) → Lacking appends raw back �
 lacking_keeps true raw back lacks tells = lacks.0.bytes tells
 lacking_keeps false raw back lacks tells = ap (λ (same : Raw). same.bytes) lacks
 
-none_keeps : (raw back : Raw) (asked : Asked) → (back ≡ raw) ⊎ RefusesOpening raw asked.plan asked.chunk fault.NoMemory back → IsTrue raw.tells → back.bytes ≡ raw.bytes
+none_keeps : (raw back : Raw) (asked : Asked) → (back ≡ raw) ⊎ RefusesOpening raw asked.plan fault.NoMemory back → IsTrue raw.tells → back.bytes ≡ raw.bytes
 none_keeps raw back asked (inl same) tells = ap (λ (as_was : Raw). as_was.bytes) same
-none_keeps raw back asked (inr (inl refused)) tells = lacking_keeps (can_of (access_of asked.plan.mode.file) raw.seekable).appending raw back refused.1 tells
-none_keeps raw back asked (inr (inr lacks)) tells = ap (λ (opened : Raw). opened.bytes) lacks.1.back_is ∙ (opening_keeps asked.plan.mode.encode raw asked.plan asked.chunk lacks.1.opened lacks.1.opens tells).0
+none_keeps raw back asked (inr refused) tells = lacking_keeps (can_of (access_of asked.plan.mode.file) raw.seekable).appending raw back refused.1 tells
 
 lines_keep : (raw back : Raw) (asked : Asked) (lines : List ℕ) → asked.plan.mode.file ≡ Read → HasLines raw asked back lines → IsTrue raw.tells → back.bytes ≡ raw.bytes
 lines_keep raw back asked lines reads (inl ran) tells = run_keeps raw back asked lines reads ran tells

@@ -51,10 +51,10 @@ refusal_printed raw asked back lines old new (Err status.SourceFailed) ended ref
 refusal_printed raw asked back lines old new (Err status.OpenerFailed) ended refused prints is = absurd prints
 
 -- refused for want of memory, with nothing printed
-pub starved : (raw back : Raw) (asked : Asked) (refused : IoFault) (sink : SinkView) → RefusesOpening raw asked.plan asked.chunk refused back → refused ≡ fault.NoMemory → RawOutcome raw asked status.NoMemory back sink sink
-starved raw back asked refused sink why is = inr (record { hands = inr (subst (λ (by : IoFault). RefusesOpening raw asked.plan asked.chunk by back) is why); sink = refl })
+pub starved : (raw back : Raw) (asked : Asked) (refused : IoFault) (sink : SinkView) → RefusesOpening raw asked.plan refused back → refused ≡ fault.NoMemory → RawOutcome raw asked status.NoMemory back sink sink
+starved raw back asked refused sink why is = inr (record { hands = inr (subst (λ (by : IoFault). RefusesOpening raw asked.plan by back) is why); sink = refl })
 
-pub refused_printed : (raw back : Raw) (mode : List ℕ) (args : OpenArgs) (asked : Asked) (refused : IoFault) (old new : SinkView) (printed : Result (Unit {0}) Status) (ended : Status) → plan_of mode args ≡ Ok asked.plan → asked.chunk ≡ args.chunk_size → IsOpened (raw_mode asked.plan) raw → RefusesOpening raw asked.plan args.chunk_size refused back → (refused ≡ fault.NoMemory → ⊥) → PrintOutcome old (refused_line refused) printed new → MatchResult printed (λ done. ended ≡ status.Refused) (λ stop. ended ≡ stop) → RawOutcome raw asked ended back old new
+pub refused_printed : (raw back : Raw) (mode : List ℕ) (args : OpenArgs) (asked : Asked) (refused : IoFault) (old new : SinkView) (printed : Result (Unit {0}) Status) (ended : Status) → plan_of mode args ≡ Ok asked.plan → asked.chunk ≡ args.chunk_size → IsOpened (raw_mode asked.plan) raw → RefusesOpening raw asked.plan refused back → (refused ≡ fault.NoMemory → ⊥) → PrintOutcome old (refused_line refused) printed new → MatchResult printed (λ done. ended ≡ status.Refused) (λ stop. ended ≡ stop) → RawOutcome raw asked ended back old new
 refused_printed raw back mode args asked refused old new printed ended accepted chunk opened why not_memory prints ends =
     elim (refused_by raw back mode args asked.plan refused accepted opened why) [
       | inl is ↦ absurd (not_memory is)

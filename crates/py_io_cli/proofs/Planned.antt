@@ -35,8 +35,8 @@ run_by raw mode args first plan calls session replies one two run =
     subst (λ (by : OpenPlan). RunsCalls raw by args.chunk_size calls session replies) (one_plan (plan_of mode args) first plan one two) run
 
 -- and a refusal is the opening's
-pub refused_raw : (raw : Raw) (mode : List ℕ) (args : OpenArgs) (plan : OpenPlan) (refused : IoFault) (back : Raw) → plan_of mode args ≡ Ok plan → RefusesPlanned raw (plan_of mode args) args.chunk_size refused back → RefusesOpening raw plan args.chunk_size refused back
-refused_raw raw mode args plan refused back accepted why = subst (λ (planned : Result OpenPlan IoFault). RefusesPlanned raw planned args.chunk_size refused back) accepted why
+pub refused_raw : (raw : Raw) (mode : List ℕ) (args : OpenArgs) (plan : OpenPlan) (refused : IoFault) (back : Raw) → plan_of mode args ≡ Ok plan → RefusesPlanned raw (plan_of mode args) refused back → RefusesOpening raw plan refused back
+refused_raw raw mode args plan refused back accepted why = subst (λ (planned : Result OpenPlan IoFault). RefusesPlanned raw planned refused back) accepted why
 
 -- A raw that was opened as it is planned.
 
@@ -56,9 +56,8 @@ refused_session raw back plan fault.Unsupported opened some why = let able : tru
 refused_session raw back plan fault.BadArgument opened some why = absurd (some why.2)
 refused_session raw back plan _ opened some why = absurd why
 
-pub refused_by : (raw back : Raw) (mode : List ℕ) (args : OpenArgs) (plan : OpenPlan) (refused : IoFault) → plan_of mode args ≡ Ok plan → IsOpened (raw_mode plan) raw → RefusesOpening raw plan args.chunk_size refused back → (refused ≡ fault.NoMemory) ⊎ ((refused ≡ fault.RawFault) × RefusesSession raw plan fault.RawFault back)
-refused_by raw back mode args plan refused accepted opened (inl why) = refused_session raw back plan refused opened (planned_buffer_is_not_empty mode args plan accepted) why
-refused_by raw back mode args plan refused accepted opened (inr lacks) = inl lacks.0
+pub refused_by : (raw back : Raw) (mode : List ℕ) (args : OpenArgs) (plan : OpenPlan) (refused : IoFault) → plan_of mode args ≡ Ok plan → IsOpened (raw_mode plan) raw → RefusesOpening raw plan refused back → (refused ≡ fault.NoMemory) ⊎ ((refused ≡ fault.RawFault) × RefusesSession raw plan fault.RawFault back)
+refused_by raw back mode args plan refused accepted opened why = refused_session raw back plan refused opened (planned_buffer_is_not_empty mode args plan accepted) why
 
 -- A plan that refuses.
 

@@ -3,7 +3,7 @@ use Rattle.std.proofs.Common.{◌≡◌, ℕ, ◌+◌, ◌≤◌, ◌<◌, IsTru
 use Rattle.std.proofs.lemmas.List.{take-append-drop, take_more}
 use Rattle.py_flat.specs.Causes.{Rose}
 use Rattle.py_flat.specs.BinaryStep.{IsFrontOf}
-use Rattle.py_source_sink.specs.Sink.{SinkView, SinkKeeps, SinkFails}
+use Rattle.py_source_sink.specs.Sink.{SinkView, SinkKeeps, SinkFails, NoSinkFault}
 use Rattle.py_calls.specs.declared.reply.Reply.{Reply}
 use Rattle.py_script.specs.ReplyLine.{reply_line, reply_lines}
 use Rattle.py_io_cli.specs.declared.status.Status.{Status}
@@ -46,7 +46,10 @@ stops_behind old mid new before line whole status.OpenerFailed keeps printed fro
 
 -- what no call came between
 pub sink_keeps_more : (old mid new : SinkView) → SinkKeeps old mid → SinkKeeps mid new → SinkKeeps old new
-sink_keeps_more old mid new first second = record { tells = second.tells ∙ first.tells; faults = omega arith }
+sink_keeps_more old mid new first second = record { tells = second.tells ∙ first.tells; faults = omega arith; counts_exactly = second.counts_exactly ∙ first.counts_exactly }
+
+pub no_fault_more : (old mid new : SinkView) → SinkKeeps old mid → NoSinkFault old mid → NoSinkFault mid new → NoSinkFault old new
+no_fault_more old mid new keeps first second exact = second (keeps.counts_exactly ∙ exact) ∙ first exact
 
 pub lines_joined : (first second : List Reply) → reply_lines (first ++ second) ≡ reply_lines first ++ reply_lines second
 lines_joined [] second = refl

@@ -1,5 +1,5 @@
 -- What the clauses of the program speak of beside its outcome.
-use Rattle.std.specs.Prelude.{◌≡◌, ◌≢◌, ℕ, ◌⊎◌, Bool, true, false, IsTrue, List, length, Option, Some, Ok, IsErr, if◌then◌else◌}
+use Rattle.std.specs.Prelude.{◌≡◌, ℕ, ◌⊎◌, Bool, true, false, IsTrue, List, length, Option, Some, Ok, IsErr, if◌then◌else◌}
 use Rattle.py_flat.specs.declared.life.Life.TheVariants as life
 use Rattle.py_flat.specs.Causes.{rose, RoseBy}
 use Rattle.py_raw.specs.RawStream.{Raw}
@@ -9,7 +9,6 @@ use Rattle.py_stream.specs.Stream.{buffering_of}
 use Rattle.py_unbuffered.specs.Unbuffered.{can_of}
 use Rattle.py_calls.specs.declared.call.Call.{Call}
 use Rattle.py_calls.specs.declared.reply.Reply.{Reply}
-use Rattle.py_calls.specs.Calls.{file_call, said}
 use Rattle.py_mode.specs.declared.mode.EncodeMode.{EncodeMode}
 use Rattle.py_mode.specs.declared.mode.EncodeMode.TheVariants.{Text, Bytes}
 use Rattle.py_mode.specs.declared.mode.FileMode.TheVariants.{Read}
@@ -17,15 +16,15 @@ use Rattle.py_mode.specs.declared.open_args.OpenArgs.{OpenArgs}
 use Rattle.py_mode.specs.declared.plan.OpenPlan.{OpenPlan}
 use Rattle.py_mode.specs.Plan.{plan_of}
 use Rattle.py_textio.specs.Opening.{text_opened}
-use Rattle.py_open.specs.Session.{SessionFile, OfText, OfBinary, SessionView, Answers, raw_of, life_of, flat_bytes}
+use Rattle.py_open.specs.Session.{SessionFile, OfText, OfBinary, SessionView, raw_of}
 use Rattle.py_open.specs.Opening.{access_of}
-use Rattle.py_open.specs.Run.{IsRun, NoneLacksMemory, RunsCalls, AllSettle, all_said}
-use Rattle.py_open.specs.Laws.{PassesAll, RunsComplete, exact_replies}
+use Rattle.py_open.specs.Run.{NoneLacksMemory, RunsCalls, AllSettle, all_said}
+use Rattle.py_open.specs.Laws.{RunsComplete, exact_replies}
 use Rattle.py_script.specs.CommandWords.{Command, Run}
 use Rattle.py_script.specs.Script.{script_calls}
 use Rattle.py_script.specs.ReplyLine.{reply_lines}
 use Rattle.py_io_cli.specs.Outside.{IsOutOfForm, ReadsScript, Prints}
-use Rattle.py_io_cli.specs.Outcome.{Outside, raw_mode, closed_calls}
+use Rattle.py_io_cli.specs.Outcome.{Outside, raw_mode, closed_calls, PathHoldsFlat}
 
 -- the source tells that its script is in form
 pub record TellsForm (source : SourceView) : Type 0 where
@@ -49,15 +48,7 @@ pub record RawsAreReady (before after : Outside) : Type 0 where
   pub faults : rose before.opener.raw_faults after.opener.raw_faults ≡ false
   pub waits : rose before.opener.raw_waits after.opener.raw_waits ≡ false
 
--- What the path holds in the end.
-
--- a `close` or a `detach` of a live session that was done, anywhere in a run over a raw: where the opener tells, the path holds the
--- flat bytes of the session that the call came to
-abbrev pub HoldsFlat : List ℕ → SessionView → SessionView → Outside → Outside → Type 0
-HoldsFlat path opened session before after =
-    (front rest : List Call) (replies others : List Reply) (mid next : SessionView) (call : Call) (reply : Reply) → IsRun opened front replies mid → Answers mid call reply next → IsRun next rest others session
-    → life_of mid ≡ life.Live → life_of next ≢ life.Live → PassesAll (file_call call) (said reply)
-    → IsTrue before.opener.tells → after.opener.holds path ≡ Some (flat_bytes mid)
+-- What was printed, and what the path holds in the end.
 
 -- a raw that tells, can seek, and stands at the start of these bytes
 pub record BeginsWith (raw : Raw) (bytes : List ℕ) : Type 0 where
@@ -66,14 +57,14 @@ pub record BeginsWith (raw : Raw) (bytes : List ℕ) : Type 0 where
   pub place : raw.place ≡ 0
   pub bytes_are : raw.bytes ≡ bytes
 
--- the script was read to its end, and the path was opened as it is planned; its calls and a Close were made over the raw; the
+-- the path was opened as it is planned; calls and a Close were made over the raw, those of the script, where the source tells it; the
 -- lines of their replies were printed; the faults and waits of the raw were added to the opener's; and where the opener
 -- tells, the raw began at the start of what the mode leaves of the path's bytes, and the path holds the raw's bytes in the end, the flat
--- ones where a close or detach of a live session was done. Where no raw failed or asked to wait, each call that isn't refused is answered by an
--- answer of its own, or for want of memory
+-- ones where a close or detach of a live session was done. Where no raw failed or asked to wait, each call that isn't refused is
+-- answered by an answer of its own, or for want of memory
 pub record PrintsReplies (path mode : List ℕ) (args : OpenArgs) (old new : SourceView) (before after : Outside) : Type 0 where
   pub calls : List Call
-  pub reads : ReadsScript old calls new
+  pub reads : IsTrue old.tells → ReadsScript old calls new
   pub plan : OpenPlan
   pub planned : plan_of mode args ≡ Ok plan
   pub raw : Raw
@@ -86,7 +77,7 @@ pub record PrintsReplies (path mode : List ℕ) (args : OpenArgs) (old new : Sou
   pub faults : RoseBy (raw_of session).faults before.opener.raw_faults after.opener.raw_faults
   pub waits : RoseBy (raw_of session).waits before.opener.raw_waits after.opener.raw_waits
   pub holds : IsTrue before.opener.tells → after.opener.holds path ≡ Some (raw_of session).bytes
-  pub flat : HoldsFlat path run.opened session before after
+  pub flat : PathHoldsFlat path run.opened session before after
   pub complete : RawsAreReady before after → RunsComplete run.opened (closed_calls calls) replies session
 
 -- the words ask for an opening that the plan refuses

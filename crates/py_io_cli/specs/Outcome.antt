@@ -1,6 +1,7 @@
 -- What the program did, by the status that it ends with.
-use Rattle.std.specs.Prelude.{◌≡◌, ℕ, ◌⊎◌, IsTrue, IsFalse, List, [], ◌∷◌, ◌++◌, Option, Some, None, Result, Ok, Err}
+use Rattle.std.specs.Prelude.{◌≡◌, ◌≢◌, ℕ, ◌⊎◌, IsTrue, IsFalse, List, [], ◌∷◌, ◌++◌, Option, Some, None, Result, Ok, Err}
 use Rattle.py_flat.specs.declared.fault.IoFault.TheVariants as fault
+use Rattle.py_flat.specs.declared.life.Life.TheVariants as life
 use Rattle.py_flat.specs.Causes.{Rose}
 use Rattle.py_raw.specs.RawStream.{Raw}
 use Rattle.py_source_sink.specs.Source.{SourceView, SourceKeeps}
@@ -10,10 +11,12 @@ use Rattle.py_raw.specs.RawMode.{raw_mode_text}
 use Rattle.py_calls.specs.declared.call.Call.{Call}
 use Rattle.py_calls.specs.declared.call.Call.TheVariants.{Close}
 use Rattle.py_calls.specs.declared.reply.Reply.{Reply}
+use Rattle.py_calls.specs.Calls.{file_call, said}
 use Rattle.py_mode.specs.Mode.{letter_of}
-use Rattle.py_open.specs.Session.{SessionView, raw_of}
+use Rattle.py_open.specs.Session.{SessionView, Answers, raw_of, life_of, flat_bytes}
 use Rattle.py_open.specs.Opening.{RefusesSession}
-use Rattle.py_open.specs.Run.{RefusesOpening, RunsCalls}
+use Rattle.py_open.specs.Run.{IsRun, RefusesOpening, RunsCalls}
+use Rattle.py_open.specs.Laws.{PassesAll}
 use Rattle.py_script.specs.ReplyLine.{reply_lines}
 use Rattle.py_script.specs.Faults.{refused_line}
 use Rattle.py_script.specs.CommandWords.{Command, Run, Help, Version, command_of}
@@ -78,7 +81,7 @@ PrintsSome raw asked back old new = (lines : List ℕ) × HasLines raw asked bac
 
 -- no call was made for want of memory, before the opening or in it, and nothing printed
 pub record MakesNoCall (raw : Raw) (asked : Asked) (back : Raw) (old new : SinkView) : Type 0 where
-  pub hands : (back ≡ raw) ⊎ RefusesOpening raw asked.plan asked.chunk fault.NoMemory back
+  pub hands : (back ≡ raw) ⊎ RefusesOpening raw asked.plan fault.NoMemory back
   pub sink : new ≡ old
 
 -- by the status: every reply was printed; or the refusal was; or a front of the one or the other, since the sink failed
@@ -90,7 +93,16 @@ RawOutcome raw asked status.SinkFailed back old new = PrintsSome raw asked back 
 RawOutcome raw asked status.NoMemory back old new = PrintsSome raw asked back old new ⊎ MakesNoCall raw asked back old new
 RawOutcome raw asked _ back old new = ⊥
 
--- the path was opened as it is planned, the calls ended so, and the raw was put away again, whatever the opener answered
+-- a `close` or a `detach` of a live session that was done, anywhere in a run over a raw: where the opener tells, the path holds the
+-- flat bytes of the session that the call came to
+abbrev pub PathHoldsFlat : List ℕ → SessionView → SessionView → Outside → Outside → Type 0
+PathHoldsFlat path opened session before after =
+    (front rest : List Call) (replies others : List Reply) (mid next : SessionView) (call : Call) (reply : Reply) → IsRun opened front replies mid → Answers mid call reply next → IsRun next rest others session
+    → life_of mid ≡ life.Live → life_of next ≢ life.Live → PassesAll (file_call call) (said reply)
+    → IsTrue before.opener.tells → after.opener.holds path ≡ Some (flat_bytes mid)
+
+-- the path was opened as it is planned, the calls ended so, and the raw was put away again, whatever the opener answered; where that
+-- tells, the path holds the raw's bytes, the flat ones where a close or detach of a live session was done
 pub record OpensPath (path : List ℕ) (asked : Asked) (ended : Status) (before after : Outside) : Type 0 where
   pub raw : Raw
   pub mid : OpenerView
@@ -100,6 +112,7 @@ pub record OpensPath (path : List ℕ) (asked : Asked) (ended : Status) (before 
   pub does : RawOutcome raw asked ended back before.sink after.sink
   pub done_keeps : DoneKeeps back mid after.opener
   pub puts : IsTrue before.opener.tells → PutsAway back mid path after.opener
+  pub flat : (lines : List ℕ) (ran : RanCalls raw asked back lines) → PathHoldsFlat path ran.run.opened ran.session before after
 
 -- nothing was opened, and nothing printed
 pub record OpensNothing (before after : Outside) : Type 0 where

@@ -18,9 +18,10 @@ mod tests;
 use program::run_program;
 use py_raw::{FileOpener, ReadSource, WriteSink};
 use status::Status;
-use std::env;
+use std::fs::Files;
 use std::io::ErrorKind;
 use std::process::ExitCode;
+use std::{env, fs, io};
 
 /// The words of the command line without the program's own name: `NoForm` where one isn't UTF-8, `NoMemory` where there
 /// is none.
@@ -42,9 +43,17 @@ fn command_words(rt: &HostRuntime) -> Result<Vec<String>, Status> {
     }
 }
 
+/// A handle of a folder, which can be neither read nor written. Where a standard stream is closed, its number goes to what is opened
+/// next: to such a handle, and not to the file of the words, into which the replies would be written.
+fn stand_in<R: Files>(files: &R) -> io::Result<R::File> {
+    fs::open(files, "/")
+}
+
 /// Runs the words of the command line with files of the system, standard input and standard output, and ends with the
 /// status.
 fn main(rt: HostRuntime) -> ExitCode {
+    // One for each of standard input, output and error.
+    let _held = (stand_in(&rt), stand_in(&rt), stand_in(&rt));
     match command_words(&rt) {
         Ok(words) => {
             let mut opener = FileOpener::new(&rt);

@@ -1,6 +1,6 @@
 //! Printing replies and refusals, a line each.
 ghost use Rattle.std.specs.Prelude.{◌≡◌, ◌≢◌, Err};
-ghost use Rattle.py_source_sink.specs.Sink.{SinkKeeps};
+ghost use Rattle.py_source_sink.specs.Sink.{SinkKeeps, NoSinkFault};
 ghost use Rattle.py_script.specs.ReplyLine.{reply_line, reply_lines};
 ghost use Rattle.py_script.specs.Faults.{refused_line};
 ghost use Rattle.py_io_cli.specs.Outside.{PrintOutcome};
@@ -17,6 +17,7 @@ use std::alloc::Global;
 pub fn print_replies<K: Sink>(alloc: Global, out: &mut K, replies: &[Reply]) -> Result<(), Status>
     ensures keeps { SinkKeeps (K.shows out.old) (K.shows out.new) }
     ensures outcome { PrintOutcome (K.shows out.old) (reply_lines replies.now) result (K.shows out.new) }
+    ensures exact { result ≢ Err Status.SinkFailed → NoSinkFault (K.shows out.old) (K.shows out.new) }
 {
     for reply in replies {
         print_reply(alloc, out, reply)?;
@@ -27,6 +28,7 @@ pub fn print_replies<K: Sink>(alloc: Global, out: &mut K, replies: &[Reply]) -> 
 fn print_reply<K: Sink>(alloc: Global, out: &mut K, reply: &Reply) -> Result<(), Status>
     ensures keeps { SinkKeeps (K.shows out.old) (K.shows out.new) }
     ensures outcome { PrintOutcome (K.shows out.old) (reply_line reply.now) result (K.shows out.new) }
+    ensures exact { result ≢ Err Status.SinkFailed → NoSinkFault (K.shows out.old) (K.shows out.new) }
 {
     let mut line = Vec::new(alloc);
     match push_reply_line(alloc, &mut line, reply) {
@@ -39,6 +41,7 @@ fn print_reply<K: Sink>(alloc: Global, out: &mut K, reply: &Reply) -> Result<(),
 pub fn print_refused<K: Sink>(alloc: Global, out: &mut K, fault: IoFault) -> Result<(), Status>
     ensures keeps { SinkKeeps (K.shows out.old) (K.shows out.new) }
     ensures outcome { PrintOutcome (K.shows out.old) (refused_line fault) result (K.shows out.new) }
+    ensures exact { result ≢ Err Status.SinkFailed → NoSinkFault (K.shows out.old) (K.shows out.new) }
 {
     let mut line = Vec::new(alloc);
     match push_refused_line(alloc, &mut line, fault) {
@@ -51,6 +54,7 @@ pub fn print_refused<K: Sink>(alloc: Global, out: &mut K, fault: IoFault) -> Res
 pub fn print_text<K: Sink>(out: &mut K, text: &str) -> Result<(), Status>
     ensures keeps { SinkKeeps (K.shows out.old) (K.shows out.new) }
     ensures outcome { PrintOutcome (K.shows out.old) text.now result (K.shows out.new) }
+    ensures exact { result ≢ Err Status.SinkFailed → NoSinkFault (K.shows out.old) (K.shows out.new) }
     ensures memory { result ≢ Err Status.NoMemory }
 {
     print_line(out, text.as_bytes())
@@ -59,6 +63,7 @@ pub fn print_text<K: Sink>(out: &mut K, text: &str) -> Result<(), Status>
 fn print_line<K: Sink>(out: &mut K, line: &[u8]) -> Result<(), Status>
     ensures keeps { SinkKeeps (K.shows out.old) (K.shows out.new) }
     ensures outcome { PrintOutcome (K.shows out.old) line.now result (K.shows out.new) }
+    ensures exact { result ≢ Err Status.SinkFailed → NoSinkFault (K.shows out.old) (K.shows out.new) }
     ensures memory { result ≢ Err Status.NoMemory }
 {
     match out.write(line) {

@@ -1,8 +1,9 @@
 //! The program: from its words to the lines that it prints and the status that it ends with.
 ghost use Rattle.std.specs.Prelude.{◌≡◌, ◌≢◌, ◌≤◌, ◌⊎◌, ℕ, true, IsTrue, List, Ok, Some, None, MatchResult};
 ghost use Rattle.py_flat.specs.Causes.{Rose};
-ghost use Rattle.py_source_sink.specs.Sink.{SinkKeeps};
-ghost use Rattle.py_raw.specs.Opener.{HoldsTheSame, IsOpened, misses, opened_bytes};
+ghost use Rattle.py_source_sink.specs.Source.{NoSourceFault};
+ghost use Rattle.py_source_sink.specs.Sink.{SinkKeeps, NoSinkFault};
+ghost use Rattle.py_raw.specs.Opener.{HoldsTheSame, IsOpened, NoOpenerFault, misses, opened_bytes};
 ghost use Rattle.py_stream.specs.Opening.{StandsAtStart};
 ghost use Rattle.py_mode.specs.declared.plan.OpenPlan.{OpenPlan as Plan};
 ghost use Rattle.py_mode.specs.declared.open_args.OpenArgs.{OpenArgs as Arguments};
@@ -36,6 +37,8 @@ use std::alloc::Global;
 /// - `statuses`: it is 0 or one of 2 to 8;
 /// - `no_form`, `words`: 2 comes only of words of no form, and such words end with 2 unless memory was wanting;
 /// - `source`, `sink`, `opener`: 5, 6 and 8 come only where a count of faults rose, of the source, the sink, the opener;
+/// - `source_exact`, `sink_exact`, `opener_exact`: a source that counts exactly counted no fault, unless it is 5; such a sink none,
+///   unless it is 6; and such an opener none, where it is 0: so 0 hides no fault of the three;
 /// - `refused`: 4 comes only where the plan refuses the opening, or the raw's count of faults rose;
 /// - `planned`, `unopened`: an opening that the plan refuses opens nothing, and with a script that the source tells to be
 ///   in form it ends with 4 unless the source or the sink failed or memory was wanting;
@@ -48,11 +51,12 @@ use std::alloc::Global;
 ///   memory was wanting;
 /// - `kept`: of an opener that tells every path holds what it held with 2, 3, 5 and 8, where the plan refuses, and where the
 ///   path is only read;
-/// - `others`: whatever the status is, every path but that of the words holds what it held;
-/// - `left`: with 4 of an opening that the plan accepts the path holds what its opening left;
-/// - `printed`: with 0, of a source that tells, the calls of a run are those of the whole script, what was printed is the lines of
-///   a run of them, and the path holds the raw's bytes in the end, the flat ones where a `Close` or `Detach` of a live session was
-///   done; where no raw failed or asked to wait, each call that isn't refused is answered by an answer of its own, or for want of memory;
+/// - `others`: of an opener that tells, whatever the status is, every path but that of the words holds what it held;
+/// - `left`: the same with 4 of an opening that the plan accepts, the path holds what its opening left;
+/// - `printed`: with 0, what was printed is the lines of a run of calls, those of the whole script, where the source tells it, and
+///   a Close; of an opener that tells, the path holds the raw's bytes in the end, the flat ones where a `Close` or `Detach` of a live
+///   session was done; where no raw failed or asked to wait, each call that isn't refused is answered by an answer of its own, or for
+///   want of memory;
 /// - `help`, `version`: with 0 the text that was asked for was printed.
 pub fn run_program<O: Opener, I: Source, K: Sink>(
     alloc: Global,
@@ -69,6 +73,9 @@ pub fn run_program<O: Opener, I: Source, K: Sink>(
     ensures source { result ≡ 5 → Rose (I.shows script.old).faults (I.shows script.new).faults }
     ensures sink { result ≡ 6 → Rose (K.shows out.old).faults (K.shows out.new).faults }
     ensures opener { result ≡ 8 → Rose (O.shows opener.old).faults (O.shows opener.new).faults }
+    ensures source_exact { result ≢ 5 → NoSourceFault (I.shows script.old) (I.shows script.new) }
+    ensures sink_exact { result ≢ 6 → NoSinkFault (K.shows out.old) (K.shows out.new) }
+    ensures opener_exact { result ≡ 0 → NoOpenerFault (O.shows opener.old) (O.shows opener.new) }
     ensures refused { result ≡ 4 → IsRefusedPlan (command_of (texts words.now)) ⊎ Rose (O.shows opener.old).raw_faults (O.shows opener.new).raw_faults }
     ensures planned { IsRefusedPlan (command_of (texts words.now)) → TellsForm (I.shows script.old)
         → (result ≡ 4) ⊎ ((result ≡ 5) ⊎ ((result ≡ 6) ⊎ (result ≡ 7))) }
@@ -88,7 +95,7 @@ pub fn run_program<O: Opener, I: Source, K: Sink>(
     ensures others { IsTrue (O.shows opener.old).tells → KeepsOthers (command_of (texts words.now)) (O.shows opener.old) (O.shows opener.new) }
     ensures left { (path : List ℕ) (plan : Plan) → IsAcceptedAt path plan (command_of (texts words.now)) → result ≡ 4 → IsTrue (O.shows opener.old).tells
         → (O.shows opener.new).holds path ≡ Some (opened_bytes (raw_mode plan) ((O.shows opener.old).holds path)) }
-    ensures printed { (path mode : List ℕ) (args : Arguments) → result ≡ 0 → command_of (texts words.now) ≡ Some (Asks path mode args) → IsTrue (I.shows script.old).tells → PrintsReplies path mode args (I.shows script.old) (I.shows script.new)
+    ensures printed { (path mode : List ℕ) (args : Arguments) → result ≡ 0 → command_of (texts words.now) ≡ Some (Asks path mode args) → PrintsReplies path mode args (I.shows script.old) (I.shows script.new)
         (record { opener = O.shows opener.old; sink = K.shows out.old }) (record { opener = O.shows opener.new; sink = K.shows out.new }) }
     ensures help { result ≡ 0 → command_of (texts words.now) ≡ Some Help → Prints (K.shows out.old) help_text (K.shows out.new) }
     ensures version { result ≡ 0 → command_of (texts words.now) ≡ Some Version → Prints (K.shows out.old) version_text (K.shows out.new) }
@@ -109,8 +116,11 @@ fn run_to_status<O: Opener, I: Source, K: Sink>(
     script: &mut I,
     out: &mut K,
 ) -> Status
-    ensures { Outcome result (texts words.now) (I.shows script.old) (I.shows script.new)
+    ensures outcome { Outcome result (texts words.now) (I.shows script.old) (I.shows script.new)
         (record { opener = O.shows opener.old; sink = K.shows out.old }) (record { opener = O.shows opener.new; sink = K.shows out.new }) }
+    ensures source { result ≢ Status.SourceFailed → NoSourceFault (I.shows script.old) (I.shows script.new) }
+    ensures sink { result ≢ Status.SinkFailed → NoSinkFault (K.shows out.old) (K.shows out.new) }
+    ensures opener { result ≡ Status.Done → NoOpenerFault (O.shows opener.old) (O.shows opener.new) }
 {
     match parse_words(alloc, words) {
         Ok(Some(Command::Run { path, mode, args })) => match read_script(alloc, script) {
@@ -138,6 +148,8 @@ fn run_calls<O: Opener, K: Sink>(
     ensures sink { SinkKeeps (K.shows out.old) (K.shows out.new) }
     ensures outcome { PlannedOutcome path.now mode.now args calls.items result
         (record { opener = O.shows opener.old; sink = K.shows out.old }) (record { opener = O.shows opener.new; sink = K.shows out.new }) }
+    ensures exact { result ≢ Status.SinkFailed → NoSinkFault (K.shows out.old) (K.shows out.new) }
+    ensures opener { result ≡ Status.Done → NoOpenerFault (O.shows opener.old) (O.shows opener.new) }
 {
     let plan = match plan_open(mode, &args) {
         Ok(plan) => plan,
@@ -178,6 +190,7 @@ fn run_raw<R: RawStream, K: Sink>(
     ensures sink { SinkKeeps (K.shows out.old) (K.shows out.new) }
     ensures outcome { (plan : Plan) → plan_of mode.now args ≡ Ok plan
         → RawOutcome (R.shows raw) (asked_by plan args calls.items) result.0 (R.shows result.1) (K.shows out.old) (K.shows out.new) }
+    ensures exact { result.0 ≢ Status.SinkFailed → NoSinkFault (K.shows out.old) (K.shows out.new) }
 {
     let mut calls = calls;
     if calls.push(Call::Close).is_err() {

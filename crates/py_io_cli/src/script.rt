@@ -1,13 +1,16 @@
 //! Reading the script to its end.
-ghost use Rattle.std.specs.Prelude.{◌≡◌, ◌≤◌};
-ghost use Rattle.py_source_sink.specs.Source.{SourceKeeps};
+ghost use Rattle.std.specs.Prelude.{◌≡◌, ◌≢◌, ◌≤◌, Err};
+ghost use Rattle.py_source_sink.specs.Source.{SourceKeeps, NoSourceFault};
 ghost use Rattle.py_io_cli.specs.Outside.{ScriptOutcome, ReadOutcome};
 
 use crate::status::Status;
 use py_open::Call;
 use py_raw::Source;
-use py_script::{MAX_SCRIPT_SIZE, parse_script};
+use py_script::parse_script;
 use std::alloc::Global;
+
+/// The most bytes that a script may have: a longer one is out of form.
+const MAX_SCRIPT_SIZE: usize = 1_048_576;
 
 /// How many bytes are read from a source at once.
 const PIECE_SIZE: usize = 4096;
@@ -17,6 +20,7 @@ const PIECE_SIZE: usize = 4096;
 pub fn read_script<I: Source>(alloc: Global, source: &mut I) -> Result<Vec<Call>, Status>
     ensures keeps { SourceKeeps (I.shows source.old) (I.shows source.new) }
     ensures outcome { ScriptOutcome (I.shows source.old) result (I.shows source.new) }
+    ensures exact { result ≢ Err Status.SourceFailed → NoSourceFault (I.shows source.old) (I.shows source.new) }
 {
     let bytes = read_bytes(alloc, source)?;
     match parse_script(alloc, &bytes) {
@@ -30,6 +34,7 @@ pub fn read_script<I: Source>(alloc: Global, source: &mut I) -> Result<Vec<Call>
 fn read_bytes<I: Source>(alloc: Global, source: &mut I) -> Result<Vec<u8>, Status>
     ensures keeps { SourceKeeps (I.shows source.old) (I.shows source.new) }
     ensures outcome { ReadOutcome (I.shows source.old) result (I.shows source.new) }
+    ensures exact { result ≢ Err Status.SourceFailed → NoSourceFault (I.shows source.old) (I.shows source.new) }
 {
     let mut bytes = Vec::new(alloc);
     let mut piece = [0u8; PIECE_SIZE];

@@ -112,7 +112,7 @@ fn words_are_a_form_and_then_an_opening(rt: HostRuntime) -> Result<(), Fail> {
     let whole = "text c3a90a\ntext 78\nok\n";
     let unsupported = "refused Unsupported\n";
     let bad_argument = "refused BadArgument\n";
-    let cases: [(&[&str], u8, &str); 30] = [
+    let cases: [(&[&str], u8, &str); 31] = [
         (&[], 2, ""),
         (&["run"], 2, ""),
         (&["run", "f"], 2, ""),
@@ -156,6 +156,7 @@ fn words_are_a_form_and_then_an_opening(rt: HostRuntime) -> Result<(), Fail> {
         (&["run", "f", "rb+"], 4, unsupported),
         (&["run", "f", "wb+"], 4, unsupported),
         (&["run", "f", "rb", "newline=0a"], 4, bad_argument),
+        (&["run", "f", "rb", "newline="], 4, bad_argument),
         (&["run", "f", "wb", "encoding=utf-8"], 4, bad_argument),
         (&["run", "f", "ab", "errors=strict"], 4, bad_argument),
         (&["run", "f", "wb", "chunk=0"], 4, bad_argument),

@@ -33,7 +33,7 @@ pub use help::{help_text, version_text};
 pub use option_laws::{an_option_stands_once, every_text_has_its_hex, options_stand_in_any_order};
 pub use reply_law::reply_lines_tell;
 pub use reply_line::push_reply_line;
-pub use script::{MAX_SCRIPT_SIZE, parse_line, parse_script};
+pub use script::{parse_line, parse_script};
 pub use word_laws::{answered_bytes_can_be_written, answered_lines_can_be_written};
 
 #[cfg(test)]

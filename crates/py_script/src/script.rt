@@ -7,9 +7,6 @@ use crate::line_call::words_call;
 use py_calls::Call;
 use std::alloc::{AllocError, Global};
 
-/// The most bytes that a script may have: a longer one is out of form. The program that reads it tests this.
-pub const MAX_SCRIPT_SIZE: usize = 1_048_576;
-
 /// The calls of a script, in order, or `None` where a line is out of form; `Err` for want of memory.
 ///
 /// Lines end at LF, and the last may lack it. An empty line and one that begins with `#` are skipped, whatever follows

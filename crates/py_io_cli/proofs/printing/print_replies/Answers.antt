@@ -4,7 +4,7 @@ use Rattle.py_calls.specs.declared.reply.Reply.{Reply}
 use Rattle.py_source_sink.specs.Sink.{SinkView}
 use Rattle.py_script.specs.ReplyLine.{reply_line, reply_lines}
 use Rattle.py_io_cli.specs.Outside.{Prints}
-use Rattle.py_io_cli.proofs.Printed.{prints_more, stops_behind, sink_keeps_more, lines_more, lines_front}
+use Rattle.py_io_cli.proofs.Printed.{prints_more, stops_behind, sink_keeps_more, no_fault_more, lines_more, lines_front}
 use Rattle.py_io_cli.proofs.printing.print_replies.Goals as goal
 
 pub returns-in_err-print_reply-clause-outcome : goal.returns-in_err-print_reply-clause-outcome
@@ -26,5 +26,6 @@ loop-reply-preserved g c =
     let reply : Reply = c.reply-item.result in
     record {
       keeps = sink_keeps_more old mid new c.loop-reply.invariant.keeps c.in_ok-print_reply.ensures.keeps;
+      exact = no_fault_more old mid new c.loop-reply.invariant.keeps c.loop-reply.invariant.exact (c.in_ok-print_reply.ensures.exact (λ failed. absurd (cc)));
       printed = subst (λ (lines : List ℕ). Prints old lines new) (sym (lines_more replies at reply (omega arith) c.reply-item.is)) (prints_more old mid new (reply_lines (take at replies)) (reply_line reply) c.loop-reply.invariant.keeps c.loop-reply.invariant.printed c.in_ok-print_reply.ensures.outcome);
     }

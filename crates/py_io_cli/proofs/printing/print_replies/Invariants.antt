@@ -1,5 +1,5 @@
 use Rattle.std.proofs.Common.{take}
-use Rattle.py_source_sink.specs.Sink.{SinkKeeps}
+use Rattle.py_source_sink.specs.Sink.{SinkKeeps, NoSinkFault}
 use Rattle.py_script.specs.ReplyLine.{reply_lines}
 use Rattle.py_io_cli.specs.Outside.{Prints}
 use Rattle.py_io_cli.proofs.printing.print_replies.Given as goal
@@ -8,5 +8,6 @@ use Rattle.py_io_cli.proofs.printing.print_replies.Given as goal
 abbrev pub invariant-loop-reply : goal.invariant-loop-reply
 invariant-loop-reply g l = record {
   keeps : SinkKeeps (g.K.Sink.shows l.fn.out) (g.K.Sink.shows l.out);
+  exact : NoSinkFault (g.K.Sink.shows l.fn.out) (g.K.Sink.shows l.out);
   printed : Prints (g.K.Sink.shows l.fn.out) (reply_lines (take l.reply-index l.replies)) (g.K.Sink.shows l.out);
 }

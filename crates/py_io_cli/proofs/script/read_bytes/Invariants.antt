@@ -1,5 +1,5 @@
 use Rattle.std.proofs.Common.{◌≡◌, ◌≤◌, ◌++◌, ◌-◌, length, IsTrue}
-use Rattle.py_source_sink.specs.Source.{SourceKeeps}
+use Rattle.py_source_sink.specs.Source.{SourceKeeps, NoSourceFault}
 use Rattle.py_io_cli.specs.Outside.{script_limit}
 use Rattle.py_io_cli.proofs.script.read_bytes.Given as goal
 
@@ -7,6 +7,7 @@ use Rattle.py_io_cli.proofs.script.read_bytes.Given as goal
 abbrev pub invariant-loop-bytes : goal.invariant-loop-bytes
 invariant-loop-bytes g l = record {
   keeps : SourceKeeps (g.I.Source.shows l.fn.source) (g.I.Source.shows l.source);
+  exact : NoSourceFault (g.I.Source.shows l.fn.source) (g.I.Source.shows l.source);
   fits : length l.bytes.items ≤ script_limit;
   whole : IsTrue (g.I.Source.shows l.fn.source).tells → l.bytes.items ++ (g.I.Source.shows l.source).left ≡ (g.I.Source.shows l.fn.source).left;
 }
