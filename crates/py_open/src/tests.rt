@@ -106,85 +106,55 @@ fn bytes_are_written_and_read_back(rt: HostRuntime) -> Result<(), Fail> {
     Ok(())
 }
 
-#[test]
-fn waits_cuts_and_refused_ranges_lose_nothing(rt: HostRuntime) -> Result<(), Fail> {
-    let alloc = rt.alloc();
-    let euro = [0xE2, 0x82, 0xAC];
-    let plan = vec![in alloc;
-        Cut::Take(1),
-        Cut::Wait,
-        Cut::Take(1),
-        Cut::Wait,
-        Cut::Take(1),
-    ]?;
-    let calls = [
-        Call::Read(Some(1)),
-        Call::Read(Some(1)),
-        Call::Read(Some(1)),
-    ];
-    let run = text_run(&rt, alloc, raw_of(alloc, &euro, plan)?, &calls)?;
-    let replies = [Reply::NotReady, Reply::NotReady, text(alloc, "€")?];
-    assert_eq!(rt; run.replies.as_slice(), replies.as_slice());
+/// The calls of a text are answered so.
+fn answers(
+    rt: &impl Abort,
+    alloc: Global,
+    raw: MemRaw,
+    calls: &[Call],
+    replies: &[Reply],
+) -> Result<(), AllocError>
+    requires start { StandsAtStart (shown raw) }
+{
+    let run = text_run(rt, alloc, raw, calls)?;
+    assert_eq!(rt; run.replies.as_slice(), replies);
+    Ok(())
+}
 
-    let bad = [0x61, 0x62, 0xFF, 0x63];
+const ONES: [Call; 3] = [
+    Call::Read(Some(1)),
+    Call::Read(Some(1)),
+    Call::Read(Some(1)),
+];
+
+#[test]
+fn waits_and_cuts_lose_nothing(rt: HostRuntime) -> Result<(), Fail> {
+    let alloc = rt.alloc();
+    let one = Cut::Take(1);
+    let plan = vec![in alloc; one, Cut::Wait, one, Cut::Wait, one]?;
+    let raw = raw_of(alloc, &[0xE2, 0x82, 0xAC], plan)?;
+    let replies = [Reply::NotReady, Reply::NotReady, text(alloc, "€")?];
+    answers(&rt, alloc, raw, &ONES, &replies)?;
+    Ok(())
+}
+
+#[test]
+fn a_refused_range_loses_nothing(rt: HostRuntime) -> Result<(), Fail> {
+    let alloc = rt.alloc();
+    let raw = raw_of(alloc, &[0x61, 0x62, 0xFF, 0x63], Vec::new(alloc))?;
     let calls = [
         Call::Read(Some(3)),
         Call::Read(Some(2)),
         Call::Read(Some(1)),
         Call::Read(None),
     ];
-    let raw = raw_of(alloc, &bad, Vec::new(alloc))?;
-    let run = text_run(&rt, alloc, raw, &calls)?;
     let replies = [
         decode_error(2, 3),
         text(alloc, "ab")?,
         decode_error(2, 3),
         decode_error(2, 3),
     ];
-    assert_eq!(rt; run.replies.as_slice(), replies.as_slice());
-    Ok(())
-}
-
-#[test]
-fn lives_and_kinds_refuse(rt: HostRuntime) -> Result<(), Fail> {
-    let alloc = rt.alloc();
-    let raw = raw_of(alloc, &[0x61], Vec::new(alloc))?;
-    let calls = [
-        Call::Tell,
-        Call::Readable,
-        Call::Close,
-        Call::Tell,
-        Call::Read(None),
-        Call::Close,
-    ];
-    let run = text_run(&rt, alloc, raw, &calls)?;
-    let replies = [
-        Reply::Refused(IoFault::Unsupported),
-        Reply::Flag(true),
-        Reply::Done,
-        Reply::Refused(IoFault::Closed),
-        Reply::Refused(IoFault::Closed),
-        Reply::Done,
-    ];
-    assert_eq!(rt; run.replies.as_slice(), replies.as_slice());
-
-    let flags = RawFlags::able(true, false, true);
-    let faults = vec![in alloc; 1]?;
-    let raw = MemRaw::new(
-        "abc".as_bytes().to_vec(alloc)?,
-        flags,
-        Vec::new(alloc),
-        faults,
-    );
-    let calls = [Call::Read(None), Call::Read(None), Call::Close];
-    let run = text_run(&rt, alloc, raw, &calls)?;
-    let replies = [
-        Reply::Refused(IoFault::RawFault),
-        Reply::Refused(IoFault::Failed),
-        Reply::Refused(IoFault::Failed),
-    ];
-    assert_eq!(rt; run.replies.as_slice(), replies.as_slice());
-    assert_eq!(rt; run.session.life(), Life::Failed);
+    answers(&rt, alloc, raw, &calls, &replies)?;
     Ok(())
 }
 
