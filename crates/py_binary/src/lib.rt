@@ -6,12 +6,8 @@
 
 mod binary_session;
 mod kind;
-#[cfg(test)]
-mod life_tests;
 mod reader_calls;
 mod replies;
-#[cfg(test)]
-mod tests;
 mod unbuffered_calls;
 mod writer_calls;
 

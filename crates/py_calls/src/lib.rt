@@ -5,8 +5,6 @@
 
 mod call;
 mod reply;
-#[cfg(test)]
-mod tests;
 
 pub use call::Call;
 pub use reply::Reply;

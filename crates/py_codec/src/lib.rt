@@ -6,32 +6,22 @@
 #![tactic(auto)]
 
 mod ascii;
-#[cfg(test)]
-mod block_tests;
 mod counting;
-#[cfg(test)]
-mod custom_tests;
 mod decode;
 mod decoder_state;
 mod decoding;
 mod encode;
 mod encoding;
 mod error_handler;
-#[cfg(test)]
-mod examples;
 mod handler_ref;
 mod held;
 mod incremental_decoder;
 mod incremental_encoder;
-#[cfg(test)]
-mod incremental_tests;
 mod laws;
 mod no_handler;
 mod replacing;
 mod runs;
 mod substituting;
-#[cfg(test)]
-mod tests;
 mod utf16;
 mod utf16_blocks;
 mod writing;

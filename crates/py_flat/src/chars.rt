@@ -82,24 +82,3 @@ impl PartialEq for Chars {
 impl Eq for Chars {
     ghost laws = { nat_list_eq_equiv };
 }
-
-#[cfg(test)]
-mod tests {
-    use super::*;
-    use std::test::Fail;
-
-    #[test]
-    fn chars_keep_their_text(rt: HostRuntime) -> Result<(), Fail> {
-        let alloc = rt.alloc();
-        assert_eq!(rt; Chars::new(alloc).as_str(), "");
-        for text in ["", "a\r\n", "é€\u{1F600}"] {
-            let chars = Chars::from_text(alloc, text)?;
-            assert_eq!(rt; chars.as_str(), text);
-            let copy = chars.try_clone(alloc)?;
-            assert_eq!(rt; copy, chars);
-            assert_eq!(rt; Chars::from_string(copy.into_string()).as_str(), text);
-        }
-        assert!(rt; Chars::from_text(alloc, "e")? != Chars::from_text(alloc, "é")?);
-        Ok(())
-    }
-}

@@ -96,30 +96,3 @@ impl PartialEq for Data {
 impl Eq for Data {
     ghost laws = { nat_list_eq_equiv };
 }
-
-#[cfg(test)]
-mod tests {
-    use super::*;
-    use std::test::Fail;
-
-    #[test]
-    fn data_keeps_its_bytes(rt: HostRuntime) -> Result<(), Fail> {
-        let alloc = rt.alloc();
-        assert_eq!(rt; Data::new(alloc).as_slice(), [].as_slice());
-        for (bytes, len, none) in [
-            (b"".as_slice(), 0, true),
-            (b"\0".as_slice(), 1, false),
-            (b"a\xFF\n".as_slice(), 3, false),
-        ] {
-            let data = Data::from_slice(alloc, bytes)?;
-            assert_eq!(rt; data.as_slice(), bytes);
-            assert_eq!(rt; data.len(), len);
-            assert_eq!(rt; data.is_empty(), none);
-            let copy = data.try_clone(alloc)?;
-            assert_eq!(rt; copy, data);
-            assert_eq!(rt; Data::from_vec(copy.into_vec()).as_slice(), bytes);
-        }
-        assert!(rt; Data::from_slice(alloc, b"ab")? != Data::from_slice(alloc, b"abc")?);
-        Ok(())
-    }
-}

@@ -94,34 +94,3 @@ impl PartialEq for Lines {
 impl Eq for Lines {
     ghost laws = { lists_equiv nat_list_eq_equiv };
 }
-
-#[cfg(test)]
-mod tests {
-    use super::*;
-    use std::test::Fail;
-
-    #[test]
-    fn lines_keep_their_order(rt: HostRuntime) -> Result<(), Fail> {
-        let alloc = rt.alloc();
-        let mut lines = Lines::new(alloc);
-        for (line, len) in [
-            (b"a\n".as_slice(), 1),
-            (b"".as_slice(), 2),
-            (b"b".as_slice(), 3),
-        ] {
-            lines.push(Data::from_slice(alloc, line)?)?;
-            assert_eq!(rt; lines.len(), len);
-        }
-        let copy = lines.try_clone(alloc)?;
-        assert_eq!(rt; copy, lines);
-        let again = Lines::from_vec(copy.into_vec());
-        let mut joined = Vec::new(alloc);
-        for line in again.as_slice() {
-            joined.extend_from_slice(line.as_slice())?;
-            joined.push(b'|')?;
-        }
-        assert_eq!(rt; joined.as_slice(), b"a\n||b|".as_slice());
-        assert!(rt; lines != Lines::new(alloc));
-        Ok(())
-    }
-}

@@ -1,23 +1,8 @@
 //! A program that opens a file and runs a script of calls on it, printing each reply (docs/PROGRAM.md).
 #![tactic(auto)]
 
-#[cfg(test)]
-mod binary_tests;
-mod laws;
-#[cfg(test)]
-mod line_tests;
-mod printing;
-mod program;
-#[cfg(test)]
-mod raw_tests;
-mod script;
-mod status;
-#[cfg(test)]
-mod tests;
-
-use program::run_program;
+use py_program::{Status, run_program};
 use py_raw::{FileOpener, ReadSource, WriteSink};
-use status::Status;
 use std::fs::Files;
 use std::io::ErrorKind;
 use std::process::ExitCode;

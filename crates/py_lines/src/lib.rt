@@ -8,8 +8,6 @@
 mod collector;
 mod line_collector;
 mod lines_collector;
-#[cfg(test)]
-mod tests;
 
 pub use collector::{Collected, Collector};
 pub use line_collector::LineCollector;

@@ -8,8 +8,6 @@ mod laws;
 mod open_refused;
 mod run;
 mod session;
-#[cfg(test)]
-mod tests;
 mod text_calls;
 
 pub use laws::{

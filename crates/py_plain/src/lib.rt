@@ -18,8 +18,6 @@ mod pieces;
 mod plain_encode;
 mod plain_text;
 mod replacement;
-#[cfg(test)]
-mod tests;
 mod unit;
 mod utf16;
 mod utf8;

@@ -6,8 +6,6 @@ ghost use Rattle.py_flat.specs.Limits.{greatest_place};
 ghost use Rattle.py_flat.specs.Causes.{counted};
 
 mod counts;
-#[cfg(test)]
-mod tests;
 
 use crate::{GREATEST_PLACE, RawError, RawStream};
 use std::fs::{File, OpenFile};

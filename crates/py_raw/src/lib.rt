@@ -14,8 +14,6 @@ mod laying;
 mod mem_opener;
 mod mem_raw;
 mod mode_letters;
-#[cfg(test)]
-mod mode_tests;
 mod opener;
 mod raw_error;
 mod raw_flags;

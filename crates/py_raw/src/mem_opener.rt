@@ -8,8 +8,6 @@ ghost use Rattle.py_raw.specs.MemOpener.{bytes_in, opened_view};
 
 mod counts;
 mod plan;
-#[cfg(test)]
-mod tests;
 
 use crate::entries::{Entry, held_at, put_in};
 use crate::raw_mode::{file_letter, misses, mode_flags};

@@ -4,8 +4,6 @@ ghost use Rattle.py_flat.specs.Limits.{greatest_place, greatest_count};
 mod calls;
 mod counts;
 mod state;
-#[cfg(test)]
-mod tests;
 
 use crate::{Cut, RawFlags};
 

@@ -46,21 +46,3 @@ pub trait Opener {
         ensures outcome { DoneOutcome (Self.Raw.shows raw) (shows self.old) path.now result (shows self.new) }
         ensures exact { OnOk result (NoOpenerFault (shows self.old) (shows self.new)) };
 }
-
-#[cfg(test)]
-mod tests {
-    use super::*;
-    use std::test::Fail;
-
-    #[test]
-    fn each_error_says_what_went_wrong(rt: HostRuntime) -> Result<(), Fail> {
-        let alloc = rt.alloc();
-        for (error, text) in [
-            (OpenError::Fault, "the opener failed"),
-            (OpenError::Memory, "out of memory"),
-        ] {
-            assert_eq!(rt; format!(in alloc; "{error}")?.as_str(), text);
-        }
-        Ok(())
-    }
-}

@@ -10,21 +10,3 @@ pub enum RawError {
     #[error("out of memory")]
     Memory,
 }
-
-#[cfg(test)]
-mod tests {
-    use super::*;
-    use std::test::Fail;
-
-    #[test]
-    fn each_error_says_what_went_wrong(rt: HostRuntime) -> Result<(), Fail> {
-        let alloc = rt.alloc();
-        for (error, text) in [
-            (RawError::Fault, "the raw stream failed"),
-            (RawError::Memory, "out of memory"),
-        ] {
-            assert_eq!(rt; format!(in alloc; "{error}")?.as_str(), text);
-        }
-        Ok(())
-    }
-}

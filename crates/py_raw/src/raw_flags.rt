@@ -78,34 +78,3 @@ impl RawFlags {
         self.contains(RawFlags::SEEKABLE)
     }
 }
-
-#[cfg(test)]
-mod tests {
-    use super::*;
-
-    #[test]
-    fn each_name_has_its_bit_and_a_union_contains_its_parts(rt: HostRuntime) {
-        let table = [
-            ("CREATED", 1),
-            ("READABLE", 2),
-            ("WRITABLE", 4),
-            ("APPENDING", 8),
-            ("SEEKABLE", 16),
-        ];
-        let mut all = RawFlags::empty();
-        for (name, bits) in table {
-            let flag = RawFlags::from_name(name).expect(&rt, "a name of the table");
-            assert_eq!(rt; flag.bits(), bits, "at {name}");
-            assert!(rt; !all.contains(flag), "at {name}");
-            all.insert(flag);
-            assert!(rt; all.contains(flag), "at {name}");
-        }
-        assert_eq!(rt; all.bits(), 31);
-        assert_eq!(rt; (RawFlags::READABLE | RawFlags::SEEKABLE).bits(), 18);
-        assert!(rt; RawFlags::from_bits(32).is_none());
-        assert_eq!(rt;
-            RawFlags::able(true, false, true),
-            RawFlags::READABLE | RawFlags::SEEKABLE
-        );
-    }
-}

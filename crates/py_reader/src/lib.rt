@@ -3,12 +3,6 @@
 
 mod buffered_reader;
 mod data;
-#[cfg(test)]
-mod examples;
-#[cfg(test)]
-mod table_tests;
-#[cfg(test)]
-mod tests;
 mod window;
 
 pub use buffered_reader::BufferedReader;

@@ -36,5 +36,3 @@ pub use reply_line::push_reply_line;
 pub use script::{parse_line, parse_script};
 pub use word_laws::{answered_bytes_can_be_written, answered_lines_can_be_written};
 
-#[cfg(test)]
-mod tests;

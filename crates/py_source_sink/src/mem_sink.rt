@@ -94,28 +94,3 @@ impl Sink for MemSink {
         Ok(())
     }
 }
-
-#[cfg(test)]
-mod tests {
-    use super::*;
-
-    #[test]
-    fn writes_what_fits_and_fails_where_listed(rt: HostRuntime) -> Result<(), AllocError> {
-        let alloc = rt.alloc();
-        let faults = Vec::from_slice(alloc, &[1])?;
-        let mut sink = MemSink::with_room(alloc, 5, faults)?;
-        let writes: [(&[u8], bool, &[u8]); 5] = [
-            (b"ab", true, b"ab"),
-            (b"x", false, b"ab"),
-            (b"", true, b"ab"),
-            (b"cdef", false, b"abcde"),
-            (b"g", false, b"abcde"),
-        ];
-        for (piece, want, written) in writes {
-            assert_eq!(rt; sink.write(piece).is_ok(), want);
-            assert!(rt; sink.written() == written);
-        }
-        assert!(rt; sink.into_bytes().as_slice() == b"abcde".as_slice());
-        Ok(())
-    }
-}

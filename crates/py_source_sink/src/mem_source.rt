@@ -75,35 +75,3 @@ impl Source for MemSource {
         Ok(count)
     }
 }
-
-#[cfg(test)]
-mod tests {
-    use super::*;
-    use std::alloc::AllocError;
-
-    #[test]
-    fn gives_what_fits_and_fails_where_listed(rt: HostRuntime) -> Result<(), AllocError> {
-        let alloc = rt.alloc();
-        let bytes = Vec::from_slice(alloc, b"abcde")?;
-        let faults = Vec::from_slice(alloc, &[1, 4])?;
-        let mut source = MemSource::new(bytes, faults);
-        let mut buf = [0u8; 2];
-        let reads: [(usize, Option<&[u8]>); 7] = [
-            (2, Some(b"ab")),
-            (2, None),
-            (2, Some(b"cd")),
-            (0, Some(b"")),
-            (1, None),
-            (2, Some(b"e")),
-            (2, Some(b"")),
-        ];
-        for (size, want) in reads {
-            let got = match source.read(&mut buf[..size]) {
-                Ok(count) => Some(&buf[..count]),
-                Err(Failed) => None,
-            };
-            assert!(rt; got == want, "reading {size}");
-        }
-        Ok(())
-    }
-}

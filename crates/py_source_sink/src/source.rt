@@ -21,18 +21,3 @@ pub trait Source {
         ensures outcome { SourceOutcome (shows self.old) buf.old result buf.new (shows self.new) }
         ensures exact { OnOk result (NoSourceFault (shows self.old) (shows self.new)) };
 }
-
-#[cfg(test)]
-mod tests {
-    use super::*;
-    use std::test::Fail;
-
-    #[test]
-    fn a_failure_says_what_failed(rt: HostRuntime) -> Result<(), Fail> {
-        let alloc = rt.alloc();
-        for (error, text) in [(Failed, "the source or sink failed")] {
-            assert_eq!(rt; format!(in alloc; "{error}")?.as_str(), text);
-        }
-        Ok(())
-    }
-}

@@ -7,8 +7,6 @@
 
 mod chunk_reader;
 mod laws;
-#[cfg(test)]
-mod tests;
 mod text;
 mod text_reader;
 

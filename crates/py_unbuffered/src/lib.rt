@@ -3,8 +3,6 @@
 
 mod access;
 mod data;
-#[cfg(test)]
-mod tests;
 mod unbuffered_stream;
 
 pub use access::Access;

@@ -2,13 +2,7 @@
 #![tactic(auto)]
 
 mod buffered_writer;
-#[cfg(test)]
-mod examples;
 mod pending;
-#[cfg(test)]
-mod table_tests;
-#[cfg(test)]
-mod tests;
 mod writer_data;
 
 pub use buffered_writer::BufferedWriter;

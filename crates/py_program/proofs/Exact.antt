@@ -1,0 +1,220 @@
+-- A run of the program that ends with 0: what was printed, what the path holds, and, where no raw failed or asked to wait, that the
+-- replies are the model's.
+use Rattle.std.proofs.Common.{◌≡◌, ℕ, Bool, true, false, IsTrue, List, [], ◌++◌, length, Option, Some, None, unwrap_or, Ok, inl, inr, refl, sym, ◌∙◌, ap, subst, if◌then◌else◌, arith}
+use Rattle.std.proofs.lemmas.Bool.Decides.{nat_tests}
+use Rattle.py_flat.specs.declared.life.Life.TheVariants as life
+use Rattle.py_flat.specs.Bytes.{lay}
+use Rattle.py_flat.specs.Causes.{counted, rose}
+use Rattle.py_flat.specs.Owed.{Owed}
+use Rattle.py_flat.specs.FlatFile.{Abilities, FlatFile}
+use Rattle.py_flat.specs.declared.life.Life.{Life}
+use Rattle.py_flat.specs.Calls.{FileReply}
+use Rattle.py_plain.specs.TextFile.{TextFile}
+use Rattle.py_textio.specs.TextState.{TextState}
+use Rattle.py_raw.specs.RawStream.{Raw}
+use Rattle.py_raw.specs.RawMode.{raw_mode_text}
+use Rattle.py_raw.specs.Opener.{opened_bytes}
+use Rattle.py_source_sink.specs.Source.{SourceView}
+use Rattle.py_stream.specs.Stream.{Stream, buffering_of, file_of}
+use Rattle.py_stream.specs.Opening.{Opens, begins_at}
+use Rattle.py_unbuffered.specs.Unbuffered.{can_of, is_able}
+use Rattle.py_unbuffered.specs.declared.access.Access.{Access}
+use Rattle.py_calls.specs.declared.call.Call.{Call}
+use Rattle.py_calls.specs.declared.reply.Reply.{Reply}
+use Rattle.py_mode.specs.declared.mode.EncodeMode.{EncodeMode}
+use Rattle.py_mode.specs.declared.mode.EncodeMode.TheVariants.{Text, Bytes}
+use Rattle.py_mode.specs.declared.mode.FileMode.{FileMode}
+use Rattle.py_mode.specs.declared.mode.FileMode.TheVariants.{Read}
+use Rattle.py_mode.specs.declared.open_args.OpenArgs.{OpenArgs}
+use Rattle.py_mode.specs.declared.plan.OpenPlan.{OpenPlan}
+use Rattle.py_mode.specs.Mode.{letter_of}
+use Rattle.py_mode.specs.Plan.{plan_of}
+use Rattle.py_mode.proofs.Planning.{planned_text_is_read}
+use Rattle.py_textio.specs.Opening.{text_opened, OpensText}
+use Rattle.py_open.specs.Session.{SessionFile, OfText, OfBinary, SessionView, TextSession, BinarySession, file_seen, raw_of}
+use Rattle.py_open.specs.Opening.{access_of, OpensBy}
+use Rattle.py_open.specs.Run.{IsRun, IsSmooth, NoneLacksMemory, RunsCalls, AllSettle, all_said}
+use Rattle.py_open.specs.Laws.{IsExact}
+use Rattle.py_open.proofs.Runs.{smooth_completes}
+use Rattle.py_script.specs.CommandWords.{Command, Run, command_of}
+use Rattle.py_program.specs.declared.status.Status.{Status}
+use Rattle.py_program.specs.declared.status.Status.TheVariants as status
+use Rattle.py_program.specs.Status.{code_of}
+use Rattle.py_program.specs.Outcome.{Outside, raw_mode, asked_by, own_text, closed_calls, OpensPath, FollowsPlan, PlannedOutcome, RunsScript, Outcome, Ends}
+use Rattle.py_program.specs.Meaning.{RawsAreReady, PrintsReplies, PrintsSettled, PrintsExactly, begins_with, file_by, opened_file}
+use Rattle.py_program.proofs.Planned.{one_plan}
+use Rattle.py_program.proofs.Keeping.{opening_keeps}
+
+-- a count that was added, and with which the sum didn't rise, was 0
+stays_unrisen : (before mid after opened back : ℕ) → mid ≡ before → after ≡ counted mid back → rose before after ≡ false → rose opened back ≡ false
+stays_unrisen before mid after opened back kept added still = grind (arith, nat_tests)
+
+-- so no count of the raw rose
+smooth_raw : (before after : Outside) (opened session : Raw) → RawsAreReady before after → after.opener.raw_waits ≡ counted before.opener.raw_waits session.waits → after.opener.raw_faults ≡ counted before.opener.raw_faults session.faults → IsSmooth opened session
+smooth_raw before after opened session ready waits faults = record {
+  waits = stays_unrisen before.opener.raw_waits before.opener.raw_waits after.opener.raw_waits opened.waits session.waits refl waits ready.waits;
+  faults = stays_unrisen before.opener.raw_faults before.opener.raw_faults after.opener.raw_faults opened.faults session.faults refl faults ready.faults;
+}
+
+-- The file that was opened.
+
+text_file : (raw : Raw) (buffer chunk : ℕ) (bytes : List ℕ) (text : TextState) → OpensText raw buffer chunk text → raw.tells ≡ true → raw.seekable ≡ true → raw.place ≡ 0 → raw.bytes ≡ bytes → text.file ≡ text_opened bytes 0 true chunk
+text_file raw buffer chunk bytes text opens tells seeks place are =
+    opens.file
+    ∙ ap (λ (all : List ℕ). text_opened all opens.place raw.seekable chunk) (opens.untouched.bytes tells ∙ are)
+    ∙ ap (λ (at : ℕ). text_opened bytes at raw.seekable chunk) ((opens.told tells).1 ∙ place)
+    ∙ ap (λ (can : Bool). text_opened bytes 0 can chunk) seeks
+
+-- where a stream begins on a raw that can seek and stands at its start
+begins : (appends : Bool) (raw : Raw) (bytes : List ℕ) → raw.seekable ≡ true → raw.place ≡ 0 → raw.bytes ≡ bytes → begins_at appends raw ≡ begins_with appends bytes
+begins true raw bytes seeks place are = ap (λ (can : Bool). if can then length raw.bytes else raw.place) seeks ∙ ap (λ (all : List ℕ). length all) are
+begins false raw bytes seeks place are = place
+
+stream_file : (stream : Stream) (bytes : List ℕ) (place : ℕ) (can : Abilities) (buffer : Option ℕ) → lay stream.raw.bytes stream.owed.place stream.owed.bytes ≡ bytes → stream.place ≡ place → stream.can ≡ can → stream.buffer ≡ buffer → stream.life ≡ life.Live → file_of stream ≡ record { bytes = bytes; place = place; can = can; buffering = buffering_of buffer; life = life.Live }
+stream_file stream bytes place can buffer bytes_are place_is can_is buffer_is live =
+    let F : List ℕ → ℕ → Abilities → Option ℕ → Life → FlatFile = λ b p c s l. record { bytes = b; place = p; can = c; buffering = buffering_of s; life = l } in
+    ap (λ (b : List ℕ). F b stream.place stream.can stream.buffer stream.life) bytes_are
+    ∙ ap (λ (p : ℕ). F bytes p stream.can stream.buffer stream.life) place_is
+    ∙ ap (λ (c : Abilities). F bytes place c stream.buffer stream.life) can_is
+    ∙ ap (λ (s : Option ℕ). F bytes place can s stream.life) buffer_is
+    ∙ ap (λ (l : Life). F bytes place can buffer l) live
+
+binary_file : (raw : Raw) (access : Access) (buffer : Option ℕ) (bytes : List ℕ) (stream : Stream) → Opens (is_able access) (can_of access) raw buffer stream → raw.tells ≡ true → raw.seekable ≡ true → raw.place ≡ 0 → raw.bytes ≡ bytes → file_of stream ≡ record { bytes = bytes; place = begins_with (can_of access true).appending bytes; can = can_of access true; buffering = buffering_of buffer; life = life.Live }
+binary_file raw access buffer bytes stream opens tells seeks place are =
+    let able : can_of access raw.seekable ≡ can_of access true = ap (can_of access) seeks in
+    stream_file stream bytes (begins_with (can_of access true).appending bytes) (can_of access true) buffer
+    (ap (λ (owed : Owed). lay stream.raw.bytes owed.place owed.bytes) opens.owed ∙ opens.untouched.bytes tells ∙ are)
+    (opens.place tells ∙ begins (can_of access raw.seekable).appending raw bytes seeks place are ∙ ap (λ (can : Abilities). begins_with can.appending bytes) able)
+    (opens.can_do ∙ able)
+    opens.buffer_is
+    opens.life_is
+
+file_opened : (encode : EncodeMode) (raw : Raw) (plan : OpenPlan) (chunk : ℕ) (bytes : List ℕ) (session : SessionView) → OpensBy encode raw plan chunk session → raw.tells ≡ true → raw.seekable ≡ true → raw.place ≡ 0 → raw.bytes ≡ bytes → file_seen session ≡ file_by encode plan chunk bytes
+file_opened Text raw plan chunk bytes (TextSession text) opens tells seeks place are = ap OfText (text_file raw _ chunk bytes text opens tells seeks place are)
+file_opened Bytes raw plan chunk bytes (BinarySession stream) opens tells seeks place are = ap OfBinary (binary_file raw (access_of plan.mode.file) plan.buffer_size bytes stream opens tells seeks place are)
+file_opened Text raw plan chunk bytes (BinarySession stream) opens tells seeks place are = absurd opens
+file_opened Bytes raw plan chunk bytes (TextSession text) opens tells seeks place are = absurd opens
+
+-- with 0 all was done
+all_done : (ended : Status) (words : List (List ℕ)) (old new : SourceView) (before after : Outside) → code_of ended ≡ 0 → Outcome ended words old new before after → Outcome status.Done words old new before after
+all_done status.Done words old new before after is did = did
+all_done status.NoForm words old new before after is did = absurd (omega arith)
+all_done status.OutOfForm words old new before after is did = absurd (omega arith)
+all_done status.Refused words old new before after is did = absurd (omega arith)
+all_done status.SourceFailed words old new before after is did = absurd (omega arith)
+all_done status.SinkFailed words old new before after is did = absurd (omega arith)
+all_done status.NoMemory words old new before after is did = absurd (omega arith)
+all_done status.OpenerFailed words old new before after is did = absurd (omega arith)
+
+-- the replies over a raw that was opened, by the law of smooth runs
+abbrev pub SmoothRunsSettle : Type 0
+SmoothRunsSettle = (before : SessionView) (calls : List Call) (replies : List Reply) (after : SessionView) → IsRun before calls replies after → IsTrue (raw_of before).tells → IsSmooth (raw_of before) (raw_of after) → NoneLacksMemory (all_said replies) → AllSettle (file_seen before) calls (all_said replies) (file_seen after)
+
+settles_over : SmoothRunsSettle → (raw : Raw) (plan : OpenPlan) (chunk : ℕ) (session : SessionView) (calls : List Call) (replies : List Reply) (bytes : List ℕ) → (run : RunsCalls raw plan chunk calls session replies) → IsSmooth (raw_of run.opened) (raw_of session) → raw.tells ≡ true → raw.seekable ≡ true → raw.place ≡ 0 → raw.bytes ≡ bytes → NoneLacksMemory (all_said replies) → AllSettle (opened_file plan chunk bytes) calls (all_said replies) (file_seen session)
+settles_over law raw plan chunk session calls replies bytes run smooth tells seeks place are memory =
+    subst (λ (file : SessionFile). AllSettle file calls (all_said replies) (file_seen session)) (file_opened plan.mode.encode raw plan chunk bytes run.opened run.opens tells seeks place are)
+    (law run.opened calls replies session run.run ((opening_keeps plan.mode.encode raw plan chunk run.opened run.opens tells).1 ∙ tells) smooth memory)
+
+-- what the path holds is what the raw gives
+raw_bytes : (held : Option (List ℕ)) (bytes : List ℕ) → held ≡ Some bytes → unwrap_or held [] ≡ bytes
+raw_bytes held bytes is = ap (λ (some : Option (List ℕ)). unwrap_or some []) is
+
+-- a run is no text of the program's own
+no_own_text : (command : Command) (path mode : List ℕ) (args : OpenArgs) (text : List ℕ) → Some command ≡ Some (Run path mode args) → own_text command ≡ Some text → ⊥
+no_own_text command path mode args text run own =
+    let is : command ≡ Run path mode args = cc in
+    let none : None ≡ Some text = subst (λ (asked : Command). own_text asked ≡ Some text) is own in
+    cc
+
+-- with 0 the plan accepted the opening
+follows_done : (path mode : List ℕ) (args : OpenArgs) (calls : List Call) (before after : Outside) → PlannedOutcome path mode args calls status.Done before after → FollowsPlan path mode args calls status.Done before after
+follows_done path mode args calls before after (inl refuses) = absurd refuses.prints
+follows_done path mode args calls before after (inr follows) = follows
+
+-- What was done with 0.
+
+done_script : (words : List (List ℕ)) (old new : SourceView) (before after : Outside) (path mode : List ℕ) (args : OpenArgs) → Outcome status.Done words old new before after → command_of words ≡ Some (Run path mode args) → RunsScript words status.Done old new before after
+done_script words old new before after path mode args (inl did) form = did
+done_script words old new before after path mode args (inr own) form = absurd (no_own_text own.command path mode args own.text (sym own.form ∙ form) own.asked)
+
+-- words ask for one run
+one_run : (path path' mode mode' : List ℕ) (args args' : OpenArgs) → Some (Run path mode args) ≡ Some (Run path' mode' args') → (path ≡ path') × (mode ≡ mode') × (args ≡ args')
+one_run path path' mode mode' args args' same = (cc, cc, cc)
+
+replies_of : (path mode : List ℕ) (args : OpenArgs) (words : List (List ℕ)) (old new : SourceView) (before after : Outside) → (did : RunsScript words status.Done old new before after) → (did.path ≡ path) × (did.mode ≡ mode) × (did.args ≡ args) → PrintsReplies did.path did.mode did.args old new before after
+replies_of path mode args words old new before after did same =
+    let follows = follows_done did.path did.mode did.args did.calls before after did.does in
+    let opened : OpensPath did.path (asked_by follows.plan did.args did.calls) status.Done before after = follows.does in
+    let ran = opened.does.1 in
+    record {
+      calls = did.calls;
+      reads = did.reads;
+      plan = follows.plan;
+      planned = follows.planned;
+      raw = opened.raw;
+      is_opened = opened.opens.opened;
+      begins = λ tells. let opens = opened.opens.told tells in record { tells = opens.tells; seeks = opens.seeks; place = opens.place; bytes_are = opens.bytes };
+      session = ran.session;
+      replies = ran.replies;
+      run = ran.run;
+      prints = λ sink. opened.does.2 sink ∙ ap (λ (lines : List ℕ). before.sink.written ++ lines) ran.lines_are;
+      faults = opened.done_keeps.raw_faults ∙ ap (λ (old_count : ℕ). counted old_count opened.back.faults) opened.open_keeps.raw_faults ∙ ap (λ (raw : Raw). counted before.opener.raw_faults raw.faults) ran.raw_is;
+      waits = opened.done_keeps.raw_waits ∙ ap (λ (old_count : ℕ). counted old_count opened.back.waits) opened.open_keeps.raw_waits ∙ ap (λ (raw : Raw). counted before.opener.raw_waits raw.waits) ran.raw_is;
+      holds = λ tells. (opened.puts tells).held ∙ ap (λ (raw : Raw). Some raw.bytes) ran.raw_is;
+      flat = opened.flat opened.does.0 ran;
+      complete = λ ready. smooth_completes ran.run.opened (closed_calls did.calls) ran.replies ran.session ran.run.run (smooth_raw before after (raw_of ran.run.opened) (raw_of ran.session) ready
+          (opened.done_keeps.raw_waits ∙ ap (λ (old_count : ℕ). counted old_count opened.back.waits) opened.open_keeps.raw_waits ∙ ap (λ (raw : Raw). counted before.opener.raw_waits raw.waits) ran.raw_is)
+          (opened.done_keeps.raw_faults ∙ ap (λ (old_count : ℕ). counted old_count opened.back.faults) opened.open_keeps.raw_faults ∙ ap (λ (raw : Raw). counted before.opener.raw_faults raw.faults) ran.raw_is));
+    }
+
+pub prints_replies : (words : List (List ℕ)) (old new : SourceView) (before after : Outside) (path mode : List ℕ) (args : OpenArgs) → Ends 0 words old new before after → command_of words ≡ Some (Run path mode args) → PrintsReplies path mode args old new before after
+prints_replies words old new before after path mode args ends form =
+    let did = done_script words old new before after path mode args (all_done ends.ended words old new before after (sym ends.code_is) ends.outcome) form in
+    let same = one_run did.path path did.mode mode did.args args (sym did.form ∙ form) in
+    subst (λ (named : List ℕ). PrintsReplies named mode args old new before after) same.0
+    (subst (λ (named : List ℕ). PrintsReplies did.path named args old new before after) same.1
+    (subst (λ (given : OpenArgs). PrintsReplies did.path did.mode given old new before after) same.2
+    (replies_of path mode args words old new before after did same)))
+
+-- What was printed, where nothing went wrong.
+
+settled : SmoothRunsSettle → (path mode : List ℕ) (args : OpenArgs) (old new : SourceView) (before after : Outside) → (printed : PrintsReplies path mode args old new before after) → IsTrue old.tells → IsTrue before.opener.tells → RawsAreReady before after → PrintsSettled path printed.plan args.chunk_size old before after
+settled law path mode args old new before after printed told tells ready =
+    let begun = printed.begins tells in
+    let smooth : IsSmooth (raw_of printed.run.opened) (raw_of printed.session) = smooth_raw before after (raw_of printed.run.opened) (raw_of printed.session) ready printed.waits printed.faults in
+    record {
+      calls = printed.calls;
+      form = (printed.reads told).form;
+      replies = printed.replies;
+      prints = printed.prints;
+      says = λ memory. (file_seen printed.session, settles_over law printed.raw printed.plan args.chunk_size printed.session (closed_calls printed.calls) printed.replies (opened_bytes (raw_mode printed.plan) (before.opener.holds path)) printed.run smooth begun.tells begun.seeks begun.place begun.bytes_are memory);
+    }
+
+pub prints_settled : SmoothRunsSettle → (words : List (List ℕ)) (old new : SourceView) (before after : Outside) (path mode : List ℕ) (args : OpenArgs) (plan : OpenPlan) → Ends 0 words old new before after → command_of words ≡ Some (Run path mode args) → plan_of mode args ≡ Ok plan → IsTrue old.tells → IsTrue before.opener.tells → RawsAreReady before after → PrintsSettled path plan args.chunk_size old before after
+prints_settled law words old new before after path mode args plan ends form accepted told tells ready =
+    let printed = prints_replies words old new before after path mode args ends form in
+    subst (λ (by : OpenPlan). PrintsSettled path by args.chunk_size old before after) (one_plan (plan_of mode args) printed.plan plan printed.planned accepted) (settled law path mode args old new before after printed told tells ready)
+
+-- the text that is opened of what the path holds
+text_opened_of : (plan : OpenPlan) (chunk : ℕ) (held : Option (List ℕ)) (bytes : List ℕ) → plan.mode.encode ≡ Text → plan.mode.file ≡ Read → held ≡ Some bytes → opened_file plan chunk (opened_bytes (raw_mode plan) held) ≡ OfText (text_opened bytes 0 true chunk)
+text_opened_of plan chunk held bytes is_text reads holds =
+    ap (λ (encode : EncodeMode). file_by encode plan chunk (opened_bytes (raw_mode plan) held)) is_text
+    ∙ ap (λ (file : FileMode). OfText (text_opened (opened_bytes (raw_mode_text (letter_of file) plan.mode.plus) held) 0 true chunk)) reads
+    ∙ ap (λ (some : Option (List ℕ)). OfText (text_opened (unwrap_or some []) 0 true chunk)) holds
+
+-- calls of a text that all settle are answered by the exact replies
+abbrev pub SettledTextsAreExact : Type 0
+SettledTextsAreExact = (before : TextFile) (calls : List Call) (replies : List FileReply) (after : SessionFile) → AllSettle (OfText before) calls replies after → IsExact before calls replies after
+
+pub prints_exactly : SmoothRunsSettle → SettledTextsAreExact → (words : List (List ℕ)) (old new : SourceView) (before after : Outside) (path mode bytes : List ℕ) (args : OpenArgs) (plan : OpenPlan) → Ends 0 words old new before after → command_of words ≡ Some (Run path mode args) → plan_of mode args ≡ Ok plan → plan.mode.encode ≡ Text → IsTrue old.tells → IsTrue before.opener.tells → before.opener.holds path ≡ Some bytes → RawsAreReady before after → PrintsExactly bytes args.chunk_size old before after
+prints_exactly law exact words old new before after path mode bytes args plan ends form accepted is_text told tells holds ready =
+    let printed = prints_settled law words old new before after path mode args plan ends form accepted told tells ready in
+    let file = text_opened_of plan args.chunk_size (before.opener.holds path) bytes is_text (planned_text_is_read mode args plan accepted is_text) holds in
+    record {
+      calls = printed.calls;
+      form = printed.form;
+      replies = printed.replies;
+      prints = printed.prints;
+      says = λ memory. let settles = printed.says memory in
+          (exact (text_opened bytes 0 true args.chunk_size) (closed_calls printed.calls) (all_said printed.replies) settles.0 (subst (λ (begun : SessionFile). AllSettle begun (closed_calls printed.calls) (all_said printed.replies) settles.0) file settles.1)).says;
+    }

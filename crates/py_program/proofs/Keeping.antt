@@ -1,0 +1,124 @@
+-- What the paths hold, once a path that was opened was put away again.
+use Rattle.std.proofs.Common.{◌≡◌, ◌≢◌, ℕ, ◌⊎◌, Bool, true, false, inl, inr, IsTrue, List, [], Option, Some, None, is_none, unwrap_or, bytes_eq, refl, sym, ◌∙◌, ap, subst}
+use Rattle.std.proofs.lemmas.Slice.Eq.{bytes_eq-Decides}
+use Rattle.py_flat.specs.declared.fault.IoFault.TheVariants as fault
+use Rattle.py_flat.specs.FlatFile.{Abilities}
+use Rattle.py_raw.specs.RawStream.{Raw}
+use Rattle.py_raw.specs.RawMode.{raw_mode_text}
+use Rattle.py_source_sink.specs.Sink.{SinkView}
+use Rattle.py_raw.specs.Opener.{OpenerView, HoldsTheSame, OthersHoldTheSame, misses, opened_bytes}
+use Rattle.py_stream.specs.Opening.{Lacking}
+use Rattle.py_mode.specs.declared.mode.EncodeMode.{EncodeMode}
+use Rattle.py_mode.specs.declared.mode.EncodeMode.TheVariants.{Text, Bytes}
+use Rattle.py_mode.specs.declared.mode.FileMode.{FileMode}
+use Rattle.py_mode.specs.declared.mode.FileMode.TheVariants.{Read}
+use Rattle.py_mode.specs.declared.plan.OpenPlan.{OpenPlan}
+use Rattle.py_mode.specs.Mode.{letter_of}
+use Rattle.py_unbuffered.specs.Unbuffered.{can_of}
+use Rattle.py_open.specs.Session.{SessionView, TextSession, BinarySession, raw_of}
+use Rattle.py_open.specs.Opening.{access_of, OpensBy}
+use Rattle.py_open.specs.Run.{RefusesOpening}
+use Rattle.py_open.specs.Laws.{OnlyReads}
+use Rattle.py_open.proofs.Runs.{run_spares}
+use Rattle.py_program.specs.declared.status.Status.{Status}
+use Rattle.py_program.specs.declared.status.Status.TheVariants as status
+use Rattle.py_program.specs.Outcome.{Outside, Asked, raw_mode, closed_calls, RanCalls, HasLines, PrintsSome, RawOutcome, OpensPath}
+
+-- one path or another
+same_or_other : (test : Bool) (other path : List ℕ) → bytes_eq other path ≡ test → (other ≡ path) ⊎ (other ≢ path)
+same_or_other true other path is = inl ((bytes_eq-Decides other path).0 is)
+same_or_other false other path is = inr (λ same. let both : true ≡ false = sym ((bytes_eq-Decides other path).1 same) ∙ is in cc)
+
+-- every path, from one of them and the others
+all_hold : (path : List ℕ) (old new : OpenerView) → new.holds path ≡ old.holds path → OthersHoldTheSame path old new → HoldsTheSame old new
+all_hold path old new here others other =
+    elim (same_or_other (bytes_eq other path) other path refl) [
+      | inl same ↦ ap new.holds same ∙ here ∙ ap old.holds (sym same)
+      | inr differs ↦ others other differs
+    ]
+
+-- what is found is held
+found_held : (held : Option (List ℕ)) → is_none held ≡ false → Some (unwrap_or held []) ≡ held
+found_held (Some bytes) found = refl
+found_held None found = cc
+
+-- two changes that leave the others
+others_of_both : (path : List ℕ) (old mid new : OpenerView) → OthersHoldTheSame path old mid → OthersHoldTheSame path mid new → OthersHoldTheSame path old new
+others_of_both path old mid new first second other differs = second other differs ∙ first other differs
+
+-- A raw that is only read keeps its bytes.
+
+-- an opening leaves them
+pub opening_keeps : (encode : EncodeMode) (raw : Raw) (plan : OpenPlan) (chunk : ℕ) (session : SessionView) → OpensBy encode raw plan chunk session → IsTrue raw.tells → ((raw_of session).bytes ≡ raw.bytes) × ((raw_of session).tells ≡ raw.tells)
+opening_keeps Text raw plan chunk (TextSession text) opens tells = (opens.untouched.bytes tells, opens.untouched.keeps.tells)
+opening_keeps Bytes raw plan chunk (BinarySession stream) opens tells = (opens.untouched.bytes tells, opens.untouched.keeps.tells)
+opening_keeps Text raw plan chunk (BinarySession stream) opens tells = absurd opens
+opening_keeps Bytes raw plan chunk (TextSession text) opens tells = absurd opens
+
+-- a session that is opened to be read only reads
+opened_to_read : (encode : EncodeMode) (raw : Raw) (plan : OpenPlan) (chunk : ℕ) (session : SessionView) → plan.mode.file ≡ Read → OpensBy encode raw plan chunk session → OnlyReads session
+opened_to_read Text raw plan chunk (TextSession text) reads opens = tt
+opened_to_read Bytes raw plan chunk (BinarySession stream) reads opens = (ap (λ (can : Abilities). can.writable) (opens.can_do ∙ ap (λ (file : FileMode). can_of (access_of file) raw.seekable) reads), opens.owed)
+opened_to_read Text raw plan chunk (BinarySession stream) reads opens = absurd opens
+opened_to_read Bytes raw plan chunk (TextSession text) reads opens = absurd opens
+
+run_keeps : (raw back : Raw) (asked : Asked) (lines : List ℕ) → asked.plan.mode.file ≡ Read → RanCalls raw asked back lines → IsTrue raw.tells → back.bytes ≡ raw.bytes
+run_keeps raw back asked lines reads ran tells =
+    let opened = opening_keeps asked.plan.mode.encode raw asked.plan asked.chunk ran.run.opened ran.run.opens tells in
+    ap (λ (last : Raw). last.bytes) ran.raw_is
+    ∙ run_spares ran.run.opened (closed_calls asked.calls) ran.replies ran.session ran.run.run (opened_to_read asked.plan.mode.encode raw asked.plan asked.chunk ran.run.opened reads ran.run.opens) (opened.1 ∙ tells)
+    ∙ opened.0
+
+lacking_keeps : (appends : Bool) (raw back : Raw) → Lacking appends raw back → IsTrue raw.tells → back.bytes ≡ raw.bytes
+lacking_keeps true raw back lacks tells = lacks.0.bytes tells
+lacking_keeps false raw back lacks tells = ap (λ (same : Raw). same.bytes) lacks
+
+none_keeps : (raw back : Raw) (asked : Asked) → (back ≡ raw) ⊎ RefusesOpening raw asked.plan fault.NoMemory back → IsTrue raw.tells → back.bytes ≡ raw.bytes
+none_keeps raw back asked (inl same) tells = ap (λ (as_was : Raw). as_was.bytes) same
+none_keeps raw back asked (inr refused) tells = lacking_keeps (can_of (access_of asked.plan.mode.file) raw.seekable).appending raw back refused.1 tells
+
+lines_keep : (raw back : Raw) (asked : Asked) (lines : List ℕ) → asked.plan.mode.file ≡ Read → HasLines raw asked back lines → IsTrue raw.tells → back.bytes ≡ raw.bytes
+lines_keep raw back asked lines reads (inl ran) tells = run_keeps raw back asked lines reads ran tells
+lines_keep raw back asked lines reads (inr refused) tells = refused.why.3.bytes tells
+
+some_keeps : (raw back : Raw) (asked : Asked) (old new : SinkView) → asked.plan.mode.file ≡ Read → PrintsSome raw asked back old new → IsTrue raw.tells → back.bytes ≡ raw.bytes
+some_keeps raw back asked old new reads prints tells = lines_keep raw back asked prints.0 reads prints.1 tells
+
+outcome_keeps : (raw back : Raw) (asked : Asked) (ended : Status) (old new : SinkView) → asked.plan.mode.file ≡ Read → RawOutcome raw asked ended back old new → IsTrue raw.tells → back.bytes ≡ raw.bytes
+outcome_keeps raw back asked status.Done old new reads does tells = run_keeps raw back asked does.0 reads does.1 tells
+outcome_keeps raw back asked status.Refused old new reads does tells = does.1.why.3.bytes tells
+outcome_keeps raw back asked status.SinkFailed old new reads does tells = some_keeps raw back asked old new reads does.0 tells
+outcome_keeps raw back asked status.NoMemory old new reads (inl prints) tells = some_keeps raw back asked old new reads prints tells
+outcome_keeps raw back asked status.NoMemory old new reads (inr none) tells = none_keeps raw back asked none.hands tells
+outcome_keeps raw back asked status.NoForm old new reads does tells = absurd does
+outcome_keeps raw back asked status.OutOfForm old new reads does tells = absurd does
+outcome_keeps raw back asked status.SourceFailed old new reads does tells = absurd does
+outcome_keeps raw back asked status.OpenerFailed old new reads does tells = absurd does
+
+-- Paths.
+
+-- what is opened to be read holds what it held
+read_holds : (file : FileMode) (plus : Bool) (held : Option (List ℕ)) → file ≡ Read → misses (raw_mode_text (letter_of file) plus) held ≡ false → Some (opened_bytes (raw_mode_text (letter_of file) plus) held) ≡ held
+read_holds file plus held reads found =
+    let P : FileMode → Type 0 = λ named. misses (raw_mode_text (letter_of named) plus) held ≡ false in
+    let Q : FileMode → Type 0 = λ named. Some (opened_bytes (raw_mode_text (letter_of named) plus) held) ≡ held in
+    subst Q (sym reads) (found_held held (subst P reads found))
+
+-- every other path holds what it held, whatever became of the calls
+pub path_spares : (path : List ℕ) (asked : Asked) (ended : Status) (before after : Outside) → OpensPath path asked ended before after → IsTrue before.opener.tells → OthersHoldTheSame path before.opener after.opener
+path_spares path asked ended before after opened tells = others_of_both path before.opener opened.mid after.opener (opened.opens.told tells).others (opened.puts tells).others
+
+-- and so does one that was opened to be read
+pub path_keeps : (path : List ℕ) (asked : Asked) (ended : Status) (before after : Outside) → asked.plan.mode.file ≡ Read → OpensPath path asked ended before after → IsTrue before.opener.tells → HoldsTheSame before.opener after.opener
+path_keeps path asked ended before after reads opened tells =
+    let told = opened.opens.told tells in
+    let same = outcome_keeps opened.raw opened.back asked ended before.sink after.sink reads opened.does told.tells in
+    all_hold path before.opener after.opener
+    ((opened.puts tells).held ∙ ap Some (same ∙ told.bytes) ∙ read_holds asked.plan.mode.file asked.plan.mode.plus (before.opener.holds path) reads told.found)
+    (path_spares path asked ended before after opened tells)
+
+-- a path whose raw was refused holds what its opening left
+pub path_left : (path : List ℕ) (asked : Asked) (before after : Outside) → OpensPath path asked status.Refused before after → IsTrue before.opener.tells → after.opener.holds path ≡ Some (opened_bytes (raw_mode asked.plan) (before.opener.holds path))
+path_left path asked before after opened tells =
+    let told = opened.opens.told tells in
+    (opened.puts tells).held ∙ ap Some (opened.does.1.why.3.bytes told.tells ∙ told.bytes)

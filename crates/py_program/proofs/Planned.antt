@@ -1,0 +1,80 @@
+-- What holds of a plan that is accepted, and of one that refuses.
+use Rattle.std.proofs.Common.{◌≡◌, ◌≢◌, ℕ, ◌⊎◌, inl, inr, Bool, true, false, List, Some, Result, Ok, Err, MatchResult, refl, sym, ◌∙◌, subst}
+use Rattle.py_flat.specs.declared.fault.IoFault.{IoFault}
+use Rattle.py_flat.specs.declared.fault.IoFault.TheVariants as fault
+use Rattle.py_raw.specs.RawMode.{raw_mode_text}
+use Rattle.py_source_sink.specs.Sink.{SinkView}
+use Rattle.py_raw.specs.Opener.{OpenerView, IsOpened}
+use Rattle.py_raw.specs.RawStream.{Raw}
+use Rattle.py_unbuffered.specs.Unbuffered.{is_able}
+use Rattle.py_calls.specs.declared.call.Call.{Call}
+use Rattle.py_calls.specs.declared.reply.Reply.{Reply}
+use Rattle.py_mode.specs.declared.open_args.OpenArgs.{OpenArgs}
+use Rattle.py_mode.specs.declared.plan.OpenPlan.{OpenPlan}
+use Rattle.py_mode.specs.declared.mode.FileMode.{FileMode}
+use Rattle.py_mode.specs.declared.mode.FileMode.TheVariants.{Read, Write, Exclusive, Append}
+use Rattle.py_mode.specs.Mode.{letter_of}
+use Rattle.py_mode.specs.Plan.{plan_of}
+use Rattle.py_mode.proofs.Planning.{planned_buffer_is_not_empty}
+use Rattle.py_open.specs.Session.{SessionView}
+use Rattle.py_open.specs.Opening.{access_of, RefusesSession}
+use Rattle.py_open.specs.Run.{RefusesOpening, RefusesPlanned, RunsCalls}
+use Rattle.py_script.specs.Faults.{refused_line}
+use Rattle.py_program.specs.declared.status.Status.{Status}
+use Rattle.py_program.specs.declared.status.Status.TheVariants as status
+use Rattle.py_program.specs.Outside.{PrintOutcome}
+use Rattle.py_program.specs.Outcome.{raw_mode, RefusalPrinted, RefusesPlan, PlannedOutcome}
+
+-- the plan of a mode and arguments is one
+pub one_plan : (result : Result OpenPlan IoFault) (first second : OpenPlan) → result ≡ Ok first → result ≡ Ok second → first ≡ second
+one_plan result first second one two = let both : Ok first ≡ Ok second = sym one ∙ two in cc
+
+-- so the run is by this one
+pub run_by : (raw : Raw) (mode : List ℕ) (args : OpenArgs) (first plan : OpenPlan) (calls : List Call) (session : SessionView) (replies : List Reply) → plan_of mode args ≡ Ok first → plan_of mode args ≡ Ok plan → RunsCalls raw first args.chunk_size calls session replies → RunsCalls raw plan args.chunk_size calls session replies
+run_by raw mode args first plan calls session replies one two run =
+    subst (λ (by : OpenPlan). RunsCalls raw by args.chunk_size calls session replies) (one_plan (plan_of mode args) first plan one two) run
+
+-- and a refusal is the opening's
+pub refused_raw : (raw : Raw) (mode : List ℕ) (args : OpenArgs) (plan : OpenPlan) (refused : IoFault) (back : Raw) → plan_of mode args ≡ Ok plan → RefusesPlanned raw (plan_of mode args) refused back → RefusesOpening raw plan refused back
+refused_raw raw mode args plan refused back accepted why = subst (λ (planned : Result OpenPlan IoFault). RefusesPlanned raw planned refused back) accepted why
+
+-- A raw that was opened as it is planned.
+
+-- it is able to do what it is opened for
+opened_able : (file : FileMode) (plus : Bool) (raw : Raw) → IsOpened (raw_mode_text (letter_of file) plus) raw → is_able (access_of file) raw ≡ true
+opened_able Read plus raw opened = opened.reads
+opened_able Write plus raw opened = opened.writes
+opened_able Exclusive plus raw opened = opened.writes
+opened_able Append plus raw opened = opened.writes
+
+-- so it is refused by a fault of its own, or for want of memory
+refused_session : (raw back : Raw) (plan : OpenPlan) (refused : IoFault) → IsOpened (raw_mode plan) raw → plan.buffer_size ≢ Some 0 → RefusesSession raw plan refused back → (refused ≡ fault.NoMemory) ⊎ ((refused ≡ fault.RawFault) × RefusesSession raw plan fault.RawFault back)
+refused_session raw back plan fault.NoMemory opened some why = inl refl
+refused_session raw back plan fault.RawFault opened some why = inr (refl, why)
+refused_session raw back plan fault.Closed opened some why = let closed : true ≡ false = sym why.0 ∙ opened.live in cc
+refused_session raw back plan fault.Unsupported opened some why = let able : true ≡ false = sym (opened_able plan.mode.file plan.mode.plus raw opened) ∙ why.1 in cc
+refused_session raw back plan fault.BadArgument opened some why = absurd (some why.2)
+refused_session raw back plan _ opened some why = absurd why
+
+pub refused_by : (raw back : Raw) (mode : List ℕ) (args : OpenArgs) (plan : OpenPlan) (refused : IoFault) → plan_of mode args ≡ Ok plan → IsOpened (raw_mode plan) raw → RefusesOpening raw plan refused back → (refused ≡ fault.NoMemory) ⊎ ((refused ≡ fault.RawFault) × RefusesSession raw plan fault.RawFault back)
+refused_by raw back mode args plan refused accepted opened why = refused_session raw back plan refused opened (planned_buffer_is_not_empty mode args plan accepted) why
+
+-- A plan that refuses.
+
+refuses : (mode : List ℕ) (args : OpenArgs) (refused : IoFault) (opener : OpenerView) (old new : SinkView) (ended : Status) → plan_of mode args ≡ Err refused → RefusalPrinted refused ended old new → RefusesPlan mode args ended (record { opener = opener; sink = old }) (record { opener = opener; sink = new })
+refuses mode args refused opener old new ended planned prints = record { refused = refused; planned = planned; opener = refl; prints = prints }
+
+printed_refusal : (refused : IoFault) (old new : SinkView) (printed : Result (Unit {0}) Status) (ended : Status) → PrintOutcome old (refused_line refused) printed new → MatchResult printed (λ done. ended ≡ status.Refused) (λ stop. ended ≡ stop) → RefusalPrinted refused ended old new
+printed_refusal refused old new (Ok done) ended prints is = subst (λ (last : Status). RefusalPrinted refused last old new) (sym is) prints
+printed_refusal refused old new (Err status.SinkFailed) ended prints is = subst (λ (last : Status). RefusalPrinted refused last old new) (sym is) prints
+printed_refusal refused old new (Err status.NoMemory) ended prints is = subst (λ (last : Status). RefusalPrinted refused last old new) (sym is) prints
+printed_refusal refused old new (Err status.Done) ended prints is = absurd prints
+printed_refusal refused old new (Err status.NoForm) ended prints is = absurd prints
+printed_refusal refused old new (Err status.OutOfForm) ended prints is = absurd prints
+printed_refusal refused old new (Err status.Refused) ended prints is = absurd prints
+printed_refusal refused old new (Err status.SourceFailed) ended prints is = absurd prints
+printed_refusal refused old new (Err status.OpenerFailed) ended prints is = absurd prints
+
+pub plan_refused : (path mode : List ℕ) (args : OpenArgs) (calls : List Call) (refused : IoFault) (opener : OpenerView) (old new : SinkView) (printed : Result (Unit {0}) Status) (ended : Status) → plan_of mode args ≡ Err refused → PrintOutcome old (refused_line refused) printed new → MatchResult printed (λ done. ended ≡ status.Refused) (λ stop. ended ≡ stop) → PlannedOutcome path mode args calls ended (record { opener = opener; sink = old }) (record { opener = opener; sink = new })
+plan_refused path mode args calls refused opener old new printed ended planned prints is =
+    inl (refuses mode args refused opener old new ended planned (printed_refusal refused old new printed ended prints is))

@@ -1,0 +1,147 @@
+-- What the clauses of the program speak of beside its outcome.
+use Rattle.std.specs.Prelude.{◌≡◌, ℕ, ◌⊎◌, Bool, true, false, IsTrue, List, length, Option, Some, Ok, IsErr, if◌then◌else◌}
+use Rattle.py_flat.specs.declared.life.Life.TheVariants as life
+use Rattle.py_flat.specs.Causes.{rose, RoseBy}
+use Rattle.py_raw.specs.RawStream.{Raw}
+use Rattle.py_raw.specs.Opener.{OpenerView, IsOpened, opened_bytes, HoldsTheSame, OthersHoldTheSame}
+use Rattle.py_source_sink.specs.Source.{SourceView}
+use Rattle.py_stream.specs.Stream.{buffering_of}
+use Rattle.py_unbuffered.specs.Unbuffered.{can_of}
+use Rattle.py_calls.specs.declared.call.Call.{Call}
+use Rattle.py_calls.specs.declared.reply.Reply.{Reply}
+use Rattle.py_mode.specs.declared.mode.EncodeMode.{EncodeMode}
+use Rattle.py_mode.specs.declared.mode.EncodeMode.TheVariants.{Text, Bytes}
+use Rattle.py_mode.specs.declared.mode.FileMode.TheVariants.{Read}
+use Rattle.py_mode.specs.declared.open_args.OpenArgs.{OpenArgs}
+use Rattle.py_mode.specs.declared.plan.OpenPlan.{OpenPlan}
+use Rattle.py_mode.specs.Plan.{plan_of}
+use Rattle.py_textio.specs.Opening.{text_opened}
+use Rattle.py_open.specs.Session.{SessionFile, OfText, OfBinary, SessionView, raw_of}
+use Rattle.py_open.specs.Opening.{access_of}
+use Rattle.py_open.specs.Run.{NoneLacksMemory, RunsCalls, AllSettle, all_said}
+use Rattle.py_open.specs.Laws.{RunsComplete, exact_replies}
+use Rattle.py_script.specs.CommandWords.{Command, Run}
+use Rattle.py_script.specs.Script.{script_calls}
+use Rattle.py_script.specs.ReplyLine.{reply_lines}
+use Rattle.py_program.specs.Outside.{IsOutOfForm, ReadsScript, Prints}
+use Rattle.py_program.specs.Outcome.{Outside, raw_mode, closed_calls, PathHoldsFlat}
+
+-- the source tells that its script is in form
+pub record TellsForm (source : SourceView) : Type 0 where
+  pub told : IsTrue source.tells
+  pub form : ¬ IsOutOfForm source.left
+
+-- the source tells that its script is out of form
+pub record TellsNoForm (source : SourceView) : Type 0 where
+  pub told : IsTrue source.tells
+  pub out_of_form : IsOutOfForm source.left
+
+-- no count of faults rose, of the source, the sink, the opener or its raws
+pub record NothingFails (old new : SourceView) (before after : Outside) : Type 0 where
+  pub source : rose old.faults new.faults ≡ false
+  pub sink : rose before.sink.faults after.sink.faults ≡ false
+  pub opener : rose before.opener.faults after.opener.faults ≡ false
+  pub raws : rose before.opener.raw_faults after.opener.raw_faults ≡ false
+
+-- no fault and no wait of a raw was added
+pub record RawsAreReady (before after : Outside) : Type 0 where
+  pub faults : rose before.opener.raw_faults after.opener.raw_faults ≡ false
+  pub waits : rose before.opener.raw_waits after.opener.raw_waits ≡ false
+
+-- What was printed, and what the path holds in the end.
+
+-- a raw that tells, can seek, and stands at the start of these bytes
+pub record BeginsWith (raw : Raw) (bytes : List ℕ) : Type 0 where
+  pub tells : raw.tells ≡ true
+  pub seeks : raw.seekable ≡ true
+  pub place : raw.place ≡ 0
+  pub bytes_are : raw.bytes ≡ bytes
+
+-- the path was opened as it is planned; calls and a Close were made over the raw, those of the script, where the source tells it; the
+-- lines of their replies were printed; the faults and waits of the raw were added to the opener's; and where the opener
+-- tells, the raw began at the start of what the mode leaves of the path's bytes, and the path holds the raw's bytes in the end, the flat
+-- ones where a close or detach of a live session was done. Where no raw failed or asked to wait, each call that isn't refused is
+-- answered by an answer of its own, or for want of memory
+pub record PrintsReplies (path mode : List ℕ) (args : OpenArgs) (old new : SourceView) (before after : Outside) : Type 0 where
+  pub calls : List Call
+  pub reads : IsTrue old.tells → ReadsScript old calls new
+  pub plan : OpenPlan
+  pub planned : plan_of mode args ≡ Ok plan
+  pub raw : Raw
+  pub is_opened : IsOpened (raw_mode plan) raw
+  pub begins : IsTrue before.opener.tells → BeginsWith raw (opened_bytes (raw_mode plan) (before.opener.holds path))
+  pub session : SessionView
+  pub replies : List Reply
+  pub run : RunsCalls raw plan args.chunk_size (closed_calls calls) session replies
+  pub prints : Prints before.sink (reply_lines replies) after.sink
+  pub faults : RoseBy (raw_of session).faults before.opener.raw_faults after.opener.raw_faults
+  pub waits : RoseBy (raw_of session).waits before.opener.raw_waits after.opener.raw_waits
+  pub holds : IsTrue before.opener.tells → after.opener.holds path ≡ Some (raw_of session).bytes
+  pub flat : PathHoldsFlat path run.opened session before after
+  pub complete : RawsAreReady before after → RunsComplete run.opened (closed_calls calls) replies session
+
+-- the words ask for an opening that the plan refuses
+abbrev pub IsRefusedPlan : Option Command → Type 0
+IsRefusedPlan (Some (Run path mode args)) = IsErr (plan_of mode args)
+IsRefusedPlan command = ⊥
+
+-- the words ask for an opening of this path that the plan accepts
+abbrev pub IsAcceptedAt : List ℕ → OpenPlan → Option Command → Type 0
+IsAcceptedAt path plan (Some (Run named mode args)) = (named ≡ path) × (plan_of mode args ≡ Ok plan)
+IsAcceptedAt path plan command = ⊥
+
+-- the words ask for a run
+abbrev pub AsksForRun : Option Command → Type 0
+AsksForRun (Some (Run path mode args)) = Unit {0}
+AsksForRun command = ⊥
+
+-- the words ask for a run that only reads
+abbrev pub AsksToRead : Option Command → Type 0
+AsksToRead (Some (Run path mode args)) = (plan : OpenPlan) × (plan_of mode args ≡ Ok plan) × (plan.mode.file ≡ Read)
+AsksToRead command = ⊥
+
+-- the opener had nothing to change: by the status, by the plan, or since it was only read
+abbrev pub LeavesPaths : ℕ → Option Command → Type 0
+LeavesPaths code command = (code ≡ 2) ⊎ ((code ≡ 3) ⊎ ((code ≡ 5) ⊎ ((code ≡ 8) ⊎ (IsRefusedPlan command ⊎ AsksToRead command))))
+
+-- every path but the one that the words name holds what it held
+abbrev pub KeepsOthers : Option Command → OpenerView → OpenerView → Type 0
+KeepsOthers (Some (Run path mode args)) old new = OthersHoldTheSame path old new
+KeepsOthers command old new = HoldsTheSame old new
+
+-- Runs in which nothing went wrong.
+
+-- the flat file of a session that an opener's raw, which can seek and stands at its start, is opened to: a text, or a stream of
+-- bytes; one that appends begins at the end
+abbrev pub begins_with : Bool → List ℕ → ℕ
+begins_with appends bytes = if appends then length bytes else 0
+
+abbrev pub file_by : EncodeMode → OpenPlan → ℕ → List ℕ → SessionFile
+file_by Text plan chunk bytes = OfText (text_opened bytes 0 true chunk)
+file_by Bytes plan chunk bytes = OfBinary (record {
+  bytes = bytes;
+  place = begins_with (can_of (access_of plan.mode.file) true).appending bytes;
+  can = can_of (access_of plan.mode.file) true;
+  buffering = buffering_of plan.buffer_size;
+  life = life.Live;
+})
+
+abbrev pub opened_file : OpenPlan → ℕ → List ℕ → SessionFile
+opened_file plan chunk bytes = file_by plan.mode.encode plan chunk bytes
+
+-- what was printed is the lines of replies to the script's calls and a Close; unless one is for want of memory, they settle on the
+-- file that the mode opens of what the path held
+pub record PrintsSettled (path : List ℕ) (plan : OpenPlan) (chunk : ℕ) (old : SourceView) (before after : Outside) : Type 0 where
+  pub calls : List Call
+  pub form : script_calls old.left ≡ Some calls
+  pub replies : List Reply
+  pub prints : Prints before.sink (reply_lines replies) after.sink
+  pub says : NoneLacksMemory (all_said replies) → (last : SessionFile) × AllSettle (opened_file plan chunk (opened_bytes (raw_mode plan) (before.opener.holds path))) (closed_calls calls) (all_said replies) last
+
+-- the same of a text on these bytes, begun at place 0, with chunks of this size: the replies are the exact ones
+pub record PrintsExactly (bytes : List ℕ) (chunk : ℕ) (old : SourceView) (before after : Outside) : Type 0 where
+  pub calls : List Call
+  pub form : script_calls old.left ≡ Some calls
+  pub replies : List Reply
+  pub prints : Prints before.sink (reply_lines replies) after.sink
+  pub says : NoneLacksMemory (all_said replies) → all_said replies ≡ exact_replies (text_opened bytes 0 true chunk) (closed_calls calls)

@@ -1,0 +1,31 @@
+//! Laws of what the program's contract speaks of. No function here does anything; what it ensures is a law.
+ghost use Rattle.std.specs.Prelude.{◌≡◌, ℕ, IsTrue, List, Ok, Some};
+ghost use Rattle.py_source_sink.specs.Source.{SourceView};
+ghost use Rattle.py_mode.specs.declared.mode.EncodeMode.TheVariants.{Text};
+ghost use Rattle.py_mode.specs.declared.open_args.OpenArgs.{OpenArgs};
+ghost use Rattle.py_mode.specs.declared.plan.OpenPlan.{OpenPlan};
+ghost use Rattle.py_mode.specs.Plan.{plan_of};
+ghost use Rattle.py_script.specs.CommandWords.{Run, command_of};
+ghost use Rattle.py_program.specs.Outcome.{Outside, Ends};
+ghost use Rattle.py_program.specs.Meaning.{RawsAreReady, PrintsSettled, PrintsExactly};
+
+use py_open::{a_settled_text_is_exact, a_smooth_run_settles};
+
+/// A run that ends with 0, over a file in which no call failed or asked to wait, prints what settles: the lines of replies that
+/// are the model's to the script's calls on the file that the mode opens of the bytes that the path held, exactly, but that a single
+/// transfer gives some front of what it is asked for. Only a reply for want of memory frees the others.
+pub fn a_smooth_run_prints_what_settles()
+    ensures { (words : List (List ℕ)) (old new : SourceView) (before after : Outside) (path mode : List ℕ) (args : OpenArgs) (plan : OpenPlan) → Ends 0 words old new before after → command_of words ≡ Some (Run path mode args) → plan_of mode args ≡ Ok plan → IsTrue old.tells → IsTrue before.opener.tells → RawsAreReady before after → PrintsSettled path plan args.chunk_size old before after }
+{
+    a_smooth_run_settles();
+}
+
+/// The same of a text: the replies are the exact ones, begun at place 0. The sizes of buffer and chunks change no reply.
+///
+/// Two such runs of one script over equal files print the same, whatever pieces the file was read in.
+pub fn a_smooth_run_prints_the_exact_replies()
+    ensures { (words : List (List ℕ)) (old new : SourceView) (before after : Outside) (path mode bytes : List ℕ) (args : OpenArgs) (plan : OpenPlan) → Ends 0 words old new before after → command_of words ≡ Some (Run path mode args) → plan_of mode args ≡ Ok plan → plan.mode.encode ≡ Text → IsTrue old.tells → IsTrue before.opener.tells → before.opener.holds path ≡ Some bytes → RawsAreReady before after → PrintsExactly bytes args.chunk_size old before after }
+{
+    a_smooth_run_prints_what_settles();
+    a_settled_text_is_exact();
+}

@@ -1,0 +1,222 @@
+//! The program: from its words to the lines that it prints and the status that it ends with.
+ghost use Rattle.std.specs.Prelude.{◌≡◌, ◌≢◌, ◌≤◌, ◌⊎◌, ℕ, true, IsTrue, List, Ok, Some, None, MatchResult};
+ghost use Rattle.py_flat.specs.Causes.{Rose};
+ghost use Rattle.py_source_sink.specs.Source.{NoSourceFault};
+ghost use Rattle.py_source_sink.specs.Sink.{SinkKeeps, NoSinkFault};
+ghost use Rattle.py_raw.specs.Opener.{HoldsTheSame, IsOpened, NoOpenerFault, misses, opened_bytes};
+ghost use Rattle.py_stream.specs.Opening.{StandsAtStart};
+ghost use Rattle.py_mode.specs.declared.plan.OpenPlan.{OpenPlan as Plan};
+ghost use Rattle.py_mode.specs.declared.open_args.OpenArgs.{OpenArgs as Arguments};
+ghost use Rattle.py_mode.specs.Plan.{plan_of};
+ghost use Rattle.py_script.specs.CommandWords.{Run as Asks, Help, Version, command_of};
+ghost use Rattle.py_script.specs.Help.{help_text, version_text};
+ghost use Rattle.py_program.specs.Outside.{texts, IsOutOfForm, Prints};
+ghost use Rattle.py_program.specs.Outcome.{raw_mode, asked_by, RawOutcome, PlannedOutcome, Outcome, Ends, after_done};
+ghost use Rattle.py_program.specs.Meaning.{AsksForRun, IsRefusedPlan, IsAcceptedAt, TellsForm, TellsNoForm, NothingFails, LeavesPaths, KeepsOthers, PrintsReplies};
+
+use crate::laws::{a_smooth_run_prints_the_exact_replies, a_smooth_run_prints_what_settles};
+use crate::printing::{print_refused, print_replies, print_text};
+use crate::script::read_script;
+use crate::status::Status;
+use py_flat::IoFault;
+use py_open::{
+    Call, OpenArgs, OpenRefused, Run, a_smooth_run_is_complete, an_ended_session_calls_no_raw,
+    plan_open, run_session, what_is_passed_on_is_in_the_raw,
+};
+use py_raw::{OpenError, Opener, RawStream, Sink, Source};
+use py_script::{Command, help_text, parse_words, version_text};
+use std::alloc::Global;
+
+/// Runs a script on a file and prints each reply as a line, or prints a text of the program's own.
+///
+/// `words` are those of the command line without the program's own name. It answers the status that the program ends
+/// with (docs/PROGRAM.md); the first stop that applies decides. A raw that was opened is always put away again.
+///
+/// `ends` says all that was read, opened, printed and put away, by the status. The other clauses follow from it:
+///
+/// - `statuses`: it is 0 or one of 2 to 8;
+/// - `no_form`, `words`: 2 comes only of words of no form, and such words end with 2 unless memory was wanting;
+/// - `source`, `sink`, `opener`: 5, 6 and 8 come only where a count of faults rose, of the source, the sink, the opener;
+/// - `source_exact`, `sink_exact`, `opener_exact`: a source that counts exactly counted no fault, unless it is 5; such a sink none,
+///   unless it is 6; and such an opener none, where it is 0: so 0 hides no fault of the three;
+/// - `refused`: 4 comes only where the plan refuses the opening, or the raw's count of faults rose;
+/// - `planned`, `unopened`: an opening that the plan refuses opens nothing, and with a script that the source tells to be
+///   in form it ends with 4 unless the source or the sink failed or memory was wanting;
+/// - `complete`: of words in form, where no count rose and no plan refuses, it is 0, or 3 for a script out of form, or 7 for
+///   want of memory;
+/// - `out_of_form`, `form`: of a source that tells, 3 comes only of a script out of form, and such a script of a run ends
+///   with 3 unless the source failed or memory was wanting;
+/// - `missing`, `found`: of an opener that tells, and an opening that the plan accepts, 8 comes only where `x` finds the path or
+///   `r` misses it, and such a path, with a script that the source tells to be in form, ends with 8 unless the source failed or
+///   memory was wanting;
+/// - `kept`: of an opener that tells every path holds what it held with 2, 3, 5 and 8, where the plan refuses, and where the
+///   path is only read;
+/// - `others`: of an opener that tells, whatever the status is, every path but that of the words holds what it held;
+/// - `left`: the same with 4 of an opening that the plan accepts, the path holds what its opening left;
+/// - `printed`: with 0, what was printed is the lines of a run of calls, those of the whole script, where the source tells it, and
+///   a Close; of an opener that tells, the path holds the raw's bytes in the end, the flat ones where a `Close` or `Detach` of a live
+///   session was done; where no raw failed or asked to wait, each call that isn't refused is answered by an answer of its own, or for
+///   want of memory;
+/// - `help`, `version`: with 0 the text that was asked for was printed.
+pub fn run_program<O: Opener, I: Source, K: Sink>(
+    alloc: Global,
+    words: &[String],
+    opener: &mut O,
+    script: &mut I,
+    out: &mut K,
+) -> u8
+    ensures ends { Ends result (texts words.now) (I.shows script.old) (I.shows script.new)
+        (record { opener = O.shows opener.old; sink = K.shows out.old }) (record { opener = O.shows opener.new; sink = K.shows out.new }) }
+    ensures statuses { (result ≤ 8) × (result ≢ 1) }
+    ensures no_form { result ≡ 2 → command_of (texts words.now) ≡ None }
+    ensures words { command_of (texts words.now) ≡ None → (result ≡ 2) ⊎ (result ≡ 7) }
+    ensures source { result ≡ 5 → Rose (I.shows script.old).faults (I.shows script.new).faults }
+    ensures sink { result ≡ 6 → Rose (K.shows out.old).faults (K.shows out.new).faults }
+    ensures opener { result ≡ 8 → Rose (O.shows opener.old).faults (O.shows opener.new).faults }
+    ensures source_exact { result ≢ 5 → NoSourceFault (I.shows script.old) (I.shows script.new) }
+    ensures sink_exact { result ≢ 6 → NoSinkFault (K.shows out.old) (K.shows out.new) }
+    ensures opener_exact { result ≡ 0 → NoOpenerFault (O.shows opener.old) (O.shows opener.new) }
+    ensures refused { result ≡ 4 → IsRefusedPlan (command_of (texts words.now)) ⊎ Rose (O.shows opener.old).raw_faults (O.shows opener.new).raw_faults }
+    ensures planned { IsRefusedPlan (command_of (texts words.now)) → TellsForm (I.shows script.old)
+        → (result ≡ 4) ⊎ ((result ≡ 5) ⊎ ((result ≡ 6) ⊎ (result ≡ 7))) }
+    ensures unopened { IsRefusedPlan (command_of (texts words.now)) → O.shows opener.new ≡ O.shows opener.old }
+    ensures complete { command_of (texts words.now) ≢ None → ¬ IsRefusedPlan (command_of (texts words.now)) → NothingFails (I.shows script.old) (I.shows script.new)
+        (record { opener = O.shows opener.old; sink = K.shows out.old }) (record { opener = O.shows opener.new; sink = K.shows out.new })
+        → (result ≡ 0) ⊎ ((result ≡ 3) ⊎ (result ≡ 7)) }
+    ensures out_of_form { result ≡ 3 → IsTrue (I.shows script.old).tells → IsOutOfForm (I.shows script.old).left }
+    ensures form { AsksForRun (command_of (texts words.now)) → TellsNoForm (I.shows script.old)
+        → (result ≡ 3) ⊎ ((result ≡ 5) ⊎ (result ≡ 7)) }
+    ensures missing { (path : List ℕ) (plan : Plan) → IsAcceptedAt path plan (command_of (texts words.now)) → result ≡ 8 → IsTrue (O.shows opener.old).tells
+        → misses (raw_mode plan) ((O.shows opener.old).holds path) ≡ true }
+    ensures found { (path : List ℕ) (plan : Plan) → IsAcceptedAt path plan (command_of (texts words.now)) → TellsForm (I.shows script.old)
+        → IsTrue (O.shows opener.old).tells → misses (raw_mode plan) ((O.shows opener.old).holds path) ≡ true
+        → (result ≡ 8) ⊎ ((result ≡ 5) ⊎ (result ≡ 7)) }
+    ensures kept { IsTrue (O.shows opener.old).tells → LeavesPaths result (command_of (texts words.now)) → HoldsTheSame (O.shows opener.old) (O.shows opener.new) }
+    ensures others { IsTrue (O.shows opener.old).tells → KeepsOthers (command_of (texts words.now)) (O.shows opener.old) (O.shows opener.new) }
+    ensures left { (path : List ℕ) (plan : Plan) → IsAcceptedAt path plan (command_of (texts words.now)) → result ≡ 4 → IsTrue (O.shows opener.old).tells
+        → (O.shows opener.new).holds path ≡ Some (opened_bytes (raw_mode plan) ((O.shows opener.old).holds path)) }
+    ensures printed { (path mode : List ℕ) (args : Arguments) → result ≡ 0 → command_of (texts words.now) ≡ Some (Asks path mode args) → PrintsReplies path mode args (I.shows script.old) (I.shows script.new)
+        (record { opener = O.shows opener.old; sink = K.shows out.old }) (record { opener = O.shows opener.new; sink = K.shows out.new }) }
+    ensures help { result ≡ 0 → command_of (texts words.now) ≡ Some Help → Prints (K.shows out.old) help_text (K.shows out.new) }
+    ensures version { result ≡ 0 → command_of (texts words.now) ≡ Some Version → Prints (K.shows out.old) version_text (K.shows out.new) }
+{
+    a_smooth_run_prints_what_settles();
+    a_smooth_run_prints_the_exact_replies();
+    a_smooth_run_is_complete();
+    what_is_passed_on_is_in_the_raw();
+    an_ended_session_calls_no_raw();
+    run_to_status(alloc, words, opener, script, out).code()
+}
+
+/// The same, by the status.
+fn run_to_status<O: Opener, I: Source, K: Sink>(
+    alloc: Global,
+    words: &[String],
+    opener: &mut O,
+    script: &mut I,
+    out: &mut K,
+) -> Status
+    ensures outcome { Outcome result (texts words.now) (I.shows script.old) (I.shows script.new)
+        (record { opener = O.shows opener.old; sink = K.shows out.old }) (record { opener = O.shows opener.new; sink = K.shows out.new }) }
+    ensures source { result ≢ Status.SourceFailed → NoSourceFault (I.shows script.old) (I.shows script.new) }
+    ensures sink { result ≢ Status.SinkFailed → NoSinkFault (K.shows out.old) (K.shows out.new) }
+    ensures opener { result ≡ Status.Done → NoOpenerFault (O.shows opener.old) (O.shows opener.new) }
+{
+    match parse_words(alloc, words) {
+        Ok(Some(Command::Run { path, mode, args })) => match read_script(alloc, script) {
+            Ok(calls) => run_calls(alloc, path, mode, args, calls, opener, out),
+            Err(status) => status,
+        },
+        Ok(Some(Command::Help)) => status_of(print_text(out, help_text()), Status::Done),
+        Ok(Some(Command::Version)) => status_of(print_text(out, version_text()), Status::Done),
+        Ok(None) => Status::NoForm,
+        Err(_) => Status::NoMemory,
+    }
+}
+
+/// Opens the path, makes the calls and a Close, prints the replies, and puts the raw away; or prints why the plan refuses
+/// the opening, and opens nothing.
+fn run_calls<O: Opener, K: Sink>(
+    alloc: Global,
+    path: &str,
+    mode: &str,
+    args: OpenArgs,
+    calls: Vec<Call>,
+    opener: &mut O,
+    out: &mut K,
+) -> Status
+    ensures sink { SinkKeeps (K.shows out.old) (K.shows out.new) }
+    ensures outcome { PlannedOutcome path.now mode.now args calls.items result
+        (record { opener = O.shows opener.old; sink = K.shows out.old }) (record { opener = O.shows opener.new; sink = K.shows out.new }) }
+    ensures exact { result ≢ Status.SinkFailed → NoSinkFault (K.shows out.old) (K.shows out.new) }
+    ensures opener { result ≡ Status.Done → NoOpenerFault (O.shows opener.old) (O.shows opener.new) }
+{
+    let plan = match plan_open(mode, &args) {
+        Ok(plan) => plan,
+        Err(fault) => return status_of(print_refused(alloc, out, fault), Status::Refused),
+    };
+    match opener.open_raw(alloc, path, plan.mode.rawmode()) {
+        Ok(raw) => {
+            let (status, raw) = run_raw(alloc, raw, mode, args, calls, out);
+            put_away(status, opener.done(path, raw))
+        }
+        Err(OpenError::Fault) => Status::OpenerFailed,
+        Err(OpenError::Memory) => Status::NoMemory,
+    }
+}
+
+/// The status after a raw was put away: that of the calls, unless all was done and the opener failed.
+fn put_away(status: Status, done: Result<(), OpenError>) -> Status
+    ensures { result ≡ after_done status done }
+{
+    match (status, done) {
+        (Status::Done, Err(OpenError::Fault)) => Status::OpenerFailed,
+        (Status::Done, Err(OpenError::Memory)) => Status::NoMemory,
+        (status, _) => status,
+    }
+}
+
+/// Makes the calls and a Close over a raw, and prints the replies, or why the opening was refused.
+fn run_raw<R: RawStream, K: Sink>(
+    alloc: Global,
+    raw: R,
+    mode: &str,
+    args: OpenArgs,
+    calls: Vec<Call>,
+    out: &mut K,
+) -> (Status, R)
+    requires opened { (plan : Plan) → plan_of mode.now args ≡ Ok plan → IsOpened (raw_mode plan) (R.shows raw) }
+    requires start { StandsAtStart (R.shows raw) }
+    ensures sink { SinkKeeps (K.shows out.old) (K.shows out.new) }
+    ensures outcome { (plan : Plan) → plan_of mode.now args ≡ Ok plan
+        → RawOutcome (R.shows raw) (asked_by plan args calls.items) result.0 (R.shows result.1) (K.shows out.old) (K.shows out.new) }
+    ensures exact { result.0 ≢ Status.SinkFailed → NoSinkFault (K.shows out.old) (K.shows out.new) }
+{
+    let mut calls = calls;
+    if calls.push(Call::Close).is_err() {
+        return (Status::NoMemory, raw);
+    }
+    match run_session(alloc, raw, mode, args, &calls) {
+        Ok(Run { session, replies }) => {
+            let status = status_of(print_replies(alloc, out, &replies), Status::Done);
+            (status, session.finish().raw)
+        }
+        Err(OpenRefused { raw, fault }) => match fault {
+            IoFault::NoMemory => (Status::NoMemory, raw),
+            fault => {
+                let status = status_of(print_refused(alloc, out, fault), Status::Refused);
+                (status, raw)
+            }
+        },
+    }
+}
+
+/// The status of what was printed: that given, or why it couldn't be printed.
+fn status_of(printed: Result<(), Status>, whole: Status) -> Status
+    ensures { MatchResult printed (λ done. result ≡ whole) (λ status. result ≡ status) }
+{
+    match printed {
+        Ok(()) => whole,
+        Err(status) => status,
+    }
+}
