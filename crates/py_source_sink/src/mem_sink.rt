@@ -45,6 +45,13 @@ impl MemSink {
         self.bytes.as_slice()
     }
 
+    /// How many writes failed; the count stops at 18446744073709551615.
+    pub fn fault_count(&self) -> u64
+        ensures { result ≡ (shown_sink self.now).faults }
+    {
+        self.failed
+    }
+
     /// The bytes that were written, taken out of the sink.
     pub fn into_bytes(self) -> Vec<u8>
         ensures { result.items ≡ written_in self }

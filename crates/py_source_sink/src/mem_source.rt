@@ -31,6 +31,20 @@ impl MemSource {
             failed: 0,
         }
     }
+
+    /// How many reads were asked for, those that failed among them; the count stops at 18446744073709551615.
+    pub fn read_count(&self) -> u64
+        ensures { result ≡ reads_made self.now }
+    {
+        self.reads
+    }
+
+    /// How many reads failed; the count stops at 18446744073709551615.
+    pub fn fault_count(&self) -> u64
+        ensures { result ≡ (shown_source self.now).faults }
+    {
+        self.failed
+    }
 }
 
 /// Copies as many bytes as both have room for, and answers how many.

@@ -17,4 +17,18 @@ impl MemRaw {
     {
         self.waits
     }
+
+    /// How many transfers it was asked for, waits and faults among them; the count stops at 18446744073709551615.
+    pub fn transfer_count(&self) -> u64
+        ensures { result ≡ (shown self.now).transfers }
+    {
+        self.transfers
+    }
+
+    /// Where it stands, in bytes from the start. Unlike `tell` this is no call of a stream: it is not counted, and never fails.
+    pub fn place_of(&self) -> u64
+        ensures { result ≡ (shown self.now).place }
+    {
+        self.place
+    }
 }
