@@ -35,4 +35,3 @@ pub use reply_law::reply_lines_tell;
 pub use reply_line::push_reply_line;
 pub use script::{parse_line, parse_script};
 pub use word_laws::{answered_bytes_can_be_written, answered_lines_can_be_written};
-

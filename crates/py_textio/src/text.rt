@@ -7,7 +7,6 @@ ghost use Rattle.py_raw.specs.RawStream.{WhereTold};
 ghost use Rattle.py_textio.specs.Reader.{KeepsReader, MovesForth, CloseOutcome};
 ghost use Rattle.py_textio.specs.Text.{IsFresh, DecodedSoFar, StoppedAt, DecodeOutcome, KeepsKnown, ChunkOutcome, stop_at, IsNoCharacter, range_in_hand, enough, size_of, asks_all, Gathers, GatheredAt, IsReady, GatherOutcome, GiveOutcome, GiveLastOutcome, OnlyWhereWaits, waited_in, faulted_in, AnswerCauses, AnswerMoves, AnswerStep, AnswerHides};
 
-
 use crate::chunk_reader::ChunkReader;
 use py_flat::{Chars, IoFault, Life};
 use py_plain::{Encoding, Newlines, Unit, first_line, first_unit};
