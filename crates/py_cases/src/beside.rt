@@ -1,0 +1,233 @@
+//! A run of a session beside plain code: a flat file, or the plain slow text.
+
+use crate::flat_file::Flat;
+use crate::opened::{Opened, open};
+use crate::plain;
+use crate::session_case::SessionCase;
+use anyhow::Result;
+use py_flat::{IoFault, Life};
+use py_open::{Call, Detached, Reply};
+use py_plain::{Newlines, PlainText};
+use py_raw::{Cut, MemRaw, RawStream};
+use py_stream::NewRefused;
+use std::alloc::Global;
+
+/// What a session is compared with.
+#[derive(Drop)]
+enum Plain {
+    Bytes(Flat),
+    Text(PlainText),
+}
+
+/// What came of a run, and what of it isn't as the plain code has it.
+#[derive(Drop)]
+pub(crate) struct Came {
+    pub(crate) waits: u64,
+    pub(crate) faults: u64,
+    pub(crate) differs: Option<String>,
+}
+
+/// Runs a case beside the plain code: each answer, what a fault leaves, and what is handed back in the end.
+pub(crate) fn run_beside(alloc: Global, case: &SessionCase<'_>) -> Result<Came> {
+    match open(alloc, case)? {
+        Ok(opened) => follow(alloc, case, opened),
+        Err(NewRefused { raw, fault }) => {
+            let is_told = fault == IoFault::RawFault && raw.fault_count() == 1;
+            let spares = raw.bytes_of() == case.bytes.as_slice();
+            let differs = match is_told && spares {
+                true => None,
+                false => Some(format!(in alloc; "the opening is refused: {fault}")?),
+            };
+            Ok(came_of(&raw, differs))
+        }
+    }
+}
+
+fn came_of(raw: &MemRaw, differs: Option<String>) -> Came {
+    Came {
+        waits: raw.wait_count(),
+        faults: raw.fault_count(),
+        differs,
+    }
+}
+
+/// Makes the calls up to one that a fault answers, and compares what is handed back then.
+fn follow(alloc: Global, case: &SessionCase<'_>, opened: Opened) -> Result<Came> {
+    let mut opened = opened;
+    let mut plain = plain_of(alloc, case)?;
+    let mut failed = None;
+    let mut differs = None;
+    for call in &case.calls {
+        let reply = opened.call(alloc, call);
+        let short = opened.short();
+        if reply.says_fault() {
+            failed = Some(call);
+            break;
+        }
+        let is_right = match &mut plain {
+            Plain::Bytes(flat) => flat.answers(alloc, call, &reply, short)?,
+            Plain::Text(text) => answers_text(alloc, text, call, &reply, short),
+        };
+        if !is_right {
+            differs = Some(format!(in alloc; "{reply:?} to {call:?}, short: {short}")?);
+            break;
+        }
+    }
+    let is_left = failed.is_none_or(|call| is_left_by_a_fault(alloc, &mut opened, call));
+    let closes = failed.is_none() && opened.life() == Life::Closed;
+    let handed = hand_over(alloc, opened, case.detaches && failed.is_some())?;
+    if differs.is_none() && !(is_left && ends(alloc, case, &handed, plain, (failed, closes))?) {
+        differs = Some(String::from_str(alloc, "what is left in the end")?);
+    }
+    Ok(came_of(&handed.raw, differs))
+}
+
+/// The plain code of a case, at its beginning.
+fn plain_of(alloc: Global, case: &SessionCase<'_>) -> Result<Plain> {
+    let bytes = Vec::from_slice(alloc, case.bytes.as_slice())?;
+    if !case.mode.contains('b') {
+        return Ok(Plain::Text(PlainText::new(bytes, Newlines::Lf)));
+    }
+    let appends = case.mode.contains('a');
+    Ok(Plain::Bytes(Flat {
+        place: if appends { bytes.len() } else { case.at },
+        bytes,
+        reads: case.mode.contains('r'),
+        appends,
+        buffered: !case.options.contains(&"buffering=0"),
+    }))
+}
+
+/// Whether a text may answer a call so; goes on by the answer. A reading that a wait cut short gives the first of the characters
+/// that it is asked for, at least one.
+fn answers_text(
+    alloc: Global,
+    text: &mut PlainText,
+    call: &Call,
+    reply: &Reply,
+    short: bool,
+) -> bool {
+    let came = match reply {
+        Reply::NotReady => return short && matches!(call, Call::Read(_) | Call::ReadLine(_)),
+        Reply::Text(characters) if short => characters.as_str().chars().count(),
+        _ => return plain::answer(alloc, text, call) == *reply && !short,
+    };
+    let cut = match call {
+        Call::Read(size) if size.is_none_or(|size| came < size) => Call::Read(Some(came)),
+        Call::ReadLine(size) if size.is_none_or(|size| came < size) => Call::ReadLine(Some(came)),
+        _ => return false,
+    };
+    came > 0 && plain::answer(alloc, text, &cut) == *reply
+}
+
+/// Whether a session that a fault left, closed where a `Close` failed and else failed, refuses every call.
+fn is_left_by_a_fault(alloc: Global, opened: &mut Opened, failed: &Call) -> bool {
+    let (life, fault) = match failed {
+        Call::Close => (Life::Closed, IoFault::Closed),
+        _ => (Life::Failed, IoFault::Failed),
+    };
+    let mut refuses = opened.life() == life;
+    for call in &[Call::Flush, Call::Tell, Call::Read(None)] {
+        refuses = opened.call(alloc, call) == Reply::Refused(fault) && refuses && !opened.short();
+    }
+    refuses
+}
+
+/// What a session hands back at the end, or by a detach; no place where the detach answers otherwise, or leaves more behind.
+fn hand_over(alloc: Global, opened: Opened, detaches: bool) -> Result<Detached<MemRaw>> {
+    if !detaches {
+        return Ok(opened.finish(alloc));
+    }
+    let mut opened = opened;
+    let reply = opened.call(alloc, &Call::Detach);
+    let mut left = opened.finish(alloc);
+    match reply {
+        Reply::Unwritten { bytes, place } if left.unwritten.is_empty() && left.place.is_none() => {
+            left.unwritten = bytes.into_vec();
+            left.place = place;
+        }
+        _ => left.place = None,
+    }
+    Ok(left)
+}
+
+/// Whether the end is as the plain code has it: each fault was told, a closed session has closed its raw, which then holds the flat
+/// bytes, and nothing is lost.
+fn ends(
+    alloc: Global,
+    case: &SessionCase<'_>,
+    handed: &Detached<MemRaw>,
+    plain: Plain,
+    how: (Option<&Call>, bool),
+) -> Result<bool> {
+    let (failed, closes) = how;
+    let raw = &handed.raw;
+    if raw.fault_count() != u64::from(failed.is_some()) || closes && !raw.closed() {
+        return Ok(false);
+    }
+    let spares = raw.bytes_of() == case.bytes.as_slice() && handed.unwritten.is_empty();
+    let more = case.cuts.iter().fold(0, |most, cut| match cut {
+        Cut::Break(bytes) => most.max(*bytes),
+        _ => most,
+    });
+    Ok(match plain {
+        Plain::Text(_) => spares,
+        Plain::Bytes(flat) if flat.reads => spares && reaches(handed, &flat, failed),
+        Plain::Bytes(flat) => {
+            let mut flat = flat;
+            holds_all_taken(alloc, handed, &mut flat, failed, more)?
+                && (!closes || raw.bytes_of() == flat.bytes.as_slice())
+        }
+    })
+}
+
+/// Whether a stream that is read stands where it came to. A call that failed moved it by no more than it was asked for, and not at
+/// all where it is a single transfer, or reads nothing.
+fn reaches(handed: &Detached<MemRaw>, flat: &Flat, failed: Option<&Call>) -> bool {
+    let most = match failed {
+        Some(call) if !flat.is_single(call) => flat.wanted(call).map_or(0, |bytes| bytes.len()),
+        _ => 0,
+    };
+    let begun = flat.place as u64;
+    handed.place.is_some_and(|place| begun <= place && place <= begun.saturating_add(most as u64))
+}
+
+/// Whether the bytes of the raw with those that are handed back laid at their place are all that was taken from the caller before
+/// a call that failed, and a front of what that call gave. They end where the place says, but for at most `more` bytes that
+/// the raw laid on without an answer.
+fn holds_all_taken(
+    alloc: Global,
+    handed: &Detached<MemRaw>,
+    flat: &mut Flat,
+    failed: Option<&Call>,
+    more: u32,
+) -> Result<bool> {
+    let Some(place) = handed.place else {
+        return Ok(false);
+    };
+    let mut found = Flat {
+        bytes: Vec::from_slice(alloc, handed.raw.bytes_of())?,
+        place: place as usize,
+        reads: false,
+        appends: false,
+        buffered: true,
+    };
+    found.lay(handed.unwritten.as_slice())?;
+    let payload = match failed {
+        Some(call) => Flat::payload(alloc, call)?,
+        None => Vec::new(alloc),
+    };
+    let count = found.place.saturating_sub(flat.place);
+    if found.place < flat.place || payload.len() < count {
+        return Ok(false);
+    }
+    let (front, rest) = payload.split_at(count);
+    flat.lay(front)?;
+    for byte in rest.iter().take(more as usize) {
+        if found.bytes == flat.bytes || !handed.unwritten.is_empty() {
+            break;
+        }
+        flat.lay(&[*byte])?;
+    }
+    Ok(found.bytes == flat.bytes)
+}

@@ -1,0 +1,97 @@
+//! A file of cases, cut into blocks of lines.
+
+use anyhow::{Result, bail};
+use hex::decode;
+use std::alloc::Global;
+use std::str::FromStr;
+
+/// A line of a case: its number in the file, from 1 on, its first word, and what follows the space behind it.
+#[derive(Clone, Copy)]
+pub(crate) struct Line<'a> {
+    pub(crate) number: usize,
+    pub(crate) word: &'a str,
+    pub(crate) rest: &'a str,
+}
+
+/// A case: its head, the kind and the name, and the lines up to the next head.
+#[derive(Drop)]
+pub(crate) struct Block<'a> {
+    pub(crate) head: Line<'a>,
+    pub(crate) lines: Vec<Line<'a>>,
+}
+
+impl<'a> Line<'a> {
+    pub(crate) fn new(number: usize, text: &'a str) -> Self {
+        let (word, rest) = text.split_once(' ').unwrap_or((text, ""));
+        Line { number, word, rest }
+    }
+
+    /// The refusal of this line.
+    pub(crate) fn malformed<T>(&self) -> Result<T> {
+        bail!("line {} is out of form", self.number)
+    }
+
+    /// The words of a part of this line.
+    pub(crate) fn words(alloc: Global, part: &'a str) -> Result<Vec<&'a str>> {
+        Ok(part.split_whitespace().collect(alloc)?)
+    }
+
+    /// The numbers that the words of a part of this line are.
+    pub(crate) fn numbers<T: FromStr>(&self, alloc: Global, part: &str) -> Result<Vec<T>>
+    where
+        T: Drop,
+        T::Err: Drop,
+    {
+        let mut numbers = Vec::new(alloc);
+        for word in part.split_whitespace() {
+            match word.parse() {
+                Ok(number) => numbers.push(number)?,
+                Err(_) => return self.malformed(),
+            }
+        }
+        Ok(numbers)
+    }
+
+    /// The one number that a part of this line is.
+    pub(crate) fn number(&self, part: &str) -> Result<usize> {
+        match part.parse() {
+            Ok(number) => Ok(number),
+            Err(_) => self.malformed(),
+        }
+    }
+
+    /// The bytes of a word in hex, or none for `-`.
+    pub(crate) fn bytes(&self, alloc: Global, word: &str) -> Result<Vec<u8>> {
+        if word == "-" {
+            return Ok(Vec::new(alloc));
+        }
+        match decode(alloc, word.as_bytes()) {
+            Ok(bytes) => Ok(bytes),
+            Err(_) => self.malformed(),
+        }
+    }
+}
+
+/// The blocks of a file. Empty lines and those that begin with `#` part nothing and say nothing.
+pub(crate) fn blocks(alloc: Global, text: &str) -> Result<Vec<Block<'_>>> {
+    let mut blocks: Vec<Block<'_>> = Vec::new(alloc);
+    for (index, text) in text.split('\n').enumerate() {
+        if text.is_empty() || text.starts_with('#') {
+            continue;
+        }
+        let line = Line::new(index.saturating_add(1), text);
+        if matches!(
+            line.word,
+            "session" | "program" | "sweep" | "plain" | "units"
+        ) {
+            let lines = Vec::new(alloc);
+            blocks.push(Block { head: line, lines })?;
+        } else {
+            match blocks.last_mut() {
+                Some(block) => block.lines.push(line)?,
+                None => return line.malformed(),
+            }
+        }
+    }
+    Ok(blocks)
+}

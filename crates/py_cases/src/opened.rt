@@ -1,0 +1,153 @@
+//! Opening a case's session, and making calls on it.
+ghost use Rattle.std.specs.Prelude.{IsTrue};
+ghost use Rattle.py_raw.specs.MemRaw.{shown};
+ghost use Rattle.py_stream.specs.Opening.{StandsAtStart};
+
+use crate::session_case::SessionCase;
+use anyhow::Result;
+use py_binary::{Access, BinarySession};
+use py_flat::Life;
+use py_open::{Call, Detached, OpenRefused, Reply, Run, Session, run_session};
+use py_raw::{GREATEST_PLACE, MemRaw, RawFlags, RawStream};
+use py_script::{Command, parse_words};
+use py_stream::NewRefused;
+use py_textio::TextReader;
+use std::alloc::Global;
+
+/// A session: as a plan opens it, or with a buffer of any size.
+#[derive(Drop)]
+pub(crate) enum Opened {
+    Planned(Session<MemRaw>),
+    Bytes(BinarySession<MemRaw>),
+    Text(TextReader<MemRaw>),
+}
+
+/// What an opening comes to.
+pub(crate) type Opening = Result<Opened, NewRefused<MemRaw>>;
+
+impl Opened {
+    pub(crate) fn call(&mut self, alloc: Global, call: &Call) -> Reply {
+        match self {
+            Opened::Planned(session) => session.call(alloc, call),
+            Opened::Bytes(session) => session.call(alloc, call),
+            Opened::Text(text) => answer_text(alloc, text, call),
+        }
+    }
+
+    pub(crate) fn short(&self) -> bool {
+        match self {
+            Opened::Planned(session) => session.short(),
+            Opened::Bytes(session) => session.short(),
+            Opened::Text(text) => text.short(),
+        }
+    }
+
+    pub(crate) fn life(&self) -> Life {
+        match self {
+            Opened::Planned(session) => session.life(),
+            Opened::Bytes(session) => session.life(),
+            Opened::Text(text) => text.life(),
+        }
+    }
+
+    pub(crate) fn finish(self, alloc: Global) -> Detached<MemRaw> {
+        match self {
+            Opened::Planned(session) => session.finish(),
+            Opened::Bytes(session) => session.into_parts(),
+            Opened::Text(text) => text.into_parts(alloc),
+        }
+    }
+}
+
+/// The calls of a text whose buffer has a size of its own; a planned session has the others too.
+fn answer_text(alloc: Global, text: &mut TextReader<MemRaw>, call: &Call) -> Reply {
+    let answer = match call {
+        Call::Read(size) => text.read(alloc, *size),
+        Call::ReadLine(limit) => text.readline(alloc, *limit),
+        Call::Close => return text.close().map_or_else(Reply::Refused, |()| Reply::Done),
+        _ => return Reply::Refused(text.refuse()),
+    };
+    match answer {
+        Ok(Some(characters)) => Reply::Text(characters),
+        Ok(None) => Reply::NotReady,
+        Err(fault) => Reply::Refused(fault),
+    }
+}
+
+/// Whether a raw may be opened where it stands: one that can't be moved stands at its start.
+fn stands_at_start(raw: &MemRaw) -> bool
+    ensures { IsTrue result → StandsAtStart (shown raw.now) }
+{
+    raw.seekable() || raw.place_of() == 0
+}
+
+/// Moves a raw and closes it, as a case has it. Whether it is so then.
+fn set_up(raw: &mut MemRaw, place: u64, closes: bool) -> bool {
+    let is_moved = place == 0
+        || raw.seekable() && !raw.closed() && place <= GREATEST_PLACE && raw.seek(place).is_ok();
+    is_moved && (!closes || !raw.closed() && raw.close().is_ok())
+}
+
+/// Opens the session of a case.
+pub(crate) fn open(alloc: Global, case: &SessionCase<'_>) -> Result<Opening> {
+    let able = |letter: char| case.able.contains(letter);
+    let mut raw = MemRaw::new(
+        Vec::from_slice(alloc, case.bytes.as_slice())?,
+        RawFlags::able(able('r'), able('w'), able('s')),
+        Vec::from_slice(alloc, case.cuts.as_slice())?,
+        Vec::from_slice(alloc, case.faults.as_slice())?,
+    );
+    if !set_up(&mut raw, case.at as u64, case.closed) || !stands_at_start(&raw) {
+        return case.open.malformed();
+    }
+    match case.buffer {
+        None => open_planned(alloc, case, raw),
+        Some(size) if case.mode == "r" => open_text(alloc, case, raw, size),
+        Some(size) => open_bytes(alloc, case, raw, size),
+    }
+}
+
+fn open_planned(alloc: Global, case: &SessionCase<'_>, raw: MemRaw) -> Result<Opening>
+    requires { StandsAtStart (shown raw) }
+{
+    let mut words = Vec::new(alloc);
+    for word in ["run", "f", case.mode].iter().chain(&case.options) {
+        words.push(String::from_str(alloc, word)?)?;
+    }
+    let Some(Command::Run { mode, args, .. }) = parse_words(alloc, words.as_slice())? else {
+        return case.open.malformed();
+    };
+    Ok(match run_session(alloc, raw, mode, args, &[]) {
+        Ok(Run { session, .. }) => Ok(Opened::Planned(session)),
+        Err(OpenRefused { raw, fault }) => Err(NewRefused { raw, fault }),
+    })
+}
+
+/// Opens a text with a buffer of so many bytes, and chunks of a size that is its only option.
+fn open_text(alloc: Global, case: &SessionCase<'_>, raw: MemRaw, size: usize) -> Result<Opening>
+    requires { StandsAtStart (shown raw) }
+{
+    let chunk = match case.options.as_slice() {
+        [option] => case
+            .open
+            .number(option.strip_prefix("chunk=").unwrap_or(""))?,
+        _ => return case.open.malformed(),
+    };
+    if size == 0 || chunk == 0 {
+        return case.open.malformed();
+    }
+    Ok(TextReader::new(alloc, raw, size, chunk).map(Opened::Text))
+}
+
+/// Opens a stream of bytes with a buffer of so many bytes.
+fn open_bytes(alloc: Global, case: &SessionCase<'_>, raw: MemRaw, size: usize) -> Result<Opening>
+    requires { StandsAtStart (shown raw) }
+{
+    let access = match case.mode {
+        "rb" => Access::Read,
+        "wb" | "xb" => Access::Write,
+        "ab" => Access::Append,
+        _ => return case.open.malformed(),
+    };
+    Ok(BinarySession::new(alloc, raw, access, Some(size)).map(Opened::Bytes))
+}

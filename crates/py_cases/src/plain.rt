@@ -1,0 +1,92 @@
+//! The plain slow program's answers: of plain texts, and of units and first lines one by one.
+
+use crate::block::{Block, Line};
+use crate::own_calls::parse_call;
+use crate::report::Report;
+use anyhow::Result;
+use py_flat::IoFault;
+use py_open::{Call, Reply};
+use py_plain::{Encoding, Newlines, PlainText, Unit, first_line, first_unit};
+use std::alloc::Global;
+
+/// Runs calls on a plain text: `text rule hex` makes it, and each line behind `>` is a call.
+pub(crate) fn run_plain_block(block: &Block<'_>, report: &mut Report) -> Result<()> {
+    let alloc = report.alloc;
+    let mut text = PlainText::new(Vec::new(alloc), Newlines::Universal);
+    for line in &block.lines {
+        match (line.word, line.rest.split_once(' ')) {
+            ("text", Some((rule, bytes))) => {
+                text = PlainText::new(line.bytes(alloc, bytes)?, rule_of(line, rule)?);
+            }
+            (">", _) => match parse_call(alloc, line.rest)? {
+                Some(call) => report.reply(&answer(alloc, &mut text, &call), false)?,
+                None => return line.malformed(),
+            },
+            _ => return line.malformed(),
+        }
+    }
+    Ok(())
+}
+
+/// What a plain text answers; what it has no call for, it refuses.
+pub(crate) fn answer(alloc: Global, text: &mut PlainText, call: &Call) -> Reply {
+    let answer = match call {
+        Call::Read(size) => text.read(alloc, *size).map(Reply::Text),
+        Call::ReadLine(limit) => text.readline(alloc, *limit).map(Reply::Text),
+        Call::Close => text.close().map(|()| Reply::Done),
+        _ => Err(IoFault::Unsupported),
+    };
+    answer.unwrap_or_else(Reply::Refused)
+}
+
+/// Answers each line of a block: `unit hex` of UTF-8, or `line rule limit hex` of characters in UTF-8.
+pub(crate) fn run_units_block(block: &Block<'_>, report: &mut Report) -> Result<()> {
+    let alloc = report.alloc;
+    for line in &block.lines {
+        let words = Line::words(alloc, line.rest)?;
+        let answer = match (line.word, words.as_slice()) {
+            ("unit", [bytes]) => unit_words(alloc, &line.bytes(alloc, bytes)?)?,
+            ("line", [rule, limit, bytes]) => line_words(alloc, line, (rule, limit), bytes)?,
+            _ => return line.malformed(),
+        };
+        report.line(answer.as_str())?;
+    }
+    Ok(())
+}
+
+fn unit_words(alloc: Global, bytes: &[u8]) -> Result<String> {
+    Ok(match first_unit(Encoding::Utf8, bytes) {
+        None => String::from_str(alloc, "none")?,
+        Some(Unit::Character { character, length }) => {
+            let number = u32::from(character);
+            format!(in alloc; "character {number:x} of {length}")?
+        }
+        Some(Unit::Malformed { length }) => format!(in alloc; "malformed {length}")?,
+        Some(Unit::Cut { length }) => format!(in alloc; "cut {length}")?,
+    })
+}
+
+fn line_words(alloc: Global, line: &Line<'_>, how: (&str, &str), text: &str) -> Result<String> {
+    let limit = match how.1 {
+        "-" => None,
+        limit => Some(line.number(limit)?),
+    };
+    let bytes = line.bytes(alloc, text)?;
+    let text = str::from_utf8(&bytes).unwrap_or("");
+    let characters: Vec<char> = text.chars().collect(alloc)?;
+    let first = first_line(rule_of(line, how.0)?, limit, characters.as_slice());
+    let length = first.length;
+    let ended = if first.ended { "ended" } else { "open" };
+    Ok(format!(in alloc; "{length} {ended}")?)
+}
+
+fn rule_of(line: &Line<'_>, name: &str) -> Result<Newlines> {
+    Ok(match name {
+        "universal" => Newlines::Universal,
+        "passthrough" => Newlines::Passthrough,
+        "lf" => Newlines::Lf,
+        "cr" => Newlines::Cr,
+        "crlf" => Newlines::Crlf,
+        _ => return line.malformed(),
+    })
+}

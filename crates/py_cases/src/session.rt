@@ -1,0 +1,64 @@
+//! Running the session of a case, and what came.
+
+use crate::block::Block;
+use crate::opened::open;
+use crate::report::{Report, hex_of};
+use crate::session_case::SessionCase;
+use anyhow::Result;
+use py_flat::Life;
+use py_open::Detached;
+use py_raw::{MemRaw, RawStream};
+use py_stream::NewRefused;
+
+/// Runs the session of a block: each reply, the life, what is handed back, and what the raw came to.
+pub(crate) fn run_session_block(block: &Block<'_>, report: &mut Report) -> Result<()> {
+    let alloc = report.alloc;
+    let case = SessionCase::parse(alloc, block.head, block.lines.as_slice())?;
+    let mut opened = match open(alloc, &case)? {
+        Ok(opened) => opened,
+        Err(NewRefused { raw, fault }) => {
+            report.refused(fault)?;
+            return report_raw(&raw, report);
+        }
+    };
+    for call in &case.calls {
+        let reply = opened.call(alloc, call);
+        report.reply(&reply, opened.short())?;
+    }
+    let life = life_word(opened.life());
+    report_end(life, opened.finish(alloc), report)
+}
+
+/// Reports the life of a session, and what is handed back.
+fn report_end(life: &str, handed: Detached<MemRaw>, report: &mut Report) -> Result<()> {
+    let owed = hex_of(report.alloc, handed.unwritten.as_slice())?;
+    let line = match handed.place {
+        Some(place) => format!(in report.alloc; "{life}, owes {owed} at {place}")?,
+        None => format!(in report.alloc; "{life}, owes {owed}")?,
+    };
+    report.line(line.as_str())?;
+    report_raw(&handed.raw, report)
+}
+
+/// Reports a raw: its bytes, where it stands, its transfers, faults and waits, and whether it is closed.
+fn report_raw(raw: &MemRaw, report: &mut Report) -> Result<()> {
+    let bytes = hex_of(report.alloc, raw.bytes_of())?;
+    let place = raw.place_of();
+    let transfers = raw.transfer_count();
+    let faults = raw.fault_count();
+    let waits = raw.wait_count();
+    let closed = if raw.closed() { ", closed" } else { "" };
+    let line = format!(in report.alloc;
+        "raw {bytes} at {place}, transfers {transfers}, faults {faults}, waits {waits}{closed}"
+    )?;
+    report.line(line.as_str())
+}
+
+fn life_word(life: Life) -> &'static str {
+    match life {
+        Life::Live => "live",
+        Life::Failed => "failed",
+        Life::Closed => "closed",
+        Life::Detached => "detached",
+    }
+}

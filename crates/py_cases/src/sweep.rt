@@ -1,0 +1,108 @@
+//! Sweeps: a session with variables, run for all their values beside plain code.
+
+use crate::beside::{Came, run_beside};
+use crate::block::{Block, Line};
+use crate::report::Report;
+use crate::session_case::SessionCase;
+use anyhow::Result;
+use std::alloc::Global;
+
+/// A variable of a sweep: how it is written, and its values.
+#[derive(Drop)]
+struct Variable<'a> {
+    mark: &'a str,
+    values: Vec<String>,
+}
+
+/// Runs the session of a block for all values of its variables, and reports how many runs there were, in how many the raw waited,
+/// and in how many it failed; or the first run that differs, as a session that can be run by itself.
+///
+/// A line `for $x a b ..` gives a variable values, of which `m..n` is the numbers from m to before n; in the other lines each value
+/// stands for the variable in turn.
+pub(crate) fn run_sweep_block(block: &Block<'_>, report: &mut Report) -> Result<()> {
+    let alloc = report.alloc;
+    let mut variables = Vec::new(alloc);
+    for line in block.lines.iter().filter(|line| line.word == "for") {
+        variables.push(variable_of(alloc, line)?)?;
+    }
+    let runs = variables
+        .iter()
+        .fold(1usize, |runs, variable: &Variable<'_>| {
+            runs.saturating_mul(variable.values.len())
+        });
+    let mut waited = 0usize;
+    let mut failed = 0usize;
+    for run in 0..runs {
+        let texts = texts_of(alloc, block, variables.as_slice(), run)?;
+        let came = run_texts(alloc, block.head, texts.as_slice())?;
+        waited = waited.saturating_add(usize::from(came.waits > 0));
+        failed = failed.saturating_add(usize::from(came.faults > 0));
+        if let Some(what) = came.differs {
+            report.line(format!(in alloc; "run {run} of {runs} differs: {what}")?.as_str())?;
+            for text in &texts {
+                report.line(text.as_str())?;
+            }
+            return Ok(());
+        }
+    }
+    report.line(format!(in alloc; "{runs} runs, {waited} waited, {failed} failed")?.as_str())
+}
+
+fn variable_of<'a>(alloc: Global, line: &Line<'a>) -> Result<Variable<'a>> {
+    let (mark, words) = line.rest.split_once(' ').unwrap_or((line.rest, ""));
+    let mut values = Vec::new(alloc);
+    for word in words.split_whitespace() {
+        match word.split_once("..") {
+            Some((from, to)) => {
+                for number in line.number(from)?..line.number(to)? {
+                    values.push(format!(in alloc; "{number}")?)?;
+                }
+            }
+            None => values.push(String::from_str(alloc, word)?)?,
+        }
+    }
+    Ok(Variable { mark, values })
+}
+
+/// The lines of a sweep's run of a number, by the values of the variables.
+fn texts_of(
+    alloc: Global,
+    block: &Block<'_>,
+    variables: &[Variable<'_>],
+    run: usize,
+) -> Result<Vec<String>> {
+    let mut texts = Vec::new(alloc);
+    for line in block.lines.iter().filter(|line| line.word != "for") {
+        let mut text = format!(in alloc; "{} {}", line.word, line.rest)?;
+        let mut left = run;
+        for variable in variables {
+            let count = variable.values.len().max(1);
+            if let Some(value) = variable.values.get(left % count) {
+                text = replaced(alloc, text.as_str(), variable.mark, value.as_str())?;
+            }
+            left /= count;
+        }
+        texts.push(text)?;
+    }
+    Ok(texts)
+}
+
+/// A text with a value wherever a mark stands.
+fn replaced(alloc: Global, text: &str, mark: &str, value: &str) -> Result<String> {
+    let mut all = String::new(alloc);
+    for (index, part) in text.split(mark).enumerate() {
+        if index > 0 {
+            all.push_str(value)?;
+        }
+        all.push_str(part)?;
+    }
+    Ok(all)
+}
+
+fn run_texts(alloc: Global, head: Line<'_>, texts: &[String]) -> Result<Came> {
+    let mut lines = Vec::new(alloc);
+    for text in texts {
+        lines.push(Line::new(head.number, text.as_str().trim_end()))?;
+    }
+    run_beside(alloc, &SessionCase::parse(alloc, head, lines.as_slice())?)
+}
