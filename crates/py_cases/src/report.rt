@@ -7,7 +7,7 @@ use py_script::{push_refused_line, push_reply_line};
 use std::alloc::Global;
 use std::io;
 
-/// Lines to be printed. Equal ones that follow one another are printed once, with how many they are.
+/// Lines to be printed. Ten and more equal ones that follow one another are printed once, with how many they are.
 #[derive(Drop)]
 pub(crate) struct Report {
     pub(crate) alloc: Global,
@@ -57,8 +57,12 @@ impl Report {
             }
             let text = str::from_utf8(line).unwrap_or("(no UTF-8)");
             match times {
-                1 => println!(rt; "{text}")?,
-                _ => println!(rt; "{text} ({times} times)")?,
+                10.. => println!(rt; "{text} ({times} times)")?,
+                _ => {
+                    for _ in 0..times {
+                        println!(rt; "{text}")?;
+                    }
+                }
             }
             times = 0;
         }
