@@ -186,5 +186,9 @@ fn compare_codec(
         cut_behind(alloc, &whole, place, bytes.split_at(cut), tally)?;
     }
     tally.answer(bytes_agree(alloc, &whole));
-    tally.place(alloc, place)
+    if tally.wants_first() {
+        let (encoding, handler) = (codec.encoding.name(), codec.handler.name());
+        tally.first = Some(format!(in alloc; "as {encoding} {handler}, byte by byte: {place}")?);
+    }
+    Ok(())
 }
