@@ -36,7 +36,7 @@ fn read_answer(alloc: Global, words: &[&str]) -> Result<Result<Vec<u8>, Refusal>
 }
 
 /// Makes a call: its text, or the bytes that are held behind it. `GetState` keeps the state for `SetState`. A state with
-/// flags or more than three bytes is none of the five encodings'.
+/// flags or more than three bytes is none of the five encodings': it is a fault, which no row expects.
 fn given(
     alloc: Global,
     decoder: &mut IncrementalDecoder,
@@ -56,7 +56,12 @@ fn given(
         }
         Call::Reset => decoder.reset(),
     }
-    Ok(decoder.getstate(alloc)?.held.into_vec())
+    let state = decoder.getstate(alloc)?;
+    if state.flags == 0 {
+        Ok(state.held.into_vec())
+    } else {
+        Err(IoFault::BadArgument)
+    }
 }
 
 /// `CALL -> ANSWER`: whether a call answers just this.
