@@ -1,43 +1,72 @@
-//! Compares the codecs with what another program answers, CPython's codecs, and prints how many answers agree.
+//! Compares the codecs and the plain slow program with what they must answer, and prints how many answers agree.
 //!
-//! The words are the paths of the three tables. They are data of this program; vectors/make_vectors made them
-//! (docs/CODECS.md).
+//! The words are the paths of four tables. They are data of this program: three have what another program answers, CPython's
+//! codecs, and vectors/make_vectors made them (docs/CODECS.md); the fourth is text, and its head says how a row is written.
 #![tactic(auto)]
 
-mod decoding;
-mod encoding;
+mod blocks;
+mod codec;
+mod cuts;
 mod padding;
+mod pieces;
 mod records;
-mod surrogates;
+mod rows;
+mod tables;
 mod tally;
+mod words;
 
 use std::{env, fs, io};
+use tables::Table;
 use tally::Tally;
 
 fn print(rt: &HostRuntime, what: &str, tally: &Tally) -> io::Result<()> {
     println!(rt;
         "{what}: {} inputs, {} answers agree, {} differ",
         tally.inputs, tally.agree, tally.differ
-    )
+    )?;
+    match &tally.first {
+        Some(first) => println!(rt; "  the first that differs: {first}"),
+        None => Ok(()),
+    }
+}
+
+/// A table of another program's answers.
+fn compare_table(rt: &HostRuntime, what: &str, table: Table, path: &str) -> io::Result<()> {
+    let bytes = fs::read(rt, path)?;
+    print(rt, what, &tables::compare(rt.alloc(), table, &bytes)?)
+}
+
+/// The table of rows, and the cuts of the bytes in it.
+fn compare_rows(rt: &HostRuntime, path: &str) -> io::Result<()> {
+    let bytes = fs::read(rt, path)?;
+    let Ok(table) = str::from_utf8(&bytes) else {
+        return rt.println("the rows are out of form: no UTF-8");
+    };
+    let (tallies, out_of_form) = rows::compare(rt.alloc(), table)?;
+    print(rt, "decode rows", &tallies.decodings)?;
+    print(rt, "encode rows", &tallies.encodings)?;
+    print(rt, "pieces rows", &tallies.pieces)?;
+    print(rt, "cuts", &tallies.cuts)?;
+    match &out_of_form {
+        Some(place) => println!(rt; "out of form, and the end of the rows: {place}"),
+        None => Ok(()),
+    }
 }
 
 fn main(rt: HostRuntime) -> io::Result<()> {
     let mut words = env::args(&rt)?.skip(1);
-    let (Some(decodings), Some(surrogates), Some(encodings)) = (
+    let (Some(decodings), Some(surrogates), Some(encodings), Some(rows)) = (
+        words.next(),
         words.next(),
         words.next(),
         words.next(),
     ) else {
-        return rt.println("usage: py_codec_vectors <decodings> <surrogates> <encodings>");
+        return rt.println("usage: py_codec_vectors <decodings> <surrogates> <encodings> <rows>");
     };
-    let decodings = fs::read(&rt, decodings.as_str())?;
-    print(&rt, "decoding", &decoding::compare(rt.alloc(), &decodings)?)?;
-    let surrogates = fs::read(&rt, surrogates.as_str())?;
-    print(
-        &rt,
-        "surrogates",
-        &surrogates::compare(rt.alloc(), &surrogates),
-    )?;
-    let encodings = fs::read(&rt, encodings.as_str())?;
-    print(&rt, "encoding", &encoding::compare(rt.alloc(), &encodings)?)
+    compare_table(&rt, "decoding", Table::Decodings, decodings.as_str())?;
+    compare_table(&rt, "surrogates", Table::Surrogates, surrogates.as_str())?;
+    compare_table(&rt, "encoding", Table::Encodings, encodings.as_str())?;
+    compare_rows(&rt, rows.as_str())?;
+    print(&rt, "blocks", &blocks::compare(rt.alloc())?)?;
+    print(&rt, "long texts", &blocks::compare_long(rt.alloc())?)
 }

@@ -1,13 +1,8 @@
+use crate::codec::{Expected, Refusal};
+use crate::words::Unread;
 use py_codec::Encoding;
 
-/// A refusal of the handler strict, as the table has it: the start and the end of the range or run.
-#[derive(Clone, Copy, Debug, PartialEq, Eq)]
-pub(crate) struct Refusal {
-    pub start: u64,
-    pub end: u64,
-}
-
-/// The records of the table that are left to read; one that is cut reads as `None`.
+/// The records of a table that are left to read; one that is cut is out of form.
 #[derive(Drop)]
 pub(crate) struct Records<'a> {
     left: &'a [u8],
@@ -18,51 +13,55 @@ impl<'a> Records<'a> {
         Records { left: bytes }
     }
 
-    pub(crate) fn byte(&mut self) -> Option<u8> {
+    fn byte(&mut self) -> Result<u8, Unread> {
         let [byte, left @ ..] = self.left else {
-            return None;
+            return Err(Unread::OutOfForm);
         };
         self.left = left;
-        Some(*byte)
+        Ok(*byte)
     }
 
     /// A length, in one byte, and so many bytes.
-    pub(crate) fn counted(&mut self) -> Option<&'a [u8]> {
+    pub(crate) fn counted(&mut self) -> Result<&'a [u8], Unread> {
         let count = usize::from(self.byte()?);
-        let (counted, left) = self.left.split_at_checked(count)?;
-        self.left = left;
-        Some(counted)
-    }
-
-    pub(crate) fn encoding(&mut self) -> Option<Encoding> {
-        match self.byte()? {
-            0 => Some(Encoding::Utf8),
-            1 => Some(Encoding::Latin1),
-            2 => Some(Encoding::Ascii),
-            3 => Some(Encoding::Utf16Le),
-            4 => Some(Encoding::Utf16Be),
-            _ => None,
+        match self.left.split_at_checked(count) {
+            Some((counted, left)) => {
+                self.left = left;
+                Ok(counted)
+            }
+            None => Err(Unread::OutOfForm),
         }
     }
 
-    /// What the handler strict answers: `Some(None)` where it accepts all.
-    pub(crate) fn refusal(&mut self) -> Option<Option<Refusal>> {
+    pub(crate) fn encoding(&mut self) -> Result<Encoding, Unread> {
+        match self.byte()? {
+            0 => Ok(Encoding::Utf8),
+            1 => Ok(Encoding::Latin1),
+            2 => Ok(Encoding::Ascii),
+            3 => Ok(Encoding::Utf16Le),
+            4 => Ok(Encoding::Utf16Be),
+            _ => Err(Unread::OutOfForm),
+        }
+    }
+
+    /// A refused range or run: `None` where all is accepted.
+    pub(crate) fn refusal(&mut self) -> Result<Option<Refusal>, Unread> {
         let start = self.byte()?;
         if start == 255 {
-            return Some(None);
+            return Ok(None);
         }
         let end = self.byte()?;
-        Some(Some(Refusal {
+        Ok(Some(Refusal {
             start: u64::from(start),
             end: u64::from(end),
         }))
     }
 
-    /// What is counted where all is accepted, else the refusal.
-    pub(crate) fn counted_or_refusal(&mut self) -> Option<Result<&'a [u8], Refusal>> {
+    /// A refusal, or what comes of an argument that is so long.
+    pub(crate) fn answer(&mut self, used: usize) -> Result<Expected<'a>, Unread> {
         match self.refusal()? {
-            Some(refusal) => Some(Err(refusal)),
-            None => Some(Ok(self.counted()?)),
+            Some(refusal) => Ok(Expected::Refused(refusal, None)),
+            None => Ok(Expected::All(self.counted()?, used)),
         }
     }
 }
