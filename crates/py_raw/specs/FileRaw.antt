@@ -1,5 +1,5 @@
 -- A raw stream over a file, which tells nothing.
-use Rattle.std.specs.Prelude.{◌≡◌, ℕ, ◌<◌, length, Bool, true, false, not, ◌&&◌, nat_eq, List, [], take, Option, Some, None, Result, Ok, Err, if◌then◌else◌}
+use Rattle.std.specs.Prelude.{is_none, IfSome, ◌≡◌, ℕ, ◌<◌, length, Bool, true, false, not, ◌&&◌, nat_eq, List, [], take, Option, Some, None, Result, Ok, Err, if◌then◌else◌}
 use Rattle.std.specs.Io.KnownBytes.{Consumes, Appends, Keeps, IsAtEnd}
 use Rattle.std.specs.declared.io.ErrorKind.{ErrorKind}
 use Rattle.std.specs.declared.io.ErrorKind.TheVariants.{WouldBlock, Interrupted}
@@ -21,7 +21,7 @@ shown raw = record {
   written = 0;
   faults = raw.faults;
   waits = raw.waits;
-  closed = raw.closed;
+  closed = is_none raw.file;
   readable = raw.readable;
   writable = raw.writable;
   seekable = raw.seekable;
@@ -39,6 +39,12 @@ asks_to_wait _ = false
 abbrev pub transfer_reply : Result ℕ Error → Result (Option ℕ) RawError
 transfer_reply (Ok count) = Ok (Some count)
 transfer_reply (Err error) = if asks_to_wait (error_kind error) then Ok None else Err Fault
+
+-- what the file's answer to another call comes to, where nothing stands for one that can't be true
+abbrev pub call_reply : {A : Type 0} → Result (Option A) Error → Result A RawError
+call_reply (Ok (Some value)) = Ok value
+call_reply (Ok None) = Err Fault
+call_reply (Err error) = Err Fault
 
 -- What a call leaves the stream at. It counts exactly what it answers: a fault for each fault, a wait for each wait, and
 -- nothing else.
@@ -71,6 +77,10 @@ after_write raw piece (Err error) = one_fault raw
 -- a stream that is closed, and as it was in all else
 abbrev pub shut : Raw → Raw
 shut raw = record raw { closed = true }
+
+-- what holds of the file before and after a call of a stream that is open
+abbrev pub ForFiles : {F : Type 0} → Option F → Option F → (F → F → Type 0) → Type 0
+ForFiles old new P = IfSome old (λ stood. IfSome new (λ stands. P stood stands))
 
 -- a read takes what it gave from what is known to be left in the file, none only at its end, and nothing without an answer
 abbrev pub TakesFromFile : Option (List ℕ) → Option (List ℕ) → Result (Option ℕ) RawError → List ℕ → Type 0

@@ -18,3 +18,11 @@ can_write flags = has_bits flags 4
 -- whether they have SEEKABLE
 abbrev pub can_seek : RawFlags → Bool
 can_seek flags = has_bits flags 16
+
+-- whether they have CREATED
+abbrev pub was_created : RawFlags → Bool
+was_created flags = has_bits flags 1
+
+-- whether they have APPENDING
+abbrev pub appends : RawFlags → Bool
+appends flags = has_bits flags 8

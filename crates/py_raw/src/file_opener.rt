@@ -20,6 +20,8 @@ pub struct FileOpener<'a, R: Files> {
     faults: u64,
     raw_faults: u64,
     raw_waits: u64,
+    /// What the system said of the last fault.
+    last_error: Option<ErrorKind>,
 }
 
 impl<'a, R: Files> FileOpener<'a, R> {
@@ -35,7 +37,14 @@ impl<'a, R: Files> FileOpener<'a, R> {
             faults: 0,
             raw_faults: 0,
             raw_waits: 0,
+            last_error: None,
         }
+    }
+
+    /// What the system said of the last path that couldn't be opened: that it is missing, that there are no rights, that it is a
+    /// directory, and so on. `None` before the first fault. It is for a person who has to act on it; nothing is claimed of it.
+    pub fn last_error(&self) -> Option<ErrorKind> {
+        self.last_error
     }
 }
 
@@ -60,7 +69,8 @@ fn options_for(mode: &str) -> OpenOptions
     options
 }
 
-/// Opens a file, and asks whether it can seek. A directory is refused, since it opens for reading too.
+/// Opens a file, and asks whether it can seek: only the system's own word for "can't seek" says that it can't, and any other error
+/// is one of the opening. A directory is refused, since it opens for reading too.
 fn open_file<R: Files>(files: &R, path: &str, mode: &str) -> io::Result<(R::File, bool)>
     requires { IsRawMode mode.now }
 {
@@ -68,8 +78,11 @@ fn open_file<R: Files>(files: &R, path: &str, mode: &str) -> io::Result<(R::File
     if file.metadata()?.is_dir() {
         return Err(io::Error::from(ErrorKind::IsADirectory));
     }
-    let seekable = file.stream_position().is_ok();
-    Ok((file, seekable))
+    match file.stream_position() {
+        Ok(_) => Ok((file, true)),
+        Err(error) if error.kind() == ErrorKind::NotSeekable => Ok((file, false)),
+        Err(error) => Err(error),
+    }
 }
 
 impl<R: Files> Opener for FileOpener<'_, R>
@@ -107,8 +120,9 @@ where
                 let writable = mode_writes(mode);
                 Ok(FileRaw::new(file, readable, writable, seekable))
             }
-            Err(_) => {
+            Err(error) => {
                 self.faults = self.faults.saturating_add(1);
+                self.last_error = Some(error.kind());
                 Err(OpenError::Fault)
             }
         }

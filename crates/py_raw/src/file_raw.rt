@@ -1,6 +1,6 @@
 ghost use Rattle.std.proofs.Common.{rules};
-ghost use Rattle.std.specs.Prelude.{◌≡◌, ◌≤◌, false, true, [], Some, IfSome, IfOk, OnOk};
-ghost use Rattle.py_raw.specs.FileRaw.{shown, asks_to_wait, transfer_reply, after_call, after_transfer, after_write, shut, TakesFromFile, PutsInFile};
+ghost use Rattle.std.specs.Prelude.{◌≡◌, ◌≤◌, false, true, [], Some, IsSome, IfSome, IfOk, OnOk};
+ghost use Rattle.py_raw.specs.FileRaw.{shown, asks_to_wait, transfer_reply, call_reply, one_fault, after_call, after_transfer, after_write, shut, ForFiles, TakesFromFile, PutsInFile};
 ghost use Rattle.py_raw.specs.RawStream.{Keeps, StaysOpen, WriteFits, ReadOutcome, WriteOutcome, SeekOutcome, TellOutcome, EndOutcome, TruncateOutcome, CloseOutcome};
 ghost use Rattle.py_flat.specs.Limits.{greatest_place};
 ghost use Rattle.py_flat.specs.Causes.{counted};
@@ -17,17 +17,19 @@ use std::io::{ErrorKind, Read, Seek, SeekFrom, Write};
 /// It tells no content: what a file holds is the system's. An answer that a call would block or was interrupted asks to
 /// wait; every other error is a fault, and so is an answer that can't be true, as a place past 9223372036854775807 or a
 /// seek that ends elsewhere, and a write that takes nothing of a piece that isn't empty. Each wait and each fault is
-/// counted once, and nothing else is. The file is let go with the stream, when the stream is dropped: that can't report
-/// a fault, so none of the system's at its own closing is seen.
+/// counted once, and nothing else is. `close` lets the file go, and so does dropping the stream: that can't report a fault, so
+/// none of the system's at its own closing is seen.
 #[derive(Debug, Drop)]
 pub struct FileRaw<F = File> {
-    file: F,
+    /// The file, until it is closed.
+    file: Option<F>,
     readable: bool,
     writable: bool,
     seekable: bool,
-    closed: bool,
     faults: u64,
     waits: u64,
+    /// What the system said of the last fault.
+    last_error: Option<ErrorKind>,
 }
 
 /// Whether an error of a transfer asks to wait and try again.
@@ -55,26 +57,36 @@ impl<F> FileRaw<F> {
           takes_memory = false;
           counts_exactly = true;
         } }
-        ensures file { result.file ≡ file }
+        ensures file { result.file ≡ Some file }
     {
         FileRaw {
-            file,
+            file: Some(file),
             readable,
             writable,
             seekable,
-            closed: false,
             faults: 0,
             waits: 0,
+            last_error: None,
         }
     }
 
+    /// What the system said of the last fault: that the file is missing or full, that there are no rights, and so on. `None` before
+    /// the first fault, and after one that the system didn't see, as an answer that can't be true.
+    ///
+    /// It is for a person who has to act on a fault; nothing is claimed of it.
+    pub fn last_error(&self) -> Option<ErrorKind> {
+        self.last_error
+    }
+
     /// Counts a fault, and answers with it.
-    fn fault(&mut self) -> RawError
+    fn fault(&mut self, said: Option<ErrorKind>) -> RawError
         ensures answer { result ≡ RawError.Fault }
         ensures keeps { Keeps (shown self.old) (shown self.new) }
-        ensures after { self.new ≡ record self.old { faults = counted self.old.faults 1 } }
+        ensures after { shown self.new ≡ one_fault (shown self.old) }
+        ensures file { self.new.file ≡ self.old.file }
     {
         self.faults = self.faults.saturating_add(1);
+        self.last_error = said;
         RawError::Fault
     }
 
@@ -84,6 +96,20 @@ impl<F> FileRaw<F> {
         ensures after { self.new ≡ record self.old { waits = counted self.old.waits 1 } }
     {
         self.waits = self.waits.saturating_add(1);
+    }
+
+    /// Takes the file's answer to a call that is no transfer, and counts a fault; nothing, where the answer can't be true, is one.
+    fn take_reply<T: Drop>(&mut self, answer: io::Result<Option<T>>) -> Result<T, RawError>
+        ensures answer { result ≡ call_reply answer }
+        ensures keeps { Keeps (shown self.old) (shown self.new) }
+        ensures after { shown self.new ≡ after_call (shown self.old) result }
+        ensures file { self.new.file ≡ self.old.file }
+    {
+        match answer {
+            Ok(Some(value)) => Ok(value),
+            Ok(None) => Err(self.fault(None)),
+            Err(error) => Err(self.fault(Some(error.kind()))),
+        }
     }
 
     /// Takes the file's answer to a transfer, and counts a wait or a fault.
@@ -99,9 +125,21 @@ impl<F> FileRaw<F> {
                 self.count_wait();
                 Ok(None)
             }
-            Err(_) => Err(self.fault()),
+            Err(error) => Err(self.fault(Some(error.kind()))),
         }
     }
+}
+
+/// Where a file ends: it is moved there and back, since a device and some files of the system end elsewhere than their metadata
+/// says. `None` where an answer can't be true.
+fn end_of<F: Seek>(file: &mut F) -> io::Result<Option<u64>>
+    ensures end { IfOk result (λ answer. IfSome answer (λ end. end ≤ greatest_place)) }
+    ensures place { IfOk result (λ answer. IsSome answer → IfSome (F.stream_position file.old) (λ stood. F.stream_position file.new ≡ Some stood)) }
+{
+    let place = file.stream_position()?;
+    let end = file.seek(SeekFrom::End(0))?;
+    let back = file.seek(SeekFrom::Start(place))?;
+    Ok((back == place && end <= GREATEST_PLACE).then_some(end))
 }
 
 impl<F: Read + Write + Seek + OpenFile + Drop> RawStream for FileRaw<F> {
@@ -115,10 +153,13 @@ impl<F: Read + Write + Seek + OpenFile + Drop> RawStream for FileRaw<F> {
         ensures keeps { Keeps (shown self.old) (shown self.new) }
         ensures open { StaysOpen (shown self.old) (shown self.new) }
         ensures outcome { ReadOutcome (shown self.old) buf.old result buf.new (shown self.new) }
-        ensures file { TakesFromFile (F.remaining self.old.file) (F.remaining self.new.file) result buf.new }
+        ensures file { ForFiles self.old.file self.new.file (λ old new. TakesFromFile (F.remaining old) (F.remaining new) result buf.new) }
         ensures counts { shown self.new ≡ after_transfer (shown self.old) result }
     {
-        let answer = self.file.read(buf);
+        let Some(file) = &mut self.file else {
+            unreachable!()
+        };
+        let answer = file.read(buf);
         self.take_answer(answer)
     }
 
@@ -129,12 +170,15 @@ impl<F: Read + Write + Seek + OpenFile + Drop> RawStream for FileRaw<F> {
         ensures keeps { Keeps (shown self.old) (shown self.new) }
         ensures open { StaysOpen (shown self.old) (shown self.new) }
         ensures outcome { WriteOutcome (shown self.old) piece.now result (shown self.new) }
-        ensures file { PutsInFile (F.contents self.old.file) (F.contents self.new.file) result piece.now }
+        ensures file { ForFiles self.old.file self.new.file (λ old new. PutsInFile (F.contents old) (F.contents new) result piece.now) }
         ensures counts { shown self.new ≡ after_write (shown self.old) piece.now result }
     {
-        match self.file.write(piece) {
+        let Some(file) = &mut self.file else {
+            unreachable!()
+        };
+        match file.write(piece) {
             Ok(0) if !piece.is_empty() => {
-                self.fault();
+                self.fault(None);
                 Ok(Some(0))
             }
             answer => self.take_answer(answer),
@@ -148,13 +192,14 @@ impl<F: Read + Write + Seek + OpenFile + Drop> RawStream for FileRaw<F> {
         ensures keeps { Keeps (shown self.old) (shown self.new) }
         ensures open { StaysOpen (shown self.old) (shown self.new) }
         ensures outcome { SeekOutcome (shown self.old) place result (shown self.new) }
-        ensures file { OnOk result (IfSome (F.stream_position self.old.file) (λ stood. F.stream_position self.new.file ≡ Some place)) }
+        ensures file { OnOk result (ForFiles self.old.file self.new.file (λ old new. IfSome (F.stream_position old) (λ stood. F.stream_position new ≡ Some place))) }
         ensures counts { shown self.new ≡ after_call (shown self.old) result }
     {
-        match self.file.seek(SeekFrom::Start(place)) {
-            Ok(stands) if stands == place => Ok(()),
-            _ => Err(self.fault()),
-        }
+        let Some(file) = &mut self.file else {
+            unreachable!()
+        };
+        let answer = file.seek(SeekFrom::Start(place));
+        self.take_reply(answer.map(|stands| (stands == place).then_some(())))
     }
 
     fn tell(&mut self) -> Result<u64, RawError>
@@ -163,13 +208,14 @@ impl<F: Read + Write + Seek + OpenFile + Drop> RawStream for FileRaw<F> {
         ensures keeps { Keeps (shown self.old) (shown self.new) }
         ensures open { StaysOpen (shown self.old) (shown self.new) }
         ensures outcome { TellOutcome (shown self.old) result (shown self.new) }
-        ensures file { IfOk result (λ answer. IfSome (F.stream_position self.old.file) (λ stands. answer ≡ stands)) }
+        ensures file { IfOk result (λ answer. IfSome self.old.file (λ old. IfSome (F.stream_position old) (λ stands. answer ≡ stands))) }
         ensures counts { shown self.new ≡ after_call (shown self.old) result }
     {
-        match self.file.stream_position() {
-            Ok(place) if place <= GREATEST_PLACE => Ok(place),
-            _ => Err(self.fault()),
-        }
+        let Some(file) = &mut self.file else {
+            unreachable!()
+        };
+        let answer = file.stream_position();
+        self.take_reply(answer.map(|place| (place <= GREATEST_PLACE).then_some(place)))
     }
 
     fn end(&mut self) -> Result<u64, RawError>
@@ -178,12 +224,14 @@ impl<F: Read + Write + Seek + OpenFile + Drop> RawStream for FileRaw<F> {
         ensures keeps { Keeps (shown self.old) (shown self.new) }
         ensures open { StaysOpen (shown self.old) (shown self.new) }
         ensures outcome { EndOutcome (shown self.old) result (shown self.new) }
+        ensures file { OnOk result (ForFiles self.old.file self.new.file (λ old new. IfSome (F.stream_position old) (λ stood. F.stream_position new ≡ Some stood))) }
         ensures counts { shown self.new ≡ after_call (shown self.old) result }
     {
-        match self.file.metadata() {
-            Ok(file) if file.len() <= GREATEST_PLACE => Ok(file.len()),
-            _ => Err(self.fault()),
-        }
+        let Some(file) = &mut self.file else {
+            unreachable!()
+        };
+        let answer = end_of(file);
+        self.take_reply(answer)
     }
 
     fn truncate(&mut self, size: u64) -> Result<(), RawError>
@@ -195,10 +243,11 @@ impl<F: Read + Write + Seek + OpenFile + Drop> RawStream for FileRaw<F> {
         ensures outcome { TruncateOutcome (shown self.old) size result (shown self.new) }
         ensures counts { shown self.new ≡ after_call (shown self.old) result }
     {
-        match self.file.set_len(size) {
-            Ok(()) => Ok(()),
-            Err(_) => Err(self.fault()),
-        }
+        let Some(file) = &mut self.file else {
+            unreachable!()
+        };
+        let answer = file.set_len(size);
+        self.take_reply(answer.map(Some))
     }
 
     fn close(&mut self) -> Result<(), RawError>
@@ -207,12 +256,12 @@ impl<F: Read + Write + Seek + OpenFile + Drop> RawStream for FileRaw<F> {
         ensures outcome { CloseOutcome (shown self.old) result (shown self.new) }
         ensures counts { shown self.new ≡ after_call (shut (shown self.old)) result }
     {
-        self.closed = true;
+        self.file = None;
         Ok(())
     }
 
     fn closed(&self) -> bool {
-        self.closed
+        self.file.is_none()
     }
 
     fn readable(&self) -> bool {

@@ -1,5 +1,5 @@
-ghost use Rattle.std.specs.Prelude.{⊤, ◌≡◌, ◌∷◌, [], codes};
-ghost use Rattle.py_raw.specs.Flags.{can_read, can_write, can_seek};
+ghost use Rattle.std.specs.Prelude.{⊤, ◌≡◌, false, ◌∷◌, [], codes};
+ghost use Rattle.py_raw.specs.Flags.{can_read, can_write, can_seek, was_created, appends};
 
 use bitflags::{Flag, Flags, bitflag_items};
 
@@ -45,11 +45,14 @@ impl Flags for RawFlags {
 }
 
 impl RawFlags {
-    /// The flags of a stream that can do just these of reading, writing and moving.
+    /// The flags of a stream that can do just these of reading, writing and moving, and that was neither made by its opening nor is
+    /// appended to.
     pub fn able(readable: bool, writable: bool, seekable: bool) -> Self
         ensures reads { can_read result ≡ readable }
         ensures writes { can_write result ≡ writable }
         ensures seeks { can_seek result ≡ seekable }
+        ensures created { was_created result ≡ false }
+        ensures appends { appends result ≡ false }
     {
         let reading: u8 = if readable { 2 } else { 0 };
         let writing: u8 = if writable { 4 } else { 0 };
