@@ -1,6 +1,11 @@
 //! A program that opens a file and runs a script of calls on it, printing each reply (docs/PROGRAM.md).
 #![tactic(auto)]
 
+mod complaint;
+mod noting;
+
+use complaint::complaint;
+use noting::Noting;
 use py_program::{Status, run_program};
 use py_raw::{FileOpener, ReadSource, WriteSink};
 use std::fs::Files;
@@ -34,19 +39,36 @@ fn stand_in<R: Files>(files: &R) -> io::Result<R::File> {
     fs::open(files, "/")
 }
 
-/// Runs the words of the command line with files of the system, standard input and standard output, and ends with the
-/// status.
+/// Says a line on standard error, where there is one. That this fails changes no status.
+fn say(rt: &HostRuntime, line: &str) {
+    if !line.is_empty() {
+        let _ = eprintln!(rt; "py_io_cli: {line}");
+    }
+}
+
+/// Runs words with files of the system, standard input and standard output, and says what is amiss.
+fn run(rt: &HostRuntime, words: &[String]) -> u8 {
+    let alloc = rt.alloc();
+    let mut opener = FileOpener::new(rt);
+    let mut script = Noting::new(alloc, ReadSource::new(rt.stdin()));
+    let mut out = WriteSink::new(rt.stdout());
+    let code = run_program(alloc, words, &mut opener, &mut script, &mut out);
+    match complaint(alloc, code, words, &opener, &script) {
+        Ok(line) => say(rt, line.as_str()),
+        Err(_) => say(rt, "out of memory"),
+    }
+    code
+}
+
+/// Runs the words of the command line, and ends with the status.
 fn main(rt: HostRuntime) -> ExitCode {
     // One for each of standard input, output and error.
     let _held = (stand_in(&rt), stand_in(&rt), stand_in(&rt));
     match command_words(&rt) {
-        Ok(words) => {
-            let mut opener = FileOpener::new(&rt);
-            let mut script = ReadSource::new(rt.stdin());
-            let mut out = WriteSink::new(rt.stdout());
-            let code = run_program(rt.alloc(), &words, &mut opener, &mut script, &mut out);
-            ExitCode::from(code)
+        Ok(words) => ExitCode::from(run(&rt, &words)),
+        Err(status) => {
+            say(&rt, "a word is not UTF-8, or there is no memory");
+            ExitCode::from(status.code())
         }
-        Err(status) => ExitCode::from(status.code()),
     }
 }

@@ -1,0 +1,68 @@
+//! What is said on standard error where the program doesn't end with 0: one line, for a person who has to act on it.
+
+use crate::noting::Noting;
+use py_program::Status;
+use py_raw::{FileOpener, Source};
+use py_script::{parse_line, parse_words};
+use std::alloc::{AllocError, Global};
+use std::fs::Files;
+
+/// The line of a status; nothing for 0.
+pub fn complaint<R: Files, S: Source>(
+    alloc: Global,
+    code: u8,
+    words: &[String],
+    opener: &FileOpener<'_, R>,
+    script: &Noting<S>,
+) -> Result<String, AllocError>
+where
+    R::File: Send,
+{
+    let path = words.get(1).map_or("", |word| word.as_str());
+    match code {
+        0 => String::from_str(alloc, ""),
+        2 => words_complaint(alloc, words),
+        3 => script_complaint(alloc, script.seen()),
+        4 => String::from_str(
+            alloc,
+            "the opening is refused, by the name that was printed",
+        ),
+        5 => String::from_str(alloc, "the script can't be read from standard input"),
+        6 => String::from_str(alloc, "standard output can't be written"),
+        8 => match opener.last_error() {
+            Some(kind) => format!(in alloc; "{path} can't be opened: {kind}"),
+            None => format!(in alloc; "{path} can't be closed"),
+        },
+        _ => String::from_str(alloc, "out of memory"),
+    }
+}
+
+/// Which word is out of form: the last of the shortest front of the words that is no form, once a command, a path and a mode are there.
+fn words_complaint(alloc: Global, words: &[String]) -> Result<String, AllocError> {
+    if words.len() < 3 {
+        return String::from_str(
+            alloc,
+            "the words are no form: run PATH MODE [OPTION ..], or --help",
+        );
+    }
+    for count in 3..=words.len() {
+        let front = words.get(..count).unwrap_or(words);
+        if let (None, Some(word)) = (parse_words(alloc, front)?, front.last()) {
+            let word = if count == 3 { &words[0] } else { word };
+            return format!(in alloc; "the word {word} is out of form: try --help");
+        }
+    }
+    String::from_str(alloc, "a word is not UTF-8")
+}
+
+/// Which line of a script is out of form, from 1 on.
+fn script_complaint(alloc: Global, script: &[u8]) -> Result<String, AllocError> {
+    for (index, line) in script.split(|byte| *byte == b'\n').enumerate() {
+        let is_skipped = line.is_empty() || line.starts_with(b"#");
+        if !is_skipped && parse_line(alloc, line)?.is_none() {
+            let number = index.saturating_add(1);
+            return format!(in alloc; "line {number} of the script is out of form");
+        }
+    }
+    String::from_str(alloc, "the script has more than 1048576 bytes")
+}
