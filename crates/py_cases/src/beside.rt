@@ -76,7 +76,9 @@ fn follow(alloc: Global, case: &SessionCase<'_>, opened: Opened) -> Result<Came>
     let is_left = failed.is_none_or(|call| is_left_by_a_fault(alloc, &mut opened, call));
     let closes = failed.is_none() && opened.life() == Life::Closed;
     let handed = hand_over(alloc, opened, case.detaches && failed.is_some())?;
-    if differs.is_none() && !(is_left && ends(alloc, case, &handed, plain, (failed, closes))?) {
+    if differs.is_none()
+        && !(is_left && ends(alloc, case, &handed, &mut plain, (failed, closes))?)
+    {
         differs = Some(String::from_str(alloc, "what is left in the end")?);
     }
     Ok(came_of(&handed.raw, differs))
@@ -140,15 +142,16 @@ fn hand_over(alloc: Global, opened: Opened, detaches: bool) -> Result<Detached<M
     }
     let mut opened = opened;
     let reply = opened.call(alloc, &Call::Detach);
-    let mut left = opened.finish(alloc);
-    match reply {
-        Reply::Unwritten { bytes, place } if left.unwritten.is_empty() && left.place.is_none() => {
-            left.unwritten = bytes.into_vec();
-            left.place = place;
+    let mut handed = opened.finish(alloc);
+    let leaves_more = handed.place.is_some() || !handed.unwritten.is_empty();
+    match &reply {
+        Reply::Unwritten { bytes, place } if !leaves_more => {
+            handed.unwritten = Vec::from_slice(alloc, bytes.as_slice())?;
+            handed.place = *place;
         }
-        _ => left.place = None,
+        _ => handed.place = None,
     }
-    Ok(left)
+    Ok(handed)
 }
 
 /// Whether the end is as the plain code has it: each fault was told, a closed session has closed its raw, which then holds the flat
@@ -157,7 +160,7 @@ fn ends(
     alloc: Global,
     case: &SessionCase<'_>,
     handed: &Detached<MemRaw>,
-    plain: Plain,
+    plain: &mut Plain,
     how: (Option<&Call>, bool),
 ) -> Result<bool> {
     let (failed, closes) = how;
@@ -172,10 +175,9 @@ fn ends(
     });
     Ok(match plain {
         Plain::Text(_) => spares,
-        Plain::Bytes(flat) if flat.reads => spares && reaches(handed, &flat, failed),
+        Plain::Bytes(flat) if flat.reads => spares && reaches(handed, flat, failed),
         Plain::Bytes(flat) => {
-            let mut flat = flat;
-            holds_all_taken(alloc, handed, &mut flat, failed, more)?
+            holds_all_taken(alloc, handed, flat, failed, more)?
                 && (!closes || raw.bytes_of() == flat.bytes.as_slice())
         }
     })

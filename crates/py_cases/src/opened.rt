@@ -7,7 +7,7 @@ use crate::session_case::SessionCase;
 use anyhow::Result;
 use py_binary::{Access, BinarySession};
 use py_flat::Life;
-use py_open::{Call, Detached, OpenRefused, Reply, Run, Session, run_session};
+use py_open::{Call, Detached, OpenArgs, OpenRefused, Reply, Run, Session, run_session};
 use py_raw::{GREATEST_PLACE, MemRaw, RawFlags, RawStream};
 use py_script::{Command, parse_words};
 use py_stream::NewRefused;
@@ -114,13 +114,27 @@ fn open_planned(alloc: Global, case: &SessionCase<'_>, raw: MemRaw) -> Result<Op
     for word in ["run", "f", case.mode].iter().chain(&case.options) {
         words.push(String::from_str(alloc, word)?)?;
     }
-    let Some(Command::Run { mode, args, .. }) = parse_words(alloc, words.as_slice())? else {
+    let Some(args) = args_of(alloc, words.as_slice())? else {
         return case.open.malformed();
     };
-    Ok(match run_session(alloc, raw, mode, args, &[]) {
+    Ok(match run_session(alloc, raw, case.mode, args, &[]) {
         Ok(Run { session, .. }) => Ok(Opened::Planned(session)),
         Err(OpenRefused { raw, fault }) => Err(NewRefused { raw, fault }),
     })
+}
+
+/// The arguments of an opening that words ask for; nothing of words out of form.
+fn args_of(alloc: Global, words: &[String]) -> Result<Option<OpenArgs>> {
+    match parse_words(alloc, words)? {
+        Some(
+            Command::Run {
+                path: _path,
+                mode: _mode,
+                args,
+            },
+        ) => Ok(Some(args)),
+        _ => Ok(None),
+    }
 }
 
 /// Opens a text with a buffer of so many bytes, and chunks of a size that is its only option.
