@@ -1,5 +1,5 @@
 //! The stream without a buffer.
-ghost use Rattle.std.specs.Prelude.{◌≡◌, false, [], length};
+ghost use Rattle.std.specs.Prelude.{◌≡◌, false, [], length, IsTrue, IfErr};
 ghost use Rattle.py_flat.specs.Calls.{FileCall, Read, ReadLine, ReadLines, ReadInto, Write, WriteLines, Seek, Tell, Flush, Close, Refused};
 ghost use Rattle.py_flat.specs.ExactStep.{is_closed};
 ghost use Rattle.py_stream.specs.Answers.{Answers, RefusesAlone};
@@ -51,7 +51,8 @@ impl<R: RawStream> UnbufferedStream<R> {
     /// there. But for the last it is as it was; `NoMemory` comes only of a raw that takes some.
     pub fn new(raw: R, access: Access) -> Result<Self, NewRefused<R>>
         requires start { StandsAtStart (R.shows raw) }
-        ensures { NewOutcome R.shows (is_able access) (can_of access) raw None result }
+        ensures outcome { NewOutcome R.shows (is_able access) (can_of access) raw None result }
+        ensures memory { IfErr result (λ refused. refused.fault ≡ IoFault.NoMemory → IsTrue (R.shows raw).takes_memory) }
     {
         let mut raw = raw;
         let able = match access {

@@ -2,7 +2,7 @@ use Rattle.std.proofs.Common.{inl, inr, ◌≡◌, sym, ap, ◌∙◌}
 use Rattle.py_raw.specs.RawStream.{Raw}
 use Rattle.py_unbuffered.specs.declared.access.Access.{Access}
 use Rattle.py_unbuffered.specs.Unbuffered.{can_of, is_able}
-use Rattle.py_unbuffered.proofs.Refused.{refuses_first}
+use Rattle.py_unbuffered.proofs.Refused.{refuses_first, lacks_none}
 use Rattle.py_unbuffered.proofs.unbuffered_stream.UnbufferedStream.new.Goals as goal
 use Rattle.py_unbuffered.proofs.unbuffered_stream.UnbufferedStream.new.Goals.{in-Read, in-Write}
 
@@ -17,4 +17,4 @@ returns-in-Some g c =
         | inr appends ↦ ap (λ (access : Access). is_able access raw) (sym appends)
       ])
     ] in
-    refuses_first (is_able c.args.access) (can_of c.args.access raw.seekable).appending raw c.match-access.able c.in-Some.fault able refuses
+    record { outcome = refuses_first (is_able c.args.access) (can_of c.args.access raw.seekable).appending raw c.match-access.able c.in-Some.fault able refuses; memory = lacks_none raw.takes_memory raw.closed c.match-access.able c.in-Some.fault refuses }
