@@ -3,7 +3,6 @@
 use anyhow::{Result, bail};
 use hex::decode;
 use std::alloc::Global;
-use std::str::FromStr;
 
 /// A line of a case: its number in the file, from 1 on, its first word, and what follows the space behind it.
 #[derive(Clone, Copy)]
@@ -31,23 +30,11 @@ impl<'a> Line<'a> {
         bail!("line {} is out of form", self.number)
     }
 
-    /// The words of a part of this line.
-    pub(crate) fn words(alloc: Global, part: &'a str) -> Result<Vec<&'a str>> {
-        Ok(part.split_whitespace().collect(alloc)?)
-    }
-
     /// The numbers that the words of a part of this line are.
-    pub(crate) fn numbers<T: FromStr>(&self, alloc: Global, part: &str) -> Result<Vec<T>>
-    where
-        T: Drop,
-        T::Err: Drop,
-    {
+    pub(crate) fn numbers(&self, alloc: Global, part: &str) -> Result<Vec<u64>> {
         let mut numbers = Vec::new(alloc);
         for word in part.split_whitespace() {
-            match word.parse() {
-                Ok(number) => numbers.push(number)?,
-                Err(_) => return self.malformed(),
-            }
+            numbers.push(self.number(word)? as u64)?;
         }
         Ok(numbers)
     }

@@ -43,7 +43,7 @@ pub(crate) fn answer(alloc: Global, text: &mut PlainText, call: &Call) -> Reply 
 pub(crate) fn run_units_block(block: &Block<'_>, report: &mut Report) -> Result<()> {
     let alloc = report.alloc;
     for line in &block.lines {
-        let words = Line::words(alloc, line.rest)?;
+        let words: Vec<&str> = line.rest.split_whitespace().collect(alloc)?;
         let answer = match (line.word, words.as_slice()) {
             ("unit", [bytes]) => unit_words(alloc, &line.bytes(alloc, bytes)?)?,
             ("line", [rule, limit, bytes]) => line_words(alloc, line, (rule, limit), bytes)?,

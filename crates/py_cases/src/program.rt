@@ -109,7 +109,16 @@ fn run(case: ProgramCase<'_>, report: &mut Report) -> Result<()> {
         };
         report.line(line.as_str())?;
     }
-    report_counts(&opener, &source, &sink, report)
+    let line = format!(in report.alloc;
+        "reads {}, faults of source {}, sink {}, opener {}, raws {}, waits {}",
+        source.read_count(),
+        source.fault_count(),
+        sink.fault_count(),
+        opener.fault_count(),
+        opener.raw_fault_count(),
+        opener.raw_wait_count()
+    )?;
+    report.line(line.as_str())
 }
 
 /// Reports what was printed, each line behind `|`; a last one that lacks its end behind `:`.
@@ -124,22 +133,4 @@ fn report_printed(printed: &str, report: &mut Report) -> Result<()> {
         report.line(format!(in report.alloc; ": {open}")?.as_str())?;
     }
     Ok(())
-}
-
-fn report_counts(
-    opener: &MemOpener,
-    source: &MemSource,
-    sink: &MemSink,
-    report: &mut Report,
-) -> Result<()> {
-    let reads = source.read_count();
-    let source = source.fault_count();
-    let sink = sink.fault_count();
-    let refused = opener.fault_count();
-    let faults = opener.raw_fault_count();
-    let waits = opener.raw_wait_count();
-    let line = format!(in report.alloc;
-        "reads {reads}, faults of source {source}, sink {sink}, opener {refused}, raws {faults}, waits {waits}"
-    )?;
-    report.line(line.as_str())
 }

@@ -42,14 +42,14 @@ fn report_end(life: &str, handed: Detached<MemRaw>, report: &mut Report) -> Resu
 
 /// Reports a raw: its bytes, where it stands, its transfers, faults and waits, and whether it is closed.
 fn report_raw(raw: &MemRaw, report: &mut Report) -> Result<()> {
-    let bytes = hex_of(report.alloc, raw.bytes_of())?;
-    let place = raw.place_of();
-    let transfers = raw.transfer_count();
-    let faults = raw.fault_count();
-    let waits = raw.wait_count();
-    let closed = if raw.closed() { ", closed" } else { "" };
     let line = format!(in report.alloc;
-        "raw {bytes} at {place}, transfers {transfers}, faults {faults}, waits {waits}{closed}"
+        "raw {} at {}, transfers {}, faults {}, waits {}{}",
+        hex_of(report.alloc, raw.bytes_of())?,
+        raw.place_of(),
+        raw.transfer_count(),
+        raw.fault_count(),
+        raw.wait_count(),
+        if raw.closed() { ", closed" } else { "" }
     )?;
     report.line(line.as_str())
 }
