@@ -17,6 +17,7 @@ fn each_flag_has_its_bit_and_a_union_contains_its_parts(rt: HostRuntime) {
         assert_eq!(rt; flag.bits(), bits, "at {name}");
         assert!(rt; !all.contains(flag), "at {name}");
         all.insert(flag);
+        assert!(rt; all.contains(flag), "at {name}");
     }
     assert_eq!(rt; all.bits(), 31);
     assert!(rt; RawFlags::from_bits(32).is_none());

@@ -101,3 +101,34 @@ fn each_error_of_the_outside_says_what_went_wrong(rt: HostRuntime) -> Result<(),
     }
     Ok(())
 }
+
+#[test]
+fn a_mode_that_is_refused_has_pythons_message(rt: HostRuntime) -> Result<(), Fail> {
+    let alloc = rt.alloc();
+    for (error, mode, message) in [
+        (ParseModeError::InvalidMode, "rr", "invalid mode: 'rr'"),
+        (ParseModeError::InvalidMode, "é", "invalid mode: 'é'"),
+        (
+            ParseModeError::MultipleFile,
+            "rw",
+            "must have exactly one of create/read/write/append mode",
+        ),
+        (
+            ParseModeError::MultipleEncode,
+            "tb",
+            "can't have text and binary mode at once",
+        ),
+        (ParseModeError::NoFile, "", ONE_FILE),
+    ] {
+        assert_eq!(rt; error.error_msg(alloc, mode)?.as_str(), message);
+    }
+    for (error, mode, message) in [
+        (ModeError::Invalid, "rt", "invalid mode: rt"),
+        (ModeError::Invalid, "é", "invalid mode: é"),
+        (ModeError::BadRwa, "rwb", ONE_FILE),
+        (ModeError::BadRwa, "b", ONE_FILE),
+    ] {
+        assert_eq!(rt; error.error_msg(alloc, mode)?.as_str(), message);
+    }
+    Ok(())
+}
