@@ -1,0 +1,101 @@
+//! Openers: what each raw mode makes of a real file.
+ghost use Rattle.std.specs.Prelude.{◌≡◌, true, false};
+
+use py_raw::{FileOpener, OpenError, Opener, RawStream, is_raw_mode};
+use std::alloc::Global;
+use std::fs::Files;
+use std::process::Abort;
+use std::test::Fail;
+use std::{env, fs, process};
+
+/// A mode, and what a path that holds nothing and one that holds `old` hold once a letter was written by it: behind the
+/// end by `a`, at the start by the others, and not at all where it can't be written. `None` is a fault of the opener.
+/// From Python's documentation of `open`.
+const EACH_MODE: [(&str, Option<&str>, Option<&str>); 8] = [
+    ("rb", None, Some("old")),
+    ("rb+", None, Some("Nld")),
+    ("wb", Some("N"), Some("N")),
+    ("wb+", Some("N"), Some("N")),
+    ("xb", Some("N"), None),
+    ("xb+", Some("N"), None),
+    ("ab", Some("N"), Some("oldN")),
+    ("ab+", Some("N"), Some("oldN")),
+];
+
+/// Writes a letter to an open stream: behind the end or at the start.
+fn write_letter<R: RawStream>(rt: &impl Abort, raw: &mut R, behind: bool)
+    requires open { (R.shows raw.old).closed ≡ false }
+    requires writes { (R.shows raw.old).writable ≡ true }
+    requires seeks { (R.shows raw.old).seekable ≡ true }
+{
+    let end = raw.end().expect(rt, "an end");
+    let place = if behind { end } else { 0 };
+    assert!(rt; place < 100);
+    assert_eq!(rt; raw.seek(place), Ok(()));
+    assert_eq!(rt; raw.write(b"N"), Ok(Some(1)));
+}
+
+/// Opens a path by a mode, writes a letter where it can be written, and puts it away. Whether it opened: else the opener
+/// failed.
+fn opens<O: Opener>(
+    rt: &impl Abort,
+    alloc: Global,
+    opener: &mut O,
+    path: &str,
+    mode: &str,
+) -> bool {
+    assert!(rt; is_raw_mode(mode));
+    match opener.open_raw(alloc, path, mode) {
+        Ok(mut raw) => {
+            assert_eq!(rt; raw.readable(), mode.contains('r') || mode.contains('+'));
+            assert!(rt; raw.seekable());
+            if raw.writable() {
+                write_letter(rt, &mut raw, mode.contains('a'));
+            }
+            assert_eq!(rt; opener.done(path, raw), Ok(()));
+            true
+        }
+        Err(error) => {
+            assert_eq!(rt; error, OpenError::Fault);
+            false
+        }
+    }
+}
+
+/// A path holds this, or nothing.
+fn assert_holds(rt: &(impl Abort + Files + Alloc), path: &str, want: Option<&str>, mode: &str) {
+    match fs::read(rt, path) {
+        Ok(bytes) => {
+            assert!(rt;
+                Some(bytes.as_slice()) == want.map(|text| text.as_bytes()),
+                "at {mode}"
+            );
+        }
+        Err(_) => assert!(rt; want.is_none(), "at {mode}"),
+    }
+}
+
+#[test]
+fn each_mode_opens_a_real_file_as_it_should(rt: HostRuntime) -> Result<(), Fail> {
+    let alloc = rt.alloc();
+    let folder = env::temp_dir(&rt)?;
+    let name = format!(in alloc; "py_adapter_tests-opener-{}", process::id(rt.process()))?;
+    let path_buf = folder.join(alloc, name.as_str())?;
+    let path = path_buf.as_str();
+    let mut opener = FileOpener::new(&rt);
+    for (mode, missing, existing) in EACH_MODE {
+        let made = opens(&rt, alloc, &mut opener, path, mode);
+        assert_eq!(rt; made, missing.is_some(), "{mode} of a missing path");
+        assert_holds(&rt, path, missing, mode);
+        fs::write(&rt, path, "old")?;
+        let opened = opens(&rt, alloc, &mut opener, path, mode);
+        assert_eq!(rt; opened, existing.is_some(), "{mode} of a file");
+        assert_holds(&rt, path, existing.or(Some("old")), mode);
+        fs::remove_file(&rt, path)?;
+        assert!(rt;
+            !opens(&rt, alloc, &mut opener, folder.as_str(), mode),
+            "{mode} of a folder"
+        );
+    }
+    Ok(())
+}

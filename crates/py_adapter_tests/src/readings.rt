@@ -1,0 +1,117 @@
+//! The readings that every raw stream has of its own: once, and up to the end.
+use py_raw::{Cut, MemRaw, RawError, RawFlags, RawStream};
+use std::alloc::{AllocError, Global};
+use std::process::Abort;
+use std::test::Fail;
+
+/// A stream over some bytes that can be read and moved.
+fn raw_over(
+    alloc: Global,
+    bytes: &[u8],
+    plan: &[Cut],
+    faults: &[u64],
+) -> Result<MemRaw, AllocError> {
+    let bytes = bytes.to_vec(alloc)?;
+    let plan = plan.to_vec(alloc)?;
+    let flags = RawFlags::able(true, false, true);
+    Ok(MemRaw::new(bytes, flags, plan, faults.to_vec(alloc)?))
+}
+
+/// Reads once, through the bound.
+fn read_once<R: RawStream>(
+    rt: &impl Abort,
+    raw: &mut R,
+    alloc: Global,
+    n: usize,
+) -> Result<Option<Vec<u8>>, RawError> {
+    assert!(rt; !raw.closed() && raw.readable());
+    raw.read(alloc, n)
+}
+
+/// Reads up to the end, through the bound.
+fn read_all<R: RawStream>(
+    rt: &impl Abort,
+    raw: &mut R,
+    out: &mut Vec<u8>,
+) -> Result<Option<usize>, RawError> {
+    assert!(rt; !raw.closed() && raw.readable());
+    raw.readall(out)
+}
+
+#[test]
+fn a_single_reading_gives_what_one_transfer_does(rt: HostRuntime) -> Result<(), Fail> {
+    let alloc = rt.alloc();
+    let table: [(usize, &[Cut], &[u64], Result<Option<&[u8]>, RawError>, u64); 6] = [
+        (9, &[], &[], Ok(Some(b"abc")), 3),
+        (2, &[], &[], Ok(Some(b"ab")), 2),
+        (0, &[], &[], Ok(Some(b"")), 0),
+        (9, &[Cut::Take(1)], &[], Ok(Some(b"a")), 1),
+        (9, &[Cut::Wait], &[], Ok(None), 0),
+        (9, &[], &[0], Err(RawError::Fault), 0),
+    ];
+    for (n, plan, faults, answer, stands) in table {
+        let mut raw = raw_over(alloc, b"abc", plan, faults)?;
+        match read_once(&rt, &mut raw, alloc, n) {
+            Ok(Some(bytes)) => assert_eq!(rt; Ok(Some(bytes.as_slice())), answer, "at {n}"),
+            Ok(None) => assert_eq!(rt; answer, Ok(None), "at {n}"),
+            Err(error) => assert_eq!(rt; answer, Err(error), "at {n}"),
+        }
+        assert_eq!(rt; raw.place_of(), stands, "at {n}");
+    }
+    Ok(())
+}
+
+#[test]
+fn a_reading_up_to_the_end_keeps_what_came_before_a_fault(rt: HostRuntime) -> Result<(), Fail> {
+    let alloc = rt.alloc();
+    let one = Cut::Take(1);
+    let table: [(&[Cut], &[u64], Result<Option<usize>, RawError>, &[u8]); 7] = [
+        (&[], &[], Ok(Some(5)), b".abcde"),
+        (&[one, one, one, one, one], &[], Ok(Some(5)), b".abcde"),
+        (&[one, one, Cut::Wait], &[], Ok(Some(2)), b".ab"),
+        (&[one, Cut::Wait, one], &[], Ok(Some(1)), b".a"),
+        (&[Cut::Wait], &[], Ok(None), b"."),
+        (&[one, one], &[2], Err(RawError::Fault), b".ab"),
+        (&[Cut::Take(2), one], &[2], Err(RawError::Fault), b".abc"),
+    ];
+    for (plan, faults, answer, held) in table {
+        let mut raw = raw_over(alloc, b"abcde", plan, faults)?;
+        let mut out = b".".to_vec(alloc)?;
+        assert_eq!(rt; read_all(&rt, &mut raw, &mut out), answer);
+        assert_eq!(rt; out.as_slice(), held);
+    }
+    Ok(())
+}
+
+#[test]
+fn a_reading_up_to_the_end_goes_on_where_the_stream_asked_to_wait(
+    rt: HostRuntime,
+) -> Result<(), Fail> {
+    let alloc = rt.alloc();
+    let mut raw = raw_over(alloc, b"abc", &[Cut::Take(2), Cut::Wait, Cut::Wait], &[])?;
+    let mut out = Vec::new(alloc);
+    let table: [(Result<Option<usize>, RawError>, &[u8]); 4] = [
+        (Ok(Some(2)), b"ab"),
+        (Ok(None), b"ab"),
+        (Ok(Some(1)), b"abc"),
+        (Ok(Some(0)), b"abc"),
+    ];
+    for (answer, held) in table {
+        assert_eq!(rt; read_all(&rt, &mut raw, &mut out), answer);
+        assert_eq!(rt; out.as_slice(), held);
+    }
+    Ok(())
+}
+
+#[test]
+fn a_reading_up_to_the_end_asks_for_more_each_time(rt: HostRuntime) -> Result<(), Fail> {
+    let alloc = rt.alloc();
+    let mut long = Vec::new(alloc);
+    long.resize(20000, b'x')?;
+    let mut raw = raw_over(alloc, long.as_slice(), &[], &[])?;
+    let mut out = Vec::new(alloc);
+    assert_eq!(rt; read_all(&rt, &mut raw, &mut out), Ok(Some(20000)));
+    assert!(rt; out == long);
+    assert_eq!(rt; raw.transfer_count(), 4);
+    Ok(())
+}

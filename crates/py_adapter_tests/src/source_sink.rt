@@ -1,0 +1,78 @@
+//! Sources over readers and sinks over writers, as standard input and output.
+use py_source_sink::{Failed, ReadSource, Sink, Source, WriteSink};
+use std::alloc::AllocError;
+use std::io;
+use std::io::{Cursor, ErrorKind, Read, Write};
+
+/// A reader whose first read fails, and whose others give one byte.
+#[derive(Drop)]
+struct FailsFirst {
+    failed: bool,
+}
+
+impl Read for FailsFirst {
+    fn read(&mut self, buf: &mut [u8]) -> io::Result<usize> {
+        if !self.failed {
+            self.failed = true;
+            return Err(io::Error::from(ErrorKind::WouldBlock));
+        }
+        if buf.is_empty() {
+            return Ok(0);
+        }
+        buf[0] = b'x';
+        Ok(1)
+    }
+}
+
+#[test]
+fn reads_what_the_reader_gives_and_fails_where_it_fails(rt: HostRuntime) -> Result<(), AllocError> {
+    let mut buf = [0u8; 4];
+    let mut source = ReadSource::new(Cursor::new(Vec::from_slice(rt.alloc(), b"abcdef")?));
+    let pieces: [&[u8]; 3] = [b"abcd", b"ef", b""];
+    for piece in pieces {
+        assert_eq!(rt; source.read(&mut buf), Ok(piece.len()));
+        assert!(rt; &buf[..piece.len()] == piece);
+    }
+    let mut failing = ReadSource::new(FailsFirst { failed: false });
+    assert_eq!(rt; failing.read(&mut buf), Err(Failed));
+    assert_eq!(rt; failing.read(&mut buf), Ok(1));
+    Ok(())
+}
+
+/// A writer that takes one byte a write into its three places, and keeps them until it is flushed, which fails once
+/// all are taken.
+#[derive(Drop)]
+struct Narrow {
+    taken: usize,
+}
+
+impl Write for Narrow {
+    fn write(&mut self, buf: &[u8]) -> io::Result<usize> {
+        if self.taken < 3 && !buf.is_empty() {
+            self.taken += 1;
+            return Ok(1);
+        }
+        Ok(0)
+    }
+
+    fn flush(&mut self) -> io::Result<()> {
+        if self.taken < 3 {
+            return Ok(());
+        }
+        Err(io::Error::from(ErrorKind::StorageFull))
+    }
+}
+
+#[test]
+fn writes_all_and_fails_where_the_writer_fails(rt: HostRuntime) -> Result<(), AllocError> {
+    let mut bytes = Vec::new(rt.alloc());
+    let mut sink = WriteSink::new(&mut bytes);
+    assert_eq!(rt; sink.write(b"ab"), Ok(()));
+    assert_eq!(rt; sink.write(b"c"), Ok(()));
+    assert!(rt; bytes.as_slice() == b"abc".as_slice());
+    let mut narrow = WriteSink::new(Narrow { taken: 0 });
+    assert_eq!(rt; narrow.write(b"ab"), Ok(()));
+    assert_eq!(rt; narrow.write(b"c"), Err(Failed));
+    assert_eq!(rt; narrow.write(b"d"), Err(Failed));
+    Ok(())
+}
