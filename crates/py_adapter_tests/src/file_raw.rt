@@ -1,7 +1,7 @@
 //! Raw streams over files: over a fake, which answers what a system may, and over a real one.
 ghost use Rattle.std.specs.Prelude.{◌≤◌, IfOk};
 
-use py_raw::{FileRaw, RawError, RawStream};
+use py_raw::{FileOpener, FileRaw, Opener, RawError, RawStream};
 use std::fs::{Metadata, OpenFile, OpenOptions};
 use std::io::{Error, ErrorKind, Read, Seek, SeekFrom, Write};
 use std::test::Fail;
@@ -118,11 +118,24 @@ fn a_device_that_stands_elsewhere_than_asked_fails_the_seek(rt: HostRuntime) {
     assert_eq!(rt; raw.seek(0), Ok(()));
     assert_eq!(rt; raw.seek(5), Err(RawError::Fault));
     assert_eq!(rt; raw.tell(), Ok(0));
-    assert_eq!(rt; raw.end(), Err(RawError::Fault));
+    assert_eq!(rt; raw.end(), Ok(0));
     assert_eq!(rt; raw.truncate(1), Err(RawError::Fault));
+    assert_eq!(rt; raw.last_error(), Some(ErrorKind::Other));
     assert_eq!(rt; raw.close(), Ok(()));
     assert!(rt; raw.closed());
-    assert_eq!(rt; raw.fault_count(), 3);
+    assert_eq!(rt; raw.fault_count(), 2);
+}
+
+#[test]
+fn a_place_past_every_file_is_a_fault(rt: HostRuntime) {
+    let file = Fake {
+        step: Step::Moves(0),
+        stands: u64::MAX,
+    };
+    let mut raw = FileRaw::new(file, true, true, true);
+    assert_eq!(rt; raw.tell(), Err(RawError::Fault));
+    assert_eq!(rt; raw.end(), Err(RawError::Fault));
+    assert_eq!(rt; (raw.fault_count(), raw.last_error()), (2, None));
 }
 
 #[test]
@@ -145,6 +158,38 @@ fn a_real_file_keeps_what_is_written(rt: HostRuntime) -> Result<(), Fail> {
     assert_eq!(rt; raw.truncate(3), Ok(()));
     assert_eq!(rt; raw.end(), Ok(3));
     assert_eq!(rt; raw.tell(), Ok(6));
+    assert_eq!(rt; raw.write(b"g"), Ok(Some(1)));
+    assert_eq!(rt; raw.seek(2), Ok(()));
+    assert_eq!(rt; raw.readinto(&mut buf), Ok(Some(4)));
+    assert_eq!(rt; &buf, b"c\0\0\0");
+    assert_eq!(rt; raw.truncate(0), Ok(()));
+    assert_eq!(rt; (raw.end(), raw.tell()), (Ok(0), Ok(6)));
+    assert_eq!(rt; raw.close(), Ok(()));
     fs::remove_file(&rt, path.as_path())?;
+    Ok(())
+}
+
+/// How many files this process has open, one more for the folder that tells it.
+fn open_files(rt: &HostRuntime) -> io::Result<usize> {
+    let mut count = 0usize;
+    for entry in fs::read_dir(rt, "/proc/self/fd")? {
+        let _ = entry?;
+        count = count.saturating_add(1);
+    }
+    Ok(count)
+}
+
+#[test]
+fn closed_streams_leave_no_file_open(rt: HostRuntime) -> Result<(), Fail> {
+    let alloc = rt.alloc();
+    let before = open_files(&rt)?;
+    let mut opener = FileOpener::new(&rt);
+    let mut closed = Vec::new(alloc);
+    for _ in 0..10_000 {
+        let mut raw = opener.open_raw(alloc, "/dev/null", "rb")?;
+        assert_eq!(rt; raw.close(), Ok(()));
+        closed.push(raw)?;
+    }
+    assert_eq!(rt; open_files(&rt)?, before);
     Ok(())
 }
