@@ -39,6 +39,7 @@ pub(crate) fn run_sweep_block(block: &Block<'_>, report: &mut Report) -> Result<
         failed = failed.saturating_add(usize::from(came.faults > 0));
         if let Some(what) = came.differs {
             report.line(format!(in alloc; "run {run} of {runs} differs: {what}")?.as_str())?;
+            report.line(format!(in alloc; "session {}", block.head.rest)?.as_str())?;
             for text in &texts {
                 report.line(text.as_str())?;
             }
