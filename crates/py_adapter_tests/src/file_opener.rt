@@ -4,6 +4,7 @@ ghost use Rattle.std.specs.Prelude.{◌≡◌, true, false};
 use py_raw::{FileOpener, OpenError, Opener, RawStream, is_raw_mode};
 use std::alloc::Global;
 use std::fs::Files;
+use std::io::ErrorKind;
 use std::process::Abort;
 use std::test::Fail;
 use std::{env, fs, process};
@@ -96,6 +97,22 @@ fn each_mode_opens_a_real_file_as_it_should(rt: HostRuntime) -> Result<(), Fail>
             !opens(&rt, alloc, &mut opener, folder.as_str(), mode),
             "{mode} of a folder"
         );
+    }
+    Ok(())
+}
+
+#[test]
+fn the_last_error_is_what_the_system_said_of_a_path(rt: HostRuntime) -> Result<(), Fail> {
+    let alloc = rt.alloc();
+    let folder = env::temp_dir(&rt)?;
+    let mut opener = FileOpener::new(&rt);
+    assert_eq!(rt; opener.last_error(), None);
+    for (path, kind) in [
+        (folder.as_str(), ErrorKind::IsADirectory),
+        ("py_adapter_tests, missing", ErrorKind::NotFound),
+    ] {
+        assert!(rt; !opens(&rt, alloc, &mut opener, path, "rb"));
+        assert_eq!(rt; opener.last_error(), Some(kind));
     }
     Ok(())
 }

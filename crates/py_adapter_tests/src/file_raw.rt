@@ -112,30 +112,45 @@ fn a_write_that_takes_nothing_is_a_fault(rt: HostRuntime) {
 fn a_device_that_stands_elsewhere_than_asked_fails_the_seek(rt: HostRuntime) {
     let file = Fake {
         step: Step::Moves(0),
-        stands: 0,
+        stands: 3,
     };
     let mut raw = FileRaw::new(file, true, true, true);
-    assert_eq!(rt; raw.seek(0), Ok(()));
+    assert_eq!(rt; raw.seek(3), Ok(()));
     assert_eq!(rt; raw.seek(5), Err(RawError::Fault));
-    assert_eq!(rt; raw.tell(), Ok(0));
-    assert_eq!(rt; raw.end(), Ok(0));
+    assert_eq!(rt; raw.tell(), Ok(3));
+    assert_eq!(rt; raw.end(), Ok(3)); // it moves to the end and back
     assert_eq!(rt; raw.truncate(1), Err(RawError::Fault));
-    assert_eq!(rt; raw.last_error(), Some(ErrorKind::Other));
     assert_eq!(rt; raw.close(), Ok(()));
     assert!(rt; raw.closed());
     assert_eq!(rt; raw.fault_count(), 2);
 }
 
 #[test]
-fn a_place_past_every_file_is_a_fault(rt: HostRuntime) {
+fn a_place_that_no_file_has_is_a_fault(rt: HostRuntime) {
     let file = Fake {
         step: Step::Moves(0),
-        stands: u64::MAX,
+        stands: 1 << 63,
     };
     let mut raw = FileRaw::new(file, true, true, true);
     assert_eq!(rt; raw.tell(), Err(RawError::Fault));
     assert_eq!(rt; raw.end(), Err(RawError::Fault));
-    assert_eq!(rt; (raw.fault_count(), raw.last_error()), (2, None));
+    assert_eq!(rt; raw.fault_count(), 2);
+}
+
+#[test]
+fn the_last_error_is_what_the_system_said_of_the_last_fault(rt: HostRuntime) {
+    let file = Fake {
+        step: Step::Fails(ErrorKind::StorageFull),
+        stands: 0,
+    };
+    let mut raw = FileRaw::new(file, false, true, true);
+    assert_eq!(rt; raw.last_error(), None);
+    assert_eq!(rt; raw.write(b"abc"), Err(RawError::Fault));
+    assert_eq!(rt; raw.last_error(), Some(ErrorKind::StorageFull));
+    assert_eq!(rt; raw.seek(0), Ok(())); // what doesn't fail leaves it
+    assert_eq!(rt; raw.last_error(), Some(ErrorKind::StorageFull));
+    assert_eq!(rt; raw.seek(5), Err(RawError::Fault)); // the system saw no fault in this one
+    assert_eq!(rt; raw.last_error(), None);
 }
 
 #[test]
