@@ -19,16 +19,16 @@ enum Plain {
     Text(PlainText),
 }
 
-/// What came of a run, and what of it isn't as the plain code has it.
+/// How often the raw of a run waited and failed, and what of the run isn't as the plain code has it.
 #[derive(Drop)]
-pub(crate) struct Came {
+pub(crate) struct Outcome {
     pub(crate) waits: u64,
     pub(crate) faults: u64,
     pub(crate) differs: Option<String>,
 }
 
 /// Runs a case beside the plain code: each answer, what a fault leaves, and what is handed back in the end.
-pub(crate) fn run_beside(alloc: Global, case: &SessionCase<'_>) -> Result<Came> {
+pub(crate) fn run_beside(alloc: Global, case: &SessionCase<'_>) -> Result<Outcome> {
     match open(alloc, case)? {
         Ok(opened) => follow(alloc, case, opened),
         Err(NewRefused { raw, fault }) => {
@@ -38,32 +38,52 @@ pub(crate) fn run_beside(alloc: Global, case: &SessionCase<'_>) -> Result<Came> 
                 true => None,
                 false => Some(format!(in alloc; "the opening is refused: {fault}")?),
             };
-            Ok(came_of(&raw, differs))
+            Ok(outcome_of(&raw, differs))
         }
     }
 }
 
-fn came_of(raw: &MemRaw, differs: Option<String>) -> Came {
-    Came {
+fn outcome_of(raw: &MemRaw, differs: Option<String>) -> Outcome {
+    Outcome {
         waits: raw.wait_count(),
         faults: raw.fault_count(),
         differs,
     }
 }
 
+/// How the calls of a run ended.
+#[derive(Clone, Copy)]
+struct End<'a> {
+    /// The call that a fault answered.
+    failed: Option<&'a Call>,
+    /// Whether the session is closed, by a close that was done.
+    closes: bool,
+    /// Whether the last call passed on all that was owed.
+    passes: bool,
+    /// How many answers a wait cut short.
+    shorts: u64,
+}
+
 /// Makes the calls up to one that a fault answers, and compares what is handed back then.
-fn follow(alloc: Global, case: &SessionCase<'_>, opened: Opened) -> Result<Came> {
+fn follow(alloc: Global, case: &SessionCase<'_>, opened: Opened) -> Result<Outcome> {
     let mut opened = opened;
     let mut plain = plain_of(alloc, case)?;
-    let mut failed = None;
+    let mut end = End {
+        failed: None,
+        closes: false,
+        passes: false,
+        shorts: 0,
+    };
     let mut differs = None;
     for call in &case.calls {
         let reply = opened.call(alloc, call);
         let short = opened.short();
         if reply.says_fault() {
-            failed = Some(call);
+            end.failed = Some(call);
             break;
         }
+        end.shorts = end.shorts.saturating_add(u64::from(short));
+        end.passes = passes_all(call, &reply);
         let is_right = match &mut plain {
             Plain::Bytes(flat) => flat.answers(alloc, call, &reply, short)?,
             Plain::Text(text) => answers_text(alloc, text, call, &reply, short),
@@ -73,15 +93,24 @@ fn follow(alloc: Global, case: &SessionCase<'_>, opened: Opened) -> Result<Came>
             break;
         }
     }
-    let is_left = failed.is_none_or(|call| is_left_by_a_fault(alloc, &mut opened, call));
-    let closes = failed.is_none() && opened.life() == Life::Closed;
-    let handed = hand_over(alloc, opened, case.detaches && failed.is_some())?;
-    if differs.is_none()
-        && !(is_left && ends(alloc, case, &handed, &mut plain, (failed, closes))?)
-    {
+    let is_left = end
+        .failed
+        .is_none_or(|call| is_left_by_a_fault(alloc, &mut opened, call));
+    end.closes = end.failed.is_none() && opened.life() == Life::Closed;
+    let handed = hand_over(alloc, opened, case.detaches && end.failed.is_some())?;
+    if differs.is_none() && !(is_left && ends(alloc, case, &handed, &mut plain, end)?) {
         differs = Some(String::from_str(alloc, "what is left in the end")?);
     }
-    Ok(came_of(&handed.raw, differs))
+    Ok(outcome_of(&handed.raw, differs))
+}
+
+/// Whether a call was answered as one that passes on all that is owed.
+fn passes_all(call: &Call, reply: &Reply) -> bool {
+    match call {
+        Call::Flush | Call::Close => *reply == Reply::Done,
+        Call::Seek(_, _) => matches!(reply, Reply::Place(_)),
+        _ => false,
+    }
 }
 
 /// The plain code of a case, at its beginning.
@@ -154,32 +183,52 @@ fn hand_over(alloc: Global, opened: Opened, detaches: bool) -> Result<Detached<M
     Ok(handed)
 }
 
-/// Whether the end is as the plain code has it: each fault was told, a closed session has closed its raw, which then holds the flat
-/// bytes, and nothing is lost.
+/// Whether the end is as the plain code has it: each fault and each wait was told, the raw is closed where a close closed it, and no
+/// byte is lost.
 fn ends(
     alloc: Global,
     case: &SessionCase<'_>,
     handed: &Detached<MemRaw>,
     plain: &mut Plain,
-    how: (Option<&Call>, bool),
+    end: End<'_>,
 ) -> Result<bool> {
-    let (failed, closes) = how;
     let raw = &handed.raw;
-    if raw.fault_count() != u64::from(failed.is_some()) || closes && !raw.closed() {
-        return Ok(false);
-    }
+    let is_told = raw.fault_count() == u64::from(end.failed.is_some());
     let spares = raw.bytes_of() == case.bytes.as_slice() && handed.unwritten.is_empty();
-    let more = case.cuts.iter().fold(0, |most, cut| match cut {
+    let waits = raw.wait_count();
+    Ok(
+        is_told
+            && shuts(handed, end)
+            && match plain {
+                Plain::Text(_) => spares && end.shorts == waits,
+                Plain::Bytes(flat) if flat.reads => {
+                    spares && end.shorts == waits && reaches(handed, flat, end.failed)
+                }
+                Plain::Bytes(flat) => {
+                    end.shorts <= waits
+                        && (!end.passes || handed.unwritten.is_empty())
+                        && holds_all_taken(alloc, handed, flat, end.failed, unanswered(case))?
+                        && (!end.closes || raw.bytes_of() == flat.bytes.as_slice())
+                }
+            },
+    )
+}
+
+/// Whether the raw is closed just where it should be: by a close that was done, and by one that failed once nothing was owed.
+fn shuts(handed: &Detached<MemRaw>, end: End<'_>) -> bool {
+    let closes = match end.failed {
+        Some(Call::Close) => handed.unwritten.is_empty(),
+        Some(_) => false,
+        None => end.closes,
+    };
+    handed.raw.closed() == closes
+}
+
+/// How many bytes a piece that broke off may have left in the raw without an answer.
+fn unanswered(case: &SessionCase<'_>) -> u32 {
+    case.cuts.iter().fold(0, |most, cut| match cut {
         Cut::Break(bytes) => most.max(*bytes),
         _ => most,
-    });
-    Ok(match plain {
-        Plain::Text(_) => spares,
-        Plain::Bytes(flat) if flat.reads => spares && reaches(handed, flat, failed),
-        Plain::Bytes(flat) => {
-            holds_all_taken(alloc, handed, flat, failed, more)?
-                && (!closes || raw.bytes_of() == flat.bytes.as_slice())
-        }
     })
 }
 
@@ -195,14 +244,14 @@ fn reaches(handed: &Detached<MemRaw>, flat: &Flat, failed: Option<&Call>) -> boo
 }
 
 /// Whether the bytes of the raw with those that are handed back laid at their place are all that was taken from the caller before
-/// a call that failed, and a front of what that call gave. They end where the place says, but for at most `more` bytes that
-/// the raw laid on without an answer.
+/// a call that failed, and a front of what that call gave; a write that failed owes none of its own. They end where the place says;
+/// at most `unanswered` bytes more may lie behind, which the raw laid on without an answer.
 fn holds_all_taken(
     alloc: Global,
     handed: &Detached<MemRaw>,
     flat: &mut Flat,
     failed: Option<&Call>,
-    more: u32,
+    unanswered: u32,
 ) -> Result<bool> {
     let Some(place) = handed.place else {
         return Ok(false);
@@ -220,12 +269,15 @@ fn holds_all_taken(
         None => Vec::new(alloc),
     };
     let count = found.place.saturating_sub(flat.place);
-    if found.place < flat.place || payload.len() < count {
+    let owes_own = matches!(failed, Some(Call::Write(_)))
+        && count > 0
+        && !handed.unwritten.is_empty();
+    if found.place < flat.place || payload.len() < count || owes_own {
         return Ok(false);
     }
     let (front, rest) = payload.split_at(count);
     flat.lay(front)?;
-    for byte in rest.iter().take(more as usize) {
+    for byte in rest.iter().take(unanswered as usize) {
         if found.bytes == flat.bytes || !handed.unwritten.is_empty() {
             break;
         }

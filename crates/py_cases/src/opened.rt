@@ -110,17 +110,25 @@ pub(crate) fn open(alloc: Global, case: &SessionCase<'_>) -> Result<Opening> {
 fn open_planned(alloc: Global, case: &SessionCase<'_>, raw: MemRaw) -> Result<Opening>
     requires { StandsAtStart (shown raw) }
 {
-    let mut words = Vec::new(alloc);
-    for word in ["run", "f", case.mode].iter().chain(&case.options) {
-        words.push(String::from_str(alloc, word)?)?;
-    }
-    let Some(args) = args_of(alloc, words.as_slice())? else {
+    let Some(args) = args_of(alloc, &words_of(alloc, case)?)? else {
         return case.open.malformed();
     };
     Ok(match run_session(alloc, raw, case.mode, args, &[]) {
         Ok(Run { session, .. }) => Ok(Opened::Planned(session)),
         Err(OpenRefused { raw, fault }) => Err(NewRefused { raw, fault }),
     })
+}
+
+/// The words of a command line that opens a session so.
+fn words_of(alloc: Global, case: &SessionCase<'_>) -> Result<Vec<String>> {
+    let mut words = Vec::new(alloc);
+    for word in ["run", "f", case.mode] {
+        words.push(String::from_str(alloc, word)?)?;
+    }
+    for option in &case.options {
+        words.push(String::from_str(alloc, option)?)?;
+    }
+    Ok(words)
 }
 
 /// The arguments of an opening that words ask for; nothing of words out of form.

@@ -12,14 +12,15 @@ pub(crate) fn parse_call(alloc: Global, line: &str) -> Result<Option<Call>> {
         return Ok(Some(call));
     }
     let (word, rest) = line.split_once(' ').unwrap_or((line, ""));
-    Ok(Some(match (word, rest.parse().ok()) {
-        ("truncate", size) => Call::Truncate(size),
-        ("setchunksize", Some(size)) => Call::SetChunkSize(size as usize),
-        ("writetext", _) => Call::WriteText(Chars::from_text(alloc, rest)?),
-        ("seektext", _) => Call::SeekText(Data::new(alloc), 0),
-        ("chunksize", _) => Call::ChunkSize,
-        ("encoding", _) => Call::Encoding,
-        ("errors", _) => Call::Errors,
+    Ok(Some(match (word, rest, rest.parse().ok()) {
+        ("truncate", "", _) => Call::Truncate(None),
+        ("truncate", _, Some(size)) => Call::Truncate(Some(size)),
+        ("setchunksize", _, Some(size)) => Call::SetChunkSize(size as usize),
+        ("writetext", _, _) => Call::WriteText(Chars::from_text(alloc, rest)?),
+        ("seektext", "", _) => Call::SeekText(Data::new(alloc), 0),
+        ("chunksize", "", _) => Call::ChunkSize,
+        ("encoding", "", _) => Call::Encoding,
+        ("errors", "", _) => Call::Errors,
         _ => return Ok(None),
     }))
 }

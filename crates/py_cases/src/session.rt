@@ -6,7 +6,7 @@ use crate::report::{Report, hex_of};
 use crate::session_case::SessionCase;
 use anyhow::Result;
 use py_flat::Life;
-use py_open::Detached;
+use py_open::{Call, Detached};
 use py_raw::{MemRaw, RawStream};
 use py_stream::NewRefused;
 
@@ -23,6 +23,10 @@ pub(crate) fn run_session_block(block: &Block<'_>, report: &mut Report) -> Resul
     };
     for call in &case.calls {
         let reply = opened.call(alloc, call);
+        report.reply(&reply, opened.short())?;
+    }
+    if case.detaches && opened.life() == Life::Failed {
+        let reply = opened.call(alloc, &Call::Detach);
         report.reply(&reply, opened.short())?;
     }
     let life = life_word(opened.life());

@@ -1,6 +1,6 @@
 //! Sweeps: a session with variables, run for all their values beside plain code.
 
-use crate::beside::{Came, run_beside};
+use crate::beside::{Outcome, run_beside};
 use crate::block::{Block, Line};
 use crate::report::Report;
 use crate::session_case::SessionCase;
@@ -34,10 +34,10 @@ pub(crate) fn run_sweep_block(block: &Block<'_>, report: &mut Report) -> Result<
     let mut failed = 0usize;
     for run in 0..runs {
         let texts = texts_of(alloc, block, variables.as_slice(), run)?;
-        let came = run_texts(alloc, block.head, texts.as_slice())?;
-        waited = waited.saturating_add(usize::from(came.waits > 0));
-        failed = failed.saturating_add(usize::from(came.faults > 0));
-        if let Some(what) = came.differs {
+        let outcome = run_texts(alloc, block, texts.as_slice())?;
+        waited = waited.saturating_add(usize::from(outcome.waits > 0));
+        failed = failed.saturating_add(usize::from(outcome.faults > 0));
+        if let Some(what) = outcome.differs {
             report.line(format!(in alloc; "run {run} of {runs} differs: {what}")?.as_str())?;
             report.line(format!(in alloc; "session {}", block.head.rest)?.as_str())?;
             for text in &texts {
@@ -100,10 +100,15 @@ fn replaced(alloc: Global, text: &str, mark: &str, value: &str) -> Result<String
     Ok(all)
 }
 
-fn run_texts(alloc: Global, head: Line<'_>, texts: &[String]) -> Result<Came> {
+/// Runs the lines of a sweep, of which each has the number of the line that it is made from.
+fn run_texts(alloc: Global, block: &Block<'_>, texts: &[String]) -> Result<Outcome> {
     let mut lines = Vec::new(alloc);
-    for text in texts {
-        lines.push(Line::new(head.number, text.as_str().trim_end()))?;
+    let made_from = block.lines.iter().filter(|line| line.word != "for");
+    for (text, line) in texts.iter().zip(made_from) {
+        lines.push(Line::new(line.number, text.as_str().trim_end()))?;
     }
-    run_beside(alloc, &SessionCase::parse(alloc, head, lines.as_slice())?)
+    run_beside(
+        alloc,
+        &SessionCase::parse(alloc, block.head, lines.as_slice())?,
+    )
 }
