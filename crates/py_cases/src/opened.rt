@@ -110,13 +110,25 @@ pub(crate) fn open(alloc: Global, case: &SessionCase<'_>) -> Result<Opening> {
 fn open_planned(alloc: Global, case: &SessionCase<'_>, raw: MemRaw) -> Result<Opening>
     requires { StandsAtStart (shown raw) }
 {
-    let Some(args) = args_of(alloc, &words_of(alloc, case)?)? else {
-        return case.open.malformed();
-    };
-    Ok(match run_session(alloc, raw, case.mode, args, &[]) {
-        Ok(Run { session, .. }) => Ok(Opened::Planned(session)),
+    let words = words_of(alloc, case)?;
+    match args_of(alloc, &words)? {
+        Some(args) => Ok(open_by(alloc, case.mode, args, raw)),
+        None => case.open.malformed(),
+    }
+}
+
+fn open_by(alloc: Global, mode: &str, args: OpenArgs, raw: MemRaw) -> Opening
+    requires { StandsAtStart (shown raw) }
+{
+    match run_session(alloc, raw, mode, args, &[]) {
+        Ok(
+            Run {
+                session,
+                replies: _replies,
+            },
+        ) => Ok(Opened::Planned(session)),
         Err(OpenRefused { raw, fault }) => Err(NewRefused { raw, fault }),
-    })
+    }
 }
 
 /// The words of a command line that opens a session so.
