@@ -1,6 +1,4 @@
 //! A source whose bytes are kept as they are read.
-ghost use Rattle.std.specs.Prelude.{IfOk};
-ghost use Rattle.py_source_sink.specs.Source.{SourceView, SourceKeeps, SourceOutcome, NoSourceFault};
 
 use py_raw::{Failed, Source};
 use std::alloc::Global;
