@@ -6,7 +6,7 @@ use Rattle.py_raw_memory.specs.declared.cut.Cut.TheVariants.{Take, Wait, Break}
 use Rattle.py_raw_memory.specs.declared.cut.Turn.TheVariants.{Refuses, Moves}
 use Rattle.py_flat.specs.Bytes.{left_at}
 use Rattle.py_raw_memory.specs.Cuts.{read_by}
-use Rattle.py_raw_memory.specs.MemRaw.{MemRawView, read_turn, is_refused, next_cut}
+use Rattle.py_raw_memory.specs.MemRaw.{MemRawView, read_turn, refuses, next_cut}
 
 -- what a read moves is no more than could be moved, and nothing only where nothing could
 pub record MovesOf (asked count : ℕ) : Type 0 where
@@ -20,14 +20,14 @@ moves_by (Some (Take most)) asked count is = let same : min (max most 1) asked �
 moves_by (Some Wait) asked count is = cc
 moves_by (Some (Break most)) asked count is = cc
 
--- a call that is listed moves nothing
+-- a call that fails outright moves nothing
 moves_unless : (refused : Bool) (cut : Option Cut) (asked count : ℕ) → (if refused then Refuses else read_by cut asked) ≡ Moves count → MovesOf asked count
 moves_unless true cut asked count is = cc
 moves_unless false cut asked count is = moves_by cut asked count is
 
 -- in the turn of the next call
 pub moves_in_turn : (raw : MemRawView) (asked count : ℕ) → read_turn raw asked ≡ Moves count → MovesOf asked count
-moves_in_turn raw asked count is = moves_unless (is_refused raw) (next_cut raw) asked count is
+moves_in_turn raw asked count is = moves_unless (refuses raw.shows.readable raw) (next_cut raw) asked count is
 
 -- the front of a buffer after bytes were copied into it
 pub front_given : (left before after : List ℕ) (count : ℕ) → count ≤ length left → after ≡ take count left ++ drop (length (take count left)) before → take count after ≡ take count left

@@ -45,7 +45,9 @@ pub record LeavesAll (old new : OpenerView) : Type 0 where
 -- the stream in memory that a mode opens on these bytes: at place 0, nothing counted, and it can seek
 abbrev pub opened_raw : List ℕ → List ℕ → Raw
 opened_raw mode bytes = record {
-  tells = true;
+  tells_bytes = true;
+  tells_place = true;
+  tells_transfers = true;
   bytes = bytes;
   place = 0;
   transfers = 0;

@@ -1,5 +1,5 @@
 -- A raw stream in memory: what it shows, and the exact answer and outcome of each call by its plan and its listed faults.
-use Rattle.std.specs.Prelude.{◌≡◌, ℕ, ◌+◌, Bool, true, ◌==◌, min, List, ◌++◌, length, take, drop, slice_get, Option, Some, None, Result, Ok, Err, if◌then◌else◌}
+use Rattle.std.specs.Prelude.{◌≡◌, ℕ, ◌+◌, Bool, true, not, ◌||◌, ◌==◌, min, List, ◌++◌, length, take, drop, slice_get, Option, Some, None, Result, Ok, Err, if◌then◌else◌}
 use Rattle.std.specs.List.{list_any}
 use Rattle.py_flat.specs.Bytes.{left_at, lay, resized}
 use Rattle.py_flat.specs.Causes.{counted}
@@ -16,7 +16,9 @@ use Rattle.py_raw.specs.RawStream.{Raw}
 -- it tells everything, and takes memory where it can be written
 abbrev pub shown : MemRaw → Raw
 shown raw = record {
-  tells = true;
+  tells_bytes = true;
+  tells_place = true;
+  tells_transfers = true;
   bytes = raw.bytes.items;
   place = raw.place;
   transfers = raw.transfers;
@@ -45,6 +47,10 @@ view_of raw = record { shows = shown raw; plan = raw.plan.items; refused = raw.r
 -- whether the next call is listed as one that fails
 abbrev pub is_refused : MemRawView → Bool
 is_refused raw = list_any (λ call. call == raw.calls) raw.refused
+
+-- whether the next call fails outright: it is listed, or the stream can't do what it asks
+abbrev pub refuses : Bool → MemRawView → Bool
+refuses can raw = not can || is_refused raw
 
 -- the element of the plan that the next transfer uses: each that isn't listed uses one, and they are counted
 abbrev pub next_cut : MemRawView → Option Cut
@@ -100,7 +106,7 @@ readable_count raw size = min size (length (left_at raw.shows.bytes raw.shows.pl
 
 -- what the next call makes of a read of so many bytes, which are there
 abbrev pub read_turn : MemRawView → ℕ → Turn
-read_turn raw asked = if is_refused raw then Refuses else read_by (next_cut raw) asked
+read_turn raw asked = if refuses raw.shows.readable raw then Refuses else read_by (next_cut raw) asked
 
 -- the state after a read by a turn; a read never stalls
 abbrev pub after_read : MemRawView → Turn → MemRawView
@@ -122,7 +128,7 @@ buffer_after raw before (Breaks count) = before
 
 -- what the next call makes of a write of so many bytes
 abbrev pub write_turn : MemRawView → ℕ → Turn
-write_turn raw asked = if is_refused raw then Refuses else write_by (next_cut raw) asked
+write_turn raw asked = if refuses raw.shows.writable raw then Refuses else write_by (next_cut raw) asked
 
 -- the state after a write by a turn; one that breaks off leaves the place
 abbrev pub after_write : MemRawView → List ℕ → Turn → MemRawView
@@ -161,21 +167,21 @@ WritePlanned old piece result new =
     let turn = write_turn old (length piece) in
     GivesOrLacks old (reply_of turn) (after_write old piece turn) result new
 
--- the answer of a call that is no transfer
-abbrev pub answer_or_fault : {A : Type 0} → MemRawView → A → Result A RawError
-answer_or_fault raw answer = if is_refused raw then Err Fault else Ok answer
+-- the answer of a call that is no transfer, of a stream that can or can't do it
+abbrev pub answer_or_fault : {A : Type 0} → Bool → MemRawView → A → Result A RawError
+answer_or_fault can raw answer = if refuses can raw then Err Fault else Ok answer
 
--- the state after it: it shows this, unless it was listed
-abbrev pub after_call : MemRawView → Raw → MemRawView
-after_call raw after = if is_refused raw then refused_once raw else called raw after
+-- the state after it: it shows this, unless it failed outright
+abbrev pub after_call : Bool → MemRawView → Raw → MemRawView
+after_call can raw after = if refuses can raw then refused_once raw else called raw after
 
--- a call that gives an answer and shows this after it, unless it was listed
-abbrev pub CallPlanned : {A : Type 0} → MemRawView → A → Raw → Result A RawError → MemRawView → Type 0
-CallPlanned old answer after result new = Gives (answer_or_fault old answer) (after_call old after) result new
+-- a call that gives an answer and shows this after it, unless it failed outright
+abbrev pub CallPlanned : {A : Type 0} → Bool → MemRawView → A → Raw → Result A RawError → MemRawView → Type 0
+CallPlanned can old answer after result new = Gives (answer_or_fault can old answer) (after_call can old after) result new
 
--- a truncation, or want of memory; a listed one leaves the bytes
+-- a truncation, or want of memory; one that failed outright leaves the bytes
 abbrev pub TruncatePlanned : MemRawView → ℕ → Result (Unit {0}) RawError → MemRawView → Type 0
-TruncatePlanned old size result new = GivesOrLacks old (answer_or_fault old tt) (after_call old (cut_to old size).shows) result new
+TruncatePlanned old size result new = GivesOrLacks old (answer_or_fault old.shows.writable old tt) (after_call old.shows.writable old (cut_to old size).shows) result new
 
 -- with the stream closed
 abbrev pub shut : MemRawView → MemRawView
@@ -183,4 +189,4 @@ shut raw = record raw { shows = record raw.shows { closed = true } }
 
 -- a closing: a listed one closes too
 abbrev pub ClosePlanned : MemRawView → Result (Unit {0}) RawError → MemRawView → Type 0
-ClosePlanned old result new = Gives (answer_or_fault old tt) (after_call (shut old) (shut old).shows) result new
+ClosePlanned old result new = Gives (answer_or_fault true old tt) (after_call true (shut old) (shut old).shows) result new

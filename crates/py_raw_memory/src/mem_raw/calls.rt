@@ -1,8 +1,8 @@
 ghost use Rattle.std.proofs.Common.{rules};
 ghost use Rattle.std.specs.Prelude.{◌≡◌, ◌≤◌, true, false, length};
 ghost use Rattle.py_flat.specs.Limits.{greatest_place};
-ghost use Rattle.py_raw_memory.specs.MemRaw.{shown, view_of, ReadPlanned, WritePlanned, CallPlanned, ClosePlanned, TruncatePlanned};
-ghost use Rattle.py_raw.specs.RawStream.{Keeps, StaysOpen, WriteFits, ReadOutcome, WriteOutcome, SeekOutcome, TellOutcome, EndOutcome, TruncateOutcome, CloseOutcome};
+ghost use Rattle.py_raw_memory.specs.MemRaw.{shown, view_of, refused_once, ReadPlanned, WritePlanned, CallPlanned, ClosePlanned, TruncatePlanned};
+ghost use Rattle.py_raw.specs.RawStream.{Keeps, StaysOpen, FailsWithout, WriteFits, ReadOutcome, WriteOutcome, SeekOutcome, TellOutcome, EndOutcome, TruncateOutcome, CloseOutcome};
 
 use super::MemRaw;
 use crate::cut::Turn;
@@ -14,9 +14,19 @@ impl RawStream for MemRaw {
 
     ghost told_length = { λ raw _. Prim.search rules };
 
+    fn unsupported(&mut self) -> RawError
+        ensures keeps { Keeps (shown self.old) (shown self.new) }
+        ensures open { StaysOpen (shown self.old) (shown self.new) }
+        ensures answer { result ≡ RawError.Fault }
+        ensures fails { FailsWithout 0 (shown self.old) (shown self.new) }
+        ensures counted { view_of self.new ≡ refused_once (view_of self.old) }
+    {
+        self.count_refusal();
+        RawError::Fault
+    }
+
     fn readinto(&mut self, buf: &mut [u8]) -> Result<Option<usize>, RawError>
         requires open { (shown self.old).closed ≡ false }
-        requires can { (shown self.old).readable ≡ true }
         ensures keeps { Keeps (shown self.old) (shown self.new) }
         ensures open { StaysOpen (shown self.old) (shown self.new) }
         ensures outcome { ReadOutcome (shown self.old) buf.old result buf.new (shown self.new) }
@@ -46,7 +56,6 @@ impl RawStream for MemRaw {
 
     fn write(&mut self, piece: &[u8]) -> Result<Option<usize>, RawError>
         requires open { (shown self.old).closed ≡ false }
-        requires can { (shown self.old).writable ≡ true }
         requires fits { WriteFits (shown self.old) piece.now }
         ensures keeps { Keeps (shown self.old) (shown self.new) }
         ensures open { StaysOpen (shown self.old) (shown self.new) }
@@ -81,14 +90,13 @@ impl RawStream for MemRaw {
 
     fn seek(&mut self, place: u64) -> Result<(), RawError>
         requires open { (shown self.old).closed ≡ false }
-        requires can { (shown self.old).seekable ≡ true }
         requires within { place ≤ greatest_place }
         ensures keeps { Keeps (shown self.old) (shown self.new) }
         ensures open { StaysOpen (shown self.old) (shown self.new) }
         ensures outcome { SeekOutcome (shown self.old) place result (shown self.new) }
-        ensures planned { CallPlanned (view_of self.old) tt (record (shown self.old) { place = place }) result (view_of self.new) }
+        ensures planned { CallPlanned (shown self.old).seekable (view_of self.old) tt (record (shown self.old) { place = place }) result (view_of self.new) }
     {
-        if self.is_refused() {
+        if self.refuses(self.flags.is_seekable()) {
             self.count_refusal();
             return Err(RawError::Fault);
         }
@@ -99,13 +107,12 @@ impl RawStream for MemRaw {
 
     fn tell(&mut self) -> Result<u64, RawError>
         requires open { (shown self.old).closed ≡ false }
-        requires can { (shown self.old).seekable ≡ true }
         ensures keeps { Keeps (shown self.old) (shown self.new) }
         ensures open { StaysOpen (shown self.old) (shown self.new) }
         ensures outcome { TellOutcome (shown self.old) result (shown self.new) }
-        ensures planned { CallPlanned (view_of self.old) self.old.place (shown self.old) result (view_of self.new) }
+        ensures planned { CallPlanned (shown self.old).seekable (view_of self.old) self.old.place (shown self.old) result (view_of self.new) }
     {
-        if self.is_refused() {
+        if self.refuses(self.flags.is_seekable()) {
             self.count_refusal();
             return Err(RawError::Fault);
         }
@@ -115,13 +122,12 @@ impl RawStream for MemRaw {
 
     fn end(&mut self) -> Result<u64, RawError>
         requires open { (shown self.old).closed ≡ false }
-        requires can { (shown self.old).seekable ≡ true }
         ensures keeps { Keeps (shown self.old) (shown self.new) }
         ensures open { StaysOpen (shown self.old) (shown self.new) }
         ensures outcome { EndOutcome (shown self.old) result (shown self.new) }
-        ensures planned { CallPlanned (view_of self.old) (length self.old.bytes.items) (shown self.old) result (view_of self.new) }
+        ensures planned { CallPlanned (shown self.old).seekable (view_of self.old) (length self.old.bytes.items) (shown self.old) result (view_of self.new) }
     {
-        if self.is_refused() {
+        if self.refuses(self.flags.is_seekable()) {
             self.count_refusal();
             return Err(RawError::Fault);
         }
@@ -131,14 +137,13 @@ impl RawStream for MemRaw {
 
     fn truncate(&mut self, size: u64) -> Result<(), RawError>
         requires open { (shown self.old).closed ≡ false }
-        requires can { (shown self.old).writable ≡ true }
         requires within { size ≤ greatest_place }
         ensures keeps { Keeps (shown self.old) (shown self.new) }
         ensures open { StaysOpen (shown self.old) (shown self.new) }
         ensures outcome { TruncateOutcome (shown self.old) size result (shown self.new) }
         ensures planned { TruncatePlanned (view_of self.old) size result (view_of self.new) }
     {
-        if self.is_refused() {
+        if self.refuses(self.flags.is_writable()) {
             self.count_refusal();
             return Err(RawError::Fault);
         }

@@ -2,7 +2,7 @@ ghost use Rattle.std.specs.Prelude.{◌≡◌, ◌+◌, ◌≤◌, true, false, 
 ghost use Rattle.py_flat.specs.Bytes.{left_at};
 ghost use Rattle.py_flat.specs.Limits.{greatest_place};
 ghost use Rattle.py_raw.specs.Flags.{can_read, can_write, can_seek};
-ghost use Rattle.py_raw_memory.specs.MemRaw.{shown, view_of, is_refused, next_cut, read_turn, write_turn, called, refused_once, broken, waited, moved, wrote, laid, cut_to};
+ghost use Rattle.py_raw_memory.specs.MemRaw.{shown, view_of, is_refused, refuses, next_cut, read_turn, write_turn, called, refused_once, broken, waited, moved, wrote, laid, cut_to};
 
 use super::MemRaw;
 use crate::cut::{Turn, read_by, write_by};
@@ -16,7 +16,9 @@ impl MemRaw {
     pub fn new(bytes: Vec<u8>, flags: RawFlags, plan: Vec<Cut>, faults: Vec<u64>) -> Self
         ensures { view_of result ≡ record {
           shows = record {
-            tells = true;
+            tells_bytes = true;
+            tells_place = true;
+            tells_transfers = true;
             bytes = bytes.items;
             place = 0;
             transfers = 0;
@@ -84,6 +86,13 @@ impl MemRaw {
         self.refused.contains(&self.calls)
     }
 
+    /// Whether the next call fails outright: it is listed, or the stream can't do what it asks.
+    pub(super) fn refuses(&self, can: bool) -> bool
+        ensures { result ≡ refuses can (view_of self.now) }
+    {
+        !can || self.is_refused()
+    }
+
     /// The element of the plan that the next transfer uses.
     fn next_cut(&self) -> Option<Cut>
         ensures { result ≡ next_cut (view_of self.now) }
@@ -95,7 +104,7 @@ impl MemRaw {
     pub(super) fn read_turn(&self, asked: usize) -> Turn
         ensures { result ≡ read_turn (view_of self.now) asked }
     {
-        if self.is_refused() {
+        if self.refuses(self.flags.is_readable()) {
             return Turn::Refuses;
         }
         read_by(self.next_cut(), asked)
@@ -105,7 +114,7 @@ impl MemRaw {
     pub(super) fn write_turn(&self, asked: usize) -> Turn
         ensures { result ≡ write_turn (view_of self.now) asked }
     {
-        if self.is_refused() {
+        if self.refuses(self.flags.is_writable()) {
             return Turn::Refuses;
         }
         write_by(self.next_cut(), asked)

@@ -20,8 +20,8 @@ returns-in-Moves-clause-outcome c =
         left = within;
         given = front_given left c.args.buf.now c.fill_front.new.buf c.in-Moves.count within cc;
         end = λ none some. end_reached c.args.buf.now raw.bytes.items raw.place (sym asked ∙ moves.none none) some;
-        bytes = ap (λ (view : MemRawView). view.shows.bytes) c.advance.ensures;
-        place = ap (λ (view : MemRawView). view.shows.place) c.advance.ensures;
-        transfers = ap (λ (view : MemRawView). view.shows.transfers) c.advance.ensures;
       };
+      bytes = λ _. ap (λ (view : MemRawView). view.shows.bytes) c.advance.ensures;
+      place = λ _. ap (λ (view : MemRawView). view.shows.place) c.advance.ensures;
+      transfers = λ _. ap (λ (view : MemRawView). view.shows.transfers) c.advance.ensures;
     }
