@@ -447,7 +447,7 @@ moved_within most old new fails within = record {
   place = forth_within most (place_of old.window) (place_of new.window) fails.place within;
   reach = fails.reach;
   forth = fails.forth;
-  told = fails.told;
+  raw_forth = fails.raw_forth;
   some = fails.some;
 }
 

@@ -267,7 +267,6 @@ keeps_failed engine is = record {
   short = refl;
   is = record {
     window_is = is.window_is;
-    reads = is.reads;
     is_open = λ live. absurd (cc);
     attached = λ detached. cc;
     stands = λ tells live. absurd (cc);

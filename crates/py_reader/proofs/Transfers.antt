@@ -114,7 +114,6 @@ keeps_advanced old count is fits = record {
   short = refl;
   is = record {
     window_is = window_advanced old.window count is.window_is fits;
-    reads = is.reads;
     is_open = is.is_open;
     attached = is.attached;
     stands = is.stands;

@@ -43,7 +43,6 @@ HoldsBytes raw window = take (length window.held) (left_at raw.bytes window.begi
 -- what holds of every engine; of a live one that its raw stands behind the bytes held, and told, that these are the raw's
 pub record IsEngine (raw : Raw) (window : WindowView) (current : Life) : Type 0 where
   pub window_is : IsWindow window
-  pub reads : raw.readable ≡ true
   pub is_open : current ≡ life.Live → raw.closed ≡ false
   pub attached : current ≢ life.Detached
   pub stands : WherePlace raw (current ≡ life.Live → raw.place ≡ end_of window)
@@ -224,6 +223,5 @@ answered_at where_stopped engine = record engine { short = is_wait where_stopped
 pub record Begins (raw : Raw) (window : WindowView) : Type 0 where
   pub window_is : IsWindow window
   pub none : window.held ≡ []
-  pub reads : raw.readable ≡ true
   pub is_open : raw.closed ≡ false
   pub stands : WherePlace raw (raw.place ≡ window.begin)
