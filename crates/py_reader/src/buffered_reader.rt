@@ -143,7 +143,7 @@ impl<R: RawStream> BufferedReader<R> {
     }
 
     /// Reads as many bytes as `buffer` is long into its front, and answers how many; fewer come only at the end. What `buffer`
-    /// has behind them may have changed, and after `None` and a refusal all of it (but for one by the life).
+    /// has behind them may have changed, and after `None`, `RawFault` and `NoMemory` all of it; every other refusal leaves it.
     ///
     /// It takes no memory: `NoMemory` comes only of a raw that takes some, and leaves the reader as it was, unless bytes had
     /// left the raw already: then it is failed.
@@ -151,7 +151,7 @@ impl<R: RawStream> BufferedReader<R> {
         ensures answers { Answers self.old (ReadInto (length buffer.old)) (into_reply result buffer.new) self.new }
         ensures length { length buffer.new ≡ length buffer.old }
         ensures fits { CountFits result buffer.new }
-        ensures refused { KeepsBuffer self.old.life buffer.old buffer.new }
+        ensures refused { KeepsBuffer result buffer.old buffer.new }
     {
         match &mut self.data {
             Some(data) => data.readinto(buffer),

@@ -63,7 +63,6 @@ fn room(size: usize, place: u64) -> usize
 /// One transfer of a raw that stands at a place, into the front of a buffer.
 fn transfer<R: RawStream>(raw: &mut R, buffer: &mut [u8], place: u64) -> Result<Filled, RawError>
     requires open { (R.shows raw.old).closed ≡ false }
-    requires can { (R.shows raw.old).readable ≡ true }
     requires asks { 0 < length buffer.old }
     requires within { place ≤ greatest_place }
     ensures keeps { Keeps (R.shows raw.old) (R.shows raw.new) }
@@ -169,7 +168,6 @@ impl Window {
     /// Lets go of what is held, and fills the buffer by one transfer of a raw that stands behind it.
     pub fn fill<R: RawStream>(&mut self, raw: &mut R) -> Result<Filled, RawError>
         requires open { (R.shows raw.old).closed ≡ false }
-        requires can { (R.shows raw.old).readable ≡ true }
         ensures keeps { Keeps (R.shows raw.old) (R.shows raw.new) }
         ensures open { StaysOpen (R.shows raw.old) (R.shows raw.new) }
         ensures outcome { FillOutcome (R.shows raw.old) self.old result (R.shows raw.new) self.new }
@@ -198,7 +196,6 @@ impl Window {
     /// buffer, by one transfer.
     pub fn pass<R: RawStream>(&mut self, raw: &mut R, buffer: &mut [u8]) -> Result<Filled, RawError>
         requires open { (R.shows raw.old).closed ≡ false }
-        requires can { (R.shows raw.old).readable ≡ true }
         requires asks { 0 < length buffer.old }
         ensures keeps { Keeps (R.shows raw.old) (R.shows raw.new) }
         ensures open { StaysOpen (R.shows raw.old) (R.shows raw.new) }
