@@ -15,7 +15,8 @@ use Rattle.py_flat.specs.Refusals.{or_else, refused_if, too_far, life_fault, let
 use Rattle.py_flat.specs.ExactStep.{is_closed, after_write}
 use Rattle.py_flat.specs.AllowedStep.{settled, waited_for, raw_faulted, out_of_memory}
 use Rattle.py_flat.specs.BinaryStep.{payload, is_live, does_work, reaches_raw, asks_end, SettledBy, BinaryStep, Fails}
-use Rattle.py_raw.specs.RawStream.{WhereTold, NoWait, AnswersFor}
+use Rattle.py_raw.specs.RawStream.{WhereTold, WherePlace, WhereTransfers, NoWait, AnswersFor}
+use Rattle.py_raw.proofs.Telling.{tells_its_bytes}
 use Rattle.py_stream.specs.Stream.{Stream, file_of}
 use Rattle.py_stream.specs.Moving.{EndsWithin}
 use Rattle.py_stream.specs.Kinds.{is_reading, reads_on, takes_space_first, is_writing, asks_none, calls_none, makes_one, says_fault, says_no_memory}
@@ -133,7 +134,7 @@ pub record WriteTells (old : EngineView) (call : FileCall) (reply : FileReply) (
   pub life_is : LifeMoves None call reply old.life now.life
   pub place : PlaceMoves None call reply now.life old.place now.place
   pub wants : WantsMemory true reply old.raw
-  pub one : IsTrue (makes_one None call) → WhereTold old.raw (now.raw.transfers ≤ old.raw.transfers + 1)
+  pub one : IsTrue (makes_one None call) → WhereTransfers old.raw (now.raw.transfers ≤ old.raw.transfers + 1)
   pub taken : ℕ
   pub fits : taken ≤ length (payload call)
   pub moved : now.place ≡ old.place + taken
@@ -151,15 +152,15 @@ not_closed current (inl live) = ap is_closed live
 not_closed current (inr failed) = ap is_closed failed
 
 -- a raw that stands at a place that the call moved stands behind the one before
-raw_moved : (old now : EngineView) → KeepsEngine (begun old) now → WhereTold now.raw (now.raw.place ≡ now.place) → old.place < now.place → WhereTold old.raw (old.place < now.raw.place)
-raw_moved old now kept stands moved tells = omega (arith, stands (kept.raw.tells ∙ tells), moved)
+raw_moved : (old now : EngineView) → KeepsEngine (begun old) now → WherePlace now.raw (now.raw.place ≡ now.place) → old.place < now.place → WherePlace old.raw (old.place < now.raw.place)
+raw_moved old now kept stands moved tells = omega (arith, stands (kept.raw.tells_place ∙ tells), moved)
 
 -- and such a raw answered for some byte
-answers_some : (old now : EngineView) (taken : ℕ) → AnswersFor taken old.raw now.raw → now.place ≡ old.place + taken → old.place < now.place → WhereTold old.raw (counted old.raw.written 1 ≤ counted now.raw.written 0)
+answers_some : (old now : EngineView) (taken : ℕ) → AnswersFor taken old.raw now.raw → now.place ≡ old.place + taken → old.place < now.place → WhereTransfers old.raw (counted old.raw.written 1 ≤ counted now.raw.written 0)
 answers_some old now taken answered place moved tells = omega (arith, answered tells, place, moved)
 
 -- a call that writes, whatever it answers, leaves nothing owed
-owes_nothing : (old now : EngineView) (call : FileCall) (reply : FileReply) (short : Bool) → IsWrite call → MayWrite old call → WriteTells old call reply short now → (IsTrue (says_no_memory reply) → now.life ≡ life.Failed → WhereTold now.raw (now.raw.place ≡ now.place)) → Writes (stream_of old) call reply (stream_of (record now { short = short }))
+owes_nothing : (old now : EngineView) (call : FileCall) (reply : FileReply) (short : Bool) → IsWrite call → MayWrite old call → WriteTells old call reply short now → (IsTrue (says_no_memory reply) → now.life ≡ life.Failed → WherePlace now.raw (now.raw.place ≡ now.place)) → Writes (stream_of old) call reply (stream_of (record now { short = short }))
 owes_nothing old now call reply short write may tells stands = record {
   takes = λ _ _. record {
     taken = tells.taken;
@@ -187,7 +188,7 @@ owes_nothing old now call reply short write may tells stands = record {
   rests = λ dead. absurd (dead may.live);
 }
 
-write_tells : (old now : EngineView) (call : FileCall) (reply : FileReply) (short : Bool) → IsWrite call → MayWrite old call → WriteTells old call reply short now → (IsTrue (says_no_memory reply) → now.life ≡ life.Failed → WhereTold now.raw (now.raw.place ≡ now.place)) → Answers (stream_of old) call reply (stream_of (record now { short = short }))
+write_tells : (old now : EngineView) (call : FileCall) (reply : FileReply) (short : Bool) → IsWrite call → MayWrite old call → WriteTells old call reply short now → (IsTrue (says_no_memory reply) → now.life ≡ life.Failed → WherePlace now.raw (now.raw.place ≡ now.place)) → Answers (stream_of old) call reply (stream_of (record now { short = short }))
 write_tells old now call reply short write may tells stands =
     let none : refused_by (stream_of old) call ≡ None = passes old call write may in
     let answer : IsReplyTo None (can_of old.access old.raw.seekable).writable call reply = subst (λ (writes : Bool). IsReplyTo None writes call reply) (sym may.can) tells.answer in
@@ -305,12 +306,12 @@ waits_answer old now bytes may waits =
       fits = zero-le;
       moved = omega (arith, waits.place);
       answered = waits.answered;
-      laid = λ tell. (0, omega arith, zero-le, waits.bytes tell);
+      laid = λ tell. (0, omega arith, zero-le, waits.bytes (tells_its_bytes old.raw tell));
       full = tt;
       starves = λ wants. absurd (cc);
       straight = tt;
       answer = refl;
-      told = λ tell. waited_for refl (works old call (is_write bytes) may, (refl, file_same old now waits.kept same waits.place (waits.bytes tell)));
+      told = λ tell. waited_for refl (works old call (is_write bytes) may, (refl, file_same old now waits.kept same waits.place (waits.bytes (tells_its_bytes old.raw tell))));
     }) (λ wants. absurd (cc))
 
 -- the raw failed

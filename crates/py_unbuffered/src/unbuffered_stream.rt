@@ -96,7 +96,7 @@ impl<R: RawStream> UnbufferedStream<R> {
         ensures answers { Answers self.old (ReadInto (length buffer.old)) (into_reply result buffer.new) self.new }
         ensures length { length buffer.new ≡ length buffer.old }
         ensures fits { CountFits result buffer.new }
-        ensures refused { KeepsBuffer self.old.life buffer.old buffer.new }
+        ensures refused { KeepsBuffer result buffer.old buffer.new }
     {
         self.data.readinto(buffer)
     }
