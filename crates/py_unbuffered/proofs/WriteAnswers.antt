@@ -1,5 +1,6 @@
 -- Writing to a stream without a buffer: what the raw takes is laid on at once, and nothing is owed.
 use Rattle.std.proofs.Common.{◌≡◌, ℕ, zero, suc, ◌+◌, ◌-◌, ◌<◌, ◌≤◌, ◌⊎◌, inl, inr, Bool, true, false, not, ◌&&◌, ◌||◌, IsTrue, List, length, take, drop, Option, Some, None, is_none, is_some, Ok, Err, le-ltb, zero-le, if◌then◌else◌, refl, sym, ap, ◌∙◌, subst, arith}
+use Rattle.std.proofs.lemmas.Bool.{lt-ltb}
 use Rattle.std.proofs.lemmas.List.{length-take-le, take-append-drop, take_all, drop_all}
 use Rattle.py_flat.specs.declared.fault.IoFault.{IoFault}
 use Rattle.py_flat.specs.declared.fault.IoFault.TheVariants as fault
@@ -28,7 +29,7 @@ use Rattle.py_unbuffered.specs.declared.access.Access.{Access}
 use Rattle.py_unbuffered.specs.declared.access.Access.TheVariants as access
 use Rattle.py_unbuffered.specs.Unbuffered.{can_of}
 use Rattle.py_unbuffered.specs.Engine.{EngineView, stream_of, KeepsEngine, BeginOutcome, Waits, LaysSome, Puts, FailsPutting, PutOutcome, Wrote, Stays, FailsWriting, StarvesWriting, WriteOutcome}
-use Rattle.py_unbuffered.proofs.Begun.{Stands, begun, is_near}
+use Rattle.py_unbuffered.proofs.Begun.{Stands, begun, is_near, refused_with}
 use Rattle.py_unbuffered.proofs.Steps.{keeps_self, keeps_then, keeps_failed, answers_none}
 use Rattle.py_unbuffered.proofs.Seeking.{can_stays}
 
@@ -569,6 +570,24 @@ lines_lack old now lines start may at starves = go starves.taken refl where
 pub lines_fit : (end : ℕ) (place : Option ℕ) (none : Bool) → EndsWithin end place → is_some place ≡ not none → none ≡ false → end ≤ greatest_place
 lines_fit end (Some place) none ends is some = ends.1
 lines_fit end None none ends is some = absurd (cc)
+
+-- lines that no place ends
+pub lines_end_too_far : (end : ℕ) (place : Option ℕ) (none : Bool) → EndsWithin end place → is_some place ≡ not none → none ≡ true → greatest_place < end
+lines_end_too_far end (Some place) none ends is some = absurd (cc)
+lines_end_too_far end None none ends is some = ends
+
+-- bytes that would end past the greatest place
+pub too_far_answers : (old started : EngineView) (call : FileCall) → IsWrite call → Stands old → BeginOutcome old (Ok tt) started → (can_of started.access started.raw.seekable).readable ≡ false → greatest_place < started.place + length (payload call) → Answers (stream_of old) call (Refused fault.TooFar) (stream_of started)
+too_far_answers old started call write stands begins reads past =
+    let can : (can_of old.access old.raw.seekable).writable ≡ true = reads_or_writes old.access old.raw.seekable (sym (ap (λ (engine : EngineView). (can_of engine.access engine.raw.seekable).readable) begins.1) ∙ reads) in
+    let behind : greatest_place < old.place + length (payload call) = subst (λ (engine : EngineView). greatest_place < engine.place + length (payload call)) begins.1 past in
+    let far : Option IoFault = too_far (old.place + length (payload call)) in
+    let refuses : refusal (file_of (stream_of old)) call ≡ Some fault.TooFar =
+    write.refuses (file_of (stream_of old))
+    ∙ ap (λ (current : Life). or_else (if lets_through current Unbuffered call then None else life_fault current) (or_else (refused_if (not (can_of old.access old.raw.seekable).writable) fault.Unsupported) far)) begins.0
+    ∙ ap (λ (writes : Bool). or_else (refused_if (not writes) fault.Unsupported) far) can
+    ∙ ap (λ (far : Bool). refused_if far fault.TooFar) (lt-ltb greatest_place (old.place + length (payload call)) behind) in
+    refused_with old started call fault.TooFar stands refuses (write.asks (file_of (stream_of old))) refl (write.closes (stream_of old)) begins.1
 
 -- the raw failed, or memory was wanting
 pub lines_refused : (old started now : EngineView) (lines : List (List ℕ)) (start : ℕ) (why : IoFault) → MayWrite old (WriteLines lines) → BeginOutcome old (Ok tt) started → start ≡ started.place → WriteOutcome started (joined lines) start (Err why) now → Answers (stream_of old) (WriteLines lines) (Refused why) (stream_of now)
