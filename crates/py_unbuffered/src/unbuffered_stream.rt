@@ -91,12 +91,13 @@ impl<R: RawStream> UnbufferedStream<R> {
     /// Reads some of the next bytes into the front of `buffer`, by one transfer, and answers how many: none only where
     /// `buffer` is empty or nothing is left. What `buffer` has behind them may have changed.
     ///
-    /// It takes no memory: `NoMemory` comes only of a raw that takes some, and leaves the stream as it was.
+    /// Every error but `RawFault` and `NoMemory` leaves `buffer` as it was. It takes no memory: `NoMemory` comes only of a raw that
+    /// takes some, and leaves the stream as it was.
     pub fn readinto(&mut self, buffer: &mut [u8]) -> Result<Option<usize>, IoFault>
         ensures answers { Answers self.old (ReadInto (length buffer.old)) (into_reply result buffer.new) self.new }
         ensures length { length buffer.new ≡ length buffer.old }
         ensures fits { CountFits result buffer.new }
-        ensures refused { KeepsBuffer self.old.life buffer.old buffer.new }
+        ensures refused { KeepsBuffer result buffer.old buffer.new }
     {
         self.data.readinto(buffer)
     }
