@@ -11,3 +11,4 @@ pub mod Owed
 pub mod Causes
 pub mod Examples
 pub mod ModeError
+pub mod Positions

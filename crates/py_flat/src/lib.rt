@@ -16,6 +16,7 @@ mod laws;
 mod life;
 mod lines;
 mod mode_error;
+mod positions;
 
 pub use chars::Chars;
 pub use data::Data;
