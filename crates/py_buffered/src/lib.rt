@@ -2,5 +2,5 @@
 #![tactic(auto)]
 
 pub use py_reader::BufferedReader;
-pub use py_stream::{Detached, NewRefused, a_seek_to_the_told_place_keeps_all};
+pub use py_stream::{Detached, NewRefused, Whence, a_seek_to_the_told_place_keeps_all};
 pub use py_writer::BufferedWriter;

@@ -12,3 +12,4 @@ pub mod Causes
 pub mod Examples
 pub mod ModeError
 pub mod Positions
+pub mod Whence

@@ -17,6 +17,7 @@ mod life;
 mod lines;
 mod mode_error;
 mod positions;
+mod whence;
 
 pub use chars::Chars;
 pub use data::Data;
@@ -37,3 +38,4 @@ pub use laws::{
 pub use life::Life;
 pub use lines::Lines;
 pub use mode_error::{ModeError, ParseModeError};
+pub use whence::Whence;

@@ -6,4 +6,4 @@ mod data;
 mod window;
 
 pub use buffered_reader::BufferedReader;
-pub use py_stream::{Detached, NewRefused, a_seek_to_the_told_place_keeps_all};
+pub use py_stream::{Detached, NewRefused, Whence, a_seek_to_the_told_place_keeps_all};

@@ -153,7 +153,7 @@ impl<R: RawStream> UnbufferedStream<R> {
     }
 
     /// Moves to `offset` bytes from the start (`whence` 0), the place (1) or the end (2), past the end too, and answers the new
-    /// place.
+    /// place. `Whence` has names for the three: `seek(0, Whence::End.into())`.
     ///
     /// `Unsupported` where the raw can't seek, and of a stream that appends; `BadWhence` for another `whence`, `NegativeSeek`
     /// and `TooFar` for a target below 0 or past 9223372036854775807: all is as it was. From the end, the raw is asked first
