@@ -13,3 +13,4 @@ pub mod Examples
 pub mod ModeError
 pub mod Positions
 pub mod Whence
+pub mod Conversions

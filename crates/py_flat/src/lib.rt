@@ -9,6 +9,7 @@
 #![tactic(auto)]
 
 mod chars;
+mod conversions;
 mod data;
 mod examples;
 mod fault;

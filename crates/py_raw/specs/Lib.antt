@@ -11,3 +11,4 @@ pub mod Entries
 pub mod Plans
 pub mod MemOpener
 pub mod FileOpener
+pub mod Conversions

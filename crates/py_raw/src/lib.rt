@@ -6,6 +6,7 @@
 //! The sources and sinks of `py_source_sink` are given on from here.
 #![tactic(auto)]
 
+mod conversions;
 mod cut;
 mod entries;
 mod file_opener;
