@@ -1,11 +1,14 @@
 //! The refusal of a stream over a raw one, which hands that back.
 ghost use Rattle.std.specs.Prelude.{◌≡◌};
+ghost use Rattle.std.specs.IoError.{error_kind};
+ghost use Rattle.py_flat.specs.Conversions.{kind_of};
 
 use py_raw::IoFault;
+use std::io;
 use thiserror::Error;
 
 /// Why a stream wasn't made over a raw stream, and the raw stream that is handed back. It is shown as its fault. In a function
-/// that answers an `IoFault`, `?` lets the raw go and answers the fault.
+/// that answers an `IoFault` or an `io::Error`, `?` lets the raw go and answers the fault.
 #[derive(Debug, Drop, Error)]
 #[error("{fault}")]
 pub struct NewRefused<R> {
@@ -20,5 +23,13 @@ impl<R: Drop> From<NewRefused<R>> for IoFault {
 
     fn from(refused: NewRefused<R>) -> IoFault {
         refused.fault
+    }
+}
+
+impl<R: Drop> From<NewRefused<R>> for io::Error {
+    ghost from_gives = { λ refused made. error_kind made ≡ kind_of refused.fault };
+
+    fn from(refused: NewRefused<R>) -> io::Error {
+        io::Error::from(refused.fault)
     }
 }
