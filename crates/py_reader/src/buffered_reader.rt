@@ -32,7 +32,7 @@ use std::marker::Model;
 /// `None` where nothing had, with all as it was; `short` is true then. `NoMemory` is
 /// want of memory; what stands then, each call says. What waits and faults leave is this project's choice
 /// (docs/DECISIONS.md), all else the rule of Python's `io` module.
-#[derive(Drop)]
+#[derive(Debug, Drop)]
 pub struct BufferedReader<R: RawStream> {
     data: Option<BufferedData<R>>,
     seekable: bool,

@@ -31,7 +31,7 @@ use std::marker::Model;
 /// straight away is never owed: the place tells how far it came). A writer that is let go while it lives loses what it owes:
 /// close, flush or detach it before. What waits and faults leave is this project's choice
 /// (docs/DECISIONS.md), all else the rule of Python's `io` module.
-#[derive(Drop)]
+#[derive(Debug, Drop)]
 pub struct BufferedWriter<R: RawStream> {
     data: Option<WriterData<R>>,
     appending: bool,
