@@ -12,6 +12,7 @@ ghost use Rattle.py_stream.specs.Handing.{DetachOutcome, PartsOutcome, LendsRaw}
 ghost use Rattle.py_reader.specs.Reader.{Looks, held_of, BeginsDetach};
 ghost use Rattle.py_reader.specs.Window.{place_of};
 
+use crate::BufferedLines;
 use crate::data::BufferedData;
 use crate::window::Window;
 use py_raw::{IoFault, Life, Lines, RawError, RawStream};
@@ -208,6 +209,16 @@ impl<R: RawStream> BufferedReader<R> {
             Some(data) => data.readlines(alloc, hint),
             None => Err(IoFault::Detached),
         }
+    }
+
+    /// The lines from the place on, one by one, as an iterator of what `readline` answers: it ends where nothing is left, and after
+    /// a refusal; `None` among its items is a wait. A loop over it that stops early loses nothing.
+    pub fn lines(&mut self, alloc: Global) -> BufferedLines<'_, R>
+        ensures same_reference { result.reader.ghost_name ≡ self.entry.ghost_name }
+        ensures reader { result.reader.now ≡ self.old }
+        ensures left { result.left ≡ 18446744073709551615 }
+    {
+        BufferedLines::new(self, alloc)
     }
 
     /// Moves to `offset` bytes from the start (`whence` 0), the place (1) or the end (2), past the end too, and answers the new
