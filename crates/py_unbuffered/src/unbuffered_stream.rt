@@ -28,7 +28,7 @@ use std::marker::Model;
 /// wait, a call answers what came by then, never nothing, or `None` where nothing had, with all as it was; `short` is true
 /// then. `NoMemory` is want of memory; what stands then, each call says. What waits and faults leave is this project's choice
 /// (docs/DECISIONS.md), all else the rule of Python's `io.RawIOBase` and `io.FileIO`.
-#[derive(Drop)]
+#[derive(Debug, Drop)]
 pub struct UnbufferedStream<R: RawStream> {
     data: UnbufferedData<R>,
 }
