@@ -15,4 +15,8 @@ mod files;
 #[cfg(test)]
 mod memory;
 #[cfg(test)]
+mod refusals;
+#[cfg(test)]
 mod sessions;
+#[cfg(test)]
+mod shown;
