@@ -1,5 +1,5 @@
 -- The lines of a reader, one after the other.
-use Rattle.std.specs.Prelude.{◌≡◌, ◌≢◌, ℕ, ◌<◌, ◌-◌, [], Option, Some, None, Result, Ok, Err, Vec}
+use Rattle.std.specs.Prelude.{◌≡◌, ◌≢◌, ℕ, ◌<◌, ◌-◌, [], Option, Some, None, Result, Ok, Vec}
 use Rattle.std.specs.declared.alloc.Global.{Global}
 use Rattle.py_flat.specs.declared.fault.IoFault.{IoFault}
 use Rattle.py_flat.specs.Calls.{ReadLine, FileReply, Bytes}

@@ -1,4 +1,4 @@
-use Rattle.std.proofs.Common.{◌≡◌, List, ℕ, [], Option, None, Ok, refl, ap, ◌∙◌, subst, Vec}
+use Rattle.std.proofs.Common.{◌≡◌, ℕ, [], Option, None, Ok, refl, ap, ◌∙◌, subst, Vec}
 use Rattle.std.specs.declared.alloc.Global.{Global}
 use Rattle.py_flat.specs.Calls.{FileReply, Bytes, ReadLine}
 use Rattle.py_stream.specs.Answers.{Answers}
