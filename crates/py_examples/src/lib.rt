@@ -20,3 +20,5 @@ mod refusals;
 mod sessions;
 #[cfg(test)]
 mod shown;
+#[cfg(test)]
+mod texts;
