@@ -15,4 +15,10 @@ mod files;
 #[cfg(test)]
 mod memory;
 #[cfg(test)]
+mod refusals;
+#[cfg(test)]
 mod sessions;
+#[cfg(test)]
+mod shown;
+#[cfg(test)]
+mod texts;

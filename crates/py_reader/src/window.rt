@@ -5,6 +5,7 @@ ghost use Rattle.py_raw.specs.RawStream.{Keeps, StaysOpen};
 ghost use Rattle.py_reader.specs.Window.{place_of, end_of, ahead_of, advanced, emptied_at, covers as covers_place, moved_to, IsWindow, TransferOutcome, FillOutcome, PassOutcome};
 
 use py_raw::{GREATEST_PLACE, RawError, RawStream};
+use std::fmt;
 use std::marker::Model;
 
 /// What one transfer brought.
@@ -42,6 +43,17 @@ impl Model for Window {
     } };
 
     ghost invariant = { λ w. (0 < vec_len w.buffer) × (w.cursor ≤ w.end) × (w.end ≤ vec_len w.buffer) × (w.begin + w.end ≤ greatest_place) };
+}
+
+// Only how many bytes come next, and not which: thousands of them would hide all else.
+impl fmt::Debug for Window {
+    fn fmt<W: fmt::Write>(&self, f: &mut fmt::Formatter<W>) -> fmt::Result {
+        f.debug_struct("Window")
+            .field("place", &self.place())
+            .field("ahead", &self.ahead().len())
+            .field("size", &self.size())
+            .finish()
+    }
 }
 
 /// How much of a buffer may be filled at a place, so that no place lies past the greatest.

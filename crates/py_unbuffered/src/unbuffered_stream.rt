@@ -28,7 +28,7 @@ use std::marker::Model;
 /// wait, a call answers what came by then, never nothing, or `None` where nothing had, with all as it was; `short` is true
 /// then. `NoMemory` is want of memory; what stands then, each call says. What waits and faults leave is this project's choice
 /// (docs/DECISIONS.md), all else the rule of Python's `io.RawIOBase` and `io.FileIO`.
-#[derive(Drop)]
+#[derive(Debug, Drop)]
 pub struct UnbufferedStream<R: RawStream> {
     data: UnbufferedData<R>,
 }
@@ -154,7 +154,7 @@ impl<R: RawStream> UnbufferedStream<R> {
     }
 
     /// Moves to `offset` bytes from the start (`whence` 0), the place (1) or the end (2), past the end too, and answers the new
-    /// place.
+    /// place. `Whence` has names for the three: `seek(0, Whence::End.into())`.
     ///
     /// `Unsupported` where the raw can't seek, and of a stream that appends; `BadWhence` for another `whence`, `NegativeSeek`
     /// and `TooFar` for a target below 0 or past 9223372036854775807: all is as it was. From the end, the raw is asked first
