@@ -1,0 +1,3 @@
+mod Copying
+mod Decoding
+mod FirstLine
