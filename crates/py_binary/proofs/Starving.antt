@@ -10,7 +10,7 @@ use Rattle.py_stream.specs.Stream.{Stream, file_of}
 use Rattle.py_stream.specs.Kinds.{goes_on, calls_none}
 use Rattle.py_stream.specs.Writing.{Writes}
 use Rattle.py_stream.specs.Answers.{AnswersWith, StarvesTo, PlaceStarves, MovesForth, IsNear, refused_by}
-use Rattle.py_stream.proofs.Refused.{keeps_same}
+use Rattle.py_raw.proofs.Telling.{keeps_same}
 use Rattle.py_binary.specs.Binary.{has_reply_room}
 use Rattle.py_binary.specs.Kinds.{IsHeld}
 

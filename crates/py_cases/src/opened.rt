@@ -1,6 +1,6 @@
 //! Opening a case's session, and making calls on it.
 ghost use Rattle.std.specs.Prelude.{IsTrue};
-ghost use Rattle.py_raw.specs.MemRaw.{shown};
+ghost use Rattle.py_raw_memory.specs.MemRaw.{shown};
 ghost use Rattle.py_stream.specs.Opening.{StandsAtStart};
 
 use crate::session_case::SessionCase;

@@ -1,5 +1,3 @@
-pub mod Lay
-pub mod ReadParts
-pub mod Lookups
+pub mod Telling
 pub mod ReadingOn
 pub mod ModeLetters

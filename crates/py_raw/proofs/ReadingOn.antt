@@ -6,7 +6,8 @@ use Rattle.std.proofs.lemmas.List.{nil_from_length, append-nil, length-take-le, 
 use Rattle.std.proofs.Math.Seq.{take-add}
 use Rattle.py_flat.specs.Bytes.{left_at}
 use Rattle.py_flat.specs.Causes.{counted}
-use Rattle.py_raw.specs.RawStream.{Raw, Keeps, NoFault, NoWait, WaitsOnce, LeavesCounts, AnswersFor, AsksToWait, ReadBytes, ReadTold}
+use Rattle.py_raw.specs.RawStream.{Raw, Keeps, KeepsBytes, WherePlace, NoFault, NoWait, WaitsOnce, LeavesCounts, AnswersFor, AsksToWait, ReadBytes}
+use Rattle.py_raw.proofs.Telling.{tells_its_bytes, tells_its_place, tells_still}
 use Rattle.py_raw.specs.ReadAll.{ReadOn, ReadSoFar, CameBy, ReadsAll, ReadAllOutcome}
 
 -- the bytes that were held, then what a transfer put in front of the room behind them
@@ -30,7 +31,9 @@ cut_back held front buffer behind more cut size whole same long enough is =
 -- what two calls keep, one behind the other
 pub Keeps-then : (old mid new : Raw) → Keeps old mid → Keeps mid new → Keeps old new
 Keeps-then old mid new first second = record {
-  tells = second.tells ∙ first.tells;
+  tells_bytes = second.tells_bytes ∙ first.tells_bytes;
+  tells_place = second.tells_place ∙ first.tells_place;
+  tells_transfers = second.tells_transfers ∙ first.tells_transfers;
   readable = second.readable ∙ first.readable;
   writable = second.writable ∙ first.writable;
   seekable = second.seekable ∙ first.seekable;
@@ -51,7 +54,7 @@ waits_then : (old mid new : Raw) → Keeps old mid → NoWait old mid → WaitsO
 waits_then old mid new keeps first second exact = second (keeps.counts_exactly ∙ exact) ∙ ap (λ waits. counted waits 1) (first exact)
 
 unwritten_then : (old mid new : Raw) → Keeps old mid → AnswersFor 0 old mid → AnswersFor 0 mid new → AnswersFor 0 old new
-unwritten_then old mid new keeps first second tells = second (keeps.tells ∙ tells) ∙ first tells
+unwritten_then old mid new keeps first second tells = second (keeps.tells_transfers ∙ tells) ∙ first tells
 
 pub uncounted_then : (old mid new : Raw) → Keeps old mid → LeavesCounts old mid → LeavesCounts mid new → LeavesCounts old new
 uncounted_then old mid new keeps first second = record {
@@ -64,16 +67,25 @@ next_part : (bytes part more : List ℕ) (place : ℕ) → take (length part) (l
 next_part bytes part more place first second =
     rw (length-append part more, take-add (length part) (length more) (drop place bytes), first, drop-drop (length part) place bytes, second) refl
 
--- told: a transfer that moved bytes
-read_on : (old mid new : Raw) (part before after : List ℕ) (count : ℕ) → ReadOn old part mid → ReadTold mid before count after new → count ≤ length after → ReadOn old (part ++ take count after) new
-read_on old mid new part before after count was is within =
+-- a transfer that moved bytes
+read_on : (old mid new : Raw) (part before after : List ℕ) (count : ℕ) → Keeps old mid → ReadOn old part mid → ReadBytes mid before count after new → count ≤ length after → ReadOn old (part ++ take count after) new
+read_on old mid new part before after count keeps was is within =
     let size : length (take count after) ≡ count = length-take-le count after within in
-    let next : take (length (take count after)) (left_at old.bytes (old.place + length part)) ≡ take count after = rw (size, ← was.place, ← was.bytes) (sym is.given) in
     record {
-      given = next_part old.bytes part (take count after) old.place was.given next;
-      bytes = is.bytes ∙ was.bytes;
-      place = let whole = length-append part (take count after) in omega (arith, is.place, was.place);
+      given = λ tells.
+          let next : take (length (take count after)) (left_at old.bytes (old.place + length part)) ≡ take count after = rw (size, ← was.place (tells_its_place old tells), ← was.bytes (tells_its_bytes old tells)) (sym (is.told (tells_still old mid keeps ∙ tells)).given) in
+          next_part old.bytes part (take count after) old.place (was.given tells) next;
+      bytes = λ tells. is.bytes (keeps.tells_bytes ∙ tells) ∙ was.bytes tells;
+      place = λ tells. let whole = length-append part (take count after) in omega (arith, is.place (keeps.tells_place ∙ tells), was.place tells);
     }
+
+-- nothing moved after it
+stands_on : (old mid new : Raw) (part : List ℕ) → Keeps old mid → ReadOn old part mid → KeepsBytes mid new → WherePlace mid (new.place ≡ mid.place) → ReadOn old part new
+stands_on old mid new part keeps was bytes place = record {
+  given = was.given;
+  bytes = λ tells. bytes (keeps.tells_bytes ∙ tells) ∙ was.bytes tells;
+  place = λ tells. place (keeps.tells_place ∙ tells) ∙ was.place tells;
+}
 
 -- one transfer more
 pub CameBy-more : (most more old mid new : ℕ) → CameBy most old mid → new ≡ counted mid 1 → most + 1 ≤ more → CameBy more old new
@@ -94,7 +106,7 @@ came_by_part [] more old mid new none some is within = CameBy-one more old mid n
 came_by_part (byte ∷ part) more old mid new none some is within = CameBy-more (length (byte ∷ part)) more old mid new (some (λ (e : byte ∷ part ≡ []). cc)) is within
 
 -- the transfers of what was read so far, and one more
-pub came_by_more : (old mid new : Raw) (start held : List ℕ) (most : ℕ) → IsTrue old.tells → (was : ReadSoFar old start held mid) → new.transfers ≡ counted mid.transfers 1 → length was.part + 1 ≤ most → CameBy most old.transfers new.transfers
+pub came_by_more : (old mid new : Raw) (start held : List ℕ) (most : ℕ) → IsTrue old.tells_transfers → (was : ReadSoFar old start held mid) → new.transfers ≡ counted mid.transfers 1 → length was.part + 1 ≤ most → CameBy most old.transfers new.transfers
 came_by_more old mid new start held most tells was is within =
     came_by_part was.part most old.transfers mid.transfers new.transfers (λ none. ap (λ (raw : Raw). raw.transfers) (was.untouched none)) (was.transfers tells) is within
 
@@ -108,8 +120,8 @@ so_far_more old mid new start held before after count keeps was is some within =
       untouched = λ none. absurd (let whole = length-append was.part (take count after) in let none_is = ap length none in omega arith);
       counts = uncounted_then old mid new keeps was.counts is.counts;
       written = unwritten_then old mid new keeps was.written is.written;
-      told = λ tells. read_on old mid new was.part before after count (was.told tells) (is.told (keeps.tells ∙ tells)) within;
-      transfers = λ tells _. let whole = length-append was.part (take count after) in came_by_more old mid new start held (length (was.part ++ take count after)) tells was (is.told (keeps.tells ∙ tells)).transfers (omega arith);
+      on = read_on old mid new was.part before after count keeps was.on is within;
+      transfers = λ tells _. let whole = length-append was.part (take count after) in came_by_more old mid new start held (length (was.part ++ take count after)) tells was (is.transfers (keeps.tells_transfers ∙ tells)) (omega arith);
     }
 
 -- the end was reached
@@ -122,13 +134,13 @@ reads_to_end old mid new start held before after none count keeps was is is_none
       counts = omega arith;
       no_fault = no_fault_then old mid new keeps was.counts.no_fault is.counts.no_fault;
       written = unwritten_then old mid new keeps was.written is.written;
-      told = λ tells. let last = is.told (keeps.tells ∙ tells) in let part = was.told tells in record {
-        given = part.given;
-        bytes = last.bytes ∙ part.bytes;
-        place = omega (arith, last.place, part.place);
-      };
-      stops = inl (no_wait_then old mid new keeps was.counts.no_wait is.counts.no_wait, λ tells. let last = is.told (keeps.tells ∙ tells) in let part = was.told tells in let end = last.end is_none (λ bare. let empty = ap length bare in omega arith) in let size = ap length part.bytes in omega (arith, last.place));
-      transfers = λ tells. came_by_more old mid new start held (count + 1) tells was (is.told (keeps.tells ∙ tells)).transfers (omega arith);
+      on = stands_on old mid new was.part keeps was.on is.bytes (λ tells. omega (arith, is.place tells));
+      stops = inl (no_wait_then old mid new keeps was.counts.no_wait is.counts.no_wait, λ tells.
+          let told = tells_still old mid keeps ∙ tells in
+          let end = (is.told told).end is_none (λ bare. let empty = ap length bare in omega arith) in
+          let size = ap length (was.on.bytes (tells_its_bytes old tells)) in
+          omega (arith, is.place (tells_its_place mid told)));
+      transfers = λ tells. came_by_more old mid new start held (count + 1) tells was (is.transfers (keeps.tells_transfers ∙ tells)) (omega arith);
     }
 
 -- the stream asked to wait after some bytes
@@ -141,13 +153,9 @@ reads_to_wait old mid new start held count keeps was is some counts =
       counts = omega arith;
       no_fault = no_fault_then old mid new keeps was.counts.no_fault is.no_fault;
       written = unwritten_then old mid new keeps was.written is.written;
-      told = λ tells. let last = is.told (keeps.tells ∙ tells) in let part = was.told tells in record {
-        given = part.given;
-        bytes = last.bytes ∙ part.bytes;
-        place = last.place ∙ part.place;
-      };
+      on = stands_on old mid new was.part keeps was.on is.still.bytes is.still.place;
       stops = inr (omega arith, omega (arith, is.cause, keeps.waits), waits_then old mid new keeps was.counts.no_wait is.once);
-      transfers = λ tells. came_by_more old mid new start held (count + 1) tells was (is.told (keeps.tells ∙ tells)).transfers (omega arith);
+      transfers = λ tells. came_by_more old mid new start held (count + 1) tells was (is.still.transfers (keeps.tells_transfers ∙ tells)) (omega arith);
     }
 
 -- it asked to wait before any

@@ -1,13 +1,6 @@
-pub mod Cuts
-pub mod FileRaw
 pub mod Flags
-pub mod MemRaw
 pub mod RawStream
 pub mod ReadAll
 pub mod RawMode
 pub mod ComputeMode
 pub mod Opener
-pub mod Entries
-pub mod Plans
-pub mod MemOpener
-pub mod FileOpener

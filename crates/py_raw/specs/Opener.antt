@@ -3,7 +3,7 @@ use Rattle.std.specs.Prelude.{◌≡◌, ◌≢◌, ℕ, ◌≤◌, Bool, true, 
 use Rattle.py_flat.specs.Causes.{Rose, RoseBy}
 use Rattle.py_raw.specs.declared.opener.OpenError.{OpenError}
 use Rattle.py_raw.specs.declared.opener.OpenError.TheVariants.{Fault, Memory}
-use Rattle.py_raw.specs.RawStream.{Raw}
+use Rattle.py_raw.specs.RawStream.{Raw, WherePlace, tells}
 use Rattle.py_raw.specs.RawMode.{letter_r, letter_w, letter_x, file_letter, mode_reads, mode_writes}
 
 -- what each path holds means something only where the opener tells it; a path is the bytes of its text. An opener that counts
@@ -53,12 +53,12 @@ pub record IsOpened (mode : List ℕ) (raw : Raw) : Type 0 where
   pub writes : raw.writable ≡ mode_writes mode
   pub faults : raw.faults ≡ 0
   pub waits : raw.waits ≡ 0
-  pub start : IsFalse raw.seekable → IsTrue raw.tells → raw.place ≡ 0
+  pub start : IsFalse raw.seekable → WherePlace raw (raw.place ≡ 0)
 
 -- told: the raw can seek and stands at the start of the path's bytes
 pub record OpensTold (old : OpenerView) (path mode : List ℕ) (raw : Raw) (new : OpenerView) : Type 0 where
   pub found : misses mode (old.holds path) ≡ false
-  pub tells : raw.tells ≡ true
+  pub tells : tells raw ≡ true
   pub seeks : raw.seekable ≡ true
   pub place : raw.place ≡ 0
   pub bytes : raw.bytes ≡ opened_bytes mode (old.holds path)

@@ -1,16 +1,18 @@
 -- What a raw stream shows, and what each of its calls may do.
-use Rattle.std.specs.Prelude.{◌≡◌, ◌≢◌, ℕ, ◌+◌, ◌≤◌, ◌⊎◌, Bool, true, IsTrue, List, [], length, take, Option, Some, None, Result, Ok, Err}
+use Rattle.std.specs.Prelude.{◌≡◌, ◌≢◌, ℕ, ◌+◌, ◌≤◌, ◌⊎◌, Bool, true, false, ◌&&◌, IsTrue, List, [], length, take, Option, Some, None, Result, Ok, Err}
 use Rattle.py_flat.specs.Limits.{greatest_place}
 use Rattle.py_flat.specs.Bytes.{left_at, lay, resized}
 use Rattle.py_flat.specs.Causes.{Rose, counted}
 use Rattle.py_raw.specs.declared.raw_error.RawError.{RawError}
 use Rattle.py_raw.specs.declared.raw_error.RawError.TheVariants.{Fault, Memory}
 
--- what a raw stream shows. Its bytes, its place, its number of transfers and the number of bytes that its writes answered for
--- mean something only where it tells them. It counts exactly where its counts rise in the calls alone that answer a fault, or
--- ask to wait
+-- what a raw stream shows. It may tell three things: its bytes, its place, and its number of transfers, with the number of bytes
+-- that its writes answered for; each means something only where it tells it. It counts exactly where its counts of faults and of
+-- waits rise in the calls alone that answer a fault, or ask to wait
 pub record Raw : Type 0 where
-  pub tells : Bool
+  pub tells_bytes : Bool
+  pub tells_place : Bool
+  pub tells_transfers : Bool
   pub bytes : List ℕ
   pub place : ℕ
   pub transfers : ℕ
@@ -24,9 +26,36 @@ pub record Raw : Type 0 where
   pub takes_memory : Bool
   pub counts_exactly : Bool
 
--- what every call keeps: what the stream can do never changes, and its counts never fall
+-- whether it tells its bytes and its place: both together say what a reading gives
+abbrev pub tells : Raw → Bool
+tells raw = raw.tells_bytes && raw.tells_place
+
+-- what a stream shows that tells nothing and takes no memory: its counts of faults and of waits, which are exact, whether it is
+-- closed, and what it can do
+abbrev pub untold : (faults waits : ℕ) → (closed readable writable seekable : Bool) → Raw
+untold faults waits closed readable writable seekable = record {
+  tells_bytes = false;
+  tells_place = false;
+  tells_transfers = false;
+  bytes = [];
+  place = 0;
+  transfers = 0;
+  written = 0;
+  faults = faults;
+  waits = waits;
+  closed = closed;
+  readable = readable;
+  writable = writable;
+  seekable = seekable;
+  takes_memory = false;
+  counts_exactly = true;
+}
+
+-- what every call keeps: what the stream tells and can do never changes, and its counts never fall
 pub record Keeps (old new : Raw) : Type 0 where
-  pub tells : new.tells ≡ old.tells
+  pub tells_bytes : new.tells_bytes ≡ old.tells_bytes
+  pub tells_place : new.tells_place ≡ old.tells_place
+  pub tells_transfers : new.tells_transfers ≡ old.tells_transfers
   pub readable : new.readable ≡ old.readable
   pub writable : new.writable ≡ old.writable
   pub seekable : new.seekable ≡ old.seekable
@@ -58,19 +87,47 @@ pub record LeavesCounts (old new : Raw) : Type 0 where
   pub no_fault : NoFault old new
   pub no_wait : NoWait old new
 
--- told: bytes and place as before, after so many transfers
-pub record StandsStill (more : ℕ) (old new : Raw) : Type 0 where
-  pub bytes : new.bytes ≡ old.bytes
-  pub place : new.place ≡ old.place
-  pub transfers : new.transfers ≡ counted old.transfers more
-
--- where the stream tells its bytes
+-- where the stream tells its bytes and its place
 abbrev pub WhereTold : Raw → Type 0 → Type 0
-WhereTold raw Fact = IsTrue raw.tells → Fact
+WhereTold raw Fact = IsTrue (tells raw) → Fact
 
--- told: it answered for so many bytes more, as far as a count can tell
+-- where it tells its bytes
+abbrev pub WhereBytes : Raw → Type 0 → Type 0
+WhereBytes raw Fact = IsTrue raw.tells_bytes → Fact
+
+-- where it tells its place
+abbrev pub WherePlace : Raw → Type 0 → Type 0
+WherePlace raw Fact = IsTrue raw.tells_place → Fact
+
+-- where it tells its transfers
+abbrev pub WhereTransfers : Raw → Type 0 → Type 0
+WhereTransfers raw Fact = IsTrue raw.tells_transfers → Fact
+
+-- its bytes are as they were
+abbrev pub KeepsBytes : Raw → Raw → Type 0
+KeepsBytes old new = WhereBytes old (new.bytes ≡ old.bytes)
+
+-- it made so many transfers more
+abbrev pub Transfers : ℕ → Raw → Raw → Type 0
+Transfers more old new = WhereTransfers old (new.transfers ≡ counted old.transfers more)
+
+-- none
+abbrev pub KeepsTransfers : Raw → Raw → Type 0
+KeepsTransfers old new = WhereTransfers old (new.transfers ≡ old.transfers)
+
+-- at most so many
+abbrev pub TransfersAtMost : ℕ → Raw → Raw → Type 0
+TransfersAtMost most old new = WhereTransfers old ((old.transfers ≤ new.transfers) × (new.transfers ≤ counted old.transfers most))
+
+-- it answered for so many bytes more, as far as a count can tell
 abbrev pub AnswersFor : ℕ → Raw → Raw → Type 0
-AnswersFor more old new = WhereTold old (counted new.written 0 ≡ counted old.written more)
+AnswersFor more old new = WhereTransfers old (counted new.written 0 ≡ counted old.written more)
+
+-- bytes and place as before, after so many transfers
+pub record StandsStill (more : ℕ) (old new : Raw) : Type 0 where
+  pub bytes : KeepsBytes old new
+  pub place : WherePlace old (new.place ≡ old.place)
+  pub transfers : Transfers more old new
 
 -- want of memory leaves all as it was, and comes only of a stream that takes memory
 pub record LacksMemory (old new : Raw) : Type 0 where
@@ -83,32 +140,32 @@ pub record AsksToWait (old new : Raw) : Type 0 where
   pub once : WaitsOnce old new
   pub no_fault : NoFault old new
   pub written : AnswersFor 0 old new
-  pub told : WhereTold old (StandsStill 1 old new)
+  pub still : StandsStill 1 old new
 
 -- a fault that leaves the bytes as they were; at most so many transfers more are counted
 pub record FailsWithout (most : ℕ) (old new : Raw) : Type 0 where
   pub cause : Rose old.faults new.faults
   pub no_wait : NoWait old new
   pub written : AnswersFor 0 old new
-  pub told : WhereTold old (new.bytes ≡ old.bytes)
-  pub transfers : WhereTold old ((old.transfers ≤ new.transfers) × (new.transfers ≤ counted old.transfers most))
+  pub bytes : KeepsBytes old new
+  pub transfers : TransfersAtMost most old new
 
 -- `readinto`
 
 -- told: the next `count` bytes were read; 0 into a buffer that isn't empty only at the end
-pub record ReadTold (old : Raw) (before : List ℕ) (count : ℕ) (after : List ℕ) (new : Raw) : Type 0 where
+pub record ReadTold (old : Raw) (before : List ℕ) (count : ℕ) (after : List ℕ) : Type 0 where
   pub left : count ≤ length (left_at old.bytes old.place)
   pub given : take count after ≡ take count (left_at old.bytes old.place)
   pub end : count ≡ 0 → before ≢ [] → length old.bytes ≤ old.place
-  pub bytes : new.bytes ≡ old.bytes
-  pub place : new.place ≡ old.place + count
-  pub transfers : new.transfers ≡ counted old.transfers 1
 
 pub record ReadBytes (old : Raw) (before : List ℕ) (count : ℕ) (after : List ℕ) (new : Raw) : Type 0 where
   pub fits : count ≤ length before
   pub counts : LeavesCounts old new
   pub written : AnswersFor 0 old new
-  pub told : WhereTold old (ReadTold old before count after new)
+  pub told : WhereTold old (ReadTold old before count after)
+  pub bytes : KeepsBytes old new
+  pub place : WherePlace old (new.place ≡ old.place + count)
+  pub transfers : Transfers 1 old new
 
 -- `before` and `after` are the buffer's bytes
 abbrev pub ReadOutcome : Raw → List ℕ → Result (Option ℕ) RawError → List ℕ → Raw → Type 0
@@ -121,13 +178,11 @@ ReadOutcome old before (Err Memory) after new = LacksMemory old new × (after �
 
 -- the end of a write that a stream can place
 abbrev pub WriteFits : Raw → List ℕ → Type 0
-WriteFits raw piece = WhereTold raw (raw.place + length piece ≤ greatest_place)
+WriteFits raw piece = WherePlace raw (raw.place + length piece ≤ greatest_place)
 
 -- told: the first `count` bytes of the piece were laid on at the place
-pub record WriteTold (old : Raw) (piece : List ℕ) (count : ℕ) (new : Raw) : Type 0 where
-  pub bytes : new.bytes ≡ lay old.bytes old.place (take count piece)
-  pub place : new.place ≡ old.place + count
-  pub transfers : new.transfers ≡ counted old.transfers 1
+abbrev pub LaysFront : Raw → List ℕ → ℕ → Raw → Type 0
+LaysFront old piece count new = new.bytes ≡ lay old.bytes old.place (take count piece)
 
 -- nothing taken of a piece that isn't empty is a fault
 pub record WritesBytes (old : Raw) (piece : List ℕ) (count : ℕ) (new : Raw) : Type 0 where
@@ -136,15 +191,17 @@ pub record WritesBytes (old : Raw) (piece : List ℕ) (count : ℕ) (new : Raw) 
   pub no_fault : (count ≡ 0 → piece ≡ []) → NoFault old new
   pub no_wait : NoWait old new
   pub written : AnswersFor count old new
-  pub told : WhereTold old (WriteTold old piece count new)
+  pub told : WhereTold old (LaysFront old piece count new)
+  pub place : WherePlace old (new.place ≡ old.place + count)
+  pub transfers : Transfers 1 old new
 
 -- a fault of a write may have laid on a front of the piece, but answers for none of it
 pub record FailsWriting (old : Raw) (piece : List ℕ) (new : Raw) : Type 0 where
   pub cause : Rose old.faults new.faults
   pub no_wait : NoWait old new
   pub written : AnswersFor 0 old new
-  pub told : WhereTold old ((count : ℕ) × (count ≤ length piece) × (new.bytes ≡ lay old.bytes old.place (take count piece)))
-  pub transfers : WhereTold old ((old.transfers ≤ new.transfers) × (new.transfers ≤ counted old.transfers 1))
+  pub told : WhereTold old ((count : ℕ) × (count ≤ length piece) × LaysFront old piece count new)
+  pub transfers : TransfersAtMost 1 old new
 
 abbrev pub WriteOutcome : Raw → List ℕ → Result (Option ℕ) RawError → Raw → Type 0
 WriteOutcome old piece (Ok (Some count)) new = WritesBytes old piece count new
@@ -154,61 +211,55 @@ WriteOutcome old piece (Err Memory) new = LacksMemory old new
 
 -- `seek`, `tell`, `end`
 
--- told: the place that was asked for
-pub record Moved (old : Raw) (place : ℕ) (new : Raw) : Type 0 where
-  pub bytes : new.bytes ≡ old.bytes
-  pub place_is : new.place ≡ place
-  pub transfers : new.transfers ≡ old.transfers
-
+-- it stands at the place that was asked for
 pub record Seeks (old : Raw) (place : ℕ) (new : Raw) : Type 0 where
   pub counts : LeavesCounts old new
   pub written : AnswersFor 0 old new
-  pub told : WhereTold old (Moved old place new)
+  pub bytes : KeepsBytes old new
+  pub place_is : WherePlace old (new.place ≡ place)
+  pub transfers : KeepsTransfers old new
 
 abbrev pub SeekOutcome : Raw → ℕ → Result (Unit {0}) RawError → Raw → Type 0
 SeekOutcome old place (Ok done) new = Seeks old place new
 SeekOutcome old place (Err Fault) new = FailsWithout 0 old new
 SeekOutcome old place (Err Memory) new = LacksMemory old new
 
--- a number that a stream answered: told, it is this one, and nothing moved
-pub record Answers (old : Raw) (told answer : ℕ) (new : Raw) : Type 0 where
+-- a number that a stream answered: where it tells that, it is this one; and nothing moved
+pub record Answers (tells : Bool) (old : Raw) (told answer : ℕ) (new : Raw) : Type 0 where
   pub within : answer ≤ greatest_place
   pub counts : LeavesCounts old new
   pub written : AnswersFor 0 old new
-  pub value : WhereTold old (answer ≡ told)
-  pub still : WhereTold old (StandsStill 0 old new)
+  pub value : IsTrue tells → answer ≡ told
+  pub still : StandsStill 0 old new
 
-abbrev pub NumberOutcome : Raw → ℕ → Result ℕ RawError → Raw → Type 0
-NumberOutcome old told (Ok answer) new = Answers old told answer new
-NumberOutcome old told (Err Fault) new = FailsWithout 0 old new
-NumberOutcome old told (Err Memory) new = LacksMemory old new
+abbrev pub NumberOutcome : Bool → Raw → ℕ → Result ℕ RawError → Raw → Type 0
+NumberOutcome tells old told (Ok answer) new = Answers tells old told answer new
+NumberOutcome tells old told (Err Fault) new = FailsWithout 0 old new
+NumberOutcome tells old told (Err Memory) new = LacksMemory old new
 
 abbrev pub TellOutcome : Raw → Result ℕ RawError → Raw → Type 0
-TellOutcome old result new = NumberOutcome old old.place result new
+TellOutcome old result new = NumberOutcome old.tells_place old old.place result new
 
 abbrev pub EndOutcome : Raw → Result ℕ RawError → Raw → Type 0
-EndOutcome old result new = NumberOutcome old (length old.bytes) result new
+EndOutcome old result new = NumberOutcome old.tells_bytes old (length old.bytes) result new
 
 -- `truncate`
-
--- told: the size that was asked for, with the place kept
-pub record Resized (old : Raw) (size : ℕ) (new : Raw) : Type 0 where
-  pub bytes : new.bytes ≡ resized old.bytes size
-  pub place : new.place ≡ old.place
-  pub transfers : new.transfers ≡ old.transfers
 
 -- a fault of a truncation leaves the bytes as they were, or with the size
 pub record FailsResizing (old : Raw) (size : ℕ) (new : Raw) : Type 0 where
   pub cause : Rose old.faults new.faults
   pub no_wait : NoWait old new
   pub written : AnswersFor 0 old new
-  pub told : WhereTold old ((new.bytes ≡ old.bytes) ⊎ (new.bytes ≡ resized old.bytes size))
-  pub transfers : WhereTold old (new.transfers ≡ old.transfers)
+  pub bytes : WhereBytes old ((new.bytes ≡ old.bytes) ⊎ (new.bytes ≡ resized old.bytes size))
+  pub transfers : KeepsTransfers old new
 
+-- the bytes have the size that was asked for, and the place is kept
 pub record Truncates (old : Raw) (size : ℕ) (new : Raw) : Type 0 where
   pub counts : LeavesCounts old new
   pub written : AnswersFor 0 old new
-  pub told : WhereTold old (Resized old size new)
+  pub bytes : WhereBytes old (new.bytes ≡ resized old.bytes size)
+  pub place : WherePlace old (new.place ≡ old.place)
+  pub transfers : KeepsTransfers old new
 
 abbrev pub TruncateOutcome : Raw → ℕ → Result (Unit {0}) RawError → Raw → Type 0
 TruncateOutcome old size (Ok done) new = Truncates old size new
@@ -222,7 +273,8 @@ pub record Closes (old new : Raw) : Type 0 where
   pub closed : new.closed ≡ true
   pub no_wait : NoWait old new
   pub written : AnswersFor 0 old new
-  pub told : WhereTold old ((new.bytes ≡ old.bytes) × (new.transfers ≡ old.transfers))
+  pub bytes : KeepsBytes old new
+  pub transfers : KeepsTransfers old new
 
 abbrev pub CloseOutcome : Raw → Result (Unit {0}) RawError → Raw → Type 0
 CloseOutcome old (Ok done) new = Closes old new × NoFault old new

@@ -5,17 +5,17 @@ use Rattle.py_flat.specs.Bytes.{left_at}
 use Rattle.py_flat.specs.Causes.{Rose, counted}
 use Rattle.py_raw.specs.declared.raw_error.RawError.{RawError}
 use Rattle.py_raw.specs.declared.raw_error.RawError.TheVariants.{Fault, Memory}
-use Rattle.py_raw.specs.RawStream.{Raw, Keeps, WhereTold, NoFault, NoWait, WaitsOnce, LeavesCounts, AnswersFor, AsksToWait, FailsWithout}
+use Rattle.py_raw.specs.RawStream.{Raw, Keeps, WhereTold, WherePlace, WhereTransfers, KeepsBytes, Transfers, NoFault, NoWait, WaitsOnce, LeavesCounts, AnswersFor, AsksToWait, FailsWithout}
 
 -- told: a part is the next bytes of the stream
 abbrev pub IsNext : Raw → List ℕ → Type 0
 IsNext old part = take (length part) (left_at old.bytes old.place) ≡ part
 
--- told: a part was read: it is the next bytes, which stay, and the place moved behind it
+-- a part was read: told, it is the next bytes; they stay, and the place moved past it
 pub record ReadOn (old : Raw) (part : List ℕ) (new : Raw) : Type 0 where
-  pub given : IsNext old part
-  pub bytes : new.bytes ≡ old.bytes
-  pub place : new.place ≡ old.place + length part
+  pub given : WhereTold old (IsNext old part)
+  pub bytes : KeepsBytes old new
+  pub place : WherePlace old (new.place ≡ old.place + length part)
 
 -- `read`
 
@@ -24,9 +24,9 @@ pub record ReadsOnce (old : Raw) (size : ℕ) (bytes : List ℕ) (new : Raw) : T
   pub fits : length bytes ≤ size
   pub counts : LeavesCounts old new
   pub written : AnswersFor 0 old new
-  pub told : WhereTold old (ReadOn old bytes new)
+  pub on : ReadOn old bytes new
   pub end : WhereTold old (length bytes ≡ 0 → size ≢ 0 → length old.bytes ≤ old.place)
-  pub transfers : WhereTold old (new.transfers ≡ counted old.transfers 1)
+  pub transfers : Transfers 1 old new
 
 -- want of memory, of the stream or for the vector, leaves the stream as it was
 abbrev pub ReadOnceOutcome : Raw → ℕ → Result (Option (Vec ℕ Global)) RawError → Raw → Type 0
@@ -51,8 +51,8 @@ pub record ReadSoFar (old : Raw) (before after : List ℕ) (new : Raw) : Type 0 
   pub untouched : part ≡ [] → new ≡ old
   pub counts : LeavesCounts old new
   pub written : AnswersFor 0 old new
-  pub told : WhereTold old (ReadOn old part new)
-  pub transfers : WhereTold old (part ≢ [] → CameBy (length part) old.transfers new.transfers)
+  pub on : ReadOn old part new
+  pub transfers : WhereTransfers old (part ≢ [] → CameBy (length part) old.transfers new.transfers)
 
 -- why a reading up to the end stops: the end was reached, or the stream asked to wait after some bytes, once
 abbrev pub Stops : Raw → ℕ → Raw → Type 0
@@ -65,9 +65,9 @@ pub record ReadsAll (old : Raw) (before : List ℕ) (count : ℕ) (after : List 
   pub counts : count ≡ length part
   pub no_fault : NoFault old new
   pub written : AnswersFor 0 old new
-  pub told : WhereTold old (ReadOn old part new)
+  pub on : ReadOn old part new
   pub stops : Stops old count new
-  pub transfers : WhereTold old (CameBy (count + 1) old.transfers new.transfers)
+  pub transfers : WhereTransfers old (CameBy (count + 1) old.transfers new.transfers)
 
 -- a part was read and appended, and the transfer after that failed; `between` is what the stream showed before it
 pub record FailsReadingAll (old : Raw) (before after : List ℕ) (new : Raw) : Type 0 where

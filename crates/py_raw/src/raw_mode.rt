@@ -25,7 +25,7 @@ pub fn is_raw_mode(mode: &str) -> bool
 }
 
 /// The file letter of a raw mode: `r`, `w`, `x` or `a`.
-pub(crate) fn file_letter(mode: &str) -> u8
+pub fn file_letter(mode: &str) -> u8
     requires { IsRawMode mode.now }
     ensures { result ≡ file_letter mode.now }
 {
@@ -33,14 +33,14 @@ pub(crate) fn file_letter(mode: &str) -> u8
 }
 
 /// Whether a raw mode has a plus.
-pub(crate) fn has_plus(mode: &str) -> bool
+fn has_plus(mode: &str) -> bool
     ensures { result ≡ has_plus mode.now }
 {
     mode.len() == 3
 }
 
 /// Whether what a raw mode opens can be read.
-pub(crate) fn mode_reads(mode: &str) -> bool
+pub fn mode_reads(mode: &str) -> bool
     requires { IsRawMode mode.now }
     ensures { result ≡ mode_reads mode.now }
 {
@@ -48,7 +48,7 @@ pub(crate) fn mode_reads(mode: &str) -> bool
 }
 
 /// Whether what a raw mode opens can be written.
-pub(crate) fn mode_writes(mode: &str) -> bool
+pub fn mode_writes(mode: &str) -> bool
     requires { IsRawMode mode.now }
     ensures { result ≡ mode_writes mode.now }
 {
@@ -56,7 +56,7 @@ pub(crate) fn mode_writes(mode: &str) -> bool
 }
 
 /// Whether a raw mode can't open a path that is found or isn't: `x` finds it, or `r` misses it.
-pub(crate) fn misses(mode: &str, found: bool) -> bool
+pub fn misses(mode: &str, found: bool) -> bool
     requires { IsRawMode mode.now }
     ensures { result ≡ ((nat_eq (file_letter mode.now) letter_x && found) || (nat_eq (file_letter mode.now) letter_r && not found)) }
 {
@@ -87,7 +87,7 @@ fn letter_flags(letter: u8) -> RawFlags
 }
 
 /// The flags of a stream in memory that a raw mode opens, which can always seek.
-pub(crate) fn mode_flags(mode: &str) -> RawFlags
+pub fn mode_flags(mode: &str) -> RawFlags
     requires { IsRawMode mode.now }
     ensures reads { can_read result ≡ mode_reads mode.now }
     ensures writes { can_write result ≡ mode_writes mode.now }

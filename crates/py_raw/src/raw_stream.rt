@@ -1,10 +1,9 @@
 ghost use Rattle.std.specs.Prelude.{◌≡◌, ◌≤◌, max, true, false, length, IsTrue};
 ghost use Rattle.py_flat.specs.Limits.{greatest_place};
 ghost use Rattle.py_raw.specs.ReadAll.{ReadOnceOutcome, ReadAllOutcome};
-ghost use Rattle.py_raw.specs.RawStream.{Raw, Keeps, StaysOpen, ReadOutcome, WriteOutcome, SeekOutcome, TellOutcome, EndOutcome, TruncateOutcome, CloseOutcome, WriteFits};
+ghost use Rattle.py_raw.specs.RawStream.{Raw, Keeps, StaysOpen, FailsWithout, ReadOutcome, WriteOutcome, SeekOutcome, TellOutcome, EndOutcome, TruncateOutcome, CloseOutcome, WriteFits};
 
-use crate::RawError;
-use crate::laying::lengthen;
+use crate::{RawError, lengthen};
 use std::alloc::Global;
 
 /// The greatest place and the greatest size of a stream, in bytes from its start: the greatest signed number of 64 bits, as in
@@ -23,9 +22,18 @@ fn next_chunk(came: usize) -> usize
 ///
 /// Places and sizes are bytes from the start, at most 9223372036854775807. A call may move fewer bytes than asked,
 /// ask to wait (`None`) or fail; each of these has its cause in a count of the stream that rose.
+///
+/// A stream that lacks a call by its type, as a pipe lacks `seek`, doesn't write it: the call then counts a fault and answers it.
 pub trait RawStream {
-    /// What the stream shows: its counts, what it can do, and, where it tells them, its bytes and place.
+    /// What the stream shows: its counts, what it can do, and, where it tells them, its bytes, its place and its transfers.
     ghost shows: { Self → Raw };
+
+    /// Counts a fault, and answers with it, leaving all else: what a call comes to that the stream lacks.
+    fn unsupported(&mut self) -> RawError
+        ensures keeps { Keeps (shows self.old) (shows self.new) }
+        ensures open { StaysOpen (shows self.old) (shows self.new) }
+        ensures answer { result ≡ RawError.Fault }
+        ensures fails { FailsWithout 0 (shows self.old) (shows self.new) };
 
     /// Reads up to as many bytes as `buf` is long, from the place on, into its front; the place moves behind them.
     ///
@@ -33,10 +41,12 @@ pub trait RawStream {
     /// as before. After `Fault` the bytes are unchanged; after `Memory` all is.
     fn readinto(&mut self, buf: &mut [u8]) -> Result<Option<usize>, RawError>
         requires open { (shows self.old).closed ≡ false }
-        requires can { (shows self.old).readable ≡ true }
         ensures keeps { Keeps (shows self.old) (shows self.new) }
         ensures open { StaysOpen (shows self.old) (shows self.new) }
-        ensures outcome { ReadOutcome (shows self.old) buf.old result buf.new (shows self.new) };
+        ensures outcome { ReadOutcome (shows self.old) buf.old result buf.new (shows self.new) }
+    {
+        Err(self.unsupported())
+    }
 
     /// Reads up to `n` bytes from the place on by one transfer, into a vector of its own; the place moves behind them.
     ///
@@ -46,7 +56,6 @@ pub trait RawStream {
     /// Python's `io.RawIOBase`.
     fn read(&mut self, alloc: Global, n: usize) -> Result<Option<Vec<u8>>, RawError>
         requires open { (shows self.old).closed ≡ false }
-        requires can { (shows self.old).readable ≡ true }
         ensures keeps { Keeps (shows self.old) (shows self.new) }
         ensures open { StaysOpen (shows self.old) (shows self.new) }
         ensures outcome { ReadOnceOutcome (shows self.old) n result (shows self.new) }
@@ -75,7 +84,6 @@ pub trait RawStream {
     /// behind what was appended. The rule is that of `readall` of Python's `io.RawIOBase`.
     fn readall(&mut self, out: &mut Vec<u8>) -> Result<Option<usize>, RawError>
         requires open { (shows self.old).closed ≡ false }
-        requires can { (shows self.old).readable ≡ true }
         ensures keeps { Keeps (shows self.old) (shows self.new) }
         ensures open { StaysOpen (shows self.old) (shows self.new) }
         ensures outcome { ReadAllOutcome (shows self.old) out.old.items result out.new.items (shows self.new) }
@@ -110,47 +118,57 @@ pub trait RawStream {
     /// before. After `Fault` a front of the piece may have been written; after `Memory` all is unchanged.
     fn write(&mut self, piece: &[u8]) -> Result<Option<usize>, RawError>
         requires open { (shows self.old).closed ≡ false }
-        requires can { (shows self.old).writable ≡ true }
         requires fits { WriteFits (shows self.old) piece.now }
         ensures keeps { Keeps (shows self.old) (shows self.new) }
         ensures open { StaysOpen (shows self.old) (shows self.new) }
-        ensures outcome { WriteOutcome (shows self.old) piece.now result (shows self.new) };
+        ensures outcome { WriteOutcome (shows self.old) piece.now result (shows self.new) }
+    {
+        Err(self.unsupported())
+    }
 
     /// Moves to a place from the start; past the end is allowed. After an error the bytes are unchanged.
     fn seek(&mut self, place: u64) -> Result<(), RawError>
         requires open { (shows self.old).closed ≡ false }
-        requires can { (shows self.old).seekable ≡ true }
         requires within { place ≤ greatest_place }
         ensures keeps { Keeps (shows self.old) (shows self.new) }
         ensures open { StaysOpen (shows self.old) (shows self.new) }
-        ensures outcome { SeekOutcome (shows self.old) place result (shows self.new) };
+        ensures outcome { SeekOutcome (shows self.old) place result (shows self.new) }
+    {
+        Err(self.unsupported())
+    }
 
     /// The place. After an error the bytes are unchanged.
     fn tell(&mut self) -> Result<u64, RawError>
         requires open { (shows self.old).closed ≡ false }
-        requires can { (shows self.old).seekable ≡ true }
         ensures keeps { Keeps (shows self.old) (shows self.new) }
         ensures open { StaysOpen (shows self.old) (shows self.new) }
-        ensures outcome { TellOutcome (shows self.old) result (shows self.new) };
+        ensures outcome { TellOutcome (shows self.old) result (shows self.new) }
+    {
+        Err(self.unsupported())
+    }
 
     /// How many bytes there are; the place is kept. After an error the bytes are unchanged.
     fn end(&mut self) -> Result<u64, RawError>
         requires open { (shows self.old).closed ≡ false }
-        requires can { (shows self.old).seekable ≡ true }
         ensures keeps { Keeps (shows self.old) (shows self.new) }
         ensures open { StaysOpen (shows self.old) (shows self.new) }
-        ensures outcome { EndOutcome (shows self.old) result (shows self.new) };
+        ensures outcome { EndOutcome (shows self.old) result (shows self.new) }
+    {
+        Err(self.unsupported())
+    }
 
     /// Cuts the bytes to a size, or lengthens them by zeros; the place is kept.
     ///
     /// After `Fault` the bytes are unchanged or have that size; after `Memory` all is unchanged.
     fn truncate(&mut self, size: u64) -> Result<(), RawError>
         requires open { (shows self.old).closed ≡ false }
-        requires can { (shows self.old).writable ≡ true }
         requires within { size ≤ greatest_place }
         ensures keeps { Keeps (shows self.old) (shows self.new) }
         ensures open { StaysOpen (shows self.old) (shows self.new) }
-        ensures outcome { TruncateOutcome (shows self.old) size result (shows self.new) };
+        ensures outcome { TruncateOutcome (shows self.old) size result (shows self.new) }
+    {
+        Err(self.unsupported())
+    }
 
     /// Closes the stream, which stays closed after `Fault` too. After `Memory` nothing changed.
     fn close(&mut self) -> Result<(), RawError>
@@ -175,5 +193,5 @@ pub trait RawStream {
         ensures { result ≡ (shows self.now).seekable };
 
     /// The bytes that it tells are no longer than a file can be.
-    ghost told_length: { (raw : Self) → IsTrue (shows raw).tells → length (shows raw).bytes ≤ greatest_place };
+    ghost told_length: { (raw : Self) → IsTrue (shows raw).tells_bytes → length (shows raw).bytes ≤ greatest_place };
 }

@@ -24,7 +24,7 @@ use Rattle.py_stream.specs.Answers.{refused_by, Leaves, IsShort, LifeMoves, Seek
 use Rattle.py_reader.proofs.Transfers.{keeps_self, keeps_then, no_wait_then, uncounted, uncounted_then}
 use Rattle.py_reader.proofs.Refusing.{near, refused_with, refused_by_life}
 use Rattle.py_stream.proofs.Refused.{is_own}
-use Rattle.py_stream.proofs.Refused.{keeps_same}
+use Rattle.py_raw.proofs.Telling.{keeps_same}
 
 -- an engine of which a call was begun
 abbrev begun : EngineView → EngineView

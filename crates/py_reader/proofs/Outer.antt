@@ -12,7 +12,8 @@ use Rattle.py_raw.specs.RawStream.{Raw}
 use Rattle.py_stream.specs.Stream.{detached_stream, reader_can, nothing_owed}
 use Rattle.py_stream.specs.Answers.{Answers}
 use Rattle.py_stream.specs.Handing.{handed_over, HandsOver}
-use Rattle.py_stream.proofs.Refused.{keeps_same, detached_answers}
+use Rattle.py_raw.proofs.Telling.{keeps_same}
+use Rattle.py_stream.proofs.Refused.{detached_answers}
 use Rattle.py_reader.specs.Window.{WindowView, place_of}
 use Rattle.py_reader.specs.Engine.{EngineView, stream_of}
 use Rattle.py_reader.specs.Reader.{reader_of, IsReader, Looks, BeginsDetach}

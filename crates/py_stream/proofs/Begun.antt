@@ -110,7 +110,7 @@ module _ (short : Bool) where
     moves = record { life_is = answers.moves.life_is; place = answers.moves.place; far = answers.moves.far; within = answers.moves.within };
     ends = by_end before after call reply answers.ends;
     wants = answers.wants;
-    starves = λ wanting reads. let starved = answers.starves wanting reads in record { unmoved = starved.unmoved; moved = starved.moved; told = starved.told };
+    starves = λ wanting reads. let starved = answers.starves wanting reads in record { unmoved = starved.unmoved; moved = starved.moved; stands = starved.stands };
     first = answers.first;
     nothing = λ asks. let none = answers.nothing asks in record { raw = none.raw; fault = none.fault };
     idle = λ keeps. let still = answers.idle keeps in record { raw = still.raw; fault = still.fault; memory = still.memory };

@@ -9,15 +9,11 @@ use Rattle.py_flat.specs.Calls.{FileCall, Read1, Write, WriteLines, Truncate, Se
 use Rattle.py_flat.specs.FlatFile.{Abilities}
 use Rattle.py_flat.specs.Refusals.{is_getter, is_other_getter, or_else, refused_if, refusal}
 use Rattle.py_flat.specs.BinaryStep.{asks_end}
-use Rattle.py_raw.specs.RawStream.{Raw, Keeps}
+use Rattle.py_raw.proofs.Telling.{keeps_same}
 use Rattle.py_stream.specs.Stream.{Stream, file_of, no_raw, detached_stream}
 use Rattle.py_stream.specs.Kinds.{says_no_memory}
 use Rattle.py_stream.specs.Writing.{LaysInOrder, PassesOn, BlocksFull, OwesNoneOfIts, Writes}
 use Rattle.py_stream.specs.Answers.{LifeMoves, PlaceMoves, GivesWithin, IsShort, SeeksByEnd, closes_again, refused_by, Answers}
-
--- a raw that wasn't called
-pub keeps_same : (raw : Raw) → Keeps raw raw
-keeps_same raw = record { tells = refl; readable = refl; writable = refl; seekable = refl; takes_memory = refl; counts_exactly = refl; faults = omega arith; waits = omega arith }
 
 -- A call that is refused, and leaves all.
 

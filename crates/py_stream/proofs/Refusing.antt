@@ -16,7 +16,8 @@ use Rattle.py_stream.specs.Stream.{Stream, size_of, buffering_of, file_of}
 use Rattle.py_stream.specs.Kinds.{says_fault, says_no_memory}
 use Rattle.py_stream.specs.Writing.{Writes}
 use Rattle.py_stream.specs.Answers.{Answers, LifeMoves, PlaceMoves, IsShort, IsNear, SeeksByEnd, GivesWithin, closes_again, refused_by}
-use Rattle.py_stream.proofs.Refused.{is_own, keeps_same, leaves_all}
+use Rattle.py_raw.proofs.Telling.{keeps_same}
+use Rattle.py_stream.proofs.Refused.{is_own, leaves_all}
 use Rattle.py_stream.proofs.Begun.{writes_whole}
 
 life_stays : (buffer : Option ℕ) (call : FileCall) (why : IoFault) (current : Life) → is_own why ≡ true → LifeMoves buffer call (Refused why) current current

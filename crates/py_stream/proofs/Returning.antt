@@ -11,6 +11,7 @@ use Rattle.py_flat.specs.BinaryStep.{SettledBy, BinaryStep}
 use Rattle.py_raw.specs.RawStream.{WhereTold}
 use Rattle.py_stream.specs.Stream.{Stream, file_of}
 use Rattle.py_stream.specs.Answers.{Answers}
+use Rattle.py_raw.proofs.Telling.{tells_still}
 use Rattle.py_stream.specs.Laws.{ComesBack}
 
 tell_by : (file : FlatFile) (refused : Option IoFault) (place : ℕ) (after : FlatFile) → SettledBy file Tell refused (Place place) after → after ≡ file
@@ -43,7 +44,7 @@ comes_back before mid told back after tells seeks =
     let says : back ≡ told = omega arith in
     let file : WhereTold before.raw (file_of after ≡ file_of before) = λ tell.
     let one : file_of mid ≡ file_of before = told_leaves (file_of before) told mid.short _ (file_of mid) (tells.told tell) in
-    moved_leaves (file_of mid) told back after.short _ (file_of after) (seeks.told (tells.keeps.raw.tells ∙ tell))
+    moved_leaves (file_of mid) told back after.short _ (file_of after) (seeks.told (tells_still before.raw mid.raw tells.keeps.raw ∙ tell))
     ∙ ap (λ (file : FlatFile). record file { place = 0 + told }) one
     ∙ ap (λ (place : ℕ). record (file_of before) { place = place }) (let same : 0 + told ≡ before.place = omega arith in same) in
     record {

@@ -11,7 +11,7 @@ use Rattle.py_flat.specs.Calls.{FileCall, Read, Read1, ReadLine, ReadLines, Peek
 use Rattle.py_flat.specs.Refusals.{is_getter, is_other_getter, lets_through, lacks, refusal, moved_by, target_refusal}
 use Rattle.py_flat.specs.ExactStep.{is_closed}
 use Rattle.py_flat.specs.BinaryStep.{asks_end, BinaryStep}
-use Rattle.py_raw.specs.RawStream.{Raw, Keeps, WhereTold}
+use Rattle.py_raw.specs.RawStream.{Raw, Keeps, WhereTold, WherePlace, WhereTransfers, KeepsBytes}
 use Rattle.py_stream.specs.Stream.{Stream, size_of, buffering_of, file_of, nothing_owed}
 use Rattle.py_stream.specs.Kinds.{is_reading, reads_on, goes_on, makes_one, has_room, takes_space_first, asks_none, calls_none, waits_unready, outlasts, says_wait, says_fault, says_no_memory}
 use Rattle.py_stream.specs.Writing.{Writes}
@@ -227,7 +227,7 @@ WantsMemory room reply raw = IsTrue (says_no_memory reply) → IsTrue room → I
 pub record Starves (before after : Stream) : Type 0 where
   pub unmoved : after.life ≡ life.Live → after ≡ record before { short = false }
   pub moved : after.life ≡ life.Failed → before.raw_place < after.raw_place
-  pub told : after.life ≡ life.Failed → WhereTold before.raw (before.raw.place < after.raw.place)
+  pub stands : after.life ≡ life.Failed → WherePlace before.raw (before.raw.place < after.raw.place)
 
 -- where the space is taken first, the call's own want of memory leaves all as it was
 abbrev pub StarvesFirst : Stream → FileCall → FileReply → Stream → Type 0
@@ -246,21 +246,21 @@ pub record AsksNothing (before : Stream) (reply : FileReply) (after : Stream) : 
   pub raw : after.raw ≡ before.raw
   pub fault : says_fault reply ≡ false
 
--- at most one is made; told, that is counted
+-- at most one is made, where they are told
 abbrev pub AtMostOne : Stream → Stream → Type 0
-AtMostOne before after = WhereTold before.raw (after.raw.transfers ≤ before.raw.transfers + 1)
+AtMostOne before after = WhereTransfers before.raw (after.raw.transfers ≤ before.raw.transfers + 1)
 
--- The raw's place and bytes, where the raw tells.
+-- The raw's place and bytes, where the raw tells them.
 
--- a live stream's place and its raw's differ by at most the size of the buffer; told, the raw stands where the stream counts
+-- a live stream's place and its raw's differ by at most the size of the buffer; the raw stands where the stream counts
 pub record IsNear (stream : Stream) : Type 0 where
   pub ahead : stream.raw_place ≤ stream.place + size_of stream
   pub behind : stream.place ≤ stream.raw_place + size_of stream
-  pub stands : WhereTold stream.raw (stream.raw.place ≡ stream.raw_place)
+  pub stands : WherePlace stream.raw (stream.raw.place ≡ stream.raw_place)
 
 -- the raw's bytes are as they were, and nothing is owed, at the place
 pub record SparesBytes (before after : Stream) : Type 0 where
-  pub bytes : WhereTold before.raw (after.raw.bytes ≡ before.raw.bytes)
+  pub bytes : KeepsBytes before.raw after.raw
   pub owed : after.owed ≡ nothing_owed after.place
 
 -- One call of a stream, by which calls have their room: what it keeps; what the life, the stream or an argument refuses; a

@@ -9,40 +9,45 @@ use Rattle.py_flat.specs.FlatFile.{Abilities}
 use Rattle.py_flat.specs.Refusals.{or_else, refused_if}
 use Rattle.py_raw.specs.declared.raw_error.RawError.{RawError}
 use Rattle.py_raw.specs.declared.raw_error.RawError.TheVariants as raw_error
-use Rattle.py_raw.specs.RawStream.{Raw, Keeps, StaysOpen, WhereTold, LeavesCounts}
+use Rattle.py_raw.specs.RawStream.{Raw, Keeps, StaysOpen, WherePlace, WhereTransfers, KeepsBytes, LeavesCounts}
 use Rattle.py_stream.specs.declared.new_refused.NewRefused.{NewRefused}
 use Rattle.py_stream.specs.Stream.{Stream, nothing_owed}
 
--- a raw that can't seek stands at place 0, where it tells
+-- a raw that can't seek stands at place 0, where it tells its place
 abbrev pub StandsAtStart : Raw → Type 0
-StandsAtStart raw = IsFalse raw.seekable → WhereTold raw (raw.place ≡ 0)
+StandsAtStart raw = IsFalse raw.seekable → WherePlace raw (raw.place ≡ 0)
 
--- nothing was read or written: where the raw tells, it counted no transfer, and has the bytes that it had
+-- nothing was read or written: as far as the raw tells, it made no transfer, and has the bytes that it had
 pub record Untouched (old new : Raw) : Type 0 where
   pub keeps : Keeps old new
   pub stays : StaysOpen old new
-  pub bytes : WhereTold old (new.bytes ≡ old.bytes)
-  pub transfers : WhereTold old (new.transfers ≤ old.transfers)
+  pub bytes : KeepsBytes old new
+  pub transfers : WhereTransfers old (new.transfers ≤ old.transfers)
 
--- told: it stands where it stood
+-- it stands where it stood
 abbrev pub StandsWhereItStood : Raw → Raw → Type 0
-StandsWhereItStood old new = WhereTold old (new.place ≡ old.place)
+StandsWhereItStood old new = WherePlace old (new.place ≡ old.place)
 
 -- where a stream begins, by whether it appends: where the raw stands; or at the end, where the raw can seek
 abbrev pub begins_at : Bool → Raw → ℕ
 begins_at true raw = if raw.seekable then length raw.bytes else raw.place
 begins_at false raw = raw.place
 
+-- whether the raw tells that: its place; its bytes, of a stream that begins at their end
+abbrev pub tells_start : Bool → Raw → Bool
+tells_start true raw = if raw.seekable then raw.tells_bytes else raw.tells_place
+tells_start false raw = raw.tells_place
+
 -- a new stream, over a raw that is able to do what it needs: the raw was open; nothing was read or written; it begins where
--- the raw stands, one that appends at the end, and at 0 where the raw can't seek
+-- the raw stands, one that appends at the end, and at 0 where the raw can't seek; the raw stands there
 pub record Opens (able : Raw → Bool) (can : Bool → Abilities) (raw : Raw) (buffer : Option ℕ) (stream : Stream) : Type 0 where
   pub was_open : raw.closed ≡ false
   pub is_able : able raw ≡ true
   pub some : buffer ≢ Some 0
   pub untouched : Untouched raw stream.raw
   pub counts : LeavesCounts raw stream.raw
-  pub stands : WhereTold raw (stream.raw.place ≡ begins_at (can raw.seekable).appending raw)
-  pub place : WhereTold raw (stream.place ≡ begins_at (can raw.seekable).appending raw)
+  pub place : IsTrue (tells_start (can raw.seekable).appending raw) → stream.place ≡ begins_at (can raw.seekable).appending raw
+  pub stands : WherePlace raw (stream.raw.place ≡ stream.place)
   pub start : IsFalse raw.seekable → stream.place ≡ 0
   pub within : stream.place ≤ greatest_place
   pub raw_place : stream.raw_place ≡ stream.place
@@ -73,8 +78,9 @@ pub record PlaceOf (appends : Bool) (old : Raw) (place : ℕ) (new : Raw) : Type
   pub untouched : Untouched old new
   pub counts : LeavesCounts old new
   pub start : IsFalse old.seekable → place ≡ 0
-  pub stands : WhereTold old (new.place ≡ begins_at appends old)
-  pub told : WhereTold old (IsTrue old.seekable → place ≡ begins_at appends old)
+  pub told : IsTrue old.seekable → IsTrue (tells_start appends old) → place ≡ begins_at appends old
+  pub stands : IsTrue old.seekable → WherePlace old (new.place ≡ place)
+  pub still : IsFalse old.seekable → WherePlace old (new.place ≡ old.place)
 
 -- want of memory leaves a raw as it was; one that was to be moved to its end may have been asked where that is, and counted
 -- nothing

@@ -3,8 +3,7 @@ use Rattle.std.specs.Prelude.{◌≡◌, ◌≢◌, ℕ, ◌≤◌, length, Bool
 use denote.Bor.{Bor}
 use Rattle.std.specs.declared.alloc.Global.{Global}
 use Rattle.py_flat.specs.declared.fault.IoFault.{IoFault}
-use Rattle.py_flat.specs.declared.life.Life.{Life}
-use Rattle.py_flat.specs.declared.life.Life.TheVariants as life
+use Rattle.py_flat.specs.declared.fault.IoFault.TheVariants as fault
 use Rattle.py_flat.specs.Calls.{FileReply, Bytes, Lines as LinesReply, Count, Place, Done, NotReady, Refused}
 
 -- of a reading that gives bytes
@@ -24,9 +23,12 @@ abbrev pub CountFits : Result (Option ℕ) IoFault → List ℕ → Type 0
 CountFits (Ok (Some count)) buffer = count ≤ length buffer
 CountFits result buffer = Unit {0}
 
--- what a life refuses leaves the caller's buffer as it was
-abbrev pub KeepsBuffer : Life → List ℕ → List ℕ → Type 0
-KeepsBuffer current before after = current ≢ life.Live → after ≡ before
+-- what the stream refuses by itself leaves the caller's buffer as it was: every error but those of its raw and want of memory
+abbrev pub KeepsBuffer : Result (Option ℕ) IoFault → List ℕ → List ℕ → Type 0
+KeepsBuffer (Err fault.RawFault) before after = Unit {0}
+KeepsBuffer (Err fault.NoMemory) before after = Unit {0}
+KeepsBuffer (Err why) before after = after ≡ before
+KeepsBuffer (Ok answer) before after = Unit {0}
 
 -- the caller's buffer is as it was behind the bytes that were given, and all of it where none were
 abbrev pub KeepsUnread : Result (Option ℕ) IoFault → List ℕ → List ℕ → Type 0

@@ -5,7 +5,7 @@ use Rattle.py_flat.specs.declared.life.Life.TheVariants as life
 use Rattle.py_flat.specs.Bytes.{lay}
 use Rattle.py_flat.specs.FlatFile.{Abilities, Buffering, Unbuffered, Buffered, FlatFile}
 use Rattle.py_flat.specs.Owed.{Owed}
-use Rattle.py_raw.specs.RawStream.{Raw}
+use Rattle.py_raw.specs.RawStream.{Raw, untold}
 
 -- what the raw under it shows; its own place; where the raw stands, as the stream itself counts while it lives; what it can
 -- do; its life; the size of its buffer in bytes, none of a stream that has no buffer; whether a wait of the raw cut the last
@@ -52,21 +52,7 @@ nothing_owed place = record { bytes = []; place = place }
 
 -- a detached stream has no raw left to show anything of
 abbrev pub no_raw : Raw
-no_raw = record {
-  tells = false;
-  bytes = [];
-  place = 0;
-  transfers = 0;
-  written = 0;
-  faults = 0;
-  waits = 0;
-  closed = false;
-  readable = false;
-  writable = false;
-  seekable = false;
-  takes_memory = false;
-  counts_exactly = false;
-}
+no_raw = record (untold 0 0 false false false false) { counts_exactly = false }
 
 -- what is left of a stream whose raw was handed back
 abbrev pub detached_stream : Abilities → Option ℕ → Stream

@@ -7,7 +7,7 @@ use Rattle.py_flat.specs.Causes.{counted}
 use Rattle.py_flat.specs.Owed.{Owed}
 use Rattle.py_flat.specs.Calls.{FileCall, Write, WriteLines, Seek, Truncate, Flush, Close, Detach, FileReply, Place, Done, Unwritten, Refused}
 use Rattle.py_flat.specs.BinaryStep.{payload}
-use Rattle.py_raw.specs.RawStream.{WhereTold, AnswersFor}
+use Rattle.py_raw.specs.RawStream.{WhereTold, WherePlace, WhereTransfers, AnswersFor}
 use Rattle.py_stream.specs.Stream.{Stream, size_of, file_of}
 use Rattle.py_stream.specs.Kinds.{is_writing, says_no_memory}
 
@@ -70,7 +70,7 @@ pub record PassedOn (before after : Stream) : Type 0 where
 abbrev pub PassesOn : Stream → FileCall → FileReply → Stream → Type 0
 PassesOn before Flush Done after = PassedOn before after × (after.raw_place ≡ after.place)
 PassesOn before Close Done after = before.life ≡ life.Live → PassedOn before after
-PassesOn before Detach (Unwritten bytes place) after = before.life ≡ life.Live → PassedOn before after × (bytes ≡ []) × WhereTold before.raw (after.raw.place ≡ after.place)
+PassesOn before Detach (Unwritten bytes place) after = before.life ≡ life.Live → PassedOn before after × (bytes ≡ []) × WherePlace before.raw (after.raw.place ≡ after.place)
 PassesOn before (Seek offset whence) (Place place) after = before.can.readable ≡ false → after.owed.bytes ≡ []
 PassesOn before call reply after = Unit {0}
 
@@ -93,11 +93,11 @@ OwesNoneOfIts before (Write bytes) (Refused fault.RawFault) after = OwesOld befo
 OwesNoneOfIts before (Write bytes) (Refused fault.NoMemory) after = after.life ≡ life.Failed → OwesOld before after
 OwesNoneOfIts before call reply after = Unit {0}
 
--- the raw took some bytes of a call's own: it stands further on than the call began, and told, it answered for more than was owed
+-- the raw took some bytes of a call's own: it stands further on than the call began, and answered for more than was owed
 pub record TookOwn (before after : Stream) : Type 0 where
   pub further : before.place < after.raw_place
-  pub stands : WhereTold before.raw (before.place < after.raw.place)
-  pub answered : WhereTold before.raw (counted before.raw.written (length before.owed.bytes + 1) ≤ counted after.raw.written 0)
+  pub stands : WherePlace before.raw (before.place < after.raw.place)
+  pub answered : WhereTransfers before.raw (counted before.raw.written (length before.owed.bytes + 1) ≤ counted after.raw.written 0)
 
 -- A call of a stream that writes: what it took, what it owes then, and what the raw's bytes are; what is passed on; where it
 -- had to wait; that want of memory fails a write only once the raw took some of its own bytes; that what went straight to the raw

@@ -12,7 +12,7 @@ use Rattle.py_stream.specs.Stream.{file_of}
 use Rattle.py_stream.specs.Writing.{Writes}
 use Rattle.py_stream.specs.Answers.{Answers, refused_by}
 use Rattle.py_stream.specs.Replies.{done_reply}
-use Rattle.py_stream.proofs.Refused.{keeps_same}
+use Rattle.py_raw.proofs.Telling.{keeps_same}
 use Rattle.py_unbuffered.specs.Engine.{EngineView, stream_of, BeginOutcome}
 use Rattle.py_unbuffered.proofs.Begun.{Stands, begun, is_near, begins_in_vain}
 

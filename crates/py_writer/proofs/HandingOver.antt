@@ -18,7 +18,8 @@ use Rattle.py_raw.specs.RawStream.{Raw, WhereTold}
 use Rattle.py_stream.specs.Stream.{Stream, file_of, writer_can, nothing_owed, detached_stream}
 use Rattle.py_stream.specs.Answers.{Answers, refused_by}
 use Rattle.py_stream.specs.Handing.{place_handed, handed_over, left_behind, owed_then, HandsOver}
-use Rattle.py_stream.proofs.Refused.{keeps_same, detached_answers}
+use Rattle.py_raw.proofs.Telling.{keeps_same}
+use Rattle.py_stream.proofs.Refused.{detached_answers}
 use Rattle.py_stream.proofs.Refusing.{IsPlaced, refused_by_life}
 use Rattle.py_stream.proofs.Begun.{answers_whole}
 use Rattle.py_writer.specs.Pending.{end_of}

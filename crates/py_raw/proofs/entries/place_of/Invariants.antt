@@ -1,7 +1,0 @@
--- no entry so far is of the path
-use Rattle.std.proofs.Common.{◌≡◌, None, take}
-use Rattle.py_raw.specs.Entries.{held_in}
-use Rattle.py_raw.proofs.entries.place_of.Given as goal
-
-abbrev pub invariant-loop-place : goal.invariant-loop-place
-invariant-loop-place g l = held_in (take l.place l.entries) l.path ≡ None

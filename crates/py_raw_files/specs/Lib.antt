@@ -1,0 +1,2 @@
+pub mod FileRaw
+pub mod FileOpener

@@ -1,0 +1,5 @@
+pub mod Cuts
+pub mod MemRaw
+pub mod Entries
+pub mod Plans
+pub mod MemOpener
