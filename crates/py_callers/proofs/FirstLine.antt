@@ -86,11 +86,11 @@ stream_line raw stream reply after opens step =
     let back : after.raw ≡ answered.raw = ap (λ (s : Stream). s.raw) step.leaves ∙ left_raw answered.life answered in
     subst (λ (shown : Raw). AnswersLine raw (said reply) shown) (sym back) (record {
       line = λ tells smooth.
-        let whole : answered.short ≡ false = uncaused raw.waits stream.raw.waits answered.raw.waits answered.short opens.untouched.keeps.waits step.answers.causes.waits smooth.waits in
-        let sound : says_fault (said reply) ≡ false = uncaused raw.faults stream.raw.faults answered.raw.faults (says_fault (said reply)) opens.untouched.keeps.faults step.answers.causes.faults smooth.faults in
-        let told : BinaryStep (file_of stream) (ReadLine None) (said reply) answered.short (says_fault (said reply)) (file_of answered) = step.answers.told (opens.untouched.keeps.tells ∙ tells) in
-        let step' : BinaryStep (file_of stream) (ReadLine None) (said reply) false false (file_of answered) = rw (whole, sound) at told in
-        subst (λ (left : List ℕ). (said reply ≡ Bytes (first_line Lf None left)) ⊎ (said reply ≡ Refused fault.NoMemory)) (rest_of raw stream opens tells) (line_stepped (file_of stream) (said reply) (file_of answered) (accepts raw stream opens) step');
+          let whole : answered.short ≡ false = uncaused raw.waits stream.raw.waits answered.raw.waits answered.short opens.untouched.keeps.waits step.answers.causes.waits smooth.waits in
+          let sound : says_fault (said reply) ≡ false = uncaused raw.faults stream.raw.faults answered.raw.faults (says_fault (said reply)) opens.untouched.keeps.faults step.answers.causes.faults smooth.faults in
+          let told : BinaryStep (file_of stream) (ReadLine None) (said reply) answered.short (says_fault (said reply)) (file_of answered) = step.answers.told (opens.untouched.keeps.tells ∙ tells) in
+          let step' : BinaryStep (file_of stream) (ReadLine None) (said reply) false false (file_of answered) = rw (whole, sound) at told in
+          subst (λ (left : List ℕ). (said reply ≡ Bytes (first_line Lf None left)) ⊎ (said reply ≡ Refused fault.NoMemory)) (rest_of raw stream opens tells) (line_stepped (file_of stream) (said reply) (file_of answered) (accepts raw stream opens) step');
       fault = λ says. let on : raw.faults ≤ stream.raw.faults = opens.untouched.keeps.faults in let rises : Rose stream.raw.faults answered.raw.faults = step.answers.causes.faults says in omega arith;
     })
 

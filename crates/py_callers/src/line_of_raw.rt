@@ -29,7 +29,11 @@ pub fn first_line<R: RawStream>(alloc: Global, raw: R) -> Result<FirstLine<R>, O
             let Run { session, replies } = run;
             let mut replies = replies;
             let reply = replies.pop().unwrap();
-            let Detached { raw, unwritten: _, place: _ } = session.finish();
+            let Detached {
+                raw,
+                unwritten: _,
+                place: _,
+            } = session.finish();
             Ok(FirstLine { reply, raw })
         }
         Err(refused) => Err(refused),

@@ -2,12 +2,16 @@
 #![tactic(auto)]
 
 use py_buffered::BufferedReader;
-use py_raw::{FileOpener, IoFault, Opener, RawStream};
+use py_raw::{IoFault, Opener, RawStream};
+use py_raw_files::FileOpener;
 use std::alloc::Global;
 use std::env;
 
 /// Goes over all lines of a reader, to its end.
-fn count<R: RawStream>(alloc: Global, reader: &mut BufferedReader<R>) -> Result<(u64, usize), IoFault> {
+fn count<R: RawStream>(
+    alloc: Global,
+    reader: &mut BufferedReader<R>,
+) -> Result<(u64, usize), IoFault> {
     let mut longest = 0;
     for lines in 0..u64::MAX {
         let Some(line) = reader.readline(alloc, None)? else {
