@@ -1,3 +1,3 @@
-mod Copying
-mod Decoding
-mod FirstLine
+mod LineRun
+mod Replacing
+mod ThreeCalls

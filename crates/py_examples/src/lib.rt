@@ -17,4 +17,6 @@ mod files;
 #[cfg(test)]
 mod memory;
 #[cfg(test)]
+mod queue;
+#[cfg(test)]
 mod sessions;
