@@ -135,11 +135,14 @@ reads_to_end old mid new start held before after none count keeps was is is_none
       no_fault = no_fault_then old mid new keeps was.counts.no_fault is.counts.no_fault;
       written = unwritten_then old mid new keeps was.written is.written;
       on = stands_on old mid new was.part keeps was.on is.bytes (λ tells. omega (arith, is.place tells));
-      stops = inl (no_wait_then old mid new keeps was.counts.no_wait is.counts.no_wait, λ tells.
-          let told = tells_still old mid keeps ∙ tells in
-          let end = (is.told told).end is_none (λ bare. let empty = ap length bare in omega arith) in
-          let size = ap length (was.on.bytes (tells_its_bytes old tells)) in
-          omega (arith, is.place (tells_its_place mid told)));
+      stops = inl (
+        no_wait_then old mid new keeps was.counts.no_wait is.counts.no_wait,
+        λ tells.
+            let told = tells_still old mid keeps ∙ tells in
+            let end = (is.told told).end is_none (λ bare. let empty = ap length bare in omega arith) in
+            let size = ap length (was.on.bytes (tells_its_bytes old tells)) in
+            omega (arith, is.place (tells_its_place mid told)),
+      );
       transfers = λ tells. came_by_more old mid new start held (count + 1) tells was (is.transfers (keeps.tells_transfers ∙ tells)) (omega arith);
     }
 

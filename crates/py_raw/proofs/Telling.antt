@@ -1,5 +1,5 @@
 -- What a raw stream tells, and that it goes on telling it.
-use Rattle.std.proofs.Common.{◌≡◌, ◌≤◌, ℕ, refl, arith}
+use Rattle.std.proofs.Common.{◌≡◌, refl, arith}
 use Rattle.std.specs.Prelude.{IsTrue, Bool, true, false, ◌&&◌}
 use Rattle.py_raw.specs.RawStream.{Raw, Keeps, tells}
 

@@ -15,7 +15,6 @@ mod raw_mode;
 mod raw_stream;
 mod zeros;
 
-pub use zeros::lengthen;
 pub use mode_letters::compute_mode;
 pub use opener::{OpenError, Opener};
 pub use py_flat::{Chars, Data, IoFault, Life, Lines, ModeError, ParseModeError};
@@ -24,3 +23,4 @@ pub use raw_error::RawError;
 pub use raw_flags::RawFlags;
 pub use raw_mode::{file_letter, is_raw_mode, misses, mode_flags, mode_reads, mode_writes};
 pub use raw_stream::{GREATEST_PLACE, RawStream};
+pub use zeros::lengthen;

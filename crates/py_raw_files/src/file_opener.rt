@@ -2,8 +2,8 @@ ghost use Rattle.std.specs.Prelude.{◌≡◌, ◌||◌, nat_eq, IsOk, OnOk, IfE
 ghost use Rattle.std.specs.Fs.{asks_read, asks_write, asks_append, asks_truncate, asks_create, asks_create_new};
 ghost use Rattle.py_raw.specs.RawMode.{IsRawMode, file_letter, mode_reads, mode_writes, letter_w, letter_x, letter_a};
 
-use crate::raw_mode::{file_letter, mode_reads, mode_writes};
-use crate::{FileRaw, OpenError, Opener};
+use crate::FileRaw;
+use py_raw::{OpenError, Opener, file_letter, mode_reads, mode_writes};
 use std::alloc::Global;
 use std::fs::{Files, OpenFile, OpenOptions};
 use std::io;
@@ -137,8 +137,9 @@ where
         ensures faults { (shown_file_opener self.new).faults ≡ (shown_file_opener self.old).faults }
         ensures always { IsOk result }
     {
-        self.raw_faults = self.raw_faults.saturating_add(raw.fault_count());
-        self.raw_waits = self.raw_waits.saturating_add(raw.wait_count());
+        let counts = raw.counts();
+        self.raw_faults = self.raw_faults.saturating_add(counts.faults);
+        self.raw_waits = self.raw_waits.saturating_add(counts.waits);
         Ok(())
     }
 }

@@ -10,9 +10,9 @@ mod counts;
 mod plan;
 
 use crate::entries::{Entry, held_at, put_in};
-use py_raw::{OpenError, Opener, file_letter, misses, mode_flags};
 use crate::{Cut, MemRaw};
 use plan::{Plan, plan_of};
+use py_raw::{OpenError, Opener, file_letter, misses, mode_flags};
 use std::alloc::{AllocError, Global};
 
 /// Paths with bytes in memory, which opens raw streams of them: what a test opens its files by.

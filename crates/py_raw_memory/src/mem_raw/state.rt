@@ -5,9 +5,9 @@ ghost use Rattle.py_raw.specs.Flags.{can_read, can_write, can_seek};
 ghost use Rattle.py_raw_memory.specs.MemRaw.{shown, view_of, is_refused, refuses, next_cut, read_turn, write_turn, called, refused_once, broken, waited, moved, wrote, laid, cut_to};
 
 use super::MemRaw;
+use crate::Cut;
 use crate::cut::{Turn, read_by, write_by};
 use crate::laying::lay_on;
-use crate::Cut;
 use py_raw::{RawError, RawFlags};
 
 impl MemRaw {
