@@ -12,7 +12,7 @@ use Rattle.py_open.specs.declared.open_refused.OpenRefused.{OpenRefused}
 use Rattle.py_open.specs.Run.{IsSmooth}
 use Rattle.py_callers.specs.declared.line_of_raw.FirstLine.{FirstLine}
 
--- the line that stands where a raw does, up to and with its LF; or want of memory
+-- the line that stands where a raw does, up to and with its LF; or out of memory
 abbrev pub IsFirstLine : Raw → FileReply → Type 0
 IsFirstLine raw reply = (reply ≡ Bytes (first_line Lf None (left_at raw.bytes raw.place))) ⊎ (reply ≡ Refused fault.NoMemory)
 

@@ -9,9 +9,9 @@ use std::alloc::Global;
 
 /// Copies all bytes that a reader has left to a writer, by way of memory, and passes them on to the writer's raw.
 ///
-/// `true`: all of them. `false`: the reader's raw asked to wait, and the bytes that came before were copied; the call may be
-/// made again. An `Err` is that of the call that refused, after which docs/CALLS.md says what stands; bytes that were read and
-/// that the writer didn't take are let go, so it is for files that don't ask to wait, and not for pipes.
+/// `true`: all of them. `false`: the reader's raw would have blocked, and the bytes that came before were copied; the call may
+/// be made again. An `Err` is that of the call that refused, after which docs/CALLS.md says what stands; bytes that were read and
+/// that the writer didn't take are let go, so it is for files of the disk, which never block.
 pub fn copy_all<R: RawStream, W: RawStream>(
     alloc: Global,
     reader: &mut BufferedReader<R>,

@@ -7,7 +7,7 @@ use py_codec::{Handler, HandlerRef, NoHandler, utf_8_decode};
 use py_flat::IoFault;
 use std::alloc::Global;
 
-/// The text of some bytes of UTF-8, with U+FFFD for each range that is none. Only want of memory refuses it.
+/// The text of some bytes of UTF-8, with U+FFFD for each range that is none. Only `NoMemory` refuses it.
 pub fn decode_replacing(alloc: Global, bytes: &[u8]) -> Result<String, IoFault>
     ensures text { IfOk result (λ text. text_of text ≡ replacing bytes.now) }
     ensures refused { IfErr result (λ fault. fault ≡ IoFault.NoMemory) }

@@ -10,9 +10,9 @@ use std::alloc::Global;
 /// The reply of a session that was asked for a line, and the raw stream under it.
 #[derive(Debug, Drop)]
 pub struct FirstLine<R> {
-    /// `Bytes` is the line, with its LF if it has one; `NotReady` says that the raw asked to wait.
+    /// `Bytes` is the line, with its LF if it has one; `NotReady` says that the raw would have blocked.
     pub reply: Reply,
-    /// The raw stream, behind the bytes that were read from it: the session may have read more than the line.
+    /// The raw stream, after the bytes that were read from it: the session may have read more than the line.
     pub raw: R,
 }
 
