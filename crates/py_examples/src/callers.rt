@@ -3,7 +3,8 @@ use crate::memory::{reader_of, writer_to};
 use py_callers::{copy_all, decode_replacing, first_line};
 use py_flat::IoFault;
 use py_open::Reply;
-use py_raw::{Cut, Data, MemRaw, RawFlags};
+use py_raw::{Data, RawFlags};
+use py_raw_memory::{Cut, MemRaw};
 use std::test::Fail;
 
 #[test]
