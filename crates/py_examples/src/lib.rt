@@ -7,6 +7,8 @@
 #[cfg(test)]
 mod buffered;
 #[cfg(test)]
+mod callers;
+#[cfg(test)]
 mod codecs;
 #[cfg(test)]
 mod faults;
@@ -14,6 +16,8 @@ mod faults;
 mod files;
 #[cfg(test)]
 mod memory;
+#[cfg(test)]
+mod queue;
 #[cfg(test)]
 mod refusals;
 #[cfg(test)]

@@ -1,0 +1,3 @@
+mod LineRun
+mod Replacing
+mod ThreeCalls

@@ -1,0 +1,26 @@
+-- What a session that is asked for a line answers, by what its raw shows before and after.
+use Rattle.std.specs.Prelude.{◌≡◌, ◌⊎◌, IsTrue, None, Result, Ok, Err}
+use Rattle.py_flat.specs.declared.fault.IoFault.TheVariants as fault
+use Rattle.py_flat.specs.Bytes.{left_at}
+use Rattle.py_flat.specs.Lines.{Lf, first_line}
+use Rattle.py_flat.specs.Causes.{Rose}
+use Rattle.py_flat.specs.Calls.{FileReply, Bytes, Refused}
+use Rattle.py_raw.specs.RawStream.{Raw, WhereTold}
+use Rattle.py_stream.specs.Kinds.{says_fault}
+use Rattle.py_calls.specs.Calls.{said}
+use Rattle.py_open.specs.declared.open_refused.OpenRefused.{OpenRefused}
+use Rattle.py_open.specs.Run.{IsSmooth}
+use Rattle.py_callers.specs.declared.line_of_raw.FirstLine.{FirstLine}
+
+-- the line that stands where a raw does, up to and with its LF; or out of memory
+abbrev pub IsFirstLine : Raw → FileReply → Type 0
+IsFirstLine raw reply = (reply ≡ Bytes (first_line Lf None (left_at raw.bytes raw.place))) ⊎ (reply ≡ Refused fault.NoMemory)
+
+-- where the raw tells its bytes and no count of it rose, that line is answered; a fault comes only where its faults rose
+pub record AnswersLine (raw : Raw) (reply : FileReply) (back : Raw) : Type 0 where
+  pub line : WhereTold raw (IsSmooth raw back → IsFirstLine raw reply)
+  pub fault : IsTrue (says_fault reply) → Rose raw.faults back.faults
+
+abbrev pub LineOutcome : {R : Type 0} → (R → Raw) → R → Result (FirstLine R) (OpenRefused R) → Type 0
+LineOutcome shows raw (Ok first) = AnswersLine (shows raw) (said first.reply) (shows first.raw)
+LineOutcome shows raw (Err refused) = refused.fault ≡ fault.RawFault → Rose (shows raw).faults (shows refused.raw).faults
