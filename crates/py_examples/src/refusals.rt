@@ -2,7 +2,8 @@
 use py_buffered::BufferedReader;
 use py_flat::IoFault;
 use py_open::{OpenArgs, run_session};
-use py_raw::{MemOpener, MemRaw, Opener, RawFlags};
+use py_raw::{Opener, RawFlags};
+use py_raw_memory::{MemOpener, MemRaw};
 use std::alloc::Global;
 use std::io;
 use std::test::Fail;

@@ -1,7 +1,8 @@
 //! What `{:?}` shows of streams and sessions: what is under them, the place and the life, and how much is in hand.
 use crate::memory::{reader_of, writer_to};
 use py_open::{OpenArgs, run_session};
-use py_raw::{MemRaw, RawFlags};
+use py_raw::RawFlags;
+use py_raw_memory::MemRaw;
 use std::alloc::Global;
 use std::test::Fail;
 

@@ -1,6 +1,7 @@
 //! A text that is read, without a session.
 use py_flat::IoFault;
-use py_raw::{MemRaw, RawFlags};
+use py_raw::RawFlags;
+use py_raw_memory::MemRaw;
 use py_textio::TextReader;
 use std::alloc::Global;
 use std::test::Fail;
