@@ -8,8 +8,8 @@ use std::io;
 use thiserror::Error;
 
 /// Why a session wasn't opened over a raw stream, and the raw that is handed back. `run_session` says which refusals there
-/// are. It is shown as its fault. In a function that answers an `IoFault` or an
-/// `io::Error`, `?` lets the raw go and answers the fault.
+/// are. It is shown as its fault. In a function that answers an `IoFault` or an `io::Error`, `?` lets the raw go and answers
+/// the fault.
 #[derive(Debug, Drop, Error)]
 #[error("{fault}")]
 pub struct OpenRefused<R> {
