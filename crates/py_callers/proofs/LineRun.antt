@@ -1,5 +1,5 @@
 -- The first line, from the clause of the run that read it.
-use Rattle.std.proofs.Common.{inl, inr, ◌≡◌, ◌≢◌, ◌⊎◌, ℕ, ◌+◌, ◌≤◌, Bool, true, false, not, IsTrue, List, [], ◌∷◌, length, Option, Some, None, Ok, codes, pos, min, nat_le, if◌then◌else◌, refl, sym, ap, ◌∙◌, subst, arith}
+use Rattle.std.proofs.Common.{inl, inr, ◌≡◌, ◌⊎◌, ℕ, ◌≤◌, Bool, true, false, not, IsTrue, List, [], ◌∷◌, ◌++◌, length, length-append, Option, Some, None, Ok, codes, if◌then◌else◌, refl, sym, ap, ◌∙◌, subst, arith}
 use Rattle.std.proofs.lemmas.Bool.{le-leb}
 use Rattle.py_flat.specs.declared.fault.IoFault.{IoFault}
 use Rattle.py_flat.specs.declared.fault.IoFault.TheVariants as fault
@@ -7,9 +7,8 @@ use Rattle.py_flat.specs.declared.life.Life.{Life}
 use Rattle.py_flat.specs.declared.life.Life.TheVariants as life
 use Rattle.py_flat.specs.Bytes.{left_at, lay}
 use Rattle.py_flat.specs.Lines.{Lf, first_line}
-use Rattle.py_flat.specs.Limits.{greatest_count}
 use Rattle.py_flat.specs.Causes.{Rose, rose, counted}
-use Rattle.py_flat.specs.Calls.{FileCall, ReadLine, FileReply, Bytes, Refused}
+use Rattle.py_flat.specs.Calls.{ReadLine, FileReply, Bytes, Refused}
 use Rattle.py_flat.specs.FlatFile.{FlatFile, Abilities, Buffering}
 use Rattle.py_flat.specs.Owed.{Owed}
 use Rattle.py_flat.specs.Refusals.{or_else, refused_if, lets_through, life_fault, refusal}
@@ -17,26 +16,26 @@ use Rattle.py_flat.specs.ExactStep.{rest}
 use Rattle.py_flat.specs.AllowedStep.{settled, waited_for, raw_faulted, out_of_memory}
 use Rattle.py_flat.specs.BinaryStep.{SettledBy, Settled, BinaryStep}
 use Rattle.py_raw.specs.RawStream.{Raw}
-use Rattle.py_stream.specs.Stream.{Stream, file_of, reader_can}
+use Rattle.py_stream.specs.Stream.{Stream, file_of}
 use Rattle.py_stream.specs.Kinds.{says_fault}
 use Rattle.py_stream.specs.Opening.{Opens}
-use Rattle.py_calls.specs.declared.call.Call.{Call}
 use Rattle.py_calls.specs.declared.call.Call.TheVariants as call
 use Rattle.py_calls.specs.declared.reply.Reply.{Reply}
 use Rattle.py_calls.specs.Calls.{said}
 use Rattle.py_mode.specs.declared.mode.FileMode.TheVariants as mode
 use Rattle.py_mode.specs.declared.mode.EncodeMode.TheVariants as encode
 use Rattle.py_mode.specs.declared.plan.OpenPlan.{OpenPlan}
+use Rattle.py_mode.specs.declared.open_args.OpenArgs.{OpenArgs}
 use Rattle.py_mode.specs.OpenArgs.{default_args}
 use Rattle.py_mode.specs.Plan.{plan_of}
-use Rattle.py_binary.specs.Binary.{AnswersBinary, left_of}
+use Rattle.py_binary.specs.Binary.{AnswersBinary}
 use Rattle.py_unbuffered.specs.Unbuffered.{can_of, is_able}
 use Rattle.py_unbuffered.specs.declared.access.Access.TheVariants as access
 use Rattle.py_open.specs.Session.{SessionView, TextSession, BinarySession, Answers, raw_of}
 use Rattle.py_open.specs.Opening.{OpensSession}
-use Rattle.py_open.specs.Run.{IsRun, RunsCalls, IsSmooth}
+use Rattle.py_open.specs.Run.{IsRun, RunsCalls}
 use Rattle.py_open.proofs.Steps.{left_raw}
-use Rattle.py_callers.specs.FirstLine.{IsFirstLine, AnswersLine}
+use Rattle.py_callers.specs.FirstLine.{AnswersLine}
 
 -- Counts.
 
@@ -106,8 +105,27 @@ session_line raw chunk (TextSession text) session reply opens run = absurd opens
 session_line raw chunk (BinarySession stream) session reply opens run = answered_line raw stream reply run.0 session opens run.1 run.2
 
 -- a run of that one call, as it was planned
-pub run_line : (raw : Raw) (plan : OpenPlan) (chunk : ℕ) (session : SessionView) (reply : Reply) → plan_of (codes "rb") default_args ≡ Ok plan → RunsCalls raw plan chunk (call.ReadLine None ∷ []) session (reply ∷ []) → AnswersLine raw (said reply) (raw_of session)
+run_line : (raw : Raw) (plan : OpenPlan) (chunk : ℕ) (session : SessionView) (reply : Reply) → plan_of (codes "rb") default_args ≡ Ok plan → RunsCalls raw plan chunk (call.ReadLine None ∷ []) session (reply ∷ []) → AnswersLine raw (said reply) (raw_of session)
 run_line raw plan chunk session reply planned runs =
     let is : plan_read ≡ plan = cc in
     let same : RunsCalls raw plan_read chunk (call.ReadLine None ∷ []) session (reply ∷ []) = subst (λ (p : OpenPlan). RunsCalls raw p chunk (call.ReadLine None ∷ []) session (reply ∷ [])) (sym is) runs in
     session_line raw chunk same.opened session reply same.opens same.run
+
+-- From what `run_session` ensures.
+
+-- the one reply of a run is the last of it
+only : (first : Reply) (front : List Reply) (reply : Reply) → first ∷ [] ≡ front ++ (reply ∷ []) → first ∷ [] ≡ reply ∷ []
+only first [] reply e = e
+only first (one ∷ more) reply e = absurd (let n : length (first ∷ []) ≡ length ((one ∷ more) ++ (reply ∷ [])) = ap length e in omega (arith, length-append more (reply ∷ [])))
+
+single : (raw : Raw) (plan : OpenPlan) (chunk : ℕ) (session : SessionView) (replies front : List Reply) (reply : Reply) → RunsCalls raw plan chunk (call.ReadLine None ∷ []) session replies → replies ≡ front ++ (reply ∷ []) → RunsCalls raw plan chunk (call.ReadLine None ∷ []) session (reply ∷ [])
+single raw plan chunk session [] front reply runs e = absurd runs.run
+single raw plan chunk session (first ∷ []) front reply runs e = subst (λ (replies : List Reply). RunsCalls raw plan chunk (call.ReadLine None ∷ []) session replies) (only first front reply e) runs
+single raw plan chunk session (first ∷ (second ∷ more)) front reply runs e = absurd runs.run.2
+
+pub outcome_line : (raw back : Raw) (args : OpenArgs) (session : SessionView) (replies front : List Reply) (reply : Reply) → args ≡ default_args → (plan : OpenPlan) × (plan_of (codes "rb") args ≡ Ok plan) × RunsCalls raw plan args.chunk_size (call.ReadLine None ∷ []) session replies → replies ≡ front ++ (reply ∷ []) → back ≡ raw_of session → AnswersLine raw (said reply) back
+outcome_line raw back args session replies front reply is outcome last same =
+    let plan : OpenPlan = outcome.0 in
+    let planned : plan_of (codes "rb") default_args ≡ Ok plan = subst (λ (given : OpenArgs). plan_of (codes "rb") given ≡ Ok plan) is outcome.1 in
+    let runs : RunsCalls raw plan args.chunk_size (call.ReadLine None ∷ []) session (reply ∷ []) = single raw plan args.chunk_size session replies front reply outcome.2 last in
+    subst (λ (shown : Raw). AnswersLine raw (said reply) shown) (sym same) (run_line raw plan args.chunk_size session reply planned runs)

@@ -1,18 +1,18 @@
 -- A decoding that replaces what is no UTF-8 comes to its end.
-use Rattle.std.proofs.Common.{◌≡◌, ℕ, zero, suc, ◌+◌, Bool, true, false, List, [], ◌∷◌, Option, Some, None, Result, Ok, Err, nat_eq, refl, sym, ap}
+use Rattle.std.proofs.Common.{inl, inr, length, ◌⊎◌, ◌≡◌, ℕ, zero, suc, ◌+◌, Bool, true, false, List, [], ◌∷◌, Option, Some, None, Err, nat_eq, refl}
 use Rattle.py_flat.specs.declared.fault.IoFault.{IoFault}
+use Rattle.py_flat.specs.declared.fault.IoFault.TheVariants as fault
 use Rattle.py_plain.specs.declared.encoding.Encoding.TheVariants.{Utf8}
 use Rattle.py_plain.specs.declared.handler.Handler.TheVariants.{Replace}
 use Rattle.py_plain.specs.declared.unit.Unit.{Unit as First}
 use Rattle.py_plain.specs.declared.unit.Unit.TheVariants.{Character, Malformed, Cut}
-use Rattle.py_plain.specs.Units.{Order, first_unit, order_after}
+use Rattle.py_plain.specs.Units.{Order, Unknown, first_unit, order_after}
 use Rattle.py_plain.specs.Handlers.{treatment}
-use Rattle.py_plain.specs.Items.{FirstItem, Given, RefusedRange, Unfinished, item_of, first_item, used_behind, Ending, AtEnd, AtRange, AtCut, Walk, onto_walk, walk_from}
-use Rattle.py_codec.specs.Answers.{Expected}
-use Rattle.py_codec.specs.Decoding.{ended}
+use Rattle.py_plain.specs.Items.{characters_of, FirstItem, Given, RefusedRange, Unfinished, item_of, used_behind, Ending, AtEnd, AtRange, AtCut, Walk, onto_walk, walk_from}
+use Rattle.py_codec.specs.Decoding.{ended, decoding_of}
 
 -- whether nothing was refused
-abbrev pub is_through : Ending → Bool
+abbrev is_through : Ending → Bool
 is_through (AtRange start end) = false
 is_through ending = true
 
@@ -31,7 +31,7 @@ onto_through place (Given characters used) walk given through = through
 onto_through place (RefusedRange length) walk given through = cc
 onto_through place Unfinished walk given through = refl
 
-pub replacing_ends : (order : Order) (place skip : ℕ) (bytes : List ℕ) → is_through (walk_from Utf8 (treatment Replace Utf8) true order place skip bytes).ending ≡ true
+replacing_ends : (order : Order) (place skip : ℕ) (bytes : List ℕ) → is_through (walk_from Utf8 (treatment Replace Utf8) true order place skip bytes).ending ≡ true
 replacing_ends order place skip [] = refl
 replacing_ends order place (suc skip) (byte ∷ rest) = replacing_ends order (place + 1) skip rest
 replacing_ends order place zero (byte ∷ rest) =
@@ -39,14 +39,15 @@ replacing_ends order place zero (byte ∷ rest) =
     let first : FirstItem = item_of (treatment Replace Utf8) true place (byte ∷ rest) unit in
     onto_through place first (walk_from Utf8 (treatment Replace Utf8) true (order_after Utf8 order unit) (place + 1) (used_behind first) rest) (item_given unit place (byte ∷ rest)) (replacing_ends (order_after Utf8 order unit) (place + 1) (used_behind first) rest)
 
--- what such a walk answers is its characters
-pub through_answers : (characters : List ℕ) (total : ℕ) (refusal : (start end : ℕ) → IoFault) (ending : Ending) (text : List ℕ) (used : ℕ) → ended characters total refusal ending ≡ Ok (text, used) → text ≡ characters
-through_answers characters total refusal AtEnd text used e = let pair : (characters, total) ≡ (text, used) = cc in sym (ap (λ (p : List ℕ × ℕ). p.0) pair)
-through_answers characters total refusal (AtCut start) text used e = let pair : (characters, start) ≡ (text, used) = cc in sym (ap (λ (p : List ℕ × ℕ). p.0) pair)
-through_answers characters total refusal (AtRange start end) text used e = cc
-
--- and never a refusal
-pub through_refuses_nothing : (characters : List ℕ) (total : ℕ) (refusal : (start end : ℕ) → IoFault) (ending : Ending) (why : IoFault) → is_through ending ≡ true → ended characters total refusal ending ≡ Err why → ⊥
+-- what such a walk answers is no refusal
+through_refuses_nothing : (characters : List ℕ) (total : ℕ) (refusal : (start end : ℕ) → IoFault) (ending : Ending) (why : IoFault) → is_through ending ≡ true → ended characters total refusal ending ≡ Err why → ⊥
 through_refuses_nothing characters total refusal AtEnd why through e = cc
 through_refuses_nothing characters total refusal (AtCut start) why through e = cc
 through_refuses_nothing characters total refusal (AtRange start end) why through e = cc
+
+-- so a decoding by the handler `replace` is refused only when out of memory
+pub only_memory : (bytes : List ℕ) (why : IoFault) → (why ≡ fault.NoMemory) ⊎ (decoding_of (walk_from Utf8 (treatment Replace Utf8) true Unknown 0 0 bytes) (length bytes) fault.UnicodeDecodeError ≡ Err why) → why ≡ fault.NoMemory
+only_memory bytes why (inl is) = is
+only_memory bytes why (inr is) =
+    let walk : Walk = walk_from Utf8 (treatment Replace Utf8) true Unknown 0 0 bytes in
+    absurd (through_refuses_nothing (characters_of walk.items) (length bytes) fault.UnicodeDecodeError walk.ending why (replacing_ends Unknown 0 0 bytes) is)

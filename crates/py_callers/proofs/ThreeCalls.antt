@@ -1,17 +1,15 @@
 -- A copy, from the clauses of the three calls that make it.
-use Rattle.std.proofs.Common.{◌≡◌, ◌≢◌, ℕ, ◌+◌, ◌≤◌, Bool, true, false, not, IsTrue, List, [], ◌∷◌, ◌++◌, length, Option, Some, None, refl, sym, ap, ◌∙◌, subst, arith, length-append}
+use Rattle.std.proofs.Common.{◌≡◌, ℕ, Bool, true, false, not, IsTrue, List, [], ◌∷◌, ◌++◌, length, Option, Some, None, refl, sym, ap, ◌∙◌, subst, arith, length-append}
 use Rattle.std.proofs.lemmas.List.{append-nil}
 use Rattle.py_flat.specs.declared.fault.IoFault.{IoFault}
 use Rattle.py_flat.specs.declared.fault.IoFault.TheVariants as fault
 use Rattle.py_flat.specs.Bytes.{lay}
-use Rattle.py_flat.specs.Causes.{Rose}
-use Rattle.py_flat.specs.Calls.{FileCall, Read, Write, Flush, FileReply, Bytes, Count, Done, Refused}
+use Rattle.py_flat.specs.Calls.{Read, Write, Flush, FileReply, Bytes, Count, Done, Refused}
 use Rattle.py_flat.specs.FlatFile.{FlatFile, Abilities, Buffering, Unbuffered, Buffered, InMemory}
 use Rattle.py_flat.specs.Refusals.{or_else, refused_if, life_refusal, argument_refusal, refusal}
 use Rattle.py_flat.specs.ExactStep.{rest, after_write}
-use Rattle.py_flat.specs.BinaryStep.{if_unbuffered, CarriedOut, SettledBy, Settled, BinaryStep}
+use Rattle.py_flat.specs.BinaryStep.{if_unbuffered, CarriedOut, SettledBy, BinaryStep}
 use Rattle.py_flat.proofs.Settling.{smooth_is_settled}
-use Rattle.py_raw.specs.RawStream.{Raw, WhereTold}
 use Rattle.py_stream.specs.Stream.{Stream, file_of}
 use Rattle.py_stream.specs.Answers.{Answers}
 use Rattle.py_callers.specs.Copying.{Copied}
@@ -70,7 +68,7 @@ writes_of file bytes e = able (life_refusal file (Write bytes)) (argument_refusa
 
 -- All three.
 
-pub copied : (reader read writer written flushed : Stream) (part : List ℕ) → Answers reader (Read None) (Bytes part) read → read.short ≡ false → Answers writer (Write part) (Count (length part)) written → Answers written Flush Done flushed → Copied reader writer flushed
+copied : (reader read writer written flushed : Stream) (part : List ℕ) → Answers reader (Read None) (Bytes part) read → read.short ≡ false → Answers writer (Write part) (Count (length part)) written → Answers written Flush Done flushed → Copied reader writer flushed
 copied reader read writer written flushed part reads whole writes flushes = λ from to.
     let all : part ≡ rest (file_of reader) = read_whole reader part read reads whole from in
     let wrote = write_whole writer part written writes to in
@@ -79,10 +77,12 @@ copied reader read writer written flushed part reads whole writes flushes = λ f
     ∙ ap (λ (file : FlatFile). file.bytes) wrote.1
     ∙ ap (lay (file_of writer).bytes writer.place) all
 
--- Faults.
+-- the same calls, where what was written is known to be what was read
+pub copied_as : (reader read writer written flushed : Stream) (part piece : List ℕ) (taken : ℕ) → piece ≡ part → taken ≡ length part → Answers reader (Read None) (Bytes part) read → read.short ≡ false → Answers writer (Write piece) (Count taken) written → Answers written Flush Done flushed → Copied reader writer flushed
+copied_as reader read writer written flushed part piece taken same count reads whole writes flushes =
+    let all : Answers writer (Write part) (Count taken) written = subst (λ (bytes : List ℕ). Answers writer (Write bytes) (Count taken) written) same writes in
+    copied reader read writer written flushed part reads whole (subst (λ (n : ℕ). Answers writer (Write part) (Count n) written) count all) flushes
 
-pub rises_later : (old mid new : ℕ) → old ≤ mid → Rose mid new → Rose old new
-rises_later old mid new on rose = omega arith
-
-pub rises_before : (old mid new : ℕ) → Rose old mid → mid ≤ new → Rose old new
-rises_before old mid new rose on = omega arith
+pub not_true : (test : Bool) → not test ≡ true → test ≡ false
+not_true true e = cc
+not_true false e = refl

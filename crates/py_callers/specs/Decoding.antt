@@ -1,5 +1,5 @@
 -- The text of some bytes of UTF-8, in which U+FFFD stands for what is none.
-use Rattle.std.specs.Prelude.{ℕ, true, List}
+use Rattle.std.specs.Prelude.{ℕ, List}
 use Rattle.py_plain.specs.declared.encoding.Encoding.TheVariants.{Utf8}
 use Rattle.py_plain.specs.declared.handler.Handler.TheVariants.{Replace}
 use Rattle.py_plain.specs.Units.{Unknown}

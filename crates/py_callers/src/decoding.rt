@@ -13,6 +13,8 @@ pub fn decode_replacing(alloc: Global, bytes: &[u8]) -> Result<String, IoFault>
     ensures refused { IfErr result (λ fault. fault ≡ IoFault.NoMemory) }
 {
     let replace = HandlerRef::<NoHandler>::Builtin(Handler::Replace);
-    let (text, _) = utf_8_decode(alloc, bytes, replace, true)?;
-    Ok(text)
+    match utf_8_decode(alloc, bytes, replace, true) {
+        Ok((text, _)) => Ok(text),
+        Err(fault) => Err(fault),
+    }
 }
