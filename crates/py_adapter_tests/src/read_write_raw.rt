@@ -102,7 +102,10 @@ fn a_closed_stream_has_no_reader_left(rt: HostRuntime) {
 #[test]
 fn what_a_writer_can_t_pass_on_is_a_fault(rt: HostRuntime) {
     let full = ErrorKind::StorageFull;
-    let mut raw = WriteRaw::new(Holding { held: 0, flush: full });
+    let mut raw = WriteRaw::new(Holding {
+        held: 0,
+        flush: full,
+    });
     assert_eq!(rt; raw.write(b"abc"), Err(RawError::Fault));
     assert_eq!(rt; (raw.last_error(), raw.counts().written), (Some(full), 0));
     assert_eq!(rt; raw.close(), Err(RawError::Fault));
