@@ -1,7 +1,8 @@
 //! Openers: what each raw mode makes of a real file.
 ghost use Rattle.std.specs.Prelude.{◌≡◌, true, false};
 
-use py_raw::{FileOpener, OpenError, Opener, RawStream, is_raw_mode};
+use py_raw::{OpenError, Opener, RawStream, is_raw_mode};
+use py_raw_files::FileOpener;
 use std::alloc::Global;
 use std::fs::Files;
 use std::io::ErrorKind;

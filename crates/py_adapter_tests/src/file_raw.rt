@@ -1,76 +1,11 @@
 //! Raw streams over files: over a fake, which answers what a system may, and over a real one.
-ghost use Rattle.std.specs.Prelude.{◌≤◌, IfOk};
-
-use py_raw::{FileOpener, FileRaw, Opener, RawError, RawStream};
-use std::fs::{Metadata, OpenFile, OpenOptions};
-use std::io::{Error, ErrorKind, Read, Seek, SeekFrom, Write};
+use crate::fake::{Fake, Step};
+use py_raw::{Opener, RawError, RawStream};
+use py_raw_files::{FileOpener, FileRaw};
+use std::fs::OpenOptions;
+use std::io::{ErrorKind, Read, Seek, SeekFrom, Write};
 use std::test::Fail;
 use std::{env, fs, io, process};
-
-/// What the system answers to a transfer.
-#[derive(Clone, Copy)]
-enum Step {
-    Moves(usize),
-    Fails(ErrorKind),
-}
-
-/// A file that answers every transfer alike, and every seek with the same place.
-#[derive(Drop)]
-struct Fake {
-    step: Step,
-    stands: u64,
-}
-
-impl Fake {
-    fn transfer(&self, length: usize) -> io::Result<usize>
-        ensures { IfOk result (λ count. count ≤ length) }
-    {
-        match self.step {
-            Step::Moves(count) => Ok(count.min(length)),
-            Step::Fails(kind) => Err(Error::from(kind)),
-        }
-    }
-}
-
-impl Read for Fake {
-    fn read(&mut self, buf: &mut [u8]) -> io::Result<usize> {
-        self.transfer(buf.len())
-    }
-}
-
-impl Write for Fake {
-    fn write(&mut self, buf: &[u8]) -> io::Result<usize> {
-        self.transfer(buf.len())
-    }
-
-    fn flush(&mut self) -> io::Result<()> {
-        Ok(())
-    }
-}
-
-impl Seek for Fake {
-    fn seek(&mut self, _to: SeekFrom) -> io::Result<u64> {
-        Ok(self.stands)
-    }
-}
-
-impl OpenFile for Fake {
-    fn metadata(&self) -> io::Result<Metadata> {
-        Err(Error::from(ErrorKind::Other))
-    }
-
-    fn set_len(&self, _size: u64) -> io::Result<()> {
-        Err(Error::from(ErrorKind::Other))
-    }
-
-    fn sync_all(&self) -> io::Result<()> {
-        Ok(())
-    }
-
-    fn sync_data(&self) -> io::Result<()> {
-        Ok(())
-    }
-}
 
 #[test]
 fn would_block_and_interrupted_are_waits_and_the_rest_are_faults(rt: HostRuntime) {
@@ -86,10 +21,10 @@ fn would_block_and_interrupted_are_waits_and_the_rest_are_faults(rt: HostRuntime
     for (step, answer, faults, waits) in table {
         let mut raw = FileRaw::new(Fake { step, stands: 0 }, true, true, false);
         assert_eq!(rt; raw.readinto(&mut [0; 3]), answer);
-        assert_eq!(rt; (raw.fault_count(), raw.wait_count()), (faults, waits));
+        assert_eq!(rt; (raw.counts().faults, raw.counts().waits), (faults, waits));
         assert_eq!(rt; raw.write(b"abc"), answer);
         assert_eq!(rt;
-            (raw.fault_count(), raw.wait_count()),
+            (raw.counts().faults, raw.counts().waits),
             (2 * faults, 2 * waits)
         );
     }
@@ -103,9 +38,9 @@ fn a_write_that_takes_nothing_is_a_fault(rt: HostRuntime) {
     };
     let mut raw = FileRaw::new(file, false, true, false);
     assert_eq!(rt; raw.write(b""), Ok(Some(0)));
-    assert_eq!(rt; raw.fault_count(), 0);
+    assert_eq!(rt; raw.counts().faults, 0);
     assert_eq!(rt; raw.write(b"abc"), Ok(Some(0)));
-    assert_eq!(rt; raw.fault_count(), 1);
+    assert_eq!(rt; raw.counts().faults, 1);
 }
 
 #[test]
@@ -122,7 +57,7 @@ fn a_device_that_stands_elsewhere_than_asked_fails_the_seek(rt: HostRuntime) {
     assert_eq!(rt; raw.truncate(1), Err(RawError::Fault));
     assert_eq!(rt; raw.close(), Ok(()));
     assert!(rt; raw.closed());
-    assert_eq!(rt; raw.fault_count(), 2);
+    assert_eq!(rt; raw.counts().faults, 2);
 }
 
 #[test]
@@ -134,7 +69,7 @@ fn a_place_that_no_file_has_is_a_fault(rt: HostRuntime) {
     let mut raw = FileRaw::new(file, true, true, true);
     assert_eq!(rt; raw.tell(), Err(RawError::Fault));
     assert_eq!(rt; raw.end(), Err(RawError::Fault));
-    assert_eq!(rt; raw.fault_count(), 2);
+    assert_eq!(rt; raw.counts().faults, 2);
 }
 
 #[test]

@@ -5,6 +5,8 @@
 #![tactic(auto)]
 
 #[cfg(test)]
+mod fake;
+#[cfg(test)]
 mod file_opener;
 #[cfg(test)]
 mod file_raw;
@@ -12,6 +14,8 @@ mod file_raw;
 mod handlers;
 #[cfg(test)]
 mod raw_modes;
+#[cfg(test)]
+mod read_write_raw;
 #[cfg(test)]
 mod readings;
 #[cfg(test)]

@@ -1,5 +1,6 @@
 //! The readings that every raw stream has of its own: once, and up to the end.
-use py_raw::{Cut, MemRaw, RawError, RawFlags, RawStream};
+use py_raw::{RawError, RawFlags, RawStream};
+use py_raw_memory::{Cut, MemRaw};
 use std::alloc::{AllocError, Global};
 use std::process::Abort;
 use std::test::Fail;

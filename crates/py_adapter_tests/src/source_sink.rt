@@ -4,17 +4,18 @@ use std::alloc::AllocError;
 use std::io;
 use std::io::{Cursor, ErrorKind, Read, Write};
 
-/// A reader whose first read fails, and whose others give one byte.
+/// A reader whose first reads fail in one way, and whose others give one byte.
 #[derive(Drop)]
 struct FailsFirst {
-    failed: bool,
+    fails: u32,
+    why: ErrorKind,
 }
 
 impl Read for FailsFirst {
     fn read(&mut self, buf: &mut [u8]) -> io::Result<usize> {
-        if !self.failed {
-            self.failed = true;
-            return Err(io::Error::from(ErrorKind::WouldBlock));
+        if self.fails > 0 {
+            self.fails -= 1;
+            return Err(io::Error::from(self.why));
         }
         if buf.is_empty() {
             return Ok(0);
@@ -33,9 +34,13 @@ fn reads_what_the_reader_gives_and_fails_where_it_fails(rt: HostRuntime) -> Resu
         assert_eq!(rt; source.read(&mut buf), Ok(piece.len()));
         assert!(rt; &buf[..piece.len()] == piece);
     }
-    let mut failing = ReadSource::new(FailsFirst { failed: false });
+    let why = ErrorKind::WouldBlock;
+    let mut failing = ReadSource::new(FailsFirst { fails: 1, why });
     assert_eq!(rt; failing.read(&mut buf), Err(Failed));
     assert_eq!(rt; failing.read(&mut buf), Ok(1));
+    let why = ErrorKind::Interrupted; // read again, as `write_all` of a sink writes again
+    let mut interrupted = ReadSource::new(FailsFirst { fails: 2, why });
+    assert_eq!(rt; interrupted.read(&mut buf), Ok(1));
     Ok(())
 }
 

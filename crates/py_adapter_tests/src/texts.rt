@@ -9,7 +9,7 @@ const ONE_FILE: &str =
 #[test]
 fn each_fault_says_what_went_wrong(rt: HostRuntime) -> Result<(), Fail> {
     let alloc = rt.alloc();
-    let table: [(IoFault, &str); 28] = [
+    let table: [(IoFault, &str); 30] = [
         (IoFault::Closed, "I/O operation on closed file"),
         (IoFault::Detached, "raw stream has been detached"),
         (IoFault::Failed, "an earlier fault left the stream unusable"),
@@ -29,10 +29,18 @@ fn each_fault_says_what_went_wrong(rt: HostRuntime) -> Result<(), Fail> {
         (IoFault::NoMemory, "out of memory"),
         (
             IoFault::UnicodeDecodeError { start: 2, end: 5 },
-            "can't decode bytes in position 2-5",
+            "can't decode bytes in position 2-4",
+        ),
+        (
+            IoFault::UnicodeDecodeError { start: 0, end: 1 },
+            "can't decode byte in position 0",
         ),
         (
             IoFault::UnicodeEncodeError { start: 3, end: 4 },
+            "can't encode character in position 3",
+        ),
+        (
+            IoFault::UnicodeEncodeError { start: 3, end: 5 },
             "can't encode characters in position 3-4",
         ),
         (

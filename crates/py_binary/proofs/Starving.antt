@@ -66,7 +66,7 @@ starved_into stream size is live reads = record {
   starves = λ wanting reading. record {
     unmoved = λ lives. refl;
     moved = λ failed. let wrong : life.Live ≡ life.Failed = sym live ∙ failed in absurd (cc);
-    told = λ failed. let wrong : life.Live ≡ life.Failed = sym live ∙ failed in absurd (cc);
+    stands = λ failed. let wrong : life.Live ≡ life.Failed = sym live ∙ failed in absurd (cc);
   };
   first = λ wanting takes. absurd (cc);
   nothing = λ asks. record { raw = refl; fault = refl };

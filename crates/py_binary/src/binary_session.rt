@@ -29,7 +29,7 @@ use std::mem;
 /// buffer), whether its last answer was short, and the bytes that it owes the raw, with the place of the first of them.
 /// After a `Detach` nothing is left but the raw, the abilities and the buffer's size. A session that is let go lets its raw go,
 /// and what it owes; `into_parts` hands both back.
-#[derive(Drop)]
+#[derive(Debug, Drop)]
 pub struct BinarySession<R: RawStream> {
     alloc: Global,
     stream: Kind<R>,

@@ -8,7 +8,7 @@ use py_unbuffered::UnbufferedStream;
 use py_writer::BufferedWriter;
 
 /// The stream of a session, by what it was opened for.
-#[derive(Drop)]
+#[derive(Debug, Drop)]
 pub(crate) enum Kind<R: RawStream> {
     /// A buffered stream that is read.
     Reader(BufferedReader<R>),

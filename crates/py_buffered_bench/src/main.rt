@@ -8,7 +8,8 @@ mod task;
 mod writing;
 
 use py_buffered::{BufferedReader, BufferedWriter};
-use py_raw::{FileOpener, Opener};
+use py_raw::Opener;
+use py_raw_files::FileOpener;
 use reading::Reading;
 use std::time::{Duration, Instant};
 use std::{env, io};

@@ -31,7 +31,7 @@ pub enum Call {
     WriteLines(Lines),
     /// Writes a text.
     WriteText(Chars),
-    /// Moves by an offset from the start (0), the place (1) or the end (2).
+    /// Moves by an offset from the start (0), the place (1) or the end (2), which `Whence` names.
     Seek(i64, i32),
     /// Moves a text to a cookie, or by whence 1 or 2.
     SeekText(Data, i32),

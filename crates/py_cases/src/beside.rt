@@ -8,7 +8,8 @@ use anyhow::Result;
 use py_flat::{IoFault, Life};
 use py_open::{Call, Detached, Reply};
 use py_plain::{Newlines, PlainText};
-use py_raw::{Cut, MemRaw, RawStream};
+use py_raw::RawStream;
+use py_raw_memory::{Cut, MemRaw};
 use py_stream::NewRefused;
 use std::alloc::Global;
 

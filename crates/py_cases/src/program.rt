@@ -5,7 +5,8 @@ use crate::report::{Report, hex_of};
 use crate::session_case::cuts_of;
 use anyhow::Result;
 use py_program::run_program;
-use py_raw::{MemOpener, MemSink, MemSource};
+use py_raw::{MemSink, MemSource};
+use py_raw_memory::MemOpener;
 
 /// A run of the program: what its opener, its source and its sink are like, its words, and the paths that are looked at then.
 #[derive(Drop)]

@@ -7,7 +7,8 @@ use crate::session_case::SessionCase;
 use anyhow::Result;
 use py_flat::Life;
 use py_open::{Call, Detached};
-use py_raw::{MemRaw, RawStream};
+use py_raw::RawStream;
+use py_raw_memory::MemRaw;
 use py_stream::NewRefused;
 
 /// Runs the session of a block: each reply, the life, what is handed back, and what the raw came to.

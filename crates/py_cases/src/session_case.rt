@@ -4,7 +4,7 @@ use crate::block::Line;
 use crate::own_calls::parse_call;
 use anyhow::Result;
 use py_open::Call;
-use py_raw::Cut;
+use py_raw_memory::Cut;
 use std::alloc::Global;
 
 /// A session to be opened, and the calls on it.

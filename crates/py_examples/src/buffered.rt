@@ -1,6 +1,8 @@
 //! Buffered readers: the examples of docs/BUFFERED.md.
 use crate::memory::{reader_of, shown};
-use py_raw::{Cut, IoFault, Life};
+use py_buffered::Whence;
+use py_raw::{IoFault, Life};
+use py_raw_memory::Cut;
 use std::test::Fail;
 
 #[test]
@@ -19,6 +21,44 @@ fn lines_pieces_and_places(rt: HostRuntime) -> Result<(), Fail> {
     // at the end there is nothing more
     let more = reader.readline(alloc, None)?;
     assert_eq!(rt; shown(&more), Some(&b""[..]));
+    Ok(())
+}
+
+#[test]
+fn lines_come_one_by_one(rt: HostRuntime) -> Result<(), Fail> {
+    let alloc = rt.alloc();
+    let mut reader = reader_of(alloc, b"one\ntwo\nthree", &[], &[], 8192)?;
+    let mut longest = 0;
+    for answer in reader.lines(alloc) {
+        // a refusal is the last item; none is a wait, after which the next item goes on
+        if let Some(line) = answer? {
+            longest = longest.max(line.len());
+        }
+    }
+    assert_eq!(rt; longest, 5);
+    // the reader stands at the end
+    assert_eq!(rt; reader.tell(), Ok(13));
+    assert_eq!(rt; reader.seek(-5, Whence::End.into()), Ok(8));
+    Ok(())
+}
+
+#[test]
+fn lines_pass_on_waits_and_end_after_a_fault(rt: HostRuntime) -> Result<(), Fail> {
+    let alloc = rt.alloc();
+    // the raw is asked where it stands (call 0), gives three bytes, asks to wait twice, and fails (call 4)
+    let plan = [Cut::Take(3), Cut::Wait, Cut::Wait];
+    let mut reader = reader_of(alloc, b"a\nbc", &plan, &[4], 8192)?;
+    let mut lines = reader.lines(alloc);
+    assert_eq!(rt; lines.next(), Some(Ok(Some(b"a\n".to_vec(alloc)?))));
+    assert_eq!(rt; lines.next(), Some(Ok(Some(b"b".to_vec(alloc)?)))); // cut short by the wait
+    assert_eq!(rt; lines.next(), Some(Ok(None)));
+    assert_eq!(rt; lines.next(), Some(Err(IoFault::RawFault)));
+    assert_eq!(rt; lines.next(), None);
+    assert_eq!(rt; reader.life(), Life::Failed);
+    // of a reader that isn't live its refusal comes once
+    let mut lines = reader.lines(alloc);
+    assert_eq!(rt; lines.next(), Some(Err(IoFault::Failed)));
+    assert_eq!(rt; lines.next(), None);
     Ok(())
 }
 

@@ -33,7 +33,10 @@ fn a_copy_passes_a_fault_on(rt: HostRuntime) -> Result<(), Fail> {
     let alloc = rt.alloc();
     let mut reader = reader_of(alloc, b"one", &[], &[], 4)?;
     let mut writer = writer_to(alloc, b"", &[Cut::Break(0)], &[], 2)?;
-    assert_eq!(rt; copy_all(alloc, &mut reader, &mut writer), Err(IoFault::RawFault));
+    assert_eq!(rt;
+        copy_all(alloc, &mut reader, &mut writer),
+        Err(IoFault::RawFault)
+    );
     Ok(())
 }
 
@@ -44,7 +47,10 @@ fn the_first_line_is_read_by_a_session(rt: HostRuntime) -> Result<(), Fail> {
     let flags = RawFlags::able(true, false, true);
     let raw = MemRaw::new(bytes, flags, Vec::new(alloc), Vec::new(alloc));
     let first = first_line(alloc, raw)?;
-    assert_eq!(rt; first.reply, Reply::Bytes(Data::from_slice(alloc, b"one\n")?));
+    assert_eq!(rt;
+        first.reply,
+        Reply::Bytes(Data::from_slice(alloc, b"one\n")?)
+    );
     Ok(())
 }
 

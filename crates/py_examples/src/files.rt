@@ -1,6 +1,7 @@
 //! Buffered streams over a real file.
 use py_buffered::{BufferedReader, BufferedWriter};
-use py_raw::{FileOpener, Opener};
+use py_raw::Opener;
+use py_raw_files::FileOpener;
 use std::path::PathBuf;
 use std::test::Fail;
 use std::{env, fs, process};

@@ -19,4 +19,10 @@ mod memory;
 #[cfg(test)]
 mod queue;
 #[cfg(test)]
+mod refusals;
+#[cfg(test)]
 mod sessions;
+#[cfg(test)]
+mod shown;
+#[cfg(test)]
+mod texts;

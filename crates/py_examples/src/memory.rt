@@ -1,6 +1,7 @@
 //! What the examples begin from: raw streams in memory, and buffered streams over them.
 use py_buffered::{BufferedReader, BufferedWriter};
-use py_raw::{Cut, Data, Lines, MemRaw, RawFlags};
+use py_raw::{Data, Lines, RawFlags};
+use py_raw_memory::{Cut, MemRaw};
 use std::alloc::{AllocError, Global};
 use std::test::Fail;
 

@@ -2,7 +2,8 @@
 ghost use Rattle.std.specs.Prelude.{◌≡◌, true};
 
 use py_open::{Call, OpenArgs, Reply, run_session};
-use py_raw::{Chars, Data, Life, Lines, MemRaw, RawFlags, RawStream};
+use py_raw::{Chars, Data, Life, Lines, RawFlags, RawStream};
+use py_raw_memory::MemRaw;
 use std::test::Fail;
 
 #[test]

@@ -11,3 +11,6 @@ pub mod Owed
 pub mod Causes
 pub mod Examples
 pub mod ModeError
+pub mod Positions
+pub mod Whence
+pub mod Conversions

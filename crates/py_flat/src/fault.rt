@@ -1,3 +1,4 @@
+use crate::positions::Positions;
 use crate::{ModeError, ParseModeError};
 use thiserror::Error;
 
@@ -41,10 +42,10 @@ pub enum IoFault {
     #[error("out of memory")]
     NoMemory,
     /// The handler refuses the bytes from `start` to before `end`.
-    #[error("can't decode bytes in position {start}-{end}")]
+    #[error("can't decode {}", Positions {unit: "byte", start: *.start, end: *.end})]
     UnicodeDecodeError { start: u64, end: u64 },
     /// The handler refuses the characters from `start` to before `end`, counted in characters.
-    #[error("can't encode characters in position {start}-{end}")]
+    #[error("can't encode {}", Positions {unit: "character", start: *.start, end: *.end})]
     UnicodeEncodeError { start: u64, end: u64 },
     /// The text holds characters that were read past: seek first.
     #[error("a text that was read from must be sought before it is written")]

@@ -9,6 +9,7 @@
 #![tactic(auto)]
 
 mod chars;
+mod conversions;
 mod data;
 mod examples;
 mod fault;
@@ -16,6 +17,8 @@ mod laws;
 mod life;
 mod lines;
 mod mode_error;
+mod positions;
+mod whence;
 
 pub use chars::Chars;
 pub use data::Data;
@@ -36,3 +39,4 @@ pub use laws::{
 pub use life::Life;
 pub use lines::Lines;
 pub use mode_error::{ModeError, ParseModeError};
+pub use whence::Whence;

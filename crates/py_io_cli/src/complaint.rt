@@ -2,7 +2,8 @@
 
 use crate::noting::Noting;
 use py_program::Status;
-use py_raw::{FileOpener, Source};
+use py_raw::Source;
+use py_raw_files::FileOpener;
 use py_script::{parse_line, parse_words};
 use std::alloc::{AllocError, Global};
 use std::fs::Files;

@@ -11,7 +11,8 @@ use Rattle.py_flat.specs.ExactStep.{is_closed}
 use Rattle.py_plain.specs.TextFile.{TextFile}
 use Rattle.py_plain.specs.TextStep.{TextCall, Read, ReadLine, OtherKind, text_life_refusal, text_lacks, TextSettled, TextStep}
 use Rattle.py_plain.specs.TextStep as plain
-use Rattle.py_raw.specs.RawStream.{Raw}
+use Rattle.py_raw.specs.RawStream.{Raw, WhereTold}
+use Rattle.py_raw.proofs.Telling.{tells_its_bytes}
 use Rattle.py_stream.specs.Stream.{Stream, file_of, nothing_owed}
 use Rattle.py_stream.specs.Writing.{PassedOn}
 use Rattle.py_stream.specs.Answers.{AnswersWith, Leaves, refused_by}
@@ -30,7 +31,7 @@ use Rattle.py_open.proofs.Steps.{left_raw, left_none, text_bytes}
 -- what of a call that passes all on is said of the stream that answered it
 pub record Passes (before answered : Stream) : Type 0 where
   pub none : answered.owed.bytes ≡ []
-  pub holds : IsTrue before.raw.tells → answered.raw.bytes ≡ lay before.raw.bytes before.owed.place before.owed.bytes
+  pub holds : WhereTold before.raw (answered.raw.bytes ≡ lay before.raw.bytes before.owed.place before.owed.bytes)
 
 passed : (before answered : Stream) → PassedOn before answered → Passes before answered
 passed before answered on = record { none = on.none; holds = on.holds }
@@ -48,7 +49,7 @@ spared before call reply answered a reads none =
     let spares = a.spares reads none in
     record {
       none = ap (λ (owed : Owed). owed.bytes) spares.owed;
-      holds = λ tells. spares.bytes tells ∙ sym (ap (λ (owed : Owed). lay before.raw.bytes owed.place owed.bytes) none);
+      holds = λ tells. spares.bytes (tells_its_bytes before.raw tells) ∙ sym (ap (λ (owed : Owed). lay before.raw.bytes owed.place owed.bytes) none);
     }
 
 passes_by : (writes : Bool) (before : Stream) (call : FileCall) (reply : FileReply) (answered : Stream) → before.can.writable ≡ writes → AnswersWith has_reply_room before call reply answered → IsInStep (BinarySession before) → before.life ≡ life.Live → PassesAll call reply → Passes before answered
@@ -72,7 +73,7 @@ binary_passes false before call reply after is step is_in live all =
     }
 
 text_holds : (getter : Bool) (before : TextState) (call : Call) (reply : FileReply) (after : TextState) → AnswersTextBy getter before call reply after → IsInStep (TextSession before) → HoldsFlat (TextSession before) (TextSession after)
-text_holds getter before call reply after step is_in = record { none = refl; holds = λ tells. text_bytes getter before call reply after step tells ∙ sym (is_in tells) }
+text_holds getter before call reply after step is_in = record { none = refl; holds = λ tells. text_bytes getter before call reply after step (tells_its_bytes before.raw tells) ∙ sym (is_in tells) }
 
 pub step_passes : (before : SessionView) (call : Call) (reply : Reply) (after : SessionView) → Answers before call reply after → IsInStep before → life_of before ≡ life.Live → PassesAll (file_call call) (said reply) → HoldsFlat before after
 step_passes (TextSession before) call reply (TextSession after) step is_in live all = text_holds (is_getter (file_call call)) before call (said reply) after step is_in

@@ -6,7 +6,9 @@ use Rattle.py_flat.specs.Limits.{greatest_count}
 use Rattle.py_flat.specs.Calls.{FileReply}
 use Rattle.py_flat.specs.Refusals.{is_getter}
 use Rattle.py_plain.specs.TextFile.{TextFile}
-use Rattle.py_raw.specs.RawStream.{Raw, Keeps}
+use Rattle.py_raw.specs.RawStream.{Raw, Keeps, tells}
+use Rattle.py_raw.proofs.Telling.{keeps_same, tells_still}
+use Rattle.py_raw.proofs.ReadingOn.{Keeps-then}
 use Rattle.py_stream.specs.Kinds.{says_fault}
 use Rattle.py_stream.specs.Answers.{ClosedWith}
 use Rattle.py_calls.specs.declared.call.Call.{Call}
@@ -19,7 +21,7 @@ use Rattle.py_open.specs.Session.{SessionFile, OfText, OfBinary, SessionView, Te
 use Rattle.py_open.specs.Opening.{OpensBy, OpensSession}
 use Rattle.py_open.specs.Run.{Entry, IsRun, IsHistory, IsCalm, IsSmooth, NoneLacksMemory, AllSettle, all_said, calls_of, replies_of}
 use Rattle.py_open.specs.Laws.{exact_by, exact_replies, exact_after, IsExact, HasHistory, RunsInTwo, RunsComplete, KeepsSettings, OnlyReads, IsInStep, closed_replies, StaysClosed}
-use Rattle.py_open.proofs.Steps.{keeps_self, step_keeps, step_told, step_settles, smooth_step, step_completes, step_in_step, step_reads, step_spares, step_shuts}
+use Rattle.py_open.proofs.Steps.{step_keeps, step_told, step_settles, smooth_step, step_completes, step_in_step, step_reads, step_spares, step_shuts}
 use Rattle.py_open.proofs.Ending.{step_closed}
 
 pub one_reply_each : (before : SessionView) (calls : List Call) (replies : List Reply) (after : SessionView) → IsRun before calls replies after → length replies ≡ length calls
@@ -30,21 +32,9 @@ one_reply_each before (call ∷ calls) [] after run = absurd run
 
 -- What every call keeps.
 
-keeps_on : (first mid last : Raw) → Keeps first mid → Keeps mid last → Keeps first last
-keeps_on first mid last a b = record {
-  tells = b.tells ∙ a.tells;
-  readable = b.readable ∙ a.readable;
-  writable = b.writable ∙ a.writable;
-  seekable = b.seekable ∙ a.seekable;
-  takes_memory = b.takes_memory ∙ a.takes_memory;
-  counts_exactly = b.counts_exactly ∙ a.counts_exactly;
-  faults = omega (arith, a.faults, b.faults);
-  waits = omega (arith, a.waits, b.waits);
-}
-
 pub run_keeps_raw : (before : SessionView) (calls : List Call) (replies : List Reply) (after : SessionView) → IsRun before calls replies after → Keeps (raw_of before) (raw_of after)
-run_keeps_raw before [] [] after run = subst (λ (view : SessionView). Keeps (raw_of before) (raw_of view)) (sym run) (keeps_self (raw_of before))
-run_keeps_raw before (call ∷ calls) (reply ∷ replies) after run = keeps_on (raw_of before) (raw_of run.0) (raw_of after) (step_keeps before call reply run.0 run.1).0 (run_keeps_raw run.0 calls replies after run.2)
+run_keeps_raw before [] [] after run = subst (λ (view : SessionView). Keeps (raw_of before) (raw_of view)) (sym run) (keeps_same (raw_of before))
+run_keeps_raw before (call ∷ calls) (reply ∷ replies) after run = Keeps-then (raw_of before) (raw_of run.0) (raw_of after) (step_keeps before call reply run.0 run.1).0 (run_keeps_raw run.0 calls replies after run.2)
 run_keeps_raw before [] (reply ∷ replies) after run = absurd run
 run_keeps_raw before (call ∷ calls) [] after run = absurd run
 
@@ -66,10 +56,10 @@ run_keeps_settings before (call ∷ calls) (reply ∷ replies) after run = setti
 run_keeps_settings before [] (reply ∷ replies) after run = absurd run
 run_keeps_settings before (call ∷ calls) [] after run = absurd run
 
-pub run_spares : (before : SessionView) (calls : List Call) (replies : List Reply) (after : SessionView) → IsRun before calls replies after → OnlyReads before → IsTrue (raw_of before).tells → (raw_of after).bytes ≡ (raw_of before).bytes
+pub run_spares : (before : SessionView) (calls : List Call) (replies : List Reply) (after : SessionView) → IsRun before calls replies after → OnlyReads before → IsTrue (raw_of before).tells_bytes → (raw_of after).bytes ≡ (raw_of before).bytes
 run_spares before [] [] after run reads tells = ap (λ (view : SessionView). (raw_of view).bytes) run
 run_spares before (call ∷ calls) (reply ∷ replies) after run reads tells =
-    run_spares run.0 calls replies after run.2 (step_reads before call reply run.0 run.1 reads) ((step_keeps before call reply run.0 run.1).0.tells ∙ tells)
+    run_spares run.0 calls replies after run.2 (step_reads before call reply run.0 run.1 reads) ((step_keeps before call reply run.0 run.1).0.tells_bytes ∙ tells)
     ∙ step_spares before call reply run.0 run.1 reads tells
 run_spares before [] (reply ∷ replies) after run reads tells = absurd run
 run_spares before (call ∷ calls) [] after run reads tells = absurd run
@@ -116,13 +106,13 @@ smooth_from first mid last keeps smooth = record {
   faults = unrisen_from greatest_count first.faults mid.faults last.faults keeps.faults smooth.faults;
 }
 
-pub smooth_settles : (before : SessionView) (calls : List Call) (replies : List Reply) (after : SessionView) → IsRun before calls replies after → IsTrue (raw_of before).tells → IsSmooth (raw_of before) (raw_of after) → NoneLacksMemory (all_said replies) → AllSettle (file_seen before) calls (all_said replies) (file_seen after)
+pub smooth_settles : (before : SessionView) (calls : List Call) (replies : List Reply) (after : SessionView) → IsRun before calls replies after → IsTrue (tells (raw_of before)) → IsSmooth (raw_of before) (raw_of after) → NoneLacksMemory (all_said replies) → AllSettle (file_seen before) calls (all_said replies) (file_seen after)
 smooth_settles before [] [] after run tells smooth had = ap file_seen run
 smooth_settles before (call ∷ calls) (reply ∷ replies) after run tells smooth had =
     let mid : SessionView = run.0 in
     let here = (step_keeps before call reply mid run.1).0 in
     let on = run_keeps_raw mid calls replies after run.2 in
-    (file_seen mid, smooth_step before call reply mid run.1 tells (smooth_up_to (raw_of before) (raw_of mid) (raw_of after) on smooth) had.0, smooth_settles mid calls replies after run.2 (here.tells ∙ tells) (smooth_from (raw_of before) (raw_of mid) (raw_of after) here smooth) had.1)
+    (file_seen mid, smooth_step before call reply mid run.1 tells (smooth_up_to (raw_of before) (raw_of mid) (raw_of after) on smooth) had.0, smooth_settles mid calls replies after run.2 (tells_still (raw_of before) (raw_of mid) here ∙ tells) (smooth_from (raw_of before) (raw_of mid) (raw_of after) here smooth) had.1)
 smooth_settles before [] (reply ∷ replies) after run tells smooth had = absurd run
 smooth_settles before (call ∷ calls) [] after run tells smooth had = absurd run
 
@@ -165,11 +155,11 @@ split_run before (call ∷ calls) more (reply ∷ replies) others after same run
 split_run before [] more (reply ∷ replies) others after same run = absurd (cc)
 split_run before (call ∷ calls) more [] others after same run = absurd (cc)
 
-pub history_of : (before : SessionView) (calls : List Call) (replies : List Reply) (after : SessionView) → IsRun before calls replies after → IsTrue (raw_of before).tells → HasHistory before calls replies after
+pub history_of : (before : SessionView) (calls : List Call) (replies : List Reply) (after : SessionView) → IsRun before calls replies after → IsTrue (tells (raw_of before)) → HasHistory before calls replies after
 history_of before [] [] after run tells = record { entries = []; calls_are = refl; replies_are = refl; marked = run; steps = ap file_seen run }
 history_of before (call ∷ calls) (reply ∷ replies) after run tells =
     let mid : SessionView = run.0 in
-    let rest = history_of mid calls replies after run.2 ((step_keeps before call reply mid run.1).0.tells ∙ tells) in
+    let rest = history_of mid calls replies after run.2 (tells_still (raw_of before) (raw_of mid) (step_keeps before call reply mid run.1).0 ∙ tells) in
     let entry : Entry = record { call = call; reply = reply; waited = short_of mid; faulted = says_fault (said reply) } in
     record {
       entries = entry ∷ rest.entries;

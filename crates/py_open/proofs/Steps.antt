@@ -19,7 +19,8 @@ use Rattle.py_plain.specs.TextFile.{TextFile}
 use Rattle.py_plain.specs.Rest.{Rest, text_rest}
 use Rattle.py_plain.specs.TextStep.{TextCall, Read, ReadLine, OtherKind, text_refusal, range_refusal, asks_past, asks_any, after_taking, after_text_read, answered_text, text_read, text_line, text_answered, ReadsTextPart, TextWaitedBy, TextSettled, TextStep}
 use Rattle.py_plain.specs.TextStep as plain
-use Rattle.py_raw.specs.RawStream.{Raw, Keeps}
+use Rattle.py_raw.specs.RawStream.{Raw, Keeps, tells}
+use Rattle.py_raw.proofs.Telling.{keeps_same, tells_its_bytes, tells_still}
 use Rattle.py_stream.specs.Stream.{Stream, file_of, nothing_owed}
 use Rattle.py_stream.specs.Kinds.{says_fault}
 use Rattle.py_stream.specs.Answers.{HasCauses, ClosedWith}
@@ -64,19 +65,16 @@ left_file current stream = refl
 
 -- What every call keeps.
 
-pub keeps_self : (raw : Raw) → Keeps raw raw
-keeps_self raw = record { tells = refl; readable = refl; writable = refl; seekable = refl; takes_memory = refl; counts_exactly = refl; faults = omega arith; waits = omega arith }
-
 text_keeps : (getter : Bool) (before : TextState) (call : Call) (reply : FileReply) (after : TextState) → AnswersTextBy getter before call reply after → Keeps before.raw after.raw × KeepsSettings (TextSession before) (TextSession after)
 text_keeps true before call reply after step = (
-  subst (λ (raw : Raw). Keeps before.raw raw) (sym (ap (λ (t : TextState). t.raw) step.same)) (keeps_self before.raw),
+  subst (λ (raw : Raw). Keeps before.raw raw) (sym (ap (λ (t : TextState). t.raw) step.same)) (keeps_same before.raw),
   (ap (λ (t : TextState). t.file.can) step.same, ap (λ (t : TextState). t.file.settings) step.same, ap (λ (t : TextState). t.buffer) step.same),
 )
 text_keeps false before call reply after step = (step.answers.keeps, (step.answers.moves.can, step.answers.moves.settings, step.buffer))
 
 binary_keeps : (getter : Bool) (before : Stream) (call : FileCall) (reply : FileReply) (after : Stream) → AnswersBy getter before call reply after → Keeps before.raw after.raw × KeepsSettings (BinarySession before) (BinarySession after)
 binary_keeps true before call reply after step = (
-  subst (λ (raw : Raw). Keeps before.raw raw) (sym (ap (λ (s : Stream). s.raw) step.same)) (keeps_self before.raw),
+  subst (λ (raw : Raw). Keeps before.raw raw) (sym (ap (λ (s : Stream). s.raw) step.same)) (keeps_same before.raw),
   (ap (λ (s : Stream). s.can) step.same, ap (λ (s : Stream). s.buffer) step.same),
 )
 binary_keeps false before call reply after step =
@@ -116,11 +114,11 @@ step_causes (BinarySession before) call reply (TextSession after) step = absurd 
 
 -- The model's step.
 
-text_told : (getter : Bool) (before : TextState) (call : Call) (reply : FileReply) (after : TextState) → AnswersTextBy getter before call reply after → IsTrue before.raw.tells → StepBy getter (OfText before.file) call reply after.short (says_fault reply) (OfText after.file)
+text_told : (getter : Bool) (before : TextState) (call : Call) (reply : FileReply) (after : TextState) → AnswersTextBy getter before call reply after → IsTrue (tells before.raw) → StepBy getter (OfText before.file) call reply after.short (says_fault reply) (OfText after.file)
 text_told true before call reply after step tells = record { says = step.says; same = ap (λ (t : TextState). OfText t.file) step.same }
 text_told false before call reply after step tells = step.answers.told tells
 
-binary_told : (getter : Bool) (before : Stream) (call : Call) (reply : FileReply) (after : Stream) → AnswersBy getter before (file_call call) reply after → IsTrue before.raw.tells → StepBy getter (OfBinary (file_of before)) call reply after.short (says_fault reply) (OfBinary (file_of after))
+binary_told : (getter : Bool) (before : Stream) (call : Call) (reply : FileReply) (after : Stream) → AnswersBy getter before (file_call call) reply after → IsTrue (tells before.raw) → StepBy getter (OfBinary (file_of before)) call reply after.short (says_fault reply) (OfBinary (file_of after))
 binary_told true before call reply after step tells = record { says = step.says; same = ap (λ (s : Stream). OfBinary (file_of s)) step.same }
 binary_told false before call reply after step tells =
     let a : Stream = step.answered in
@@ -130,7 +128,7 @@ binary_told false before call reply after step tells =
       left = subst (λ (s : Stream). FileLeft (file_of a) (file_of s)) (sym step.leaves) (left_file a.life a);
     }
 
-pub step_told : (before : SessionView) (call : Call) (reply : Reply) (after : SessionView) → Answers before call reply after → IsTrue (raw_of before).tells → SessionStep (file_seen before) call (said reply) (short_of after) (says_fault (said reply)) (file_seen after)
+pub step_told : (before : SessionView) (call : Call) (reply : Reply) (after : SessionView) → Answers before call reply after → IsTrue (tells (raw_of before)) → SessionStep (file_seen before) call (said reply) (short_of after) (says_fault (said reply)) (file_seen after)
 step_told (TextSession before) call reply (TextSession after) step tells = text_told (is_getter (file_call call)) before call (said reply) after step tells
 step_told (BinarySession before) call reply (BinarySession after) step tells = binary_told (is_getter (file_call call)) before call (said reply) after step tells
 step_told (TextSession before) call reply (BinarySession after) step tells = absurd step
@@ -169,7 +167,7 @@ uncaused true old new cause none =
     absurd (cc)
 uncaused false old new cause none = refl
 
-pub smooth_step : (before : SessionView) (call : Call) (reply : Reply) (after : SessionView) → Answers before call reply after → IsTrue (raw_of before).tells → IsSmooth (raw_of before) (raw_of after) → said reply ≢ Refused fault.NoMemory → Settles (file_seen before) call (said reply) (file_seen after)
+pub smooth_step : (before : SessionView) (call : Call) (reply : Reply) (after : SessionView) → Answers before call reply after → IsTrue (tells (raw_of before)) → IsSmooth (raw_of before) (raw_of after) → said reply ≢ Refused fault.NoMemory → Settles (file_seen before) call (said reply) (file_seen after)
 smooth_step before call reply after step tells smooth had =
     let causes = step_causes before call reply after step in
     step_settles (file_seen before) call (said reply) (short_of after) (says_fault (said reply)) (file_seen after)
@@ -242,15 +240,15 @@ kept_bytes before call reply waited faulted after (out_of_memory said left) = ap
 
 -- Sessions that are in step with their raw, or only read.
 
-pub text_bytes : (getter : Bool) (before : TextState) (call : Call) (reply : FileReply) (after : TextState) → AnswersTextBy getter before call reply after → IsTrue before.raw.tells → after.raw.bytes ≡ before.raw.bytes
+pub text_bytes : (getter : Bool) (before : TextState) (call : Call) (reply : FileReply) (after : TextState) → AnswersTextBy getter before call reply after → IsTrue before.raw.tells_bytes → after.raw.bytes ≡ before.raw.bytes
 text_bytes true before call reply after step tells = ap (λ (t : TextState). t.raw.bytes) step.same
 text_bytes false before call reply after step tells = step.answers.bytes tells
 
 text_in_step : (getter : Bool) (before : TextState) (call : Call) (reply : FileReply) (after : TextState) → AnswersTextBy getter before call reply after → IsInStep (TextSession before) → IsInStep (TextSession after)
 text_in_step true before call reply after step is = subst (λ (t : TextState). IsInStep (TextSession t)) (sym step.same) is
-text_in_step false before call reply after step is = λ tells.
-    let told : IsTrue before.raw.tells = sym step.answers.keeps.tells ∙ tells in
-    kept_bytes before.file (text_call call) reply after.short (says_fault reply) after.file (step.answers.told told) ∙ is told ∙ sym (step.answers.bytes told)
+text_in_step false before call reply after step is = λ now.
+    let told : IsTrue (tells before.raw) = sym (tells_still before.raw after.raw step.answers.keeps) ∙ now in
+    kept_bytes before.file (text_call call) reply after.short (says_fault reply) after.file (step.answers.told told) ∙ is told ∙ sym (step.answers.bytes (tells_its_bytes before.raw told))
 
 -- what a stream that doesn't write, or has no buffer, leaves owed
 owes_none : (before : Stream) (call : FileCall) (reply : FileReply) (after : Stream) → (step : AnswersCall before call reply after) → IsInStep (BinarySession before) → (after.can.writable ≡ false) ⊎ (after.buffer ≡ None) → step.answered.owed ≡ nothing_owed step.answered.place
@@ -282,13 +280,13 @@ step_reads (BinarySession before) call reply (BinarySession after) step reads =
 step_reads (TextSession before) call reply (BinarySession after) step reads = absurd step
 step_reads (BinarySession before) call reply (TextSession after) step reads = absurd step
 
-binary_bytes : (getter : Bool) (before : Stream) (call : FileCall) (reply : FileReply) (after : Stream) → AnswersBy getter before call reply after → OnlyReads (BinarySession before) → IsTrue before.raw.tells → after.raw.bytes ≡ before.raw.bytes
+binary_bytes : (getter : Bool) (before : Stream) (call : FileCall) (reply : FileReply) (after : Stream) → AnswersBy getter before call reply after → OnlyReads (BinarySession before) → IsTrue before.raw.tells_bytes → after.raw.bytes ≡ before.raw.bytes
 binary_bytes true before call reply after step reads tells = ap (λ (s : Stream). s.raw.bytes) step.same
 binary_bytes false before call reply after step reads tells =
     let a : Stream = step.answered in
     ap (λ (s : Stream). s.raw.bytes) step.leaves ∙ ap (λ (raw : Raw). raw.bytes) (left_raw a.life a) ∙ (step.answers.spares reads.0 reads.1).bytes tells
 
-pub step_spares : (before : SessionView) (call : Call) (reply : Reply) (after : SessionView) → Answers before call reply after → OnlyReads before → IsTrue (raw_of before).tells → (raw_of after).bytes ≡ (raw_of before).bytes
+pub step_spares : (before : SessionView) (call : Call) (reply : Reply) (after : SessionView) → Answers before call reply after → OnlyReads before → IsTrue (raw_of before).tells_bytes → (raw_of after).bytes ≡ (raw_of before).bytes
 step_spares (TextSession before) call reply (TextSession after) step reads tells = text_bytes (is_getter (file_call call)) before call (said reply) after step tells
 step_spares (BinarySession before) call reply (BinarySession after) step reads tells = binary_bytes (is_getter (file_call call)) before (file_call call) (said reply) after step reads tells
 step_spares (TextSession before) call reply (BinarySession after) step reads tells = absurd step

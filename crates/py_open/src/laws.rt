@@ -5,7 +5,7 @@ ghost use Rattle.std.specs.Prelude.{◌≡◌, ◌≢◌, ℕ, ◌≤◌, IsTrue
 ghost use Rattle.py_flat.specs.declared.life.Life.TheVariants as life;
 ghost use Rattle.py_flat.specs.Calls.{FileReply};
 ghost use Rattle.py_plain.specs.TextFile.{TextFile};
-ghost use Rattle.py_raw.specs.RawStream.{Raw, Keeps};
+ghost use Rattle.py_raw.specs.RawStream.{Raw, Keeps, tells};
 ghost use Rattle.py_stream.specs.Answers.{ClosedWith};
 ghost use Rattle.py_calls.specs.declared.call.Call.{Call};
 ghost use Rattle.py_calls.specs.declared.reply.Reply.{Reply};
@@ -20,7 +20,7 @@ ghost use Rattle.py_open.specs.Laws.{IsExact, HasHistory, RunsInTwo, RunsComplet
 /// between any two calls, and each reply is what the file there answers, exactly, but that a single transfer gives some front of
 /// what it is asked for.
 pub fn a_smooth_run_settles()
-    ensures { (before : SessionView) (calls : List Call) (replies : List Reply) (after : SessionView) → IsRun before calls replies after → IsTrue (raw_of before).tells → IsSmooth (raw_of before) (raw_of after) → NoneLacksMemory (all_said replies) → AllSettle (file_seen before) calls (all_said replies) (file_seen after) }
+    ensures { (before : SessionView) (calls : List Call) (replies : List Reply) (after : SessionView) → IsRun before calls replies after → IsTrue (tells (raw_of before)) → IsSmooth (raw_of before) (raw_of after) → NoneLacksMemory (all_said replies) → AllSettle (file_seen before) calls (all_said replies) (file_seen after) }
 {}
 
 /// Calls of a text that all settle are answered by the exact replies, and leave the exact text: two such lists are alike, whatever
@@ -44,7 +44,7 @@ pub fn a_run_splits_anywhere()
 /// A run over a raw that tells is a history of its flat files: the same calls and replies, each a step of the model, marked
 /// where a wait cut the call short and where a fault answered it. So each mark has its cause in the counts of the raw.
 pub fn a_run_is_a_history()
-    ensures { (before : SessionView) (calls : List Call) (replies : List Reply) (after : SessionView) → IsRun before calls replies after → IsTrue (raw_of before).tells → HasHistory before calls replies after }
+    ensures { (before : SessionView) (calls : List Call) (replies : List Reply) (after : SessionView) → IsRun before calls replies after → IsTrue (tells (raw_of before)) → HasHistory before calls replies after }
 {}
 
 /// A history in which no entry waited, faulted or lacked memory is the model's: each reply settles. This needs no counts, only the
@@ -72,7 +72,7 @@ pub fn a_run_keeps_the_settings()
 
 /// A session that only reads leaves the raw's bytes, where it tells them, as they were.
 pub fn a_session_that_reads_spares_the_bytes()
-    ensures { (before : SessionView) (calls : List Call) (replies : List Reply) (after : SessionView) → IsRun before calls replies after → OnlyReads before → IsTrue (raw_of before).tells → (raw_of after).bytes ≡ (raw_of before).bytes }
+    ensures { (before : SessionView) (calls : List Call) (replies : List Reply) (after : SessionView) → IsRun before calls replies after → OnlyReads before → IsTrue (raw_of before).tells_bytes → (raw_of after).bytes ≡ (raw_of before).bytes }
 {}
 
 /// What is passed on is in the raw: after a `flush`, a `close` or a `detach` of a live session that was done nothing is owed, and the

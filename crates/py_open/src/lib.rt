@@ -21,6 +21,6 @@ pub use open_refused::OpenRefused;
 pub use py_calls::{Call, Reply};
 pub use py_flat::ParseModeError;
 pub use py_mode::{DEFAULT_BUFFER_SIZE, EncodeMode, FileMode, Mode, OpenArgs, OpenPlan, plan_open};
-pub use py_stream::Detached;
+pub use py_stream::{Detached, Whence};
 pub use run::{Run, run_session};
 pub use session::Session;

@@ -11,7 +11,7 @@ use py_stream::NewRefused;
 use std::alloc::Global;
 
 /// A session after a list of calls, and their replies in order.
-#[derive(Drop)]
+#[derive(Debug, Drop)]
 pub struct Run<R: RawStream> {
     /// The session, as the last call left it.
     pub session: Session<R>,

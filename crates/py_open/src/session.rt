@@ -17,7 +17,7 @@ use std::alloc::Global;
 use std::marker::Model;
 
 /// What a session calls.
-#[derive(Drop)]
+#[derive(Debug, Drop)]
 pub(crate) enum Kind<R: RawStream> {
     /// A text that is read.
     Text(TextReader<R>),
@@ -31,7 +31,7 @@ pub(crate) enum Kind<R: RawStream> {
 /// It is seen as a text's state or as a stream: the flat file, the raw under it, its buffer's size, whether its last answer was
 /// short, and of a stream the bytes that it owes the raw. A session that is let go lets its raw go, and what it owes;
 /// `finish` hands both back.
-#[derive(Drop)]
+#[derive(Debug, Drop)]
 pub struct Session<R: RawStream> {
     alloc: Global,
     kind: Kind<R>,

@@ -11,12 +11,13 @@ use Rattle.py_flat.specs.declared.life.Life.{Life}
 use Rattle.py_flat.specs.Calls.{FileReply}
 use Rattle.py_plain.specs.TextFile.{TextFile}
 use Rattle.py_textio.specs.TextState.{TextState}
-use Rattle.py_raw.specs.RawStream.{Raw}
+use Rattle.py_raw.specs.RawStream.{Raw, tells}
+use Rattle.py_raw.proofs.Telling.{tells_its_bytes, tells_its_place, tells_still}
 use Rattle.py_raw.specs.RawMode.{raw_mode_text}
 use Rattle.py_raw.specs.Opener.{opened_bytes}
 use Rattle.py_source_sink.specs.Source.{SourceView}
 use Rattle.py_stream.specs.Stream.{Stream, buffering_of, file_of}
-use Rattle.py_stream.specs.Opening.{Opens, begins_at}
+use Rattle.py_stream.specs.Opening.{Opens, begins_at, tells_start}
 use Rattle.py_unbuffered.specs.Unbuffered.{can_of, is_able}
 use Rattle.py_unbuffered.specs.declared.access.Access.{Access}
 use Rattle.py_calls.specs.declared.call.Call.{Call}
@@ -58,11 +59,11 @@ smooth_raw before after opened session ready waits faults = record {
 
 -- The file that was opened.
 
-text_file : (raw : Raw) (buffer chunk : ℕ) (bytes : List ℕ) (text : TextState) → OpensText raw buffer chunk text → raw.tells ≡ true → raw.seekable ≡ true → raw.place ≡ 0 → raw.bytes ≡ bytes → text.file ≡ text_opened bytes 0 true chunk
-text_file raw buffer chunk bytes text opens tells seeks place are =
+text_file : (raw : Raw) (buffer chunk : ℕ) (bytes : List ℕ) (text : TextState) → OpensText raw buffer chunk text → tells raw ≡ true → raw.seekable ≡ true → raw.place ≡ 0 → raw.bytes ≡ bytes → text.file ≡ text_opened bytes 0 true chunk
+text_file raw buffer chunk bytes text opens told seeks place are =
     opens.file
-    ∙ ap (λ (all : List ℕ). text_opened all opens.place raw.seekable chunk) (opens.untouched.bytes tells ∙ are)
-    ∙ ap (λ (at : ℕ). text_opened bytes at raw.seekable chunk) ((opens.told tells).1 ∙ place)
+    ∙ ap (λ (all : List ℕ). text_opened all opens.place raw.seekable chunk) (opens.untouched.bytes (tells_its_bytes raw told) ∙ are)
+    ∙ ap (λ (at : ℕ). text_opened bytes at raw.seekable chunk) ((opens.told (tells_its_place raw told)).1 ∙ place)
     ∙ ap (λ (can : Bool). text_opened bytes 0 can chunk) seeks
 
 -- where a stream begins on a raw that can seek and stands at its start
@@ -79,17 +80,26 @@ stream_file stream bytes place can buffer bytes_are place_is can_is buffer_is li
     ∙ ap (λ (s : Option ℕ). F bytes place can s stream.life) buffer_is
     ∙ ap (λ (l : Life). F bytes place can buffer l) live
 
-binary_file : (raw : Raw) (access : Access) (buffer : Option ℕ) (bytes : List ℕ) (stream : Stream) → Opens (is_able access) (can_of access) raw buffer stream → raw.tells ≡ true → raw.seekable ≡ true → raw.place ≡ 0 → raw.bytes ≡ bytes → file_of stream ≡ record { bytes = bytes; place = begins_with (can_of access true).appending bytes; can = can_of access true; buffering = buffering_of buffer; life = life.Live }
-binary_file raw access buffer bytes stream opens tells seeks place are =
+by_ability : (seeks : Bool) {bytes place : Bool} → IsTrue bytes → IsTrue place → IsTrue (if seeks then bytes else place)
+by_ability true bytes place = bytes
+by_ability false bytes place = place
+
+-- a raw that tells its bytes and its place tells where a stream begins on it
+starts_told : (appends : Bool) (raw : Raw) → IsTrue (tells raw) → IsTrue (tells_start appends raw)
+starts_told true raw told = by_ability raw.seekable (tells_its_bytes raw told) (tells_its_place raw told)
+starts_told false raw told = tells_its_place raw told
+
+binary_file : (raw : Raw) (access : Access) (buffer : Option ℕ) (bytes : List ℕ) (stream : Stream) → Opens (is_able access) (can_of access) raw buffer stream → tells raw ≡ true → raw.seekable ≡ true → raw.place ≡ 0 → raw.bytes ≡ bytes → file_of stream ≡ record { bytes = bytes; place = begins_with (can_of access true).appending bytes; can = can_of access true; buffering = buffering_of buffer; life = life.Live }
+binary_file raw access buffer bytes stream opens told seeks place are =
     let able : can_of access raw.seekable ≡ can_of access true = ap (can_of access) seeks in
     stream_file stream bytes (begins_with (can_of access true).appending bytes) (can_of access true) buffer
-    (ap (λ (owed : Owed). lay stream.raw.bytes owed.place owed.bytes) opens.owed ∙ opens.untouched.bytes tells ∙ are)
-    (opens.place tells ∙ begins (can_of access raw.seekable).appending raw bytes seeks place are ∙ ap (λ (can : Abilities). begins_with can.appending bytes) able)
+    (ap (λ (owed : Owed). lay stream.raw.bytes owed.place owed.bytes) opens.owed ∙ opens.untouched.bytes (tells_its_bytes raw told) ∙ are)
+    (opens.place (starts_told (can_of access raw.seekable).appending raw told) ∙ begins (can_of access raw.seekable).appending raw bytes seeks place are ∙ ap (λ (can : Abilities). begins_with can.appending bytes) able)
     (opens.can_do ∙ able)
     opens.buffer_is
     opens.life_is
 
-file_opened : (encode : EncodeMode) (raw : Raw) (plan : OpenPlan) (chunk : ℕ) (bytes : List ℕ) (session : SessionView) → OpensBy encode raw plan chunk session → raw.tells ≡ true → raw.seekable ≡ true → raw.place ≡ 0 → raw.bytes ≡ bytes → file_seen session ≡ file_by encode plan chunk bytes
+file_opened : (encode : EncodeMode) (raw : Raw) (plan : OpenPlan) (chunk : ℕ) (bytes : List ℕ) (session : SessionView) → OpensBy encode raw plan chunk session → tells raw ≡ true → raw.seekable ≡ true → raw.place ≡ 0 → raw.bytes ≡ bytes → file_seen session ≡ file_by encode plan chunk bytes
 file_opened Text raw plan chunk bytes (TextSession text) opens tells seeks place are = ap OfText (text_file raw _ chunk bytes text opens tells seeks place are)
 file_opened Bytes raw plan chunk bytes (BinarySession stream) opens tells seeks place are = ap OfBinary (binary_file raw (access_of plan.mode.file) plan.buffer_size bytes stream opens tells seeks place are)
 file_opened Text raw plan chunk bytes (BinarySession stream) opens tells seeks place are = absurd opens
@@ -108,12 +118,12 @@ all_done status.OpenerFailed words old new before after is did = absurd (omega a
 
 -- the replies over a raw that was opened, by the law of smooth runs
 abbrev pub SmoothRunsSettle : Type 0
-SmoothRunsSettle = (before : SessionView) (calls : List Call) (replies : List Reply) (after : SessionView) → IsRun before calls replies after → IsTrue (raw_of before).tells → IsSmooth (raw_of before) (raw_of after) → NoneLacksMemory (all_said replies) → AllSettle (file_seen before) calls (all_said replies) (file_seen after)
+SmoothRunsSettle = (before : SessionView) (calls : List Call) (replies : List Reply) (after : SessionView) → IsRun before calls replies after → IsTrue (tells (raw_of before)) → IsSmooth (raw_of before) (raw_of after) → NoneLacksMemory (all_said replies) → AllSettle (file_seen before) calls (all_said replies) (file_seen after)
 
-settles_over : SmoothRunsSettle → (raw : Raw) (plan : OpenPlan) (chunk : ℕ) (session : SessionView) (calls : List Call) (replies : List Reply) (bytes : List ℕ) → (run : RunsCalls raw plan chunk calls session replies) → IsSmooth (raw_of run.opened) (raw_of session) → raw.tells ≡ true → raw.seekable ≡ true → raw.place ≡ 0 → raw.bytes ≡ bytes → NoneLacksMemory (all_said replies) → AllSettle (opened_file plan chunk bytes) calls (all_said replies) (file_seen session)
-settles_over law raw plan chunk session calls replies bytes run smooth tells seeks place are memory =
-    subst (λ (file : SessionFile). AllSettle file calls (all_said replies) (file_seen session)) (file_opened plan.mode.encode raw plan chunk bytes run.opened run.opens tells seeks place are)
-    (law run.opened calls replies session run.run ((opening_keeps plan.mode.encode raw plan chunk run.opened run.opens tells).1 ∙ tells) smooth memory)
+settles_over : SmoothRunsSettle → (raw : Raw) (plan : OpenPlan) (chunk : ℕ) (session : SessionView) (calls : List Call) (replies : List Reply) (bytes : List ℕ) → (run : RunsCalls raw plan chunk calls session replies) → IsSmooth (raw_of run.opened) (raw_of session) → tells raw ≡ true → raw.seekable ≡ true → raw.place ≡ 0 → raw.bytes ≡ bytes → NoneLacksMemory (all_said replies) → AllSettle (opened_file plan chunk bytes) calls (all_said replies) (file_seen session)
+settles_over law raw plan chunk session calls replies bytes run smooth told seeks place are memory =
+    subst (λ (file : SessionFile). AllSettle file calls (all_said replies) (file_seen session)) (file_opened plan.mode.encode raw plan chunk bytes run.opened run.opens told seeks place are)
+    (law run.opened calls replies session run.run (tells_still raw (raw_of run.opened) (opening_keeps plan.mode.encode raw plan chunk run.opened run.opens).keeps ∙ told) smooth memory)
 
 -- what the path holds is what the raw gives
 raw_bytes : (held : Option (List ℕ)) (bytes : List ℕ) → held ≡ Some bytes → unwrap_or held [] ≡ bytes

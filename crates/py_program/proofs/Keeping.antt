@@ -4,10 +4,11 @@ use Rattle.std.proofs.lemmas.Slice.Eq.{bytes_eq-Decides}
 use Rattle.py_flat.specs.declared.fault.IoFault.TheVariants as fault
 use Rattle.py_flat.specs.FlatFile.{Abilities}
 use Rattle.py_raw.specs.RawStream.{Raw}
+use Rattle.py_raw.proofs.Telling.{tells_its_bytes}
 use Rattle.py_raw.specs.RawMode.{raw_mode_text}
 use Rattle.py_source_sink.specs.Sink.{SinkView}
 use Rattle.py_raw.specs.Opener.{OpenerView, HoldsTheSame, OthersHoldTheSame, misses, opened_bytes}
-use Rattle.py_stream.specs.Opening.{Lacking}
+use Rattle.py_stream.specs.Opening.{Lacking, Untouched}
 use Rattle.py_mode.specs.declared.mode.EncodeMode.{EncodeMode}
 use Rattle.py_mode.specs.declared.mode.EncodeMode.TheVariants.{Text, Bytes}
 use Rattle.py_mode.specs.declared.mode.FileMode.{FileMode}
@@ -49,11 +50,11 @@ others_of_both path old mid new first second other differs = second other differ
 -- A raw that is only read keeps its bytes.
 
 -- an opening leaves them
-pub opening_keeps : (encode : EncodeMode) (raw : Raw) (plan : OpenPlan) (chunk : ℕ) (session : SessionView) → OpensBy encode raw plan chunk session → IsTrue raw.tells → ((raw_of session).bytes ≡ raw.bytes) × ((raw_of session).tells ≡ raw.tells)
-opening_keeps Text raw plan chunk (TextSession text) opens tells = (opens.untouched.bytes tells, opens.untouched.keeps.tells)
-opening_keeps Bytes raw plan chunk (BinarySession stream) opens tells = (opens.untouched.bytes tells, opens.untouched.keeps.tells)
-opening_keeps Text raw plan chunk (BinarySession stream) opens tells = absurd opens
-opening_keeps Bytes raw plan chunk (TextSession text) opens tells = absurd opens
+pub opening_keeps : (encode : EncodeMode) (raw : Raw) (plan : OpenPlan) (chunk : ℕ) (session : SessionView) → OpensBy encode raw plan chunk session → Untouched raw (raw_of session)
+opening_keeps Text raw plan chunk (TextSession text) opens = opens.untouched
+opening_keeps Bytes raw plan chunk (BinarySession stream) opens = opens.untouched
+opening_keeps Text raw plan chunk (BinarySession stream) opens = absurd opens
+opening_keeps Bytes raw plan chunk (TextSession text) opens = absurd opens
 
 -- a session that is opened to be read only reads
 opened_to_read : (encode : EncodeMode) (raw : Raw) (plan : OpenPlan) (chunk : ℕ) (session : SessionView) → plan.mode.file ≡ Read → OpensBy encode raw plan chunk session → OnlyReads session
@@ -62,29 +63,29 @@ opened_to_read Bytes raw plan chunk (BinarySession stream) reads opens = (ap (λ
 opened_to_read Text raw plan chunk (BinarySession stream) reads opens = absurd opens
 opened_to_read Bytes raw plan chunk (TextSession text) reads opens = absurd opens
 
-run_keeps : (raw back : Raw) (asked : Asked) (lines : List ℕ) → asked.plan.mode.file ≡ Read → RanCalls raw asked back lines → IsTrue raw.tells → back.bytes ≡ raw.bytes
+run_keeps : (raw back : Raw) (asked : Asked) (lines : List ℕ) → asked.plan.mode.file ≡ Read → RanCalls raw asked back lines → IsTrue raw.tells_bytes → back.bytes ≡ raw.bytes
 run_keeps raw back asked lines reads ran tells =
-    let opened = opening_keeps asked.plan.mode.encode raw asked.plan asked.chunk ran.run.opened ran.run.opens tells in
+    let opened = opening_keeps asked.plan.mode.encode raw asked.plan asked.chunk ran.run.opened ran.run.opens in
     ap (λ (last : Raw). last.bytes) ran.raw_is
-    ∙ run_spares ran.run.opened (closed_calls asked.calls) ran.replies ran.session ran.run.run (opened_to_read asked.plan.mode.encode raw asked.plan asked.chunk ran.run.opened reads ran.run.opens) (opened.1 ∙ tells)
-    ∙ opened.0
+    ∙ run_spares ran.run.opened (closed_calls asked.calls) ran.replies ran.session ran.run.run (opened_to_read asked.plan.mode.encode raw asked.plan asked.chunk ran.run.opened reads ran.run.opens) (opened.keeps.tells_bytes ∙ tells)
+    ∙ opened.bytes tells
 
-lacking_keeps : (appends : Bool) (raw back : Raw) → Lacking appends raw back → IsTrue raw.tells → back.bytes ≡ raw.bytes
+lacking_keeps : (appends : Bool) (raw back : Raw) → Lacking appends raw back → IsTrue raw.tells_bytes → back.bytes ≡ raw.bytes
 lacking_keeps true raw back lacks tells = lacks.0.bytes tells
 lacking_keeps false raw back lacks tells = ap (λ (same : Raw). same.bytes) lacks
 
-none_keeps : (raw back : Raw) (asked : Asked) → (back ≡ raw) ⊎ RefusesOpening raw asked.plan fault.NoMemory back → IsTrue raw.tells → back.bytes ≡ raw.bytes
+none_keeps : (raw back : Raw) (asked : Asked) → (back ≡ raw) ⊎ RefusesOpening raw asked.plan fault.NoMemory back → IsTrue raw.tells_bytes → back.bytes ≡ raw.bytes
 none_keeps raw back asked (inl same) tells = ap (λ (as_was : Raw). as_was.bytes) same
 none_keeps raw back asked (inr refused) tells = lacking_keeps (can_of (access_of asked.plan.mode.file) raw.seekable).appending raw back refused.1 tells
 
-lines_keep : (raw back : Raw) (asked : Asked) (lines : List ℕ) → asked.plan.mode.file ≡ Read → HasLines raw asked back lines → IsTrue raw.tells → back.bytes ≡ raw.bytes
+lines_keep : (raw back : Raw) (asked : Asked) (lines : List ℕ) → asked.plan.mode.file ≡ Read → HasLines raw asked back lines → IsTrue raw.tells_bytes → back.bytes ≡ raw.bytes
 lines_keep raw back asked lines reads (inl ran) tells = run_keeps raw back asked lines reads ran tells
 lines_keep raw back asked lines reads (inr refused) tells = refused.why.3.bytes tells
 
-some_keeps : (raw back : Raw) (asked : Asked) (old new : SinkView) → asked.plan.mode.file ≡ Read → PrintsSome raw asked back old new → IsTrue raw.tells → back.bytes ≡ raw.bytes
+some_keeps : (raw back : Raw) (asked : Asked) (old new : SinkView) → asked.plan.mode.file ≡ Read → PrintsSome raw asked back old new → IsTrue raw.tells_bytes → back.bytes ≡ raw.bytes
 some_keeps raw back asked old new reads prints tells = lines_keep raw back asked prints.0 reads prints.1 tells
 
-outcome_keeps : (raw back : Raw) (asked : Asked) (ended : Status) (old new : SinkView) → asked.plan.mode.file ≡ Read → RawOutcome raw asked ended back old new → IsTrue raw.tells → back.bytes ≡ raw.bytes
+outcome_keeps : (raw back : Raw) (asked : Asked) (ended : Status) (old new : SinkView) → asked.plan.mode.file ≡ Read → RawOutcome raw asked ended back old new → IsTrue raw.tells_bytes → back.bytes ≡ raw.bytes
 outcome_keeps raw back asked status.Done old new reads does tells = run_keeps raw back asked does.0 reads does.1 tells
 outcome_keeps raw back asked status.Refused old new reads does tells = does.1.why.3.bytes tells
 outcome_keeps raw back asked status.SinkFailed old new reads does tells = some_keeps raw back asked old new reads does.0 tells
@@ -112,7 +113,7 @@ path_spares path asked ended before after opened tells = others_of_both path bef
 pub path_keeps : (path : List ℕ) (asked : Asked) (ended : Status) (before after : Outside) → asked.plan.mode.file ≡ Read → OpensPath path asked ended before after → IsTrue before.opener.tells → HoldsTheSame before.opener after.opener
 path_keeps path asked ended before after reads opened tells =
     let told = opened.opens.told tells in
-    let same = outcome_keeps opened.raw opened.back asked ended before.sink after.sink reads opened.does told.tells in
+    let same = outcome_keeps opened.raw opened.back asked ended before.sink after.sink reads opened.does (tells_its_bytes opened.raw told.tells) in
     all_hold path before.opener after.opener
     ((opened.puts tells).held ∙ ap Some (same ∙ told.bytes) ∙ read_holds asked.plan.mode.file asked.plan.mode.plus (before.opener.holds path) reads told.found)
     (path_spares path asked ended before after opened tells)
@@ -121,4 +122,4 @@ path_keeps path asked ended before after reads opened tells =
 pub path_left : (path : List ℕ) (asked : Asked) (before after : Outside) → OpensPath path asked status.Refused before after → IsTrue before.opener.tells → after.opener.holds path ≡ Some (opened_bytes (raw_mode asked.plan) (before.opener.holds path))
 path_left path asked before after opened tells =
     let told = opened.opens.told tells in
-    (opened.puts tells).held ∙ ap Some (opened.does.1.why.3.bytes told.tells ∙ told.bytes)
+    (opened.puts tells).held ∙ ap Some (opened.does.1.why.3.bytes (tells_its_bytes opened.raw told.tells) ∙ told.bytes)

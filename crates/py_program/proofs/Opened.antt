@@ -3,6 +3,7 @@ use Rattle.std.proofs.Common.{◌≡◌, ℕ, true, false, inl, inr, IsTrue, IsS
 use Rattle.py_raw.specs.declared.opener.OpenError.{OpenError}
 use Rattle.py_raw.specs.declared.opener.OpenError.TheVariants as open_error
 use Rattle.py_raw.specs.RawStream.{Raw}
+use Rattle.py_raw.proofs.Telling.{tells_still}
 use Rattle.py_source_sink.specs.Sink.{SinkView}
 use Rattle.py_raw.specs.Opener.{OpenerView, OpenKeeps, Opens, DoneKeeps, DoneOutcome, PutsAway}
 use Rattle.py_program.specs.declared.status.Status.{Status}
@@ -27,12 +28,12 @@ puts_away path asked raw back before mid after (Err open_error.Memory) keeps ope
 holds_flat : (path : List ℕ) (asked : Asked) (raw back : Raw) (before mid after : OpenerView) (old new : SinkView) (lines : List ℕ) → Opens before path (raw_mode asked.plan) raw mid → (IsTrue before.tells → PutsAway back mid path after) → (ran : RanCalls raw asked back lines) → PathHoldsFlat path ran.run.opened ran.session (record { opener = before; sink = old }) (record { opener = after; sink = new })
 holds_flat path asked raw back before mid after old new lines opens puts ran front rest replies others live_view next call reply first step second live ended passes tells =
     let told = opens.told tells in
-    let begun = opening_keeps asked.plan.mode.encode raw asked.plan asked.chunk ran.run.opened ran.run.opens told.tells in
+    let begun = opening_keeps asked.plan.mode.encode raw asked.plan asked.chunk ran.run.opened ran.run.opens in
     let kept = run_keeps_raw ran.run.opened front replies live_view first in
     let in_step = run_in_step ran.run.opened front replies live_view first (opened_in_step raw asked.plan asked.chunk ran.run.opened ran.run.opens) in
     let flat = step_passes live_view call reply next step in_step live passes in
     (puts tells).held
-    ∙ ap Some (ap (λ (raw : Raw). raw.bytes) (ran.raw_is ∙ run_rests next rest others ran.session second ended) ∙ flat.holds (kept.tells ∙ begun.1 ∙ told.tells))
+    ∙ ap Some (ap (λ (raw : Raw). raw.bytes) (ran.raw_is ∙ run_rests next rest others ran.session second ended) ∙ flat.holds (tells_still (raw_of ran.run.opened) (raw_of live_view) kept ∙ tells_still raw (raw_of ran.run.opened) begun.keeps ∙ told.tells))
 
 -- the whole of it, by how the calls ended
 opened : (path : List ℕ) (asked : Asked) (ended : Status) (raw back : Raw) (before mid after : OpenerView) (old new : SinkView) (done : Result (Unit {0}) OpenError) → OpenKeeps before mid → Opens before path (raw_mode asked.plan) raw mid → RawOutcome raw asked ended back old new → DoneKeeps back mid after → DoneOutcome back mid path done after → OpensPath path asked ended (record { opener = before; sink = old }) (record { opener = after; sink = new })

@@ -2,7 +2,7 @@
 use Rattle.std.specs.Prelude.{◌≡◌, ℕ, ◌⊎◌, Bool, true, false, IsTrue, List, length, Option, Some, Ok, IsErr, if◌then◌else◌}
 use Rattle.py_flat.specs.declared.life.Life.TheVariants as life
 use Rattle.py_flat.specs.Causes.{rose, RoseBy}
-use Rattle.py_raw.specs.RawStream.{Raw}
+use Rattle.py_raw.specs.RawStream.{Raw, tells as raw_tells}
 use Rattle.py_raw.specs.Opener.{OpenerView, IsOpened, opened_bytes, HoldsTheSame, OthersHoldTheSame}
 use Rattle.py_source_sink.specs.Source.{SourceView}
 use Rattle.py_stream.specs.Stream.{buffering_of}
@@ -52,7 +52,7 @@ pub record RawsAreReady (before after : Outside) : Type 0 where
 
 -- a raw that tells, can seek, and stands at the start of these bytes
 pub record BeginsWith (raw : Raw) (bytes : List ℕ) : Type 0 where
-  pub tells : raw.tells ≡ true
+  pub tells : raw_tells raw ≡ true
   pub seeks : raw.seekable ≡ true
   pub place : raw.place ≡ 0
   pub bytes_are : raw.bytes ≡ bytes

@@ -4,3 +4,4 @@ pub mod ReadAll
 pub mod RawMode
 pub mod ComputeMode
 pub mod Opener
+pub mod Conversions

@@ -7,6 +7,7 @@
 //! The sources and sinks of `py_source_sink` are re-exported here.
 #![tactic(auto)]
 
+mod conversions;
 mod mode_letters;
 mod opener;
 mod raw_error;

@@ -15,7 +15,7 @@ use Rattle.py_flat.specs.ExactStep.{is_closed, rest, after_read, gives}
 use Rattle.py_flat.specs.AllowedStep.{settled, waited_for, raw_faulted, out_of_memory}
 use Rattle.py_flat.specs.BinaryStep.{BinaryStep, IsFrontOf, if_unbuffered, CarriedOut, asks_end, reaches_raw, is_live, is_tell, does_work, payload, Fails, GivesPart, WaitedBy, FaultedBy, StarvedBy, Accepted, SettledBy}
 use Rattle.py_flat.proofs.Cutting.{joined_lines}
-use Rattle.py_raw.specs.RawStream.{WhereTold, NoWait, WaitsOnce, LeavesCounts}
+use Rattle.py_raw.specs.RawStream.{WhereTold, WherePlace, WhereTransfers, NoWait, WaitsOnce, LeavesCounts}
 use Rattle.py_reader.specs.declared.data.Stop.{Stop}
 use Rattle.py_reader.specs.declared.data.Stop.TheVariants as stops
 use Rattle.py_stream.specs.Stream.{Stream, file_of, reader_can}
@@ -26,6 +26,7 @@ use Rattle.py_reader.specs.Engine.{EngineView, stream_of, IsEngine, BeginOutcome
 use Rattle.py_reader.specs.Reading.{Gathers, MovesWithin}
 use Rattle.py_lines.proofs.Lines.{lines_left}
 use Rattle.py_stream.proofs.Completing.{completes}
+use Rattle.py_reader.proofs.Transfers.{keeps_told}
 use Rattle.py_reader.proofs.Refusing.{refused_by_life, near, within_window}
 use Rattle.py_stream.proofs.Refusing.{refused_alone}
 
@@ -128,7 +129,7 @@ pub record Comes (old : EngineView) (call : FileCall) (reply : FileReply) (short
   pub starves : IsTrue (says_no_memory reply) → IsTrue (reads_on call) → Starves (stream_of old) (stream_of (record new { short = short }))
   pub first : StarvesFirst (stream_of old) call reply (stream_of (record new { short = short }))
   pub nothing : IsTrue (asks_nothing call) → AsksNothing (stream_of old) reply (stream_of (record new { short = short }))
-  pub one : IsTrue (is_single call) → WhereTold old.raw (new.raw.transfers ≤ old.raw.transfers + 1)
+  pub one : IsTrue (is_single call) → WhereTransfers old.raw (new.raw.transfers ≤ old.raw.transfers + 1)
   pub held : end_of old.window ≢ place_of old.window → IsTrue (is_single call) → AsksNothing (stream_of old) reply (stream_of (record new { short = short }))
   pub answers : IsReplyTo (Some old.window.size) false call reply
   pub told : WhereTold old.raw (BinaryStep (file_of (stream_of old)) call reply short (says_fault reply) (file_of (stream_of new)))
@@ -172,7 +173,7 @@ answers_coming old new call reply short reads live comes =
 -- the file of an engine that gave some bytes, or none
 pub file_after : (old new : EngineView) (count : ℕ) → KeepsEngine old new → new.life ≡ old.life → place_of new.window ≡ place_of old.window + count → WhereTold old.raw (file_of (stream_of new) ≡ after_read (file_of (stream_of old)) count)
 file_after old new count kept same place tells =
-    let bytes : new.raw.bytes ≡ old.raw.bytes = kept.bytes tells in
+    let bytes : new.raw.bytes ≡ old.raw.bytes = keeps_told old new kept tells in
     let can : reader_can new.raw.seekable ≡ reader_can old.raw.seekable = ap reader_can kept.raw.seekable in
     let buffering : Buffered new.window.size ≡ Buffered old.window.size = ap Buffered kept.size in
     cc
@@ -180,7 +181,7 @@ file_after old new count kept same place tells =
 -- and of one that gave none
 pub file_same : (old new : EngineView) → KeepsEngine old new → new.life ≡ old.life → place_of new.window ≡ place_of old.window → WhereTold old.raw (file_of (stream_of new) ≡ file_of (stream_of old))
 file_same old new kept same place tells =
-    let bytes : new.raw.bytes ≡ old.raw.bytes = kept.bytes tells in
+    let bytes : new.raw.bytes ≡ old.raw.bytes = keeps_told old new kept tells in
     let can : reader_can new.raw.seekable ≡ reader_can old.raw.seekable = ap reader_can kept.raw.seekable in
     let buffering : Buffered new.window.size ≡ Buffered old.window.size = ap Buffered kept.size in
     cc
@@ -446,7 +447,7 @@ moved_within most old new fails within = record {
   place = forth_within most (place_of old.window) (place_of new.window) fails.place within;
   reach = fails.reach;
   forth = fails.forth;
-  told = fails.told;
+  raw_forth = fails.raw_forth;
   some = fails.some;
 }
 
@@ -522,13 +523,13 @@ faulted_by file call after reads fails = (0, omega arith, fails)
 file_fails : (old new : EngineView) → KeepsEngine old new → new.life ≡ life.Failed → WhereTold old.raw (Fails (file_of (stream_of old)) life.Failed old.raw.bytes (file_of (stream_of new)))
 file_fails old new kept failed tells = record {
   life_is = failed;
-  bytes_are = kept.bytes tells;
+  bytes_are = keeps_told old new kept tells;
   can = ap reader_can kept.raw.seekable;
   buffering = ap Buffered kept.size;
 }
 
 -- a call that the raw failed
-pub answers_faulted : (old new : EngineView) (call : FileCall) → is_reading call ≡ true → old.life ≡ life.Live → old.short ≡ false → FailsInReading (moves_most call) old new → PlaceFails (reads_on call || is_writing call) (moves_most call) (place_of old.window) (place_of new.window) → asks_nothing call ≡ false → (IsTrue (is_single call) → WhereTold old.raw (new.raw.transfers ≤ old.raw.transfers + 1)) → (IsTrue (is_single call) → end_of old.window ≡ place_of old.window) → Answers (stream_of old) call (Refused fault.RawFault) (stream_of new)
+pub answers_faulted : (old new : EngineView) (call : FileCall) → is_reading call ≡ true → old.life ≡ life.Live → old.short ≡ false → FailsInReading (moves_most call) old new → PlaceFails (reads_on call || is_writing call) (moves_most call) (place_of old.window) (place_of new.window) → asks_nothing call ≡ false → (IsTrue (is_single call) → WhereTransfers old.raw (new.raw.transfers ≤ old.raw.transfers + 1)) → (IsTrue (is_single call) → end_of old.window ≡ place_of old.window) → Answers (stream_of old) call (Refused fault.RawFault) (stream_of new)
 answers_faulted old new call reads live whole fails goes asks_some one stands =
     let short : new.short ≡ false = fails.kept.short ∙ whole in
     let file : FlatFile = file_of (stream_of old) in
@@ -606,7 +607,7 @@ starved_by_none file (WriteLines lines) after reads same = absurd (cc)
 starved_by_none file call after reads same = same
 
 -- a call that wanted memory, and left the stream where it was
-pub answers_wanting : (old new : EngineView) (call : FileCall) → is_reading call ≡ true → old.life ≡ life.Live → old.short ≡ false → KeepsEngine old new → new.life ≡ life.Live → place_of new.window ≡ place_of old.window → LeavesCounts old.raw new.raw → (IsTrue (asks_nothing call) → new.raw ≡ old.raw) → (IsTrue (has_room call) → IsTrue old.raw.takes_memory) → (IsTrue (reads_on call) → new ≡ old) → (IsTrue (is_single call) → WhereTold old.raw (new.raw.transfers ≤ old.raw.transfers + 1)) → (IsTrue (is_single call) → end_of old.window ≢ place_of old.window → new.raw ≡ old.raw) → Answers (stream_of old) call (Refused fault.NoMemory) (stream_of new)
+pub answers_wanting : (old new : EngineView) (call : FileCall) → is_reading call ≡ true → old.life ≡ life.Live → old.short ≡ false → KeepsEngine old new → new.life ≡ life.Live → place_of new.window ≡ place_of old.window → LeavesCounts old.raw new.raw → (IsTrue (asks_nothing call) → new.raw ≡ old.raw) → (IsTrue (has_room call) → IsTrue old.raw.takes_memory) → (IsTrue (reads_on call) → new ≡ old) → (IsTrue (is_single call) → WhereTransfers old.raw (new.raw.transfers ≤ old.raw.transfers + 1)) → (IsTrue (is_single call) → end_of old.window ≢ place_of old.window → new.raw ≡ old.raw) → Answers (stream_of old) call (Refused fault.NoMemory) (stream_of new)
 answers_wanting old new call reads live whole kept lives place counts idle wants unmoved one still =
     let short : new.short ≡ false = kept.short ∙ whole in
     let same : new.life ≡ old.life = lives ∙ sym live in
@@ -625,7 +626,7 @@ answers_wanting old new call reads live whole kept lives place counts idle wants
       starves = λ wanting on. record {
         unmoved = λ living. stays on;
         moved = λ failed. absurd (let both : life.Failed ≡ life.Live = sym failed ∙ lives in cc);
-        told = λ failed. absurd (let both : life.Failed ≡ life.Live = sym failed ∙ lives in cc);
+        stands = λ failed. absurd (let both : life.Failed ≡ life.Live = sym failed ∙ lives in cc);
       };
       first = λ wanting takes none. stays (space_first call takes);
       nothing = λ asks. record { raw = idle asks; fault = refl };
@@ -659,7 +660,7 @@ pub record FailsWanting (old : EngineView) (call : FileCall) (new : EngineView) 
   pub place : MovesForth (moves_most call) (place_of old.window) (place_of new.window)
   pub reach : Reaches old new
   pub forth : end_of old.window < end_of new.window
-  pub forth_told : WhereTold old.raw (old.raw.place < new.raw.place)
+  pub raw_forth : WherePlace old.raw (old.raw.place < new.raw.place)
   pub idle : IsTrue (asks_nothing call) → new.raw ≡ old.raw
   pub some : WhereTold old.raw (wanted_by call (left_at old.raw.bytes (place_of old.window)) ≢ [])
 
@@ -680,7 +681,7 @@ answers_failing old new call on live whole wants first fails =
       starves = λ wanting reads. record {
         unmoved = λ living. absurd (let both : life.Failed ≡ life.Live = sym fails.failed ∙ living in cc);
         moved = λ failed. fails.forth;
-        told = λ failed. fails.forth_told;
+        stands = λ failed. fails.raw_forth;
       };
       first = λ wanting takes none. absurd (let takes_some : old.raw.takes_memory ≡ true = first takes in cc);
       nothing = λ asks. record { raw = fails.idle asks; fault = refl };

@@ -1,5 +1,5 @@
 -- How a gathering comes from one piece to the next, and what it ends with.
-use Rattle.std.proofs.Common.{◌≡◌, ℕ, ◌+◌, ◌<◌, ◌≤◌, Bool, true, false, IsTrue, List, [], ◌∷◌, ◌++◌, length, take, drop, inl, inr, ◌≢◌, Ok, Err, refl, sym, ap, subst, ◌∙◌, arith, append_assoc}
+use Rattle.std.proofs.Common.{◌≡◌, ℕ, ◌+◌, ◌<◌, ◌≤◌, Bool, true, false, List, [], ◌∷◌, ◌++◌, length, take, drop, inl, inr, ◌≢◌, Ok, Err, refl, sym, ap, subst, ◌∙◌, arith, append_assoc}
 use Rattle.std.proofs.lemmas.List.{append-nil, length-append, length-take, length-take-le, length-drop, take_all, take-append-drop, drop-drop}
 use Rattle.std.proofs.Math.ListN.{drop_of_length-le}
 use Rattle.py_flat.specs.declared.fault.IoFault.{IoFault}
@@ -8,13 +8,14 @@ use Rattle.py_flat.specs.declared.life.Life.TheVariants as life
 use Rattle.py_flat.specs.Bytes.{left_at}
 use Rattle.py_flat.specs.Causes.{Rose}
 use Rattle.py_flat.specs.BinaryStep.{IsFrontOf}
-use Rattle.py_raw.specs.RawStream.{WhereTold, NoWait, WaitsOnce}
+use Rattle.py_raw.specs.RawStream.{WhereTold, WherePlace, NoWait, WaitsOnce}
+use Rattle.py_raw.proofs.Telling.{keeps_same}
 use Rattle.py_reader.specs.declared.data.Stop.TheVariants as stop
 use Rattle.py_reader.specs.Window.{place_of, end_of, ahead_of, advanced}
 use Rattle.py_reader.specs.Engine.{EngineView, IsEngine, KeepsEngine, UsesUp, IsLast, Fills, FillsOutcome, StarvesWith, ComesNext, Took, Gives}
 use Rattle.py_reader.specs.Reading.{GathersEnough, GatherOutcome}
 use Rattle.py_lines.specs.Collecting.{HasEnough, WantsMore}
-use Rattle.py_reader.proofs.Transfers.{more_taken, next_behind, within_end, held_next, keeps_then, keeps_advanced, no_fault_then, no_wait_then, waits_once_then}
+use Rattle.py_reader.proofs.Transfers.{more_taken, next_behind, within_end, held_next, keeps_then, still_tells, keeps_told, keeps_advanced, no_fault_then, no_wait_then, waits_once_then}
 
 -- these bytes were collected, up to the cursor; where no byte was moved yet, all is as it was
 pub record GatheredTo (old : EngineView) (part : List ℕ) (moved : Bool) (now : EngineView) : Type 0 where
@@ -22,7 +23,7 @@ pub record GatheredTo (old : EngineView) (part : List ℕ) (moved : Bool) (now :
   pub no_wait : NoWait old.raw now.raw
   pub unmoved : moved ≡ false → now ≡ old
   pub forth : moved ≡ true → end_of old.window < end_of now.window
-  pub forth_told : moved ≡ true → WhereTold old.raw (old.raw.place < now.raw.place)
+  pub raw_forth : moved ≡ true → WherePlace old.raw (old.raw.place < now.raw.place)
 
 -- nothing is wanted, whatever is left
 abbrev pub WantsNothing : (List ℕ → List ℕ) → Type 0
@@ -69,8 +70,8 @@ module _ (old now : EngineView) (part : List ℕ) (moved : Bool) (gathered : Gat
   held_behind : (used : ℕ) → used ≤ length (ahead_of now.window) → WhereTold old.raw (take used (left_at old.raw.bytes (place_of old.window + length part)) ≡ take used (ahead_of now.window))
   held_behind used fits = λ tells.
       let kept : KeepsEngine old now = gathered.given.kept in
-      ap (take used) (ap (left_at old.raw.bytes) (sym gathered.given.place) ∙ ap (λ (bytes : List ℕ). left_at bytes (place_of now.window)) (sym (kept.bytes tells)))
-      ∙ held_next now.raw now.window used kept.is.window_is.cursor fits (kept.is.told (subst IsTrue (sym kept.raw.tells) tells) gathered.given.live)
+      ap (take used) (ap (left_at old.raw.bytes) (sym gathered.given.place) ∙ ap (λ (bytes : List ℕ). left_at bytes (place_of now.window)) (sym (keeps_told old now kept tells)))
+      ∙ held_next now.raw now.window used kept.is.window_is.cursor fits (kept.is.told (still_tells old now kept tells) gathered.given.live)
 
   comes_with : (used : ℕ) → used ≤ length (ahead_of now.window) → WhereTold old.raw (ComesNext old (part ++ take used (ahead_of now.window)))
   comes_with used fits = λ tells.
@@ -135,7 +136,7 @@ module _ (old now : EngineView) (part : List ℕ) (moved : Bool) (gathered : Gat
         unmoved = gathered.unmoved;
         told = λ tells. subst (ComesNext old) (sym is) (comes_with_all tells);
         forth = gathered.forth;
-        forth_told = gathered.forth_told;
+        raw_forth = gathered.raw_forth;
       }
 
 module _ (old now : EngineView) (part : List ℕ) (moved : Bool) (took : Took old part moved now) where
@@ -143,8 +144,8 @@ module _ (old now : EngineView) (part : List ℕ) (moved : Bool) (took : Took ol
   end_not_back true is = omega (arith, took.forth is)
   end_not_back false is = omega (arith, ap (λ (e : EngineView). end_of e.window) (took.unmoved is))
 
-  not_back : (is : Bool) → moved ≡ is → WhereTold old.raw (old.raw.place ≤ now.raw.place)
-  not_back true is = λ tells. omega (arith, took.forth_told is tells)
+  not_back : (is : Bool) → moved ≡ is → WherePlace old.raw (old.raw.place ≤ now.raw.place)
+  not_back true is = λ tells. omega (arith, took.raw_forth is tells)
   not_back false is = λ tells. omega (arith, ap (λ (e : EngineView). e.raw.place) (took.unmoved is))
 
   -- the window was filled anew
@@ -162,15 +163,15 @@ module _ (old now : EngineView) (part : List ℕ) (moved : Bool) (took : Took ol
         no_wait = no_wait_then old now new took.kept took.counts.no_wait fills.no_wait;
         unmoved = λ e. cc;
         forth = λ is. omega (arith, end_not_back moved refl, fills.some, fills.holds.begin, fills.holds.as_many);
-        forth_told = λ is tells. omega (arith, not_back moved refl tells, fills.forth (subst IsTrue (sym took.kept.raw.tells) tells));
+        raw_forth = λ is tells. omega (arith, not_back moved refl tells, fills.forth (took.kept.raw.tells_place ∙ tells));
       }
 
   -- so something came behind what was collected
   some_behind : (new : EngineView) (count : ℕ) → Fills now count new → WhereTold old.raw (left_at old.raw.bytes (place_of old.window + length part) ≢ [])
   some_behind new count fills = λ tells none.
-      let bytes : now.raw.bytes ≡ old.raw.bytes = took.kept.bytes tells in
+      let bytes : now.raw.bytes ≡ old.raw.bytes = keeps_told old now took.kept tells in
       let nothing : left_at now.raw.bytes (end_of now.window) ≡ [] = ap (λ (bytes : List ℕ). left_at bytes (end_of now.window)) bytes ∙ (ap (left_at old.raw.bytes) took.end ∙ none) in
-      let held : new.window.held ≡ take count [] = sym (fills.told (subst IsTrue (sym took.kept.raw.tells) tells)) ∙ ap (take count) nothing in
+      let held : new.window.held ≡ take count [] = sym (fills.told (still_tells old now took.kept tells)) ∙ ap (take count) nothing in
       absurd (omega (arith, fills.some, fills.holds.as_many, ap length held, length-take count (left_at [] 0)))
 
   -- nothing more comes, or not yet: all that was collected is given
@@ -185,8 +186,8 @@ module _ (old now : EngineView) (part : List ℕ) (moved : Bool) (took : Took ol
 
   last_of : (new : EngineView) → UsesUp now new → IsLast now → WhereTold old.raw (length old.raw.bytes ≤ place_of new.window)
   last_of new used last = λ tells.
-      let same : length now.raw.bytes ≡ length old.raw.bytes = ap length (took.kept.bytes tells) in
-      omega (arith, used.place, last (subst IsTrue (sym took.kept.raw.tells) tells), same)
+      let same : length now.raw.bytes ≡ length old.raw.bytes = ap length (keeps_told old now took.kept tells) in
+      omega (arith, used.place, last (still_tells old now took.kept tells), same)
 
   ends_at_last : (new : EngineView) (first : List ℕ → List ℕ) → first part ≡ part → (WantsNothing first → ⊥) → UsesUp now new → IsLast now → NoWait now.raw new.raw → GatherOutcome first old (Ok stop.End) part new
   ends_at_last new first alone wants used last no_wait = (
@@ -237,7 +238,7 @@ module _ (old now : EngineView) (part after piece : List ℕ) (moved : Bool) (ga
   moved_some first count same fills =
       let place : ℕ = place_of old.window in
       let behind : List ℕ = left_at old.raw.bytes (place + length after) in
-      let parts : IsTrue old.raw.tells → left_at old.raw.bytes place ≡ after ++ behind = λ tells. next_parts old.raw.bytes after place (took_piece.told tells) in
+      let parts : WhereTold old.raw (left_at old.raw.bytes place ≡ after ++ behind) = λ tells. next_parts old.raw.bytes after place (took_piece.told tells) in
       let some : WhereTold old.raw (behind ≢ []) = some_behind old now after moved took_piece new count fills in
       record {
         wants = λ is. wants_something wanted first part piece after same more;
@@ -259,16 +260,16 @@ module _ (old now : EngineView) (part after piece : List ℕ) (moved : Bool) (ga
 -- an engine that failed
 keeps_failed : (engine : EngineView) → IsEngine engine.raw engine.window engine.life → KeepsEngine engine (record engine { life = life.Failed })
 keeps_failed engine is = record {
-  raw = record { tells = refl; readable = refl; writable = refl; seekable = refl; takes_memory = refl; counts_exactly = refl; faults = omega arith; waits = omega arith };
+  raw = keeps_same engine.raw;
   stays = refl;
   bytes = λ tells. refl;
   size = refl;
   short = refl;
   is = record {
     window_is = is.window_is;
-    reads = is.reads;
     is_open = λ live. absurd (cc);
     attached = λ detached. cc;
+    stands = λ tells live. absurd (cc);
     told = λ tells live. absurd (cc);
   };
 }
@@ -291,7 +292,7 @@ starves_so_far old now new part after true first gathered some starves =
         place = omega (arith, gathered.given.place);
         reach = λ tells. omega (arith, gathered.given.place, within_end old.raw.bytes part (place_of old.window) (length part) (gathered.given.told tells) refl);
         forth = gathered.forth refl;
-        told = gathered.forth_told refl;
+        raw_forth = gathered.raw_forth refl;
         some = some.left refl;
       }),
       tt,

@@ -21,10 +21,10 @@ use Rattle.py_stream.specs.Moving.{MovedBy}
 use Rattle.py_reader.specs.Moving.{FailsMoving, AsksEnd, TargetFrom, TargetFromEnd, TargetOutcome, GoesTo, GoOutcome}
 use Rattle.py_stream.specs.Kinds.{says_fault}
 use Rattle.py_stream.specs.Answers.{refused_by, Leaves, IsShort, LifeMoves, SeekGoes, PlaceStarves, PlaceMoves, GivesWithin, SeeksTo, SeeksFromEnd, SeeksByEnd, WantsMemory, IsAnswerTo, IsReplyTo, Answers}
-use Rattle.py_reader.proofs.Transfers.{keeps_self, keeps_then, no_wait_then, uncounted, uncounted_then}
+use Rattle.py_reader.proofs.Transfers.{keeps_self, keeps_then, keeps_told, no_wait_then, uncounted, uncounted_then}
 use Rattle.py_reader.proofs.Refusing.{near, refused_with, refused_by_life}
 use Rattle.py_stream.proofs.Refused.{is_own}
-use Rattle.py_raw.proofs.Telling.{keeps_same}
+use Rattle.py_raw.proofs.Telling.{tells_its_bytes, keeps_same}
 
 -- an engine of which a call was begun
 abbrev begun : EngineView → EngineView
@@ -215,7 +215,7 @@ seek_faults old new offset whence may asks fails = seek_tells old new offset whe
       zero-le,
       record {
         life_is = fails.failed;
-        bytes_are = fails.kept.bytes tell;
+        bytes_are = keeps_told (begun old) new fails.kept tell;
         can = ap reader_can fails.kept.raw.seekable;
         buffering = ap Buffered fails.kept.size;
       },
@@ -227,10 +227,10 @@ seek_faults old new offset whence may asks fails = seek_tells old new offset whe
 abbrev pub Same : EngineView → EngineView → Type 0
 Same old new = new ≡ record (begun old) { raw = new.raw }
 
-same_file : (old new : EngineView) → KeepsEngine (begun old) new → Same old new → IsTrue old.raw.tells → file_of (stream_of new) ≡ file_of (stream_of old)
+same_file : (old new : EngineView) → KeepsEngine (begun old) new → Same old new → WhereTold old.raw (file_of (stream_of new) ≡ file_of (stream_of old))
 same_file old new kept same tell =
     ap (λ (engine : EngineView). file_of (stream_of engine)) same
-    ∙ ap (λ (bytes : List ℕ). record (file_of (stream_of old)) { bytes = bytes; can = reader_can new.raw.seekable }) (kept.bytes tell)
+    ∙ ap (λ (bytes : List ℕ). record (file_of (stream_of old)) { bytes = bytes; can = reader_can new.raw.seekable }) (keeps_told (begun old) new kept tell)
     ∙ ap (λ (seekable : Bool). record (file_of (stream_of old)) { can = reader_can seekable }) kept.raw.seekable
 
 pub seek_wants : (old new : EngineView) (offset whence : ℤ) → MaySeek old → ReachesRaw old offset whence → KeepsEngine (begun old) new → LeavesCounts old.raw new.raw → Same old new → IsTrue old.raw.takes_memory → Answers (stream_of old) (Seek offset whence) (Refused fault.NoMemory) (stream_of new)
@@ -313,7 +313,7 @@ end_refuses old new offset why end may asks refuses =
       answer = at_bad_place (λ (fault : IoFault). IsReplyTo (Some old.window.size) false call (Refused fault)) tt tt why at;
       complete = λ _. answers;
       told = λ tell.
-          let by : refusal (file_of (stream_of old)) call ≡ Some why = seek_refusal_is old offset (pos 2) may ∙ ap (λ (base : ℕ). target_refusal (moved_by base offset)) (sym (asks.told tell)) ∙ refuses in
+          let by : refusal (file_of (stream_of old)) call ≡ Some why = seek_refusal_is old offset (pos 2) may ∙ ap (λ (base : ℕ). target_refusal (moved_by base offset)) (sym (asks.told (tells_its_bytes old.raw tell))) ∙ refuses in
           settled (subst (λ (refused : Option IoFault). SettledBy (file_of (stream_of old)) call refused (Refused why) (file_of (stream_of new))) (sym by) (refl, same_file old new asks.kept asks.same tell));
     })
 
@@ -371,7 +371,7 @@ finds_from_end old found offset target end may asks moved = record {
   };
   goes = tt;
   lies = λ tell.
-      let there : end ≡ length old.raw.bytes = asks.told tell in (
+      let there : end ≡ length old.raw.bytes = asks.told (tells_its_bytes old.raw tell) in (
         ap (λ (base : ℕ). unwrap_or (moved_by base offset) 0) (sym there) ∙ target_is end offset target moved,
         seek_refusal_is old offset (pos 2) may ∙ ap (λ (base : ℕ). target_refusal (moved_by base offset)) (sym there) ∙ lies_within end offset target moved,
       );
@@ -437,7 +437,7 @@ going_answers old found new offset whence target may finds goes =
       complete = λ _. tt;
       told = λ tell.
           let lies : (seek_target (file_of (stream_of old)) offset whence ≡ target) × (refusal (file_of (stream_of old)) (Seek offset whence) ≡ None) = finds.lies tell in
-          let bytes : new.raw.bytes ≡ old.raw.bytes = kept.bytes tell in
+          let bytes : new.raw.bytes ≡ old.raw.bytes = keeps_told (begun old) new kept tell in
           let place : place_of new.window ≡ target = goes.place in
           let can : new.raw.seekable ≡ old.raw.seekable = kept.raw.seekable in
           let size : new.window.size ≡ old.window.size = kept.size in

@@ -54,7 +54,7 @@ starved old new call on room later live whole is (inr fails) idle some =
       place = fails.place;
       reach = fails.reach;
       forth = fails.forth;
-      forth_told = fails.told;
+      raw_forth = fails.raw_forth;
       idle = idle;
       some = some fails.failed;
     })
@@ -171,7 +171,7 @@ starved_into old new call size on wants asks live whole is takes (inr fails) =
       place = fails.place;
       reach = fails.reach;
       forth = fails.further refl;
-      forth_told = fails.further_told refl;
+      raw_forth = fails.raw_further refl;
       idle = λ none. absurd (let some : asks_nothing call ≡ false = asks_some call size on wants asks in cc);
       some = λ tells. subst (λ (part : List ℕ). part ≢ []) (sym (wants (left_at old.raw.bytes (place_of old.window)))) (some_taken size (left_at old.raw.bytes (place_of old.window)) asks (fails.some refl tells));
     })

@@ -13,7 +13,7 @@ use Rattle.py_flat.specs.FlatFile.{FlatFile}
 use Rattle.py_flat.specs.ExactStep.{is_closed}
 use Rattle.py_flat.specs.AllowedStep.{settled, waited_for}
 use Rattle.py_flat.specs.BinaryStep.{IsFrontOf, Transfers, Accepted, SettledBy, WaitedBy}
-use Rattle.py_raw.specs.RawStream.{WhereTold, WaitsOnce, LeavesCounts}
+use Rattle.py_raw.specs.RawStream.{WhereTold, WhereTransfers, WaitsOnce, LeavesCounts}
 use Rattle.py_reader.specs.declared.data.Stop.{Stop}
 use Rattle.py_reader.specs.declared.data.Stop.TheVariants as stops
 use Rattle.py_stream.specs.Stream.{file_of}
@@ -23,7 +23,7 @@ use Rattle.py_reader.specs.Window.{WindowView, IsWindow, place_of, end_of, ahead
 use Rattle.py_reader.specs.Engine.{EngineView, stream_of, IsEngine, KeepsEngine, BeginOutcome, Transferred, has_answer, answered_at}
 use Rattle.py_reader.specs.Reading.{ReadyOutcome}
 use Rattle.py_stream.specs.Replies.{look_reply}
-use Rattle.py_reader.proofs.Transfers.{ahead_told, keeps_self, keeps_then, keeps_advanced, uncounted}
+use Rattle.py_reader.proofs.Transfers.{ahead_told, keeps_self, keeps_then, still_tells, keeps_told, keeps_advanced, uncounted}
 use Rattle.py_reader.proofs.Begun.{answers_begun}
 use Rattle.py_reader.proofs.Answering.{reading_refused, accepted, works, answers_coming, stays_forth, answers_faulted, answers_wanting, file_after, file_same}
 
@@ -120,7 +120,7 @@ pub record GivesOnce (old : EngineView) (call : FileCall) (part : List ℕ) (new
   pub live : new.life ≡ life.Live
   pub place : place_of new.window ≡ place_of old.window + moves_by call (length part)
   pub most : length part ≤ asks_for old.window.size call
-  pub transfers : WhereTold old.raw (new.raw.transfers ≤ old.raw.transfers + 1)
+  pub transfers : WhereTransfers old.raw (new.raw.transfers ≤ old.raw.transfers + 1)
   pub front : WhereTold old.raw (IsFrontOf part (take (asks_for old.window.size call) (left_at old.raw.bytes (place_of old.window))))
   pub some : WhereTold old.raw (part ≡ [] → take (asks_for old.window.size call) (left_at old.raw.bytes (place_of old.window)) ≡ [])
 
@@ -133,7 +133,7 @@ front_reaches wanted part bytes before after left front moved =
 buffer_of : (size : ℕ) (bytes : List ℕ) → 0 < size → take size bytes ≡ first_or_all size bytes
 buffer_of size bytes some = ap (λ (none : Bool). if none then bytes else take size bytes) (sym (ne_eqb size 0 (λ none. omega arith)))
 
-once_carried : (old new : EngineView) (call : FileCall) (part : List ℕ) → is_single call ≡ true → 0 < old.window.size → new.life ≡ old.life → GivesOnce old call part new → IsTrue old.raw.tells → Accepted (file_of (stream_of old)) call (Bytes part) (file_of (stream_of new))
+once_carried : (old new : EngineView) (call : FileCall) (part : List ℕ) → is_single call ≡ true → 0 < old.window.size → new.life ≡ old.life → GivesOnce old call part new → WhereTold old.raw (Accepted (file_of (stream_of old)) call (Bytes part) (file_of (stream_of new)))
 once_carried old new (Read1 None) part single some same gives tells =
     let file : FlatFile = file_of (stream_of old) in
     subst (λ (wanted : List ℕ). Transfers file (Read1 None) wanted (Bytes part) (file_of (stream_of new))) (buffer_of old.window.size (left_at old.raw.bytes (place_of old.window)) some) (record {
@@ -207,9 +207,9 @@ front_held n ahead left held =
 ahead_next : (old mid : EngineView) → KeepsEngine old mid → mid.life ≡ life.Live → place_of mid.window ≡ place_of old.window → WhereTold old.raw (take (length (ahead_of mid.window)) (left_at old.raw.bytes (place_of old.window)) ≡ ahead_of mid.window)
 ahead_next old mid kept live place tells =
     let count : ℕ = length (ahead_of mid.window) in
-    ap (λ (bytes : List ℕ). take count (left_at bytes (place_of old.window))) (sym (kept.bytes tells))
+    ap (λ (bytes : List ℕ). take count (left_at bytes (place_of old.window))) (sym (keeps_told old mid kept tells))
     ∙ (ap (λ (at : ℕ). take count (left_at mid.raw.bytes at)) (sym place)
-    ∙ ahead_told mid.raw mid.window kept.is.window_is.cursor (kept.is.told (kept.raw.tells ∙ tells) live))
+    ∙ ahead_told mid.raw mid.window kept.is.window_is.cursor (kept.is.told (still_tells old mid kept tells) live))
 
 gives_held : (old mid : EngineView) (call : FileCall) → asks_nothing call ≡ false → Transferred old mid → LeavesCounts old.raw mid.raw → place_of mid.window ≡ place_of old.window → (end_of old.window ≢ place_of old.window → mid.raw ≡ old.raw) → WhereTold old.raw (take (asks_for old.window.size call) (ahead_of mid.window) ≡ [] → take (asks_for old.window.size call) (left_at old.raw.bytes (place_of old.window)) ≡ []) → GivesOnce old call (take (asks_for old.window.size call) (ahead_of mid.window)) (record mid { window = advanced (moves_by call (length (take (asks_for old.window.size call) (ahead_of mid.window)))) mid.window })
 gives_held old mid call asks moved counts place still some =

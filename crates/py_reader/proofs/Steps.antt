@@ -1,18 +1,18 @@
 -- How a reading that goes on comes from one transfer to the next.
-use Rattle.std.proofs.Common.{◌≡◌, ◌≢◌, ℕ, ◌+◌, ◌-◌, ◌^◌, ◌<◌, ◌≤◌, ◌⊎◌, replicate, inl, inr, ⊎_elim, Bool, true, false, IsTrue, List, [], ◌++◌, length, take, drop, min, Ok, refl, sym, ap, ◌∙◌, subst, arith}
+use Rattle.std.proofs.Common.{◌≡◌, ◌≢◌, ℕ, ◌+◌, ◌-◌, ◌^◌, ◌<◌, ◌≤◌, ◌⊎◌, replicate, inl, inr, ⊎_elim, Bool, true, false, List, [], ◌++◌, length, take, drop, min, Ok, refl, sym, ap, ◌∙◌, subst, arith}
 use Rattle.std.proofs.lemmas.Bool.{true≢false}
 use Rattle.std.proofs.lemmas.List.{append-nil, take-take, take-append-le, take-append-drop, take_all, length-replicate, length-take-le, length-append, drop_all, length-drop, take_at}
 use borrow.Rule.Slice.PartMut.{put_mid}
 use Rattle.py_flat.specs.declared.life.Life.TheVariants as life
 use Rattle.py_flat.specs.Bytes.{left_at}
-use Rattle.py_raw.specs.RawStream.{WhereTold, NoFault, NoWait, LeavesCounts}
+use Rattle.py_raw.specs.RawStream.{WhereTold, WherePlace, NoFault, NoWait, LeavesCounts}
 use Rattle.py_reader.specs.declared.data.Stop.{Stop}
 use Rattle.py_reader.specs.declared.data.Stop.TheVariants as stop
 use Rattle.py_reader.specs.declared.data.reading.Step.TheVariants as step
 use Rattle.py_reader.specs.Window.{place_of, end_of, ahead_of, advanced}
 use Rattle.py_reader.specs.Engine.{EngineView, IsEngine, KeepsEngine, UsesUp, Gives}
 use Rattle.py_reader.specs.Reading.{StepsOn, StepOutcome, ReadsInto, ReadsMore, ReadAllOutcome}
-use Rattle.py_reader.proofs.Transfers.{more_taken, next_behind, held_next, keeps_self, keeps_then, keeps_advanced, no_fault_then, no_wait_then, waits_once_then, uncounted, uncounted_then}
+use Rattle.py_reader.proofs.Transfers.{more_taken, next_behind, held_next, keeps_self, keeps_then, still_tells, keeps_told, keeps_advanced, no_fault_then, no_wait_then, waits_once_then, uncounted, uncounted_then}
 
 -- a buffer after what is left of it was written
 pub end_written : (count : ℕ) (buffer rest : List ℕ) → count < length buffer → length rest ≡ length (take (length buffer - count) (drop count buffer)) → put_mid count (length buffer - count) buffer rest ≡ take count buffer ++ rest
@@ -73,7 +73,7 @@ pub record Reads (old : EngineView) (was : Bool) (count : ℕ) (buffer : List �
   pub place : place_of old.window ≤ place_of now.window
   pub end : end_of now.window ≡ place_of old.window + count
   pub told : WhereTold old.raw (take count (left_at old.raw.bytes (place_of old.window)) ≡ take count buffer)
-  pub stepped : ((moved ≡ was) × (now ≡ old)) ⊎ ((moved ≡ true) × (0 < count) × (end_of old.window < end_of now.window) × WhereTold old.raw (old.raw.place < now.raw.place))
+  pub stepped : ((moved ≡ was) × (now ≡ old)) ⊎ ((moved ≡ true) × (0 < count) × (end_of old.window < end_of now.window) × WherePlace old.raw (old.raw.place < now.raw.place))
 
 -- before the first transfer
 pub reads_first : (old : EngineView) (was : Bool) (count : ℕ) (buffer : List ℕ) → IsEngine old.raw old.window old.life → old.life ≡ life.Live → count ≡ min (length (ahead_of old.window)) (length buffer) → count ≢ length buffer → take count buffer ≡ take count (ahead_of old.window) → Reads old was count buffer was old
@@ -91,7 +91,7 @@ reads_first old was count buffer is live least more front =
     }
 
 -- the raw doesn't go back
-pub not_back : (old : EngineView) (was : Bool) (count : ℕ) (buffer : List ℕ) (moved : Bool) (now : EngineView) → Reads old was count buffer moved now → IsTrue old.raw.tells → old.raw.place ≤ now.raw.place
+pub not_back : (old : EngineView) (was : Bool) (count : ℕ) (buffer : List ℕ) (moved : Bool) (now : EngineView) → Reads old was count buffer moved now → WherePlace old.raw (old.raw.place ≤ now.raw.place)
 not_back old was count buffer moved now reads tells = ⊎_elim (λ same. omega (arith, ap (λ (engine : EngineView). engine.raw.place) same.1)) (λ forth. omega (arith, forth.3 tells)) reads.stepped
 
 -- nor does the end of what was held
@@ -101,8 +101,8 @@ end_not_back old was count buffer moved now reads = ⊎_elim (λ same. omega (ar
 -- what one more transfer brings, behind what came
 pub behind_told : (old : EngineView) (was : Bool) (count : ℕ) (buffer : List ℕ) (moved : Bool) (now : EngineView) (more : ℕ) (rest : List ℕ) (new : EngineView) → Reads old was count buffer moved now → StepsOn now more rest new → WhereTold old.raw (take (count + more) (left_at old.raw.bytes (place_of old.window)) ≡ take (count + more) (take count buffer ++ rest))
 behind_told old was count buffer moved now more rest new reads steps tells =
-    let bytes : now.raw.bytes ≡ old.raw.bytes = reads.kept.bytes tells in
-    let next : take more (left_at now.raw.bytes (end_of now.window)) ≡ take more rest = steps.told (subst IsTrue (sym reads.kept.raw.tells) tells) in
+    let bytes : now.raw.bytes ≡ old.raw.bytes = keeps_told old now reads.kept tells in
+    let next : take more (left_at now.raw.bytes (end_of now.window)) ≡ take more rest = steps.told (still_tells old now reads.kept tells) in
     next_behind old.raw.bytes (take count buffer) rest (place_of old.window) count more (length-take-le count buffer (omega (arith, reads.less))) (reads.told tells)
     (ap (λ (place : ℕ). take more (left_at old.raw.bytes place)) (sym reads.end) ∙ (ap (λ (xs : List ℕ). take more (left_at xs (end_of now.window))) (sym bytes) ∙ next))
 
@@ -118,7 +118,7 @@ reads_on old was count buffer moved now more rest new reads outcome =
       place = omega (arith, reads.end, steps.place);
       end = omega (arith, reads.end, outcome.2);
       told = behind_told old was count buffer moved now more rest new reads steps;
-      stepped = inr (refl, omega (arith, steps.some), omega (arith, end_not_back old was count buffer moved now reads, outcome.2, steps.some), λ tells. omega (arith, not_back old was count buffer moved now reads tells, steps.forth (subst IsTrue (sym reads.kept.raw.tells) tells)));
+      stepped = inr (refl, omega (arith, steps.some), omega (arith, end_not_back old was count buffer moved now reads, outcome.2, steps.some), λ tells. omega (arith, not_back old was count buffer moved now reads tells, steps.forth (reads.kept.raw.tells_place ∙ tells)));
     }
 
 -- the last transfer filled the buffer
@@ -151,7 +151,7 @@ reads_none old was count buffer moved now rest new stop.End other some reads out
   stops = (
     reads_given old was count buffer moved now rest new reads outcome.1,
     no_wait_then old now new reads.kept reads.counts.no_wait outcome.3,
-    λ tells. subst (λ (bytes : List ℕ). length bytes ≤ place_of new.window) (reads.kept.bytes tells) (subst (λ (place : ℕ). length now.raw.bytes ≤ place) (sym outcome.1.place) (outcome.2 (subst IsTrue (sym reads.kept.raw.tells) tells))),
+    λ tells. subst (λ (bytes : List ℕ). length bytes ≤ place_of new.window) (keeps_told old now reads.kept tells) (subst (λ (place : ℕ). length now.raw.bytes ≤ place) (sym outcome.1.place) (outcome.2 (still_tells old now reads.kept tells))),
   );
 }
 reads_none old was count buffer moved now rest new stop.Waits other some reads outcome = record {
@@ -180,7 +180,7 @@ reads_stopped old was count buffer moved now more stop.Waits rest new some reads
 pub record ReadsAll (old : EngineView) (bytes : List ℕ) (more : ℕ) (moved : Bool) (now : EngineView) : Type 0 where
   pub gives : Gives old bytes now
   pub no_wait : NoWait old.raw now.raw
-  pub stands : WhereTold old.raw (old.raw.place ≡ end_of old.window)
+  pub stands : WherePlace old.raw (old.raw.place ≡ end_of old.window)
   pub some : 0 < more
   pub fits : more < 2 ^ 64
   pub first : moved ≡ false → (now ≡ old) × (bytes ≡ []) × (length (ahead_of old.window) < more)
@@ -196,8 +196,8 @@ gives_then old mid new first second before behind =
       live = behind.live;
       place = omega (arith, before.place, behind.place);
       told = λ tells.
-          let bytes : mid.raw.bytes ≡ old.raw.bytes = before.kept.bytes tells in
-          let next : take (length second) (left_at mid.raw.bytes (place_of mid.window)) ≡ second = behind.told (subst IsTrue (sym before.kept.raw.tells) tells) in
+          let bytes : mid.raw.bytes ≡ old.raw.bytes = keeps_told old mid before.kept tells in
+          let next : take (length second) (left_at mid.raw.bytes (place_of mid.window)) ≡ second = behind.told (still_tells old mid before.kept tells) in
           ap (λ (n : ℕ). take n (left_at old.raw.bytes (place_of old.window))) long
           ∙ (next_behind old.raw.bytes first second (place_of old.window) (length first) (length second) refl (before.told tells)
           (ap (λ (place : ℕ). take (length second) (left_at old.raw.bytes place)) (sym before.place) ∙ (ap (λ (xs : List ℕ). take (length second) (left_at xs (place_of mid.window))) (sym bytes) ∙ (next ∙ sym (take_all (length second) second (omega arith)))))
@@ -233,7 +233,7 @@ all_read old bytes more moved now stop.Enough after new other reads brings = abs
 all_read old bytes more moved now stop.End after new other reads brings = (
   subst (λ (xs : List ℕ). Gives old xs new) (sym brings.behind) (gives_then old now new bytes brings.part reads.gives brings.stops.0),
   no_wait_then old now new reads.gives.kept reads.no_wait brings.stops.1,
-  λ tells. subst (λ (xs : List ℕ). length xs ≤ place_of new.window) (reads.gives.kept.bytes tells) (brings.stops.2 (subst IsTrue (sym reads.gives.kept.raw.tells) tells)),
+  λ tells. subst (λ (xs : List ℕ). length xs ≤ place_of new.window) (keeps_told old now reads.gives.kept tells) (brings.stops.2 (still_tells old now reads.gives.kept tells)),
 )
 all_read old bytes more moved now stop.Waits after new other reads brings = (
   subst (λ (xs : List ℕ). Gives old xs new) (sym brings.behind) (gives_then old now new bytes brings.part reads.gives brings.stops.0),

@@ -1,13 +1,15 @@
 -- What an engine holds, and what stays of it from transfer to transfer.
-use Rattle.std.proofs.Common.{◌≡◌, ℕ, ◌+◌, ◌≤◌, Bool, IsTrue, List, ◌++◌, length, take, drop, max, refl, sym, ap, ◌∙◌, subst, arith}
+use Rattle.std.proofs.Common.{◌≡◌, ℕ, ◌+◌, ◌≤◌, Bool, IsTrue, List, ◌++◌, length, take, drop, max, refl, sym, ap, ◌∙◌, arith}
 use Rattle.std.proofs.lemmas.List.{length-take, length-drop, take-append-drop, take-take, drop-take, drop-drop}
 use Rattle.std.proofs.Math.Seq.{take-append-add}
 use Rattle.py_flat.specs.Bytes.{left_at}
 use Rattle.py_flat.specs.Causes.{counted}
 use Rattle.py_flat.specs.declared.life.Life.{Life}
-use Rattle.py_raw.specs.RawStream.{Raw, NoFault, NoWait, WaitsOnce, LeavesCounts}
+use Rattle.py_raw.specs.RawStream.{Raw, tells, WhereTold, NoFault, NoWait, WaitsOnce, LeavesCounts}
+use Rattle.py_raw.proofs.Telling.{tells_its_bytes, tells_still, keeps_same}
+use Rattle.py_raw.proofs.ReadingOn.{Keeps-then}
 use Rattle.py_reader.specs.Window.{WindowView, IsWindow, place_of, ahead_of, advanced}
-use Rattle.py_reader.specs.Engine.{EngineView, IsEngine, HoldsTold, KeepsEngine}
+use Rattle.py_reader.specs.Engine.{EngineView, IsEngine, HoldsBytes, KeepsEngine}
 
 -- Lists.
 
@@ -32,22 +34,22 @@ within_end bytes part place count next long = omega (arith, length-take count (l
 -- Engines.
 
 -- the bytes held from the place on are the raw's
-pub ahead_told : (raw : Raw) (window : WindowView) → window.cursor ≤ length window.held → HoldsTold raw window → take (length (ahead_of window)) (left_at raw.bytes (place_of window)) ≡ ahead_of window
+pub ahead_told : (raw : Raw) (window : WindowView) → window.cursor ≤ length window.held → HoldsBytes raw window → take (length (ahead_of window)) (left_at raw.bytes (place_of window)) ≡ ahead_of window
 ahead_told raw window within told =
     let count : ℕ = length (ahead_of window) in
     let size : length window.held ≡ window.cursor + count = omega (arith, length-drop window.cursor window.held) in
     ap (take count) (sym (drop-drop window.cursor window.begin raw.bytes))
     ∙ (sym (drop-take window.cursor count (left_at raw.bytes window.begin))
     ∙ (ap (λ (n : ℕ). drop window.cursor (take n (left_at raw.bytes window.begin))) (sym size)
-    ∙ ap (drop window.cursor) told.held))
+    ∙ ap (drop window.cursor) told))
 
 -- a front of them too
-pub held_next : (raw : Raw) (window : WindowView) (count : ℕ) → window.cursor ≤ length window.held → count ≤ length (ahead_of window) → HoldsTold raw window → take count (left_at raw.bytes (place_of window)) ≡ take count (ahead_of window)
+pub held_next : (raw : Raw) (window : WindowView) (count : ℕ) → window.cursor ≤ length window.held → count ≤ length (ahead_of window) → HoldsBytes raw window → take count (left_at raw.bytes (place_of window)) ≡ take count (ahead_of window)
 held_next raw window count within fits told = sym (take-take count (length (ahead_of window)) (left_at raw.bytes (place_of window)) fits) ∙ ap (take count) (ahead_told raw window within told)
 
 pub keeps_self : (engine : EngineView) → IsEngine engine.raw engine.window engine.life → KeepsEngine engine engine
 keeps_self engine is = record {
-  raw = record { tells = refl; readable = refl; writable = refl; seekable = refl; takes_memory = refl; counts_exactly = refl; faults = omega arith; waits = omega arith };
+  raw = keeps_same engine.raw;
   stays = refl;
   bytes = λ tells. refl;
   size = refl;
@@ -57,22 +59,21 @@ keeps_self engine is = record {
 
 pub keeps_then : (old mid new : EngineView) → KeepsEngine old mid → KeepsEngine mid new → KeepsEngine old new
 keeps_then old mid new first second = record {
-  raw = record {
-    tells = second.raw.tells ∙ first.raw.tells;
-    readable = second.raw.readable ∙ first.raw.readable;
-    writable = second.raw.writable ∙ first.raw.writable;
-    seekable = second.raw.seekable ∙ first.raw.seekable;
-    takes_memory = second.raw.takes_memory ∙ first.raw.takes_memory;
-    counts_exactly = second.raw.counts_exactly ∙ first.raw.counts_exactly;
-    faults = omega (arith, first.raw.faults, second.raw.faults);
-    waits = omega (arith, first.raw.waits, second.raw.waits);
-  };
+  raw = Keeps-then old.raw mid.raw new.raw first.raw second.raw;
   stays = second.stays ∙ first.stays;
-  bytes = λ tells. second.bytes (subst IsTrue (sym first.raw.tells) tells) ∙ first.bytes tells;
+  bytes = λ tells. second.bytes (first.raw.tells_bytes ∙ tells) ∙ first.bytes tells;
   size = second.size ∙ first.size;
   short = second.short ∙ first.short;
   is = second.is;
 }
+
+-- told both, before a step and after it
+pub still_tells : (old new : EngineView) → KeepsEngine old new → WhereTold old.raw (IsTrue (tells new.raw))
+still_tells old new kept told = tells_still old.raw new.raw kept.raw ∙ told
+
+-- and then the bytes are as they were
+pub keeps_told : (old new : EngineView) → KeepsEngine old new → WhereTold old.raw (new.raw.bytes ≡ old.raw.bytes)
+keeps_told old new kept told = kept.bytes (tells_its_bytes old.raw told)
 
 -- what two steps leave uncounted
 pub no_fault_then : (old mid new : EngineView) → KeepsEngine old mid → NoFault old.raw mid.raw → NoFault mid.raw new.raw → NoFault old.raw new.raw
@@ -106,17 +107,17 @@ window_advanced window count is fits = record {
 -- the cursor moved on
 pub keeps_advanced : (old : EngineView) (count : ℕ) → IsEngine old.raw old.window old.life → count ≤ length (ahead_of old.window) → KeepsEngine old (record old { window = advanced count old.window })
 keeps_advanced old count is fits = record {
-  raw = record { tells = refl; readable = refl; writable = refl; seekable = refl; takes_memory = refl; counts_exactly = refl; faults = omega arith; waits = omega arith };
+  raw = keeps_same old.raw;
   stays = refl;
   bytes = λ tells. refl;
   size = refl;
   short = refl;
   is = record {
     window_is = window_advanced old.window count is.window_is fits;
-    reads = is.reads;
     is_open = is.is_open;
     attached = is.attached;
-    told = λ tells live. record { held = (is.told tells live).held; stands = (is.told tells live).stands };
+    stands = is.stands;
+    told = is.told;
   };
 }
 

@@ -7,7 +7,7 @@ use Rattle.py_flat.specs.declared.life.Life.TheVariants as life
 use Rattle.py_flat.specs.Bytes.{left_at}
 use Rattle.py_flat.specs.Causes.{Rose}
 use Rattle.py_flat.specs.Refusals.{life_fault}
-use Rattle.py_raw.specs.RawStream.{Raw, Keeps, StaysOpen, WhereTold, NoFault, NoWait, WaitsOnce, LeavesCounts}
+use Rattle.py_raw.specs.RawStream.{Raw, Keeps, StaysOpen, WhereTold, WherePlace, WhereTransfers, KeepsBytes, NoFault, NoWait, WaitsOnce, LeavesCounts}
 use Rattle.py_reader.specs.declared.window.Filled.{Filled}
 use Rattle.py_reader.specs.declared.window.Filled.TheVariants as filled
 use Rattle.py_reader.specs.declared.data.Stop.{Stop}
@@ -36,24 +36,23 @@ stream_of engine = record {
   owed = nothing_owed (place_of engine.window);
 }
 
--- told: the bytes held are the raw's from the window's place on, and the raw stands behind them
-pub record HoldsTold (raw : Raw) (window : WindowView) : Type 0 where
-  pub held : take (length window.held) (left_at raw.bytes window.begin) ≡ window.held
-  pub stands : raw.place ≡ end_of window
+-- the bytes held are the raw's, from the window's place on
+abbrev pub HoldsBytes : Raw → WindowView → Type 0
+HoldsBytes raw window = take (length window.held) (left_at raw.bytes window.begin) ≡ window.held
 
--- what holds of every engine
+-- what holds of every engine; of a live one that its raw stands behind the bytes held, and told, that these are the raw's
 pub record IsEngine (raw : Raw) (window : WindowView) (current : Life) : Type 0 where
   pub window_is : IsWindow window
-  pub reads : raw.readable ≡ true
   pub is_open : current ≡ life.Live → raw.closed ≡ false
   pub attached : current ≢ life.Detached
-  pub told : WhereTold raw (current ≡ life.Live → HoldsTold raw window)
+  pub stands : WherePlace raw (current ≡ life.Live → raw.place ≡ end_of window)
+  pub told : WhereTold raw (current ≡ life.Live → HoldsBytes raw window)
 
 -- what every step keeps of it
 pub record KeepsEngine (old new : EngineView) : Type 0 where
   pub raw : Keeps old.raw new.raw
   pub stays : StaysOpen old.raw new.raw
-  pub bytes : WhereTold old.raw (new.raw.bytes ≡ old.raw.bytes)
+  pub bytes : KeepsBytes old.raw new.raw
   pub size : new.window.size ≡ old.window.size
   pub short : new.short ≡ old.short
   pub is : IsEngine new.raw new.window new.life
@@ -81,7 +80,7 @@ pub record FailsByRaw (old new : EngineView) : Type 0 where
   pub no_wait : NoWait old.raw new.raw
   pub failed : new.life ≡ life.Failed
   pub place : place_of new.window ≡ end_of old.window
-  pub transfers : WhereTold old.raw (new.raw.transfers ≤ old.raw.transfers + 1)
+  pub transfers : WhereTransfers old.raw (new.raw.transfers ≤ old.raw.transfers + 1)
 
 -- the same of a reading that may have made many transfers, for no more than so many bytes, where it knows how many
 pub record FailsInReading (most : Option ℕ) (old new : EngineView) : Type 0 where
@@ -100,7 +99,7 @@ pub record FailsMoved (most : Option ℕ) (old new : EngineView) : Type 0 where
   pub place : MovesForth most (place_of old.window) (place_of new.window)
   pub reach : Reaches old new
   pub forth : end_of old.window < end_of new.window
-  pub told : WhereTold old.raw (old.raw.place < new.raw.place)
+  pub raw_forth : WherePlace old.raw (old.raw.place < new.raw.place)
   pub some : WhereTold old.raw (left_at old.raw.bytes (place_of old.window) ≢ [])
 
 -- memory was wanting: nothing changed, or bytes had left the raw
@@ -114,7 +113,7 @@ pub record Transferred (old new : EngineView) : Type 0 where
   pub kept : KeepsEngine old new
   pub no_fault : NoFault old.raw new.raw
   pub live : new.life ≡ life.Live
-  pub transfers : WhereTold old.raw (new.raw.transfers ≤ old.raw.transfers + 1)
+  pub transfers : WhereTransfers old.raw (new.raw.transfers ≤ old.raw.transfers + 1)
 
 -- the raw asked to wait, or said that nothing comes: the window is used up
 pub record UsesUp (old new : EngineView) : Type 0 where
@@ -122,7 +121,7 @@ pub record UsesUp (old new : EngineView) : Type 0 where
   pub place : place_of new.window ≡ end_of old.window
   pub end : end_of new.window ≡ end_of old.window
   pub none : ahead_of new.window ≡ []
-  pub still : WhereTold old.raw (new.raw.place ≡ old.raw.place)
+  pub still : WherePlace old.raw (new.raw.place ≡ old.raw.place)
 
 -- told: no byte comes behind those held
 abbrev pub IsLast : EngineView → Type 0
@@ -144,7 +143,7 @@ pub record Fills (old : EngineView) (count : ℕ) (new : EngineView) : Type 0 wh
   pub holds : HoldsNew old.window count new.window
   pub some : 0 < count
   pub told : WhereTold old.raw (take count (left_at old.raw.bytes (end_of old.window)) ≡ new.window.held)
-  pub forth : WhereTold old.raw (old.raw.place < new.raw.place)
+  pub forth : WherePlace old.raw (old.raw.place < new.raw.place)
 
 abbrev pub FillsOutcome : EngineView → Bool → Result Filled IoFault → EngineView → Type 0
 FillsOutcome old moved (Ok (filled.More count)) new = Fills old count new
@@ -162,7 +161,7 @@ pub record Passes (old : EngineView) (count : ℕ) (buffer : List ℕ) (new : En
   pub some : 0 < count
   pub window_is : new.window ≡ emptied_at (end_of old.window + count) old.window
   pub told : WhereTold old.raw (take count (left_at old.raw.bytes (end_of old.window)) ≡ take count buffer)
-  pub forth : WhereTold old.raw (old.raw.place < new.raw.place)
+  pub forth : WherePlace old.raw (old.raw.place < new.raw.place)
 
 abbrev pub PassesOutcome : EngineView → Bool → Result Filled IoFault → List ℕ → EngineView → Type 0
 PassesOutcome old moved (Ok (filled.More count)) buffer new = Passes old count buffer new
@@ -188,7 +187,7 @@ pub record Took (old : EngineView) (part : List ℕ) (moved : Bool) (now : Engin
   pub unmoved : moved ≡ false → now ≡ old
   pub told : WhereTold old.raw (ComesNext old part)
   pub forth : moved ≡ true → end_of old.window < end_of now.window
-  pub forth_told : moved ≡ true → WhereTold old.raw (old.raw.place < now.raw.place)
+  pub raw_forth : moved ≡ true → WherePlace old.raw (old.raw.place < now.raw.place)
 
 -- it gave these bytes, and the place moved behind them
 pub record Gives (old : EngineView) (part : List ℕ) (new : EngineView) : Type 0 where
@@ -224,6 +223,5 @@ answered_at where_stopped engine = record engine { short = is_wait where_stopped
 pub record Begins (raw : Raw) (window : WindowView) : Type 0 where
   pub window_is : IsWindow window
   pub none : window.held ≡ []
-  pub reads : raw.readable ≡ true
   pub is_open : raw.closed ≡ false
-  pub stands : WhereTold raw (raw.place ≡ window.begin)
+  pub stands : WherePlace raw (raw.place ≡ window.begin)

@@ -3,3 +3,4 @@ pub mod Engine
 pub mod Reading
 pub mod Moving
 pub mod Reader
+pub mod Lines

@@ -5,7 +5,7 @@ use Rattle.py_flat.specs.declared.fault.IoFault.TheVariants as fault
 use Rattle.py_flat.specs.declared.life.Life.TheVariants as life
 use Rattle.py_flat.specs.Limits.{greatest_place}
 use Rattle.py_flat.specs.Causes.{Rose}
-use Rattle.py_raw.specs.RawStream.{WhereTold, NoWait, LeavesCounts}
+use Rattle.py_raw.specs.RawStream.{WhereBytes, NoWait, LeavesCounts}
 use Rattle.py_stream.specs.Moving.{MovedBy}
 use Rattle.py_reader.specs.Window.{place_of}
 use Rattle.py_reader.specs.Engine.{EngineView, KeepsEngine}
@@ -24,7 +24,7 @@ pub record AsksEnd (old : EngineView) (end : ℕ) (new : EngineView) : Type 0 wh
   pub counts : LeavesCounts old.raw new.raw
   pub same : new ≡ record old { raw = new.raw }
   pub within : end ≤ greatest_place
-  pub told : WhereTold old.raw (end ≡ length old.raw.bytes)
+  pub told : WhereBytes old.raw (end ≡ length old.raw.bytes)
 
 abbrev pub EndOutcome : EngineView → Result ℕ IoFault → EngineView → Type 0
 EndOutcome old (Ok end) new = AsksEnd old end new

@@ -7,7 +7,7 @@ use Rattle.py_flat.specs.declared.life.Life.TheVariants as life
 use Rattle.py_flat.specs.Bytes.{left_at}
 use Rattle.py_flat.specs.Causes.{Rose}
 use Rattle.py_flat.specs.BinaryStep.{IsFrontOf}
-use Rattle.py_raw.specs.RawStream.{WhereTold, NoWait, WaitsOnce, LeavesCounts}
+use Rattle.py_raw.specs.RawStream.{WhereTold, WherePlace, NoWait, WaitsOnce, LeavesCounts}
 use Rattle.py_stream.specs.Answers.{MovesForth}
 use Rattle.py_reader.specs.declared.data.Stop.{Stop}
 use Rattle.py_reader.specs.declared.data.Stop.TheVariants as stop
@@ -27,7 +27,7 @@ pub record StepsOn (old : EngineView) (count : ℕ) (rest : List ℕ) (new : Eng
   pub some : 0 < count
   pub place : end_of old.window ≤ place_of new.window
   pub told : WhereTold old.raw (take count (left_at old.raw.bytes (end_of old.window)) ≡ take count rest)
-  pub forth : WhereTold old.raw (old.raw.place < new.raw.place)
+  pub forth : WherePlace old.raw (old.raw.place < new.raw.place)
 
 -- one transfer: it brought less than what is left of the buffer, and the window's end lies behind it; or as much, and the
 -- place does; or none
@@ -49,8 +49,8 @@ pub record FailsStarved (most : Option ℕ) (old : EngineView) (moved : Bool) (n
   pub reach : Reaches old new
   pub forth : end_of old.window ≤ end_of new.window
   pub further : moved ≡ false → end_of old.window < end_of new.window
-  pub forth_told : WhereTold old.raw (old.raw.place ≤ new.raw.place)
-  pub further_told : moved ≡ false → WhereTold old.raw (old.raw.place < new.raw.place)
+  pub raw_forth : WherePlace old.raw (old.raw.place ≤ new.raw.place)
+  pub raw_further : moved ≡ false → WherePlace old.raw (old.raw.place < new.raw.place)
   pub some : moved ≡ false → WhereTold old.raw (left_at old.raw.bytes (place_of old.window) ≢ [])
 
 abbrev pub StarvesIn : Option ℕ → EngineView → Bool → EngineView → Type 0

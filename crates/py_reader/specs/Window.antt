@@ -2,10 +2,9 @@
 use Rattle.std.specs.Prelude.{◌≡◌, ◌≢◌, ℕ, ◌+◌, ◌-◌, ◌<◌, ◌≤◌, List, [], length, take, drop, Result, Ok, Err, Bool, ◌&&◌, nat_le}
 use Rattle.py_flat.specs.Limits.{greatest_place}
 use Rattle.py_flat.specs.Bytes.{left_at}
-use Rattle.py_flat.specs.Causes.{counted}
 use Rattle.py_raw.specs.declared.raw_error.RawError.{RawError}
 use Rattle.py_raw.specs.declared.raw_error.RawError.TheVariants as raw_error
-use Rattle.py_raw.specs.RawStream.{Raw, WhereTold, LeavesCounts, AsksToWait, FailsWithout, LacksMemory}
+use Rattle.py_raw.specs.RawStream.{Raw, WhereTold, WherePlace, KeepsBytes, Transfers, LeavesCounts, AsksToWait, FailsWithout, LacksMemory}
 use Rattle.py_reader.specs.declared.window.Filled.{Filled}
 use Rattle.py_reader.specs.declared.window.Filled.TheVariants as filled
 
@@ -57,31 +56,24 @@ moved_to place window = record window { cursor = place - window.begin }
 
 -- One transfer of the raw behind the bytes held, which are used up then.
 
--- told: the bytes that come next in the raw, which stood where the last held byte ended
-pub record BringsTold (old : Raw) (place : ℕ) (part : List ℕ) (new : Raw) : Type 0 where
-  pub bytes : new.bytes ≡ old.bytes
-  pub next : take (length part) (left_at old.bytes place) ≡ part
-  pub stands : new.place ≡ place + length part
-  pub transfers : new.transfers ≡ counted old.transfers 1
-
--- some bytes came, not none; they lie below the greatest place
+-- some bytes came, not none; they lie below the greatest place. Of a raw that stood where the last held byte ended: told, they
+-- are those that come next in it; and it stands behind them
 pub record Brings (old : Raw) (place : ℕ) (part : List ℕ) (new : Raw) : Type 0 where
   pub some : part ≢ []
   pub within : place + length part ≤ greatest_place
   pub counts : LeavesCounts old new
-  pub told : WhereTold old (old.place ≡ place → BringsTold old place part new)
+  pub next : WhereTold old (old.place ≡ place → take (length part) (left_at old.bytes place) ≡ part)
+  pub stands : WherePlace old (old.place ≡ place → new.place ≡ place + length part)
+  pub bytes : KeepsBytes old new
+  pub transfers : Transfers 1 old new
 
--- told: nothing came, and nothing comes behind the place
-pub record EndsTold (old : Raw) (place : ℕ) (new : Raw) : Type 0 where
-  pub bytes : new.bytes ≡ old.bytes
-  pub last : length old.bytes ≤ place
-  pub stands : new.place ≡ place
-  pub transfers : new.transfers ≡ counted old.transfers 1
-
--- nothing came, and nothing comes
+-- nothing came; told, nothing comes behind the place, where the raw stood there; and it stands where it stood
 pub record BringsNone (old : Raw) (place : ℕ) (new : Raw) : Type 0 where
   pub counts : LeavesCounts old new
-  pub told : WhereTold old (old.place ≡ place → EndsTold old place new)
+  pub last : WhereTold old (old.place ≡ place → length old.bytes ≤ place)
+  pub stands : WherePlace old (new.place ≡ old.place)
+  pub bytes : KeepsBytes old new
+  pub transfers : Transfers 1 old new
 
 -- into the front of a buffer
 abbrev pub TransferOutcome : Raw → ℕ → List ℕ → Result Filled RawError → List ℕ → Raw → Type 0

@@ -12,6 +12,7 @@ ghost use Rattle.py_stream.specs.Handing.{DetachOutcome, PartsOutcome, LendsRaw}
 ghost use Rattle.py_reader.specs.Reader.{Looks, held_of, BeginsDetach};
 ghost use Rattle.py_reader.specs.Window.{place_of};
 
+use crate::BufferedLines;
 use crate::data::BufferedData;
 use crate::window::Window;
 use py_raw::{IoFault, Life, Lines, RawError, RawStream};
@@ -32,7 +33,7 @@ use std::marker::Model;
 /// `None` where nothing had, with all as it was; `short` is true then. `NoMemory` is
 /// want of memory; what stands then, each call says. What waits and faults leave is this project's choice
 /// (docs/DECISIONS.md), all else the rule of Python's `io` module.
-#[derive(Drop)]
+#[derive(Debug, Drop)]
 pub struct BufferedReader<R: RawStream> {
     data: Option<BufferedData<R>>,
     seekable: bool,
@@ -143,7 +144,7 @@ impl<R: RawStream> BufferedReader<R> {
     }
 
     /// Reads as many bytes as `buffer` is long into its front, and answers how many; fewer come only at the end. What `buffer`
-    /// has behind them may have changed, and after `None` and a refusal all of it (but for one by the life).
+    /// has behind them may have changed, and after `None`, `RawFault` and `NoMemory` all of it; every other refusal leaves it.
     ///
     /// It takes no memory: `NoMemory` comes only of a raw that takes some, and leaves the reader as it was, unless bytes had
     /// left the raw already: then it is failed.
@@ -151,7 +152,7 @@ impl<R: RawStream> BufferedReader<R> {
         ensures answers { Answers self.old (ReadInto (length buffer.old)) (into_reply result buffer.new) self.new }
         ensures length { length buffer.new ≡ length buffer.old }
         ensures fits { CountFits result buffer.new }
-        ensures refused { KeepsBuffer self.old.life buffer.old buffer.new }
+        ensures refused { KeepsBuffer result buffer.old buffer.new }
     {
         match &mut self.data {
             Some(data) => data.readinto(buffer),
@@ -210,8 +211,18 @@ impl<R: RawStream> BufferedReader<R> {
         }
     }
 
+    /// The lines from the place on, one by one, as an iterator of what `readline` answers: it ends where nothing is left, and after
+    /// a refusal; `None` among its items is a wait. A loop over it that stops early loses nothing.
+    pub fn lines(&mut self, alloc: Global) -> BufferedLines<'_, R>
+        ensures same_reference { result.reader.ghost_name ≡ self.entry.ghost_name }
+        ensures reader { result.reader.now ≡ self.old }
+        ensures left { result.left ≡ 18446744073709551615 }
+    {
+        BufferedLines::new(self, alloc)
+    }
+
     /// Moves to `offset` bytes from the start (`whence` 0), the place (1) or the end (2), past the end too, and answers the new
-    /// place.
+    /// place. `Whence` has names for the three: `seek(0, Whence::End.into())`.
     ///
     /// `Unsupported` where the raw can't seek, `BadWhence` for another `whence`, `NegativeSeek` and `TooFar` for a target below
     /// 0 or past 9223372036854775807: all is as it was. From the end, the raw is asked first where that is, and may fail. It

@@ -26,7 +26,7 @@ pub(crate) enum Stop {
 }
 
 /// The raw stands behind the bytes that the window holds, while the stream lives.
-#[derive(Drop)]
+#[derive(Debug, Drop)]
 pub(crate) struct BufferedData<R: RawStream> {
     raw: R,
     window: Window,

@@ -3,7 +3,9 @@
 
 mod buffered_reader;
 mod data;
+mod lines;
 mod window;
 
 pub use buffered_reader::BufferedReader;
-pub use py_stream::{Detached, NewRefused, a_seek_to_the_told_place_keeps_all};
+pub use lines::BufferedLines;
+pub use py_stream::{Detached, NewRefused, Whence, a_seek_to_the_told_place_keeps_all};

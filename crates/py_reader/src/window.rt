@@ -5,6 +5,7 @@ ghost use Rattle.py_raw.specs.RawStream.{Keeps, StaysOpen};
 ghost use Rattle.py_reader.specs.Window.{place_of, end_of, ahead_of, advanced, emptied_at, covers as covers_place, moved_to, IsWindow, TransferOutcome, FillOutcome, PassOutcome};
 
 use py_raw::{GREATEST_PLACE, RawError, RawStream};
+use std::fmt;
 use std::marker::Model;
 
 /// What one transfer brought.
@@ -44,6 +45,17 @@ impl Model for Window {
     ghost invariant = { λ w. (0 < vec_len w.buffer) × (w.cursor ≤ w.end) × (w.end ≤ vec_len w.buffer) × (w.begin + w.end ≤ greatest_place) };
 }
 
+// Only how many bytes come next, and not which: thousands of them would hide all else.
+impl fmt::Debug for Window {
+    fn fmt<W: fmt::Write>(&self, f: &mut fmt::Formatter<W>) -> fmt::Result {
+        f.debug_struct("Window")
+            .field("place", &self.place())
+            .field("ahead", &self.ahead().len())
+            .field("size", &self.size())
+            .finish()
+    }
+}
+
 /// How much of a buffer may be filled at a place, so that no place lies past the greatest.
 fn room(size: usize, place: u64) -> usize
     requires { place ≤ greatest_place }
@@ -63,7 +75,6 @@ fn room(size: usize, place: u64) -> usize
 /// One transfer of a raw that stands at a place, into the front of a buffer.
 fn transfer<R: RawStream>(raw: &mut R, buffer: &mut [u8], place: u64) -> Result<Filled, RawError>
     requires open { (R.shows raw.old).closed ≡ false }
-    requires can { (R.shows raw.old).readable ≡ true }
     requires asks { 0 < length buffer.old }
     requires within { place ≤ greatest_place }
     ensures keeps { Keeps (R.shows raw.old) (R.shows raw.new) }
@@ -169,7 +180,6 @@ impl Window {
     /// Lets go of what is held, and fills the buffer by one transfer of a raw that stands behind it.
     pub fn fill<R: RawStream>(&mut self, raw: &mut R) -> Result<Filled, RawError>
         requires open { (R.shows raw.old).closed ≡ false }
-        requires can { (R.shows raw.old).readable ≡ true }
         ensures keeps { Keeps (R.shows raw.old) (R.shows raw.new) }
         ensures open { StaysOpen (R.shows raw.old) (R.shows raw.new) }
         ensures outcome { FillOutcome (R.shows raw.old) self.old result (R.shows raw.new) self.new }
@@ -198,7 +208,6 @@ impl Window {
     /// buffer, by one transfer.
     pub fn pass<R: RawStream>(&mut self, raw: &mut R, buffer: &mut [u8]) -> Result<Filled, RawError>
         requires open { (R.shows raw.old).closed ≡ false }
-        requires can { (R.shows raw.old).readable ≡ true }
         requires asks { 0 < length buffer.old }
         ensures keeps { Keeps (R.shows raw.old) (R.shows raw.new) }
         ensures open { StaysOpen (R.shows raw.old) (R.shows raw.new) }

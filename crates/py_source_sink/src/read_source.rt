@@ -1,5 +1,9 @@
+ghost use Rattle.std.specs.Io.{ReadsAtMost};
+ghost use Rattle.std.specs.Io.KnownBytes.{ReadConsumes};
+
 use crate::{Failed, Source};
-use std::io::Read;
+use std::io;
+use std::io::{ErrorKind, Read};
 
 /// A source over any reader, as standard input. It tells nothing of what is left.
 #[derive(Drop)]
@@ -21,17 +25,30 @@ impl<R: Read> ReadSource<R> {
     }
 }
 
+/// Reads once, and again where that was interrupted, as std's `write_all` writes.
+fn read_again<R: Read>(reader: &mut R, buf: &mut [u8]) -> io::Result<usize>
+    ensures bound { ReadsAtMost result buf.old }
+    ensures bytes { ReadConsumes (R.remaining reader.old) (R.remaining reader.new) result buf.new }
+{
+    'tries: for _ in 0..u64::MAX {
+        match reader.read(buf) {
+            Err(error) if error.kind() == ErrorKind::Interrupted => {}
+            answer => return answer,
+        }
+    }
+    Err(io::Error::from(ErrorKind::Interrupted))
+}
+
 impl<R: Read> Source for ReadSource<R> {
     ghost use Rattle.std.specs.Prelude.{◌≡◌, OnOk, OnErr};
-    ghost use Rattle.std.specs.Io.KnownBytes.{ReadConsumes};
     ghost use Rattle.py_flat.specs.Causes.{counted};
     ghost use Rattle.py_source_sink.specs.Source.{SourceKeeps, SourceOutcome, NoSourceFault};
     ghost use Rattle.py_source_sink.specs.ReadSource.{reader_of, shown_read_source};
 
     ghost shows = { shown_read_source };
 
-    /// Reads once from the reader, and takes any error of it for a fault, an interrupted read too. The count of faults
-    /// stops at 18446744073709551615. Where the reader's bytes are known, those that it gives are the next of them.
+    /// Reads once from the reader, and again where that was interrupted; any other error is a fault, one that says that it would
+    /// block too. The count of faults stops at 18446744073709551615. Where the reader's bytes are known, those that it gives are the next of them.
     fn read(&mut self, buf: &mut [u8]) -> Result<usize, Failed>
         ensures keeps { SourceKeeps (shown_read_source self.old) (shown_read_source self.new) }
         ensures outcome { SourceOutcome (shown_read_source self.old) buf.old result buf.new (shown_read_source self.new) }
@@ -40,7 +57,7 @@ impl<R: Read> Source for ReadSource<R> {
         ensures quiet { OnOk result ((shown_read_source self.new).faults ≡ (shown_read_source self.old).faults) }
         ensures one_fault { OnErr result ((shown_read_source self.new).faults ≡ counted (shown_read_source self.old).faults 1) }
     {
-        match self.reader.read(buf) {
+        match read_again(&mut self.reader, buf) {
             Ok(count) => Ok(count),
             Err(_) => {
                 self.failed = self.failed.saturating_add(1);

@@ -263,38 +263,57 @@ pub record SparesBytes (before after : Stream) : Type 0 where
   pub bytes : KeepsBytes before.raw after.raw
   pub owed : after.owed ≡ nothing_owed after.place
 
--- One call of a stream, by which calls have their room: what it keeps; what the life, the stream or an argument refuses; a
--- close of a closed stream; that the raw is closed with a stream that owes nothing then; causes, and that no fault and no wait
--- goes unanswered; what is short; life and place; a seek from the end; memory; which calls call no raw, and which make at most
--- one transfer, or none where bytes are held, as the raw stands further on; that a stream that doesn't write spares the raw's
--- bytes; what one that writes does with those that it took; that neither the raw nor want of memory stops a `detach` of a failed
--- stream; completeness; where the raw tells, the step of the model, and that no reading moves the place past the end; how near
--- the raw stands; and that a wait hides nothing
+-- One call of a stream over any raw; `room` says which calls have their room, so that they want no memory of their own.
 pub record AnswersWith (room : FileCall → Bool) (before : Stream) (call : FileCall) (reply : FileReply) (after : Stream) : Type 0 where
+  -- the buffer's size and what the stream and its raw can do stay, and the raw's counts never fall
   pub keeps : KeepsStream before after
+  -- what the life, an ability or an argument refuses is answered with that, and leaves all as it was
   pub refused : (why : IoFault) → refused_by before call ≡ Some why → Leaves before (Refused why) reply after
+  -- a close of a closed stream is done, and leaves all as it was
   pub again : closes_again before call ≡ true → Leaves before Done reply after
+  -- the raw is closed exactly where the stream is, once nothing is owed
   pub shut : after.owed.bytes ≡ [] → ClosedWith before.life before.raw → ClosedWith after.life after.raw
+  -- a short answer comes only where the raw's waits rose in this call, RawFault only where its faults did
   pub causes : HasCauses before.raw reply after.raw after.short
+  -- no fault and no wait of a raw that counts exactly goes unanswered
   pub counted : IsTrue before.raw.counts_exactly → IsCounted before.buffer before.raw call reply after.raw after.short
+  -- which answers are short: those that say so by themselves, and else some bytes or lines, never none
   pub shorts : IsShort call reply after.short
+  -- life and place after the call, and that no more is given than was asked for
   pub moves : Moves before call reply after
+  -- a seek from the end goes by some end that the raw answered
   pub ends : SeeksByEnd before call reply after
+  -- a call that has its room wants memory only where its raw takes some
   pub wants : WantsMemory (room call) reply before.raw
+  -- want of memory leaves a reading that goes on as it was, or fails it once bytes left the raw
   pub starves : IsTrue (says_no_memory reply) → IsTrue (reads_on call) → Starves before after
+  -- a call that takes its space first leaves all as it was where there is none
   pub first : StarvesFirst before call reply after
+  -- calls that ask no raw: it is as it was, and gives no fault
   pub nothing : IsTrue (asks_none before.buffer call) → AsksNothing before reply after
+  -- calls that call no raw at all: neither it nor want of memory refuses them
   pub idle : IsTrue (calls_none before.buffer before.can.writable call) → IsIdle before reply after
+  -- calls that make at most one transfer
   pub single : IsTrue (makes_one before.buffer call) → AtMostOne before after
+  -- a call of one transfer makes none where bytes are held, as the raw stands elsewhere than the stream
   pub held : before.can.writable ≡ false → before.raw_place ≢ before.place → IsTrue (makes_one before.buffer call) → AsksNothing before reply after
+  -- a stream that doesn't write leaves the raw's bytes, and owes nothing
   pub spares : before.can.writable ≡ false → before.owed ≡ nothing_owed before.place → SparesBytes before after
+  -- what a stream that writes does with the bytes that it took
   pub writes : before.can.writable ≡ true → Writes before call reply after
+  -- which replies an accepted call may have
   pub answer : refused_by before call ≡ None → IsReplyTo before.buffer before.can.writable call reply
+  -- a failed stream is detached at once: neither its raw nor want of memory stops that
   pub at_once : before.life ≡ life.Failed → call ≡ Detach → refused_by before call ≡ None → (bytes : List ℕ) × (place : Option ℕ) × (reply ≡ Unwritten bytes place)
+  -- where no count of the raw rose, an accepted call is answered in full, or lacked memory
   pub complete : refused_by before call ≡ None → rose before.raw.waits after.raw.waits ≡ false → rose before.raw.faults after.raw.faults ≡ false → IsAnswerTo call reply × (after.short ≡ false)
+  -- where the raw tells, the call is the step of the model from flat file to flat file
   pub told : WhereTold before.raw (BinaryStep (file_of before) call reply after.short (says_fault reply) (file_of after))
+  -- no reading moves the place past the end of the raw's bytes
   pub reach : IsTrue (is_reading call) → WhereTold before.raw (after.place ≤ max before.place (length before.raw.bytes))
+  -- how near a live stream's raw stands to its place
   pub near : after.life ≡ life.Live → IsNear after
+  -- a wait hides nothing: the raw then stands at the place
   pub hides : IsTrue after.short → IsTrue (is_reading call) → after.owed.bytes ≡ [] → after.raw_place ≡ after.place
 
 -- of a stream of the library, whose room is taken at its opening

@@ -13,3 +13,4 @@ pub use laws::a_seek_to_the_told_place_keeps_all;
 pub use moving::{end_of_lines, life_fault, moved_by};
 pub use new_refused::NewRefused;
 pub use opening::{first_place, refused_at_first};
+pub use py_flat::Whence;

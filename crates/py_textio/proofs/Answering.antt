@@ -21,6 +21,7 @@ use Rattle.py_plain.specs.TextFile.{TextFile, clean_at}
 use Rattle.py_plain.specs.TextStep.{TextStep, asks_any, range_refusal, after_taking, at_the_end, answered_text, text_life_refusal, text_answered, text_carried_out, text_refusal, text_exact, text_read, text_line, text_reaches_raw, TextWaitedBy}
 use Rattle.py_textio.specs.declared.text.Wanted.{Wanted}
 use Rattle.py_textio.specs.declared.text.Wanted.TheVariants as wanted
+use Rattle.py_raw.specs.RawStream.{tells as raw_tells}
 use Rattle.py_textio.specs.Text.{TextView, decoded_from, ahead, IsText, ComesLast, call_of, enough, size_of, asks_all, file_of, GiveOutcome, GiveLastOutcome, Takes, TakesWhole}
 use Rattle.py_textio.proofs.Tying.{TiedTold, tied_by}
 use Rattle.py_textio.proofs.Enough.{answer_in, passes, IsEnough, IsShort, is_enough, is_short}
@@ -43,7 +44,7 @@ pub record Tied (text : TextView) : Type 0 where
 abbrev pub Stands : TextView → Type 0
 Stands text = IsText text.reader.raw text.reader.place text.reader.life text.at text.taken text.chunk text.held text.pending
 
-pub tied : (text : TextView) → text.reader.life ≡ life.Live → Stands text → IsTrue text.reader.raw.tells → Tied text
+pub tied : (text : TextView) → text.reader.life ≡ life.Live → Stands text → IsTrue (raw_tells text.reader.raw) → Tied text
 tied text live is tells = record {
   live = live;
   tied = tied_by text.reader.raw.bytes text.reader.place text.at text.taken text.held text.pending (is.told tells live);

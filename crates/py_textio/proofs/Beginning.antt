@@ -86,8 +86,8 @@ opens_reader raw size stream new place opens counts = record {
   life = counts.life_is ∙ opens.life_is;
   size_is = ap (λ (buffer : Option ℕ). unwrap_or buffer 0) (counts.buffer ∙ opens.buffer_is);
   start = λ still. counts.is ∙ opens.start still;
-  told = λ tells. (
-    ap (λ (now : Raw). now.place) counts.raw ∙ opens.stands tells,
+  begins = λ tells. (
+    ap (λ (now : Raw). now.place) counts.raw ∙ opens.stands tells ∙ opens.place tells,
     counts.is ∙ opens.place tells,
   );
 }

@@ -9,13 +9,15 @@ use Rattle.py_flat.specs.declared.life.Life.{Life}
 use Rattle.py_flat.specs.declared.life.Life.TheVariants as life
 use Rattle.py_flat.specs.Bytes.{left_at}
 use Rattle.py_flat.specs.BinaryStep.{IsFrontOf}
+use Rattle.py_raw.specs.RawStream.{tells}
+use Rattle.py_raw.proofs.Telling.{tells_its_bytes, tells_still}
 use Rattle.py_textio.specs.Reader.{ReaderView, KeepsReader, MovesForth, ClosesRaw, ClosesIn, CloseOutcome, Gives, ReadFails}
 use Rattle.py_textio.specs.Text.{KnowsTold, IsText}
 use Rattle.py_textio.proofs.Tying.{known_at}
 
--- where the old raw tells, the new one does
-tells_still : (old new : ReaderView) → KeepsReader old new → IsTrue new.raw.tells → IsTrue old.raw.tells
-tells_still old new keeps tells = sym keeps.raw.tells ∙ tells
+-- where the new raw tells, the old one did
+told_before : (old new : ReaderView) → KeepsReader old new → IsTrue (tells new.raw) → IsTrue (tells old.raw)
+told_before old new keeps told = sym (tells_still old.raw new.raw keeps.raw) ∙ told
 
 -- a reader that brought nothing
 pub text_over : (old new : ReaderView) (at taken chunk : ℕ) (held pending : List ℕ) → KeepsReader old new → MovesForth old new → (new.life ≡ life.Live → (old.life ≡ life.Live) × (new.place ≡ old.place)) → IsText old.raw old.place old.life at taken chunk held pending → IsText new.raw new.place new.life at taken chunk held pending
@@ -23,7 +25,7 @@ text_over old new at taken chunk held pending keeps forth still is = record {
   asks = is.asks;
   counted = omega (arith, is.counted, forth.forth);
   far = forth.far;
-  told = λ tells live. let before = tells_still old new keeps tells in known_at old.raw.bytes new.raw.bytes old.place new.place at taken held pending (keeps.bytes before) (still live).1 (is.told before (still live).0);
+  told = λ tells live. let before = told_before old new keeps tells in known_at old.raw.bytes new.raw.bytes old.place new.place at taken held pending (keeps.bytes (tells_its_bytes old.raw before)) (still live).1 (is.told before (still live).0);
 }
 
 -- Closing.
@@ -87,8 +89,8 @@ text_read old new size part at taken chunk held pending before some keeps forth 
   counted = omega (arith, is.counted, gives.place, length-append held part);
   far = forth.far;
   told = λ tells live.
-      let told = tells_still old new keeps tells in
-      known_at old.raw.bytes new.raw.bytes (old.place + len part) new.place at taken (held ++ part) pending (keeps.bytes told) gives.place
+      let told = told_before old new keeps tells in
+      known_at old.raw.bytes new.raw.bytes (old.place + len part) new.place at taken (held ++ part) pending (keeps.bytes (tells_its_bytes old.raw told)) gives.place
       (known_read old.raw.bytes part old.place at taken held pending (gives.told told).front (is.told told before));
 }
 

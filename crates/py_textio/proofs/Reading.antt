@@ -106,7 +106,7 @@ reads_live old new place size (Ok None) is live answers =
     record {
       cause = answers.causes.waits short;
       nothing = record { place = refl; life = answers.moves.life_is };
-      told = λ tells. (answers.near (answers.moves.life_is ∙ live)).stands (answers.keeps.raw.tells ∙ tells) ∙ (answers.hides short refl (none_owed new (answers.spares is.writes is.owed).owed) ∙ (answers.moves.place ∙ is.at live));
+      stands = λ tells. (answers.near (answers.moves.life_is ∙ live)).stands (answers.keeps.raw.tells_place ∙ tells) ∙ (answers.hides short refl (none_owed new (answers.spares is.writes is.owed).owed) ∙ (answers.moves.place ∙ is.at live));
     }
 reads_live old new place size (Err fault.RawFault) is live answers = (answers.causes.faults refl, answers.moves.life_is)
 reads_live old new place size (Err fault.NoMemory) is live answers = record { place = refl; life = wanting_lives old.buffer (Some size) old.life new.life answers.moves.life_is }

@@ -9,7 +9,7 @@ use Rattle.py_flat.specs.Causes.{rose}
 use Rattle.py_flat.specs.ExactStep.{is_closed}
 use Rattle.py_plain.specs.TextFile.{TextPlace, clean_at, TextFile}
 use Rattle.py_plain.specs.TextStep.{TextCall, Read, ReadLine, Close, text_refusal, asks_any, place_taking, TextStep}
-use Rattle.py_raw.specs.RawStream.{Raw, Keeps, WhereTold, NoFault}
+use Rattle.py_raw.specs.RawStream.{Raw, Keeps, KeepsBytes, WhereTold, NoFault}
 use Rattle.py_stream.specs.Kinds.{says_fault}
 use Rattle.py_stream.specs.Answers.{ClosedWith, HasCauses}
 use Rattle.py_textio.specs.Waiting.{ShowsAll}
@@ -119,7 +119,7 @@ pub record AnswersText (before : TextFile) (old : Raw) (call : TextCall) (reply 
   pub refused : (refused : IoFault) → text_refusal before call ≡ Some refused → LeavesText before old (Refused refused) reply after new short
   pub again : closes_again before call ≡ true → LeavesText before old Done reply after new short
   pub shut : ClosedWith before.life old → ClosedWith after.life new
-  pub bytes : WhereTold old (new.bytes ≡ old.bytes)
+  pub bytes : KeepsBytes old new
   pub causes : HasCauses old reply new short
   pub shorts : IsShort reply short
   pub wants : WantsMemory call reply old

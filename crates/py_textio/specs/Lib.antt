@@ -5,3 +5,4 @@ pub mod TextState
 pub mod Answers
 pub mod Opening
 pub mod Laws
+pub mod Lines

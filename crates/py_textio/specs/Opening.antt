@@ -6,7 +6,7 @@ use Rattle.py_plain.specs.declared.handler.Handler.TheVariants.{Strict}
 use Rattle.py_plain.specs.declared.newlines.Newlines.TheVariants as newlines
 use Rattle.py_plain.specs.Units.{Unknown}
 use Rattle.py_plain.specs.TextFile.{clean_at, TextFile}
-use Rattle.py_raw.specs.RawStream.{Raw, WhereTold, LeavesCounts}
+use Rattle.py_raw.specs.RawStream.{Raw, WherePlace, LeavesCounts}
 use Rattle.py_stream.specs.declared.new_refused.NewRefused.{NewRefused}
 use Rattle.py_stream.specs.Opening.{Untouched, RefusesRaw}
 use Rattle.py_textio.specs.TextState.{TextState}
@@ -36,7 +36,7 @@ pub record OpensText (raw : Raw) (buffer chunk : ℕ) (text : TextState) : Type 
   pub file : text.file ≡ text_opened text.raw.bytes place raw.seekable chunk
   pub start : IsFalse raw.seekable → place ≡ 0
   pub buffer_is : text.buffer ≡ buffer
-  pub told : WhereTold raw (OpensTold raw place text)
+  pub told : WherePlace raw (OpensTold raw place text)
   pub whole : text.short ≡ false
 
 abbrev pub TextOutcome : {R : Type 0} → (R → Raw) → R → ℕ → ℕ → Result TextState (NewRefused R) → Type 0

@@ -10,7 +10,7 @@ use Rattle.py_flat.specs.Bytes.{left_at}
 use Rattle.py_flat.specs.Causes.{Rose}
 use Rattle.py_flat.specs.Refusals.{life_fault}
 use Rattle.py_flat.specs.BinaryStep.{IsFrontOf}
-use Rattle.py_raw.specs.RawStream.{NoFault, Raw, Keeps, WhereTold, LeavesCounts}
+use Rattle.py_raw.specs.RawStream.{NoFault, Raw, Keeps, KeepsBytes, WhereTold, WherePlace, LeavesCounts}
 use Rattle.py_stream.specs.Stream.{Stream, nothing_owed}
 use Rattle.py_stream.specs.Answers.{ClosedWith}
 use Rattle.py_stream.specs.Opening.{Untouched, RefusesRaw}
@@ -39,7 +39,7 @@ pub record IsReader (reader : Stream) (place : ℕ) : Type 0 where
 pub record KeepsReader (old new : ReaderView) : Type 0 where
   pub size : new.size ≡ old.size
   pub raw : Keeps old.raw new.raw
-  pub bytes : WhereTold old.raw (new.raw.bytes ≡ old.raw.bytes)
+  pub bytes : KeepsBytes old.raw new.raw
   pub shut : ClosedWith old.life old.raw → ClosedWith new.life new.raw
 
 -- the place never falls, and never lies past the greatest
@@ -70,11 +70,11 @@ ReadFails old fault.RawFault new = Rose old.raw.faults new.raw.faults × (new.li
 ReadFails old fault.NoMemory new = GivesNothing old new
 ReadFails old fault new = (life_fault old.life ≡ Some fault) × (new ≡ old)
 
--- the raw asked to wait: nothing was given, and nothing is held back, so that a raw that tells stands at the place
+-- the raw asked to wait: nothing was given, and nothing is held back, so that a raw that tells its place stands there
 pub record WaitsEmpty (old new : ReaderView) : Type 0 where
   pub cause : Rose old.raw.waits new.raw.waits
   pub nothing : GivesNothing old new
-  pub told : WhereTold old.raw (new.raw.place ≡ new.place)
+  pub stands : WherePlace old.raw (new.raw.place ≡ new.place)
 
 abbrev pub ChunkReadOutcome : ReaderView → ℕ → Result (Option (Vec ℕ Global)) IoFault → ReaderView → Type 0
 ChunkReadOutcome old size (Ok (Some part)) new = Gives old size part.items new
@@ -134,7 +134,7 @@ pub record OpensReader (raw : Raw) (size : ℕ) (reader : ReaderView) : Type 0 w
   pub life : reader.life ≡ life.Live
   pub size_is : reader.size ≡ size
   pub start : IsFalse raw.seekable → reader.place ≡ 0
-  pub told : WhereTold raw (BeginsTold raw reader)
+  pub begins : WherePlace raw (BeginsTold raw reader)
 
 abbrev pub OpenOutcome : {R : Type 0} → (R → Raw) → R → ℕ → Result ReaderView (NewRefused R) → Type 0
 OpenOutcome shows raw size (Ok reader) = OpensReader (shows raw) size reader

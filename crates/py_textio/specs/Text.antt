@@ -18,7 +18,7 @@ use Rattle.py_plain.specs.Utf8.{utf8_unit}
 use Rattle.py_plain.specs.Units.{Unknown}
 use Rattle.py_plain.specs.Handlers.{treatment}
 use Rattle.py_plain.specs.Items.{Walk, walk_from, plain, characters_of, refusal_of}
-use Rattle.py_raw.specs.RawStream.{Raw, WhereTold}
+use Rattle.py_raw.specs.RawStream.{Raw, WhereTold, WherePlace}
 use Rattle.py_flat.specs.Calls.{FileReply, Text, NotReady, Refused}
 use Rattle.py_flat.specs.BinaryStep.{IsFrontOf}
 use Rattle.py_plain.specs.declared.newlines.Newlines.TheVariants as newlines
@@ -143,7 +143,7 @@ pub record KeepsKnown (old new : TextView) : Type 0 where
 abbrev pub ChunkOutcome : TextView → Result Chunk IoFault → TextView → Type 0
 ChunkOutcome old (Ok chunk.More) new = Brings old new × (new.reader.life ≡ life.Live)
 ChunkOutcome old (Ok chunk.End) new = BringsNothing old new × WhereTold old.reader.raw (length old.reader.raw.bytes ≤ old.reader.place)
-ChunkOutcome old (Ok chunk.Waits) new = BringsNothing old new × Rose old.reader.raw.waits new.reader.raw.waits × WhereTold old.reader.raw (new.reader.raw.place ≡ new.reader.place)
+ChunkOutcome old (Ok chunk.Waits) new = BringsNothing old new × Rose old.reader.raw.waits new.reader.raw.waits × WherePlace old.reader.raw (new.reader.raw.place ≡ new.reader.place)
 ChunkOutcome old (Err fault.RawFault) new = (new.held ≡ old.held) × (new.reader.life ≡ life.Failed) × Rose old.reader.raw.faults new.reader.raw.faults
 ChunkOutcome old (Err fault.NoMemory) new = BringsNothing old new
 ChunkOutcome old (Err other) new = ⊥
@@ -173,7 +173,7 @@ abbrev pub GatheredAt : TextView → Wanted → Gathered → Type 0
 GatheredAt text asked (gathered.Enough count) = enough asked text.pending ≡ Some count
 GatheredAt text asked gathered.Ends = (enough asked text.pending ≡ None) × (text.held ≡ []) × WhereTold text.reader.raw (length text.reader.raw.bytes ≤ text.reader.place)
 GatheredAt text asked (gathered.Refuses start end) = (enough asked text.pending ≡ None) × WhereTold text.reader.raw (ComesLast text (Some (start, end)))
-GatheredAt text asked gathered.Waits = (enough asked text.pending ≡ None) × IsNoCharacter (utf8_unit text.held) × (stop_at (utf8_unit text.held) ≡ None) × WhereTold text.reader.raw (text.reader.raw.place ≡ text.reader.place)
+GatheredAt text asked gathered.Waits = (enough asked text.pending ≡ None) × IsNoCharacter (utf8_unit text.held) × (stop_at (utf8_unit text.held) ≡ None) × WherePlace text.reader.raw (text.reader.raw.place ≡ text.reader.place)
 
 -- the refused range of so many bytes at the front of those in hand
 abbrev pub range_in_hand : TextView → ℕ → Gathered

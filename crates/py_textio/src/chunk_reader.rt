@@ -11,7 +11,7 @@ use std::alloc::Global;
 use std::marker::Model;
 
 /// A buffered reader, with a count of the place, which it can't be asked where its raw can't seek.
-#[derive(Drop)]
+#[derive(Debug, Drop)]
 pub(crate) struct ChunkReader<R: RawStream> {
     reader: BufferedReader<R>,
     place: u64,

@@ -7,9 +7,11 @@
 
 mod chunk_reader;
 mod laws;
+mod lines;
 mod text;
 mod text_reader;
 
 pub use laws::{a_wait_loses_nothing, settled_only_blames_itself};
+pub use lines::TextLines;
 pub use py_stream::{Detached, NewRefused};
 pub use text_reader::TextReader;

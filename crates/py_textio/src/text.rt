@@ -12,6 +12,7 @@ use py_flat::{Chars, IoFault, Life};
 use py_plain::{Encoding, Newlines, Unit, first_line, first_unit};
 use py_raw::RawStream;
 use std::alloc::{AllocError, Global};
+use std::fmt;
 use std::marker::Model;
 
 /// What a read of the reader brought.
@@ -86,6 +87,20 @@ impl<R: RawStream> Model for Text<R> {
 
     ghost invariant = { λ t. (t.given ≤ vec_len t.pending)
         × IsText t.reader.raw t.reader.place t.reader.life t.at t.taken t.chunk_size t.held.items (drop t.given t.pending.items) };
+}
+
+// Only how many bytes and characters are in hand, and not which: thousands of them would hide all else.
+impl<R: RawStream + fmt::Debug> fmt::Debug for Text<R> {
+    fn fmt<W: fmt::Write>(&self, f: &mut fmt::Formatter<W>) -> fmt::Result {
+        f.debug_struct("Text")
+            .field("reader", &self.reader)
+            .field("chunk_size", &self.chunk_size)
+            .field("held", &self.held.len())
+            .field("pending", &(self.pending.len() - self.given))
+            .field("at", &self.at)
+            .field("taken", &self.taken)
+            .finish_non_exhaustive()
+    }
 }
 
 /// Removes the front of a vector.

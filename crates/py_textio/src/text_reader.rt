@@ -9,6 +9,7 @@ ghost use Rattle.py_textio.specs.Text.{call_of};
 ghost use Rattle.py_textio.specs.Answers.{Answers, text_reply};
 ghost use Rattle.py_textio.specs.Opening.{TextOutcome, handed_at};
 
+use crate::TextLines;
 use crate::chunk_reader::ChunkReader;
 use crate::text::{Answer, Text, Wanted};
 use py_flat::{Chars, IoFault, Life};
@@ -30,7 +31,7 @@ use std::marker::Model;
 ///
 /// The rules are those of Python's `io.TextIOWrapper`; what waits, faults and refused ranges leave is this project's choice
 /// (docs/DECISIONS.md). A reader that is let go lets its raw go; `into_parts` hands it back.
-#[derive(Drop)]
+#[derive(Debug, Drop)]
 pub struct TextReader<R: RawStream> {
     text: Text<R>,
     short: bool,
@@ -96,6 +97,16 @@ impl<R: RawStream> TextReader<R> {
         ensures { Answers self.old (ReadLine limit) (text_reply result) self.new }
     {
         self.take(alloc, Wanted::Line(limit))
+    }
+
+    /// The lines from the place on, one by one, as an iterator of what `readline` answers: it ends where nothing is left, and after
+    /// a refusal; `None` among its items is a wait. A loop over it that stops early loses nothing.
+    pub fn lines(&mut self, alloc: Global) -> TextLines<'_, R>
+        ensures same_reference { result.text.ghost_name ≡ self.entry.ghost_name }
+        ensures text { result.text.now ≡ self.old }
+        ensures left { result.left ≡ 18446744073709551615 }
+    {
+        TextLines::new(self, alloc)
     }
 
     /// Closes the raw; the text stays closed after `RawFault` too. A closed one may be closed again, which calls no raw.

@@ -5,7 +5,7 @@ use Rattle.py_flat.specs.declared.fault.IoFault.{IoFault}
 use Rattle.py_flat.specs.declared.fault.IoFault.TheVariants as fault
 use Rattle.py_flat.specs.declared.life.Life.{Life}
 use Rattle.py_flat.specs.declared.life.Life.TheVariants as life
-use Rattle.py_flat.specs.Calls.{FileCall, FileReply, Refused}
+use Rattle.py_flat.specs.Calls.{FileCall, Close, FileReply, Refused}
 use Rattle.py_flat.specs.FlatFile.{Unbuffered}
 use Rattle.py_flat.specs.Refusals.{refusal, is_getter, is_other_getter, is_close, is_detach, lets_through, life_fault, lacks}
 use Rattle.py_flat.specs.BinaryStep.{asks_end}
@@ -58,6 +58,17 @@ refused_by_life old new call why stands works own stopped began = life_refuses (
 -- and each but a close that `begin` refuses
 pub begins_in_vain : (old new : EngineView) (call : FileCall) (why : IoFault) → Stands old → is_getter call ≡ false → is_other_getter call ≡ false → is_close call ≡ false → BeginOutcome old (Err why) new → Answers (stream_of old) call (Refused why) (stream_of new)
 begins_in_vain old new call why stands works own closes began = refused_by_life old new call why stands works own (shut_by_life old.life call why closes began.0) began
+
+-- one that refuses anything, but of a closed stream, lets no close through either
+unclosed_by_life : (current : Life) (why : IoFault) → (current ≡ life.Closed → ⊥) → life_fault current ≡ Some why → lets_through current Unbuffered Close ≡ false
+unclosed_by_life life.Live why unclosed by = absurd (cc)
+unclosed_by_life life.Failed why unclosed by = refl
+unclosed_by_life life.Closed why unclosed by = absurd (unclosed refl)
+unclosed_by_life life.Detached why unclosed by = refl
+
+-- a close that `begin` refuses
+pub closes_in_vain : (old new : EngineView) (why : IoFault) → Stands old → (old.life ≡ life.Closed → ⊥) → BeginOutcome old (Err why) new → Answers (stream_of old) Close (Refused why) (stream_of new)
+closes_in_vain old new why stands unclosed began = refused_by_life old new Close why stands refl refl (unclosed_by_life old.life why unclosed began.0) began
 
 -- A call of a live stream that lacks what the call needs.
 pub refused_by_ability : (old new : EngineView) (call : FileCall) → Stands old → is_getter call ≡ false → is_other_getter call ≡ false → old.life ≡ life.Live → lacks (file_of (stream_of old)) call ≡ true → new ≡ begun old → Answers (stream_of old) call (Refused fault.Unsupported) (stream_of new)

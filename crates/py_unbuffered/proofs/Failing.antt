@@ -10,7 +10,7 @@ use Rattle.py_flat.specs.FlatFile.{FlatFile}
 use Rattle.py_flat.specs.ExactStep.{is_closed, rest}
 use Rattle.py_flat.specs.AllowedStep.{raw_faulted, out_of_memory}
 use Rattle.py_flat.specs.BinaryStep.{Fails, FaultedBy, StarvedBy}
-use Rattle.py_raw.specs.RawStream.{WhereTold, NoWait}
+use Rattle.py_raw.specs.RawStream.{WhereTold, WhereTransfers, KeepsBytes, NoWait}
 use Rattle.py_stream.specs.Stream.{Stream, file_of}
 use Rattle.py_stream.specs.Kinds.{reads_on, goes_on, makes_one, has_room, takes_space_first, asks_none}
 use Rattle.py_stream.specs.Answers.{Answers, IsReplyTo, IsShort, LifeMoves, PlaceMoves, PlaceFails, PlaceStarves, MovesForth, moves_most, StarvesTo, GivesWithin}
@@ -70,9 +70,9 @@ pub record FailsIn (old : EngineView) (call : FileCall) (new : EngineView) : Typ
   pub no_wait : NoWait old.raw new.raw
   pub failed : new.life ≡ life.Failed
   pub place : PlaceFails (goes_on None call) (moves_most call) old.place new.place
-  pub bytes : WhereTold old.raw (new.raw.bytes ≡ old.raw.bytes)
+  pub bytes : KeepsBytes old.raw new.raw
   pub reach : Reaches old new
-  pub one : IsTrue (makes_one None call) → WhereTold old.raw (new.raw.transfers ≤ old.raw.transfers + 1)
+  pub one : IsTrue (makes_one None call) → WhereTransfers old.raw (new.raw.transfers ≤ old.raw.transfers + 1)
 
 -- its answer
 pub answers_faulted : (old new : EngineView) (call : FileCall) → reads_on call ≡ true → asks_none None call ≡ false → Reads old → FailsIn old call new → Answers (stream_of old) call (Refused fault.RawFault) (stream_of new)
@@ -170,7 +170,7 @@ unmoved old call reads begun takes =
       starves = λ wanting. record {
         unmoved = λ living. stays;
         moved = λ failed. absurd (let both : life.Failed ≡ life.Live = sym failed ∙ begun.live in cc);
-        told = λ failed. absurd (let both : life.Failed ≡ life.Live = sym failed ∙ begun.live in cc);
+        stands = λ failed. absurd (let both : life.Failed ≡ life.Live = sym failed ∙ begun.live in cc);
       };
       first = λ wanting takes none. stays;
       nothing = λ asks. record { raw = refl; fault = refl };
@@ -236,7 +236,7 @@ answers_failing old between call part several asks begun took some forth wanted 
       starves = λ wanting. record {
         unmoved = λ living. absurd (cc);
         moved = λ failed. omega (arith, took.place, more);
-        told = λ failed tells. omega (arith, took.place, more, begun.stands.stands tells begun.live, took.kept.is.stands (took.kept.raw.tells ∙ tells) took.live);
+        stands = λ failed tells. omega (arith, took.place, more, begun.stands.stands tells begun.live, took.kept.is.stands (took.kept.raw.tells_place ∙ tells) took.live);
       };
       first = λ wanting takes none. absurd (cc (no_space_first call several));
       nothing = λ none. absurd (cc);

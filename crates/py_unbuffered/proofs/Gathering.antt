@@ -1,5 +1,5 @@
 -- How a gathering comes from one byte to the next, and what it ends with.
-use Rattle.std.proofs.Common.{◌≡◌, ◌≢◌, ℕ, ◌+◌, ◌<◌, Bool, true, false, IsTrue, List, [], ◌++◌, length, take, Ok, Err, refl, sym, ap, ◌∙◌, subst, arith, append_assoc}
+use Rattle.std.proofs.Common.{◌≡◌, ◌≢◌, ℕ, ◌+◌, ◌<◌, Bool, true, false, List, [], ◌++◌, length, take, Ok, Err, refl, sym, ap, ◌∙◌, subst, arith, append_assoc}
 use Rattle.std.proofs.lemmas.List.{append-nil, length-append, take_all, length-take-le}
 use Rattle.std.proofs.Math.ListN.{drop_of_length-le}
 use Rattle.py_flat.specs.declared.fault.IoFault.{IoFault}
@@ -8,6 +8,7 @@ use Rattle.py_flat.specs.declared.life.Life.TheVariants as life
 use Rattle.py_flat.specs.Bytes.{left_at}
 use Rattle.py_flat.specs.BinaryStep.{IsFrontOf}
 use Rattle.py_raw.specs.RawStream.{WhereTold}
+use Rattle.py_raw.proofs.Telling.{tells_its_bytes, tells_still}
 use Rattle.py_lines.specs.Collecting.{HasEnough, WantsMore}
 use Rattle.py_lines.proofs.Asking.{some_length}
 use Rattle.py_unbuffered.specs.declared.data.Stop.TheVariants as stop
@@ -47,8 +48,8 @@ module _ (wanted : List ℕ → List ℕ) (old now : EngineView) (part : List �
         record {
           alone = gathered.alone;
           exact = λ tells.
-              let told : IsTrue now.raw.tells = gathered.took.kept.raw.tells ∙ tells in
-              let behind : left_at old.raw.bytes (old.place + length part) ≡ [] = drop_of_length-le old.raw.bytes (omega (arith, last.end refl asked told, ap length (gathered.took.bytes tells), gathered.took.place)) in
+              let told = tells_still old.raw now.raw gathered.took.kept.raw ∙ tells in
+              let behind : left_at old.raw.bytes (old.place + length part) ≡ [] = drop_of_length-le old.raw.bytes (omega (arith, last.end refl asked told, ap length (gathered.took.bytes (tells_its_bytes old.raw tells)), gathered.took.place)) in
               ap wanted (left_is tells ∙ (ap (λ (xs : List ℕ). part ++ xs) behind ∙ append-nil part)) ∙ gathered.alone;
         },
       )

@@ -10,6 +10,7 @@ use Rattle.py_flat.specs.Limits.{greatest_place}
 use Rattle.py_flat.specs.Lines.{joined}
 use Rattle.py_flat.proofs.Laying.{lay_behind}
 use Rattle.py_raw.specs.RawStream.{WhereTold, NoWait}
+use Rattle.py_raw.proofs.Telling.{tells_its_bytes, tells_still}
 use Rattle.py_stream.proofs.Joined.{joined_parts, length-joined_more, length-joined_parts}
 use Rattle.py_unbuffered.specs.Engine.{EngineView, IsEngine, Waits, StarvesWith, Puts, LaysSome, PutOutcome, Wrote, Stays, FailsWriting, StarvesWriting, WriteOutcome}
 use Rattle.py_unbuffered.proofs.Steps.{more_taken, keeps_self, keeps_then, no_fault_then, no_wait_then, answers_none, answers_then}
@@ -55,7 +56,7 @@ module _ (old now : EngineView) (bytes front piece rest : List ℕ) (taken : ℕ
   laid_then count after fits laid = λ tells.
       let first : now.raw.bytes ≡ lay old.raw.bytes old.place front = so_far.wrote.told tells ∙ ap (lay old.raw.bytes old.place) (ap (take taken) cut ∙ take_at front (piece ++ rest) taken long) in
       let place : now.place ≡ old.place + length front = so_far.wrote.place ∙ ap (λ (n : ℕ). old.place + n) (sym long) in
-      laid (so_far.wrote.kept.raw.tells ∙ tells)
+      laid (tells_still old.raw now.raw so_far.wrote.kept.raw ∙ tells)
       ∙ (ap (λ (xs : List ℕ). lay xs now.place (take count piece)) first
       ∙ (ap (λ (n : ℕ). lay (lay old.raw.bytes old.place front) n (take count piece)) place
       ∙ (lay_behind old.raw.bytes old.place front (take count piece)
@@ -94,7 +95,7 @@ module _ (old now : EngineView) (bytes front piece rest : List ℕ) (taken : ℕ
   -- some front of them is laid on
   lays_then : (least : ℕ) (new : EngineView) → WhereTold now.raw (LaysSome now least piece new) → WhereTold old.raw (LaysSome old (taken + least) bytes new)
   lays_then least new lays = λ tells.
-      let some : LaysSome now least piece new = lays (so_far.wrote.kept.raw.tells ∙ tells) in (
+      let some : LaysSome now least piece new = lays (tells_still old.raw now.raw so_far.wrote.kept.raw ∙ tells) in (
         taken + some.0,
         omega (arith, some.1),
         omega (arith, some.2, whole),
@@ -160,7 +161,7 @@ put_waits old bytes new some waits = record {
     live = waits.live;
     fits = omega arith;
     place = omega (arith, waits.place);
-    told = waits.bytes;
+    told = λ tells. waits.bytes (tells_its_bytes old.raw tells);
   };
   cause = waits.cause;
   once = waits.once;

@@ -13,7 +13,8 @@ use Rattle.py_flat.specs.Refusals.{refusal, is_getter, lets_through, life_fault,
 use Rattle.py_flat.specs.ExactStep.{is_closed, after_read}
 use Rattle.py_flat.specs.BinaryStep.{BinaryStep, asks_end, reaches_raw, is_live, is_tell, does_work, Fails}
 use Rattle.py_flat.proofs.Cutting.{joined_lines}
-use Rattle.py_raw.specs.RawStream.{WhereTold}
+use Rattle.py_raw.specs.RawStream.{WhereTold, WhereTransfers, KeepsBytes}
+use Rattle.py_raw.proofs.Telling.{tells_its_bytes}
 use Rattle.py_stream.specs.Stream.{Stream, file_of}
 use Rattle.py_stream.specs.Kinds.{is_reading, reads_on, goes_on, makes_one, has_room, asks_none, calls_none, says_fault, says_no_memory}
 use Rattle.py_stream.specs.Answers.{Answers, IsReplyTo, IsShort, LifeMoves, PlaceMoves, GivesWithin, WantsMemory, Starves, SeeksByEnd, HasCauses, IsCounted, StarvesFirst, AsksNothing, refused_by, closes_again}
@@ -177,7 +178,7 @@ Reaches old new = WhereTold old.raw (new.place ≤ max old.place (length old.raw
 pub record Comes (old : EngineView) (call : FileCall) (reply : FileReply) (short : Bool) (new : EngineView) : Type 0 where
   pub kept : KeepsEngine old new
   pub is_open : is_closed new.life ≡ false
-  pub bytes : WhereTold old.raw (new.raw.bytes ≡ old.raw.bytes)
+  pub bytes : KeepsBytes old.raw new.raw
   pub causes : HasCauses old.raw reply new.raw short
   pub counted : IsTrue old.raw.counts_exactly → IsCounted None old.raw call reply new.raw short
   pub shorts : IsShort call reply short
@@ -188,7 +189,7 @@ pub record Comes (old : EngineView) (call : FileCall) (reply : FileReply) (short
   pub starves : IsTrue (says_no_memory reply) → Starves (stream_of old) (stream_of (record new { short = short }))
   pub first : StarvesFirst (stream_of old) call reply (stream_of (record new { short = short }))
   pub nothing : IsTrue (asks_none None call) → AsksNothing (stream_of old) reply (stream_of (record new { short = short }))
-  pub one : IsTrue (makes_one None call) → WhereTold old.raw (new.raw.transfers ≤ old.raw.transfers + 1)
+  pub one : IsTrue (makes_one None call) → WhereTransfers old.raw (new.raw.transfers ≤ old.raw.transfers + 1)
   pub answers : IsReplyTo None false call reply
   pub told : WhereTold old.raw (BinaryStep (file_of (stream_of old)) call reply short (says_fault reply) (file_of (stream_of new)))
   pub reach : Reaches old new
@@ -234,24 +235,24 @@ answers_coming old new call reply short reads begun comes =
 -- The flat files.
 
 -- the file of an engine that gave some bytes, or none
-pub file_after : (old new : EngineView) (count : ℕ) → KeepsEngine old new → new.life ≡ old.life → new.place ≡ old.place + count → WhereTold old.raw (new.raw.bytes ≡ old.raw.bytes) → WhereTold old.raw (file_of (stream_of new) ≡ after_read (file_of (stream_of old)) count)
+pub file_after : (old new : EngineView) (count : ℕ) → KeepsEngine old new → new.life ≡ old.life → new.place ≡ old.place + count → KeepsBytes old.raw new.raw → WhereTold old.raw (file_of (stream_of new) ≡ after_read (file_of (stream_of old)) count)
 file_after old new count kept same place stays tells =
-    let bytes : new.raw.bytes ≡ old.raw.bytes = stays tells in
+    let bytes : new.raw.bytes ≡ old.raw.bytes = stays (tells_its_bytes old.raw tells) in
     let can : can_of new.access new.raw.seekable ≡ can_of old.access old.raw.seekable = can_stays old new kept in
     cc
 
 -- and of one that gave none
-pub file_same : (old new : EngineView) → KeepsEngine old new → new.life ≡ old.life → new.place ≡ old.place → WhereTold old.raw (new.raw.bytes ≡ old.raw.bytes) → WhereTold old.raw (file_of (stream_of new) ≡ file_of (stream_of old))
+pub file_same : (old new : EngineView) → KeepsEngine old new → new.life ≡ old.life → new.place ≡ old.place → KeepsBytes old.raw new.raw → WhereTold old.raw (file_of (stream_of new) ≡ file_of (stream_of old))
 file_same old new kept same place stays tells =
-    let bytes : new.raw.bytes ≡ old.raw.bytes = stays tells in
+    let bytes : new.raw.bytes ≡ old.raw.bytes = stays (tells_its_bytes old.raw tells) in
     let can : can_of new.access new.raw.seekable ≡ can_of old.access old.raw.seekable = can_stays old new kept in
     cc
 
 -- and of one that failed
-pub file_fails : (old new : EngineView) → KeepsEngine old new → new.life ≡ life.Failed → WhereTold old.raw (new.raw.bytes ≡ old.raw.bytes) → WhereTold old.raw (Fails (file_of (stream_of old)) life.Failed old.raw.bytes (file_of (stream_of new)))
+pub file_fails : (old new : EngineView) → KeepsEngine old new → new.life ≡ life.Failed → KeepsBytes old.raw new.raw → WhereTold old.raw (Fails (file_of (stream_of old)) life.Failed old.raw.bytes (file_of (stream_of new)))
 file_fails old new kept failed stays tells = record {
   life_is = failed;
-  bytes_are = stays tells;
+  bytes_are = stays (tells_its_bytes old.raw tells);
   can = can_stays old new kept;
   buffering = refl;
 }

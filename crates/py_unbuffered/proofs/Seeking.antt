@@ -12,7 +12,8 @@ use Rattle.py_flat.specs.Refusals.{or_else, refused_if, life_fault, lets_through
 use Rattle.py_flat.specs.ExactStep.{is_closed, seek_target}
 use Rattle.py_flat.specs.AllowedStep.{settled, raw_faulted, out_of_memory}
 use Rattle.py_flat.specs.BinaryStep.{is_live, asks_end, does_work, reaches_raw, SettledBy, BinaryStep}
-use Rattle.py_raw.specs.RawStream.{WhereTold, NoWait, LeavesCounts, AnswersFor}
+use Rattle.py_raw.specs.RawStream.{WhereTold, KeepsBytes, NoWait, LeavesCounts, AnswersFor, tells}
+use Rattle.py_raw.proofs.Telling.{tells_its_bytes}
 use Rattle.py_stream.specs.Stream.{Stream, file_of}
 use Rattle.py_stream.specs.Moving.{MovedBy}
 use Rattle.py_stream.specs.Kinds.{says_fault, says_no_memory}
@@ -84,7 +85,7 @@ pub record SeekTells (old : EngineView) (call : FileCall) (reply : FileReply) (n
   pub no_fault : IsTrue old.raw.counts_exactly → says_fault reply ≡ false → new.raw.faults ≡ old.raw.faults
   pub no_wait : NoWait old.raw new.raw
   pub answered : AnswersFor 0 old.raw new.raw
-  pub bytes : WhereTold old.raw (new.raw.bytes ≡ old.raw.bytes)
+  pub bytes : KeepsBytes old.raw new.raw
   pub shorts : IsShort call reply false
   pub life_is : LifeMoves None call reply old.life new.life
   pub place : PlaceMoves None call reply new.life old.place new.place
@@ -108,7 +109,7 @@ owes_nothing : (old new : EngineView) (offset whence : ℤ) (reply : FileReply) 
 owes_nothing old new offset whence reply may kept tells = record {
   takes = λ writing. absurd (cc);
   leaves = λ _. record { passed = 0; most = omega arith; answered = tells.answered; bytes = refl; place = λ some. absurd (some refl) };
-  lays = λ tell. record { owed = 0; more = 0; order = λ some. absurd (some refl); bytes = tells.bytes tell };
+  lays = λ tell. record { owed = 0; more = 0; order = λ some. absurd (some refl); bytes = tells.bytes (tells_its_bytes old.raw tell) };
   passes = tells.on;
   full = tells.full;
   starves = λ wants failed. absurd (let live = tells.lives wants in cc);
@@ -189,7 +190,7 @@ record FailsMoving (old new : EngineView) : Type 0 where
   pub answered : AnswersFor 0 old.raw new.raw
   pub failed : new.life ≡ life.Failed
   pub place : new.place ≡ old.place
-  pub bytes : WhereTold old.raw (new.raw.bytes ≡ old.raw.bytes)
+  pub bytes : KeepsBytes old.raw new.raw
 
 fails_moving : (old new : EngineView) → Fails (begun old) new → FailsMoving old new
 fails_moving old new fails = record { kept = fails.kept; cause = fails.cause; no_wait = fails.no_wait; answered = fails.answered; failed = fails.failed; place = fails.place; bytes = fails.bytes }
@@ -220,7 +221,7 @@ seek_faults old new offset whence may asks fails = seek_tells old new offset whe
       zero-le,
       record {
         life_is = fails.failed;
-        bytes_are = fails.bytes tell;
+        bytes_are = fails.bytes (tells_its_bytes old.raw tell);
         can = can_stays old new fails.kept;
         buffering = refl;
       },
@@ -232,10 +233,10 @@ seek_faults old new offset whence may asks fails = seek_tells old new offset whe
 abbrev pub Same : EngineView → EngineView → Type 0
 Same old new = new ≡ record (begun old) { raw = new.raw }
 
-same_file : (old new : EngineView) → KeepsEngine (begun old) new → WhereTold old.raw (new.raw.bytes ≡ old.raw.bytes) → Same old new → IsTrue old.raw.tells → file_of (stream_of new) ≡ file_of (stream_of old)
+same_file : (old new : EngineView) → KeepsEngine (begun old) new → KeepsBytes old.raw new.raw → Same old new → IsTrue (tells old.raw) → file_of (stream_of new) ≡ file_of (stream_of old)
 same_file old new kept bytes same tell =
     ap (λ (engine : EngineView). file_of (stream_of engine)) same
-    ∙ ap (λ (bytes : List ℕ). record (file_of (stream_of old)) { bytes = bytes; can = can_of old.access new.raw.seekable }) (bytes tell)
+    ∙ ap (λ (bytes : List ℕ). record (file_of (stream_of old)) { bytes = bytes; can = can_of old.access new.raw.seekable }) (bytes (tells_its_bytes old.raw tell))
     ∙ ap (λ (seekable : Bool). record (file_of (stream_of old)) { can = can_of old.access seekable }) kept.raw.seekable
 
 -- what a seek found out before want of memory, and that is nothing that stays
@@ -243,7 +244,7 @@ pub record Asked (old new : EngineView) : Type 0 where
   pub kept : KeepsEngine (begun old) new
   pub counts : LeavesCounts old.raw new.raw
   pub answered : AnswersFor 0 old.raw new.raw
-  pub bytes : WhereTold old.raw (new.raw.bytes ≡ old.raw.bytes)
+  pub bytes : KeepsBytes old.raw new.raw
   pub same : Same old new
 
 asked_nothing : (old : EngineView) → Stands old → Asked old (begun old)
@@ -346,7 +347,7 @@ end_refuses old new offset why end may asks refuses =
       answer = at_bad_place (λ (fault : IoFault). IsReplyTo None writes call (Refused fault)) tt tt why at;
       complete = λ _. answers;
       told = λ tell.
-          let by : refusal (file_of (stream_of old)) call ≡ Some why = seek_refusal_is old offset (pos 2) may ∙ ap (λ (base : ℕ). target_refusal (moved_by base offset)) (sym (asks.told tell)) ∙ refuses in
+          let by : refusal (file_of (stream_of old)) call ≡ Some why = seek_refusal_is old offset (pos 2) may ∙ ap (λ (base : ℕ). target_refusal (moved_by base offset)) (sym (asks.told (tells_its_bytes old.raw tell))) ∙ refuses in
           settled (subst (λ (refused : Option IoFault). SettledBy (file_of (stream_of old)) call refused (Refused why) (file_of (stream_of new))) (sym by) (refl, same_file old new asks.kept asks.bytes asks.same tell));
     })
 
@@ -400,7 +401,7 @@ finds_from_end old found offset target end may asks moved = record {
   };
   goes = tt;
   lies = λ tell.
-      let there : end ≡ length old.raw.bytes = asks.told tell in (
+      let there : end ≡ length old.raw.bytes = asks.told (tells_its_bytes old.raw tell) in (
         ap (λ (base : ℕ). unwrap_or (moved_by base offset) 0) (sym there) ∙ target_is end offset target moved,
         seek_refusal_is old offset (pos 2) may ∙ ap (λ (base : ℕ). target_refusal (moved_by base offset)) (sym there) ∙ lies_within end offset target moved,
       );
@@ -437,7 +438,7 @@ going_answers_fault old found new offset whence target may finds fails =
       answered = answers_none_then (begun old) found new 0 asked.kept asked.answered fails.answered;
       failed = fails.failed;
       place = fails.place ∙ ap (λ (engine : EngineView). engine.place) asked.same;
-      bytes = λ tell. fails.bytes (asked.kept.raw.tells ∙ tell) ∙ asked.bytes tell;
+      bytes = λ tell. fails.bytes (asked.kept.raw.tells_bytes ∙ tell) ∙ asked.bytes tell;
     })
 
 -- a seek whose target was found, where the raw failed to move or wanted memory
@@ -454,7 +455,7 @@ going_answers old found new offset whence target may finds goes =
     let asked : Asked old found = finds.asked in
     let kept : KeepsEngine (begun old) new = keeps_then (begun old) found new asked.kept goes.kept in
     let counts : LeavesCounts old.raw new.raw = uncounted_then (begun old) found new asked.kept asked.counts goes.counts in
-    let bytes_are : WhereTold old.raw (new.raw.bytes ≡ old.raw.bytes) = λ tell. goes.bytes (asked.kept.raw.tells ∙ tell) ∙ asked.bytes tell in
+    let bytes_are : KeepsBytes old.raw new.raw = λ tell. goes.bytes (asked.kept.raw.tells_bytes ∙ tell) ∙ asked.bytes tell in
     seek_tells old new offset whence (Place target) may kept (inl goes.live) (record {
       passes = finds.asks.passes;
       cause = λ faults. absurd (cc);
@@ -475,7 +476,7 @@ going_answers old found new offset whence target may finds goes =
       complete = λ _. tt;
       told = λ tell.
           let lies : (seek_target (file_of (stream_of old)) offset whence ≡ target) × (refusal (file_of (stream_of old)) (Seek offset whence) ≡ None) = finds.lies tell in
-          let bytes : new.raw.bytes ≡ old.raw.bytes = bytes_are tell in
+          let bytes : new.raw.bytes ≡ old.raw.bytes = bytes_are (tells_its_bytes old.raw tell) in
           let place : new.place ≡ target = goes.place in
           let can : can_of new.access new.raw.seekable ≡ can_of old.access old.raw.seekable = can_stays old new kept in
           let live : new.life ≡ old.life = goes.live ∙ sym may.live in

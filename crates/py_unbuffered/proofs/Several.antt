@@ -19,6 +19,7 @@ use Rattle.py_lines.specs.Collecting.{LineView, line_wanted, LinesView, LinesAre
 use Rattle.py_lines.proofs.Lines.{lines_left}
 use Rattle.py_lines.proofs.Asking.{lines_ask}
 use Rattle.py_raw.specs.RawStream.{WhereTold, NoWait, WaitsOnce}
+use Rattle.py_raw.proofs.Telling.{tells_its_bytes, tells_still}
 use Rattle.py_stream.specs.Stream.{file_of}
 use Rattle.py_stream.specs.Kinds.{asks_none}
 use Rattle.py_stream.specs.Answers.{Answers, IsShort, MovesForth, moves_most, GivesWithin}
@@ -255,7 +256,7 @@ rest_gathers old new part stops.End outcome = (
   outcome,
   record {
     alone = refl;
-    exact = λ tells. comes_all (left_at old.raw.bytes old.place) part (outcome.0.told tells) (let place = outcome.0.place in omega (arith, place, length-drop old.place old.raw.bytes, ap length (outcome.0.bytes tells), outcome.2 (outcome.0.kept.raw.tells ∙ tells)));
+    exact = λ tells. comes_all (left_at old.raw.bytes old.place) part (outcome.0.told tells) (let place = outcome.0.place in omega (arith, place, length-drop old.place old.raw.bytes, ap length (outcome.0.bytes (tells_its_bytes old.raw tells)), outcome.2 (tells_still old.raw new.raw outcome.0.kept.raw ∙ tells)));
   },
 )
 rest_gathers old new part stops.Waits outcome = (outcome, record { alone = refl; front = λ tells. comes_front (left_at old.raw.bytes old.place) part (outcome.0.told tells) })

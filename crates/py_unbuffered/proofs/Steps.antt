@@ -7,7 +7,9 @@ use Rattle.py_flat.specs.declared.fault.IoFault.{IoFault}
 use Rattle.py_flat.specs.declared.fault.IoFault.TheVariants as fault
 use Rattle.py_flat.specs.declared.life.Life.TheVariants as life
 use Rattle.py_flat.specs.Bytes.{left_at}
-use Rattle.py_raw.specs.RawStream.{Raw, NoFault, NoWait, LeavesCounts, AnswersFor, WhereTold}
+use Rattle.py_raw.specs.RawStream.{Raw, NoFault, NoWait, LeavesCounts, AnswersFor, WhereTold, KeepsBytes, tells}
+use Rattle.py_raw.proofs.Telling.{tells_its_bytes, tells_still, keeps_same}
+use Rattle.py_raw.proofs.ReadingOn.{Keeps-then}
 use Rattle.py_unbuffered.specs.declared.data.Stop.{Stop}
 use Rattle.py_unbuffered.specs.declared.data.Stop.TheVariants as stop
 use Rattle.py_unbuffered.specs.Engine.{EngineView, IsEngine, KeepsEngine, Waits, Fails, StarvesWith, Brings, TransferOutcome, Took, Gives, FailsAfter, StarvesAfter, StopOutcome, RestOutcome}
@@ -39,7 +41,7 @@ next_parts bytes part place next =
 -- an engine by itself
 pub keeps_self : (engine : EngineView) → IsEngine engine.raw engine.place engine.access engine.life → KeepsEngine engine engine
 keeps_self engine is = record {
-  raw = record { tells = refl; readable = refl; writable = refl; seekable = refl; takes_memory = refl; counts_exactly = refl; faults = omega arith; waits = omega arith };
+  raw = keeps_same engine.raw;
   stays = refl;
   access = refl;
   short = refl;
@@ -49,7 +51,7 @@ keeps_self engine is = record {
 -- an engine that failed
 pub keeps_failed : (engine : EngineView) → IsEngine engine.raw engine.place engine.access engine.life → KeepsEngine engine (record engine { life = life.Failed })
 keeps_failed engine is = record {
-  raw = record { tells = refl; readable = refl; writable = refl; seekable = refl; takes_memory = refl; counts_exactly = refl; faults = omega arith; waits = omega arith };
+  raw = keeps_same engine.raw;
   stays = refl;
   access = refl;
   short = refl;
@@ -65,16 +67,7 @@ keeps_failed engine is = record {
 -- two steps, one after the other
 pub keeps_then : (old mid new : EngineView) → KeepsEngine old mid → KeepsEngine mid new → KeepsEngine old new
 keeps_then old mid new first second = record {
-  raw = record {
-    tells = second.raw.tells ∙ first.raw.tells;
-    readable = second.raw.readable ∙ first.raw.readable;
-    writable = second.raw.writable ∙ first.raw.writable;
-    seekable = second.raw.seekable ∙ first.raw.seekable;
-    takes_memory = second.raw.takes_memory ∙ first.raw.takes_memory;
-    counts_exactly = second.raw.counts_exactly ∙ first.raw.counts_exactly;
-    faults = omega (arith, first.raw.faults, second.raw.faults);
-    waits = omega (arith, first.raw.waits, second.raw.waits);
-  };
+  raw = Keeps-then old.raw mid.raw new.raw first.raw second.raw;
   stays = second.stays ∙ first.stays;
   access = second.access ∙ first.access;
   short = second.short ∙ first.short;
@@ -106,15 +99,15 @@ answers_none old new same = λ tells. omega (arith, ap (λ (raw : Raw). raw.writ
 
 -- what two steps answered for
 pub answers_then : (old mid new : EngineView) (first second : ℕ) → KeepsEngine old mid → AnswersFor first old.raw mid.raw → AnswersFor second mid.raw new.raw → AnswersFor (first + second) old.raw new.raw
-answers_then old mid new first second kept before behind = λ tells. omega (arith, before tells, behind (kept.raw.tells ∙ tells))
+answers_then old mid new first second kept before behind = λ tells. omega (arith, before tells, behind (kept.raw.tells_transfers ∙ tells))
 
 -- nothing was answered for before or behind
 pub answers_none_then : (old mid new : EngineView) (count : ℕ) → KeepsEngine old mid → AnswersFor 0 old.raw mid.raw → AnswersFor count mid.raw new.raw → AnswersFor count old.raw new.raw
-answers_none_then old mid new count kept before behind = λ tells. omega (arith, before tells, behind (kept.raw.tells ∙ tells))
+answers_none_then old mid new count kept before behind = λ tells. omega (arith, before tells, behind (kept.raw.tells_transfers ∙ tells))
 
 -- nothing was behind
 pub answers_then_none : (old mid new : EngineView) (count : ℕ) → KeepsEngine old mid → AnswersFor count old.raw mid.raw → AnswersFor 0 mid.raw new.raw → AnswersFor count old.raw new.raw
-answers_then_none old mid new count kept before behind = λ tells. omega (arith, before tells, behind (kept.raw.tells ∙ tells))
+answers_then_none old mid new count kept before behind = λ tells. omega (arith, before tells, behind (kept.raw.tells_transfers ∙ tells))
 
 -- A reading that goes on.
 
@@ -133,12 +126,12 @@ took_none old is live = record {
 
 module _ (old now : EngineView) (part : List ℕ) (took : Took old part now) where
   -- where the raw told, it tells
-  still_tells : IsTrue old.raw.tells → IsTrue now.raw.tells
-  still_tells tells = took.kept.raw.tells ∙ tells
+  still_tells : IsTrue (tells old.raw) → IsTrue (tells now.raw)
+  still_tells told = tells_still old.raw now.raw took.kept.raw ∙ told
 
   -- the bytes stay behind a step that leaves them
-  bytes_then : (new : EngineView) → WhereTold now.raw (new.raw.bytes ≡ now.raw.bytes) → WhereTold old.raw (new.raw.bytes ≡ old.raw.bytes)
-  bytes_then new same = λ tells. same (still_tells tells) ∙ took.bytes tells
+  bytes_then : (new : EngineView) → KeepsBytes now.raw new.raw → KeepsBytes old.raw new.raw
+  bytes_then new same = λ tells. same (took.kept.raw.tells_bytes ∙ tells) ∙ took.bytes tells
 
   -- what a transfer brings comes behind what was taken
   brings_next : (before : List ℕ) (count : ℕ) (after : List ℕ) (new : EngineView) → Brings now before count after new → WhereTold old.raw (take (length (part ++ take count after)) (left_at old.raw.bytes old.place) ≡ part ++ take count after)
@@ -147,7 +140,7 @@ module _ (old now : EngineView) (part : List ℕ) (took : Took old part now) whe
       ap (λ (n : ℕ). take n (left_at old.raw.bytes old.place)) long
       ∙ next_behind old.raw.bytes part after old.place (length part) count refl (took.told tells)
       (ap (λ (place : ℕ). take count (left_at old.raw.bytes place)) (sym took.place)
-      ∙ (ap (λ (bytes : List ℕ). take count (left_at bytes now.place)) (sym (took.bytes tells))
+      ∙ (ap (λ (bytes : List ℕ). take count (left_at bytes now.place)) (sym (took.bytes (tells_its_bytes old.raw tells)))
       ∙ brings.told (still_tells tells)))
 
   -- one more transfer brought some bytes
@@ -194,8 +187,8 @@ module _ (old now : EngineView) (part : List ℕ) (took : Took old part now) whe
     },
     no_wait_then old now new took.kept took.counts.no_wait brings.counts.no_wait,
     λ tells.
-        let told : IsTrue now.raw.tells = sym brings.kept.raw.tells ∙ tells in
-        omega (arith, brings.end refl asked told, ap length (brings.bytes told), brings.place),
+        let told = sym (tells_still now.raw new.raw brings.kept.raw) ∙ tells in
+        omega (arith, brings.end refl asked told, ap length (brings.bytes (tells_its_bytes now.raw told)), brings.place),
   )
 
   -- the raw asked to wait

@@ -1,5 +1,6 @@
 -- Writing to a stream without a buffer: what the raw takes is laid on at once, and nothing is owed.
 use Rattle.std.proofs.Common.{◌≡◌, ℕ, zero, suc, ◌+◌, ◌-◌, ◌<◌, ◌≤◌, ◌⊎◌, inl, inr, Bool, true, false, not, ◌&&◌, ◌||◌, IsTrue, List, length, take, drop, Option, Some, None, is_none, is_some, Ok, Err, le-ltb, zero-le, if◌then◌else◌, refl, sym, ap, ◌∙◌, subst, arith}
+use Rattle.std.proofs.lemmas.Bool.{lt-ltb}
 use Rattle.std.proofs.lemmas.List.{length-take-le, take-append-drop, take_all, drop_all}
 use Rattle.py_flat.specs.declared.fault.IoFault.{IoFault}
 use Rattle.py_flat.specs.declared.fault.IoFault.TheVariants as fault
@@ -15,7 +16,8 @@ use Rattle.py_flat.specs.Refusals.{or_else, refused_if, too_far, life_fault, let
 use Rattle.py_flat.specs.ExactStep.{is_closed, after_write}
 use Rattle.py_flat.specs.AllowedStep.{settled, waited_for, raw_faulted, out_of_memory}
 use Rattle.py_flat.specs.BinaryStep.{payload, is_live, does_work, reaches_raw, asks_end, SettledBy, BinaryStep, Fails}
-use Rattle.py_raw.specs.RawStream.{WhereTold, NoWait, AnswersFor}
+use Rattle.py_raw.specs.RawStream.{WhereTold, WherePlace, WhereTransfers, NoWait, AnswersFor}
+use Rattle.py_raw.proofs.Telling.{tells_its_bytes}
 use Rattle.py_stream.specs.Stream.{Stream, file_of}
 use Rattle.py_stream.specs.Moving.{EndsWithin}
 use Rattle.py_stream.specs.Kinds.{is_reading, reads_on, takes_space_first, is_writing, asks_none, calls_none, makes_one, says_fault, says_no_memory}
@@ -27,7 +29,7 @@ use Rattle.py_unbuffered.specs.declared.access.Access.{Access}
 use Rattle.py_unbuffered.specs.declared.access.Access.TheVariants as access
 use Rattle.py_unbuffered.specs.Unbuffered.{can_of}
 use Rattle.py_unbuffered.specs.Engine.{EngineView, stream_of, KeepsEngine, BeginOutcome, Waits, LaysSome, Puts, FailsPutting, PutOutcome, Wrote, Stays, FailsWriting, StarvesWriting, WriteOutcome}
-use Rattle.py_unbuffered.proofs.Begun.{Stands, begun, is_near}
+use Rattle.py_unbuffered.proofs.Begun.{Stands, begun, is_near, refused_with}
 use Rattle.py_unbuffered.proofs.Steps.{keeps_self, keeps_then, keeps_failed, answers_none}
 use Rattle.py_unbuffered.proofs.Seeking.{can_stays}
 
@@ -133,7 +135,7 @@ pub record WriteTells (old : EngineView) (call : FileCall) (reply : FileReply) (
   pub life_is : LifeMoves None call reply old.life now.life
   pub place : PlaceMoves None call reply now.life old.place now.place
   pub wants : WantsMemory true reply old.raw
-  pub one : IsTrue (makes_one None call) → WhereTold old.raw (now.raw.transfers ≤ old.raw.transfers + 1)
+  pub one : IsTrue (makes_one None call) → WhereTransfers old.raw (now.raw.transfers ≤ old.raw.transfers + 1)
   pub taken : ℕ
   pub fits : taken ≤ length (payload call)
   pub moved : now.place ≡ old.place + taken
@@ -151,15 +153,15 @@ not_closed current (inl live) = ap is_closed live
 not_closed current (inr failed) = ap is_closed failed
 
 -- a raw that stands at a place that the call moved stands behind the one before
-raw_moved : (old now : EngineView) → KeepsEngine (begun old) now → WhereTold now.raw (now.raw.place ≡ now.place) → old.place < now.place → WhereTold old.raw (old.place < now.raw.place)
-raw_moved old now kept stands moved tells = omega (arith, stands (kept.raw.tells ∙ tells), moved)
+raw_moved : (old now : EngineView) → KeepsEngine (begun old) now → WherePlace now.raw (now.raw.place ≡ now.place) → old.place < now.place → WherePlace old.raw (old.place < now.raw.place)
+raw_moved old now kept stands moved tells = omega (arith, stands (kept.raw.tells_place ∙ tells), moved)
 
 -- and such a raw answered for some byte
-answers_some : (old now : EngineView) (taken : ℕ) → AnswersFor taken old.raw now.raw → now.place ≡ old.place + taken → old.place < now.place → WhereTold old.raw (counted old.raw.written 1 ≤ counted now.raw.written 0)
+answers_some : (old now : EngineView) (taken : ℕ) → AnswersFor taken old.raw now.raw → now.place ≡ old.place + taken → old.place < now.place → WhereTransfers old.raw (counted old.raw.written 1 ≤ counted now.raw.written 0)
 answers_some old now taken answered place moved tells = omega (arith, answered tells, place, moved)
 
 -- a call that writes, whatever it answers, leaves nothing owed
-owes_nothing : (old now : EngineView) (call : FileCall) (reply : FileReply) (short : Bool) → IsWrite call → MayWrite old call → WriteTells old call reply short now → (IsTrue (says_no_memory reply) → now.life ≡ life.Failed → WhereTold now.raw (now.raw.place ≡ now.place)) → Writes (stream_of old) call reply (stream_of (record now { short = short }))
+owes_nothing : (old now : EngineView) (call : FileCall) (reply : FileReply) (short : Bool) → IsWrite call → MayWrite old call → WriteTells old call reply short now → (IsTrue (says_no_memory reply) → now.life ≡ life.Failed → WherePlace now.raw (now.raw.place ≡ now.place)) → Writes (stream_of old) call reply (stream_of (record now { short = short }))
 owes_nothing old now call reply short write may tells stands = record {
   takes = λ _ _. record {
     taken = tells.taken;
@@ -187,7 +189,7 @@ owes_nothing old now call reply short write may tells stands = record {
   rests = λ dead. absurd (dead may.live);
 }
 
-write_tells : (old now : EngineView) (call : FileCall) (reply : FileReply) (short : Bool) → IsWrite call → MayWrite old call → WriteTells old call reply short now → (IsTrue (says_no_memory reply) → now.life ≡ life.Failed → WhereTold now.raw (now.raw.place ≡ now.place)) → Answers (stream_of old) call reply (stream_of (record now { short = short }))
+write_tells : (old now : EngineView) (call : FileCall) (reply : FileReply) (short : Bool) → IsWrite call → MayWrite old call → WriteTells old call reply short now → (IsTrue (says_no_memory reply) → now.life ≡ life.Failed → WherePlace now.raw (now.raw.place ≡ now.place)) → Answers (stream_of old) call reply (stream_of (record now { short = short }))
 write_tells old now call reply short write may tells stands =
     let none : refused_by (stream_of old) call ≡ None = passes old call write may in
     let answer : IsReplyTo None (can_of old.access old.raw.seekable).writable call reply = subst (λ (writes : Bool). IsReplyTo None writes call reply) (sym may.can) tells.answer in
@@ -305,12 +307,12 @@ waits_answer old now bytes may waits =
       fits = zero-le;
       moved = omega (arith, waits.place);
       answered = waits.answered;
-      laid = λ tell. (0, omega arith, zero-le, waits.bytes tell);
+      laid = λ tell. (0, omega arith, zero-le, waits.bytes (tells_its_bytes old.raw tell));
       full = tt;
       starves = λ wants. absurd (cc);
       straight = tt;
       answer = refl;
-      told = λ tell. waited_for refl (works old call (is_write bytes) may, (refl, file_same old now waits.kept same waits.place (waits.bytes tell)));
+      told = λ tell. waited_for refl (works old call (is_write bytes) may, (refl, file_same old now waits.kept same waits.place (waits.bytes (tells_its_bytes old.raw tell))));
     }) (λ wants. absurd (cc))
 
 -- the raw failed
@@ -568,6 +570,24 @@ lines_lack old now lines start may at starves = go starves.taken refl where
 pub lines_fit : (end : ℕ) (place : Option ℕ) (none : Bool) → EndsWithin end place → is_some place ≡ not none → none ≡ false → end ≤ greatest_place
 lines_fit end (Some place) none ends is some = ends.1
 lines_fit end None none ends is some = absurd (cc)
+
+-- lines that no place ends
+pub lines_end_too_far : (end : ℕ) (place : Option ℕ) (none : Bool) → EndsWithin end place → is_some place ≡ not none → none ≡ true → greatest_place < end
+lines_end_too_far end (Some place) none ends is some = absurd (cc)
+lines_end_too_far end None none ends is some = ends
+
+-- bytes that would end past the greatest place
+pub too_far_answers : (old started : EngineView) (call : FileCall) → IsWrite call → Stands old → BeginOutcome old (Ok tt) started → (can_of started.access started.raw.seekable).readable ≡ false → greatest_place < started.place + length (payload call) → Answers (stream_of old) call (Refused fault.TooFar) (stream_of started)
+too_far_answers old started call write stands begins reads past =
+    let can : (can_of old.access old.raw.seekable).writable ≡ true = reads_or_writes old.access old.raw.seekable (sym (ap (λ (engine : EngineView). (can_of engine.access engine.raw.seekable).readable) begins.1) ∙ reads) in
+    let behind : greatest_place < old.place + length (payload call) = subst (λ (engine : EngineView). greatest_place < engine.place + length (payload call)) begins.1 past in
+    let far : Option IoFault = too_far (old.place + length (payload call)) in
+    let refuses : refusal (file_of (stream_of old)) call ≡ Some fault.TooFar =
+    write.refuses (file_of (stream_of old))
+    ∙ ap (λ (current : Life). or_else (if lets_through current Unbuffered call then None else life_fault current) (or_else (refused_if (not (can_of old.access old.raw.seekable).writable) fault.Unsupported) far)) begins.0
+    ∙ ap (λ (writes : Bool). or_else (refused_if (not writes) fault.Unsupported) far) can
+    ∙ ap (λ (far : Bool). refused_if far fault.TooFar) (lt-ltb greatest_place (old.place + length (payload call)) behind) in
+    refused_with old started call fault.TooFar stands refuses (write.asks (file_of (stream_of old))) refl (write.closes (stream_of old)) begins.1
 
 -- the raw failed, or memory was wanting
 pub lines_refused : (old started now : EngineView) (lines : List (List ℕ)) (start : ℕ) (why : IoFault) → MayWrite old (WriteLines lines) → BeginOutcome old (Ok tt) started → start ≡ started.place → WriteOutcome started (joined lines) start (Err why) now → Answers (stream_of old) (WriteLines lines) (Refused why) (stream_of now)

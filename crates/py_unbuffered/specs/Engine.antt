@@ -9,7 +9,7 @@ use Rattle.py_flat.specs.Bytes.{left_at, lay}
 use Rattle.py_flat.specs.Causes.{Rose}
 use Rattle.py_flat.specs.BinaryStep.{IsFrontOf}
 use Rattle.py_flat.specs.Refusals.{life_fault}
-use Rattle.py_raw.specs.RawStream.{Raw, Keeps, StaysOpen, WhereTold, NoFault, NoWait, WaitsOnce, LeavesCounts, AnswersFor}
+use Rattle.py_raw.specs.RawStream.{Raw, Keeps, StaysOpen, WhereTold, WhereBytes, WherePlace, WhereTransfers, KeepsBytes, NoFault, NoWait, WaitsOnce, LeavesCounts, AnswersFor}
 use Rattle.py_stream.specs.Stream.{Stream, nothing_owed}
 use Rattle.py_stream.specs.Moving.{MovedBy}
 use Rattle.py_unbuffered.specs.declared.access.Access.{Access}
@@ -44,7 +44,7 @@ pub record IsEngine (raw : Raw) (place : ℕ) (access : Access) (current : Life)
   pub able : is_able access raw ≡ true
   pub is_open : current ≡ life.Live → raw.closed ≡ false
   pub attached : current ≢ life.Detached
-  pub stands : WhereTold raw (current ≡ life.Live → raw.place ≡ place)
+  pub stands : WherePlace raw (current ≡ life.Live → raw.place ≡ place)
 
 -- what every step keeps of it
 pub record KeepsEngine (old new : EngineView) : Type 0 where
@@ -70,8 +70,8 @@ pub record Waits (old new : EngineView) : Type 0 where
   pub answered : AnswersFor 0 old.raw new.raw
   pub live : new.life ≡ life.Live
   pub place : new.place ≡ old.place
-  pub bytes : WhereTold old.raw (new.raw.bytes ≡ old.raw.bytes)
-  pub transfers : WhereTold old.raw (new.raw.transfers ≤ old.raw.transfers + 1)
+  pub bytes : KeepsBytes old.raw new.raw
+  pub transfers : WhereTransfers old.raw (new.raw.transfers ≤ old.raw.transfers + 1)
 
 -- the raw failed, and the stream with it; the bytes are as they were
 pub record Fails (old new : EngineView) : Type 0 where
@@ -81,8 +81,8 @@ pub record Fails (old new : EngineView) : Type 0 where
   pub answered : AnswersFor 0 old.raw new.raw
   pub failed : new.life ≡ life.Failed
   pub place : new.place ≡ old.place
-  pub bytes : WhereTold old.raw (new.raw.bytes ≡ old.raw.bytes)
-  pub transfers : WhereTold old.raw (new.raw.transfers ≤ old.raw.transfers + 1)
+  pub bytes : KeepsBytes old.raw new.raw
+  pub transfers : WhereTransfers old.raw (new.raw.transfers ≤ old.raw.transfers + 1)
 
 -- memory was wanting: the stream fails where bytes had moved in this call
 abbrev pub StarvesWith : Bool → EngineView → EngineView → Type 0
@@ -99,10 +99,10 @@ pub record Brings (old : EngineView) (before : List ℕ) (count : ℕ) (after : 
   pub live : new.life ≡ life.Live
   pub fits : count ≤ length after
   pub place : new.place ≡ old.place + count
-  pub bytes : WhereTold old.raw (new.raw.bytes ≡ old.raw.bytes)
+  pub bytes : KeepsBytes old.raw new.raw
   pub told : WhereTold old.raw (take count (left_at old.raw.bytes old.place) ≡ take count after)
   pub end : count ≡ 0 → before ≢ [] → WhereTold old.raw (length old.raw.bytes ≤ old.place)
-  pub transfers : WhereTold old.raw (new.raw.transfers ≤ old.raw.transfers + 1)
+  pub transfers : WhereTransfers old.raw (new.raw.transfers ≤ old.raw.transfers + 1)
 
 -- one transfer into a buffer
 abbrev pub TransferOutcome : EngineView → Bool → List ℕ → Result (Option ℕ) IoFault → List ℕ → EngineView → Type 0
@@ -122,7 +122,7 @@ pub record Took (old : EngineView) (part : List ℕ) (now : EngineView) : Type 0
   pub live : now.life ≡ life.Live
   pub place : now.place ≡ old.place + length part
   pub none : part ≡ [] → now ≡ old
-  pub bytes : WhereTold old.raw (now.raw.bytes ≡ old.raw.bytes)
+  pub bytes : KeepsBytes old.raw now.raw
   pub told : WhereTold old.raw (take (length part) (left_at old.raw.bytes old.place) ≡ part)
 
 -- it gives these bytes, and why it stopped: nothing comes behind; or the raw asked to wait
@@ -132,7 +132,7 @@ pub record Gives (old : EngineView) (part : List ℕ) (new : EngineView) : Type 
   pub answered : AnswersFor 0 old.raw new.raw
   pub live : new.life ≡ life.Live
   pub place : new.place ≡ old.place + length part
-  pub bytes : WhereTold old.raw (new.raw.bytes ≡ old.raw.bytes)
+  pub bytes : KeepsBytes old.raw new.raw
   pub told : WhereTold old.raw (take (length part) (left_at old.raw.bytes old.place) ≡ part)
 
 -- the raw failed behind a part that was taken
@@ -143,7 +143,7 @@ pub record FailsAfter (old : EngineView) (part : List ℕ) (new : EngineView) : 
   pub answered : AnswersFor 0 old.raw new.raw
   pub failed : new.life ≡ life.Failed
   pub place : new.place ≡ old.place + length part
-  pub bytes : WhereTold old.raw (new.raw.bytes ≡ old.raw.bytes)
+  pub bytes : KeepsBytes old.raw new.raw
   pub told : WhereTold old.raw (take (length part) (left_at old.raw.bytes old.place) ≡ part)
 
 -- memory was wanting behind a part that was taken: where it isn't empty the stream fails
@@ -219,7 +219,7 @@ pub record Puts (old : EngineView) (bytes : List ℕ) (count : ℕ) (new : Engin
   pub some : count ≡ 0 → bytes ≡ []
   pub place : new.place ≡ old.place + count
   pub told : WhereTold old.raw (new.raw.bytes ≡ lay old.raw.bytes old.place (take count bytes))
-  pub transfers : WhereTold old.raw (new.raw.transfers ≤ old.raw.transfers + 1)
+  pub transfers : WhereTransfers old.raw (new.raw.transfers ≤ old.raw.transfers + 1)
 
 -- some front of the bytes, at least so many of them, is laid on
 abbrev pub LaysSome : EngineView → ℕ → List ℕ → EngineView → Type 0
@@ -234,7 +234,7 @@ pub record FailsPutting (old : EngineView) (bytes : List ℕ) (new : EngineView)
   pub failed : new.life ≡ life.Failed
   pub place : new.place ≡ old.place
   pub told : WhereTold old.raw (LaysSome old 0 bytes new)
-  pub transfers : WhereTold old.raw (new.raw.transfers ≤ old.raw.transfers + 1)
+  pub transfers : WhereTransfers old.raw (new.raw.transfers ≤ old.raw.transfers + 1)
 
 -- one transfer of bytes to the raw
 abbrev pub PutOutcome : EngineView → Bool → List ℕ → Result (Option ℕ) IoFault → EngineView → Type 0
@@ -302,8 +302,8 @@ pub record AsksEnd (old : EngineView) (end : ℕ) (new : EngineView) : Type 0 wh
   pub answered : AnswersFor 0 old.raw new.raw
   pub same : new ≡ record old { raw = new.raw }
   pub within : end ≤ greatest_place
-  pub bytes : WhereTold old.raw (new.raw.bytes ≡ old.raw.bytes)
-  pub told : WhereTold old.raw (end ≡ length old.raw.bytes)
+  pub bytes : KeepsBytes old.raw new.raw
+  pub told : WhereBytes old.raw (end ≡ length old.raw.bytes)
 
 abbrev pub EndOutcome : EngineView → Result ℕ IoFault → EngineView → Type 0
 EndOutcome old (Ok end) new = AsksEnd old end new
@@ -334,7 +334,7 @@ pub record GoesTo (old : EngineView) (target : ℕ) (new : EngineView) : Type 0 
   pub answered : AnswersFor 0 old.raw new.raw
   pub live : new.life ≡ life.Live
   pub place : new.place ≡ target
-  pub bytes : WhereTold old.raw (new.raw.bytes ≡ old.raw.bytes)
+  pub bytes : KeepsBytes old.raw new.raw
 
 abbrev pub GoOutcome : EngineView → ℕ → Result (Unit {0}) IoFault → EngineView → Type 0
 GoOutcome old target (Ok done) new = GoesTo old target new

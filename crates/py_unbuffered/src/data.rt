@@ -26,7 +26,7 @@ pub(crate) enum Stop {
 }
 
 /// The raw stands at the place, while the stream lives.
-#[derive(Drop)]
+#[derive(Debug, Drop)]
 pub(crate) struct UnbufferedData<R: RawStream> {
     raw: R,
     place: u64,

@@ -6,5 +6,5 @@ mod data;
 mod unbuffered_stream;
 
 pub use access::Access;
-pub use py_stream::{Detached, NewRefused};
+pub use py_stream::{Detached, NewRefused, Whence};
 pub use unbuffered_stream::UnbufferedStream;

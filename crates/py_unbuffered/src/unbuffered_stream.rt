@@ -28,7 +28,7 @@ use std::marker::Model;
 /// wait, a call answers what came by then, never nothing, or `None` where nothing had, with all as it was; `short` is true
 /// then. `NoMemory` is want of memory; what stands then, each call says. What waits and faults leave is this project's choice
 /// (docs/DECISIONS.md), all else the rule of Python's `io.RawIOBase` and `io.FileIO`.
-#[derive(Drop)]
+#[derive(Debug, Drop)]
 pub struct UnbufferedStream<R: RawStream> {
     data: UnbufferedData<R>,
 }
@@ -91,12 +91,13 @@ impl<R: RawStream> UnbufferedStream<R> {
     /// Reads some of the next bytes into the front of `buffer`, by one transfer, and answers how many: none only where
     /// `buffer` is empty or nothing is left. What `buffer` has behind them may have changed.
     ///
-    /// It takes no memory: `NoMemory` comes only of a raw that takes some, and leaves the stream as it was.
+    /// Every error but `RawFault` and `NoMemory` leaves `buffer` as it was. It takes no memory: `NoMemory` comes only of a raw that
+    /// takes some, and leaves the stream as it was.
     pub fn readinto(&mut self, buffer: &mut [u8]) -> Result<Option<usize>, IoFault>
         ensures answers { Answers self.old (ReadInto (length buffer.old)) (into_reply result buffer.new) self.new }
         ensures length { length buffer.new ≡ length buffer.old }
         ensures fits { CountFits result buffer.new }
-        ensures refused { KeepsBuffer self.old.life buffer.old buffer.new }
+        ensures refused { KeepsBuffer result buffer.old buffer.new }
     {
         self.data.readinto(buffer)
     }
@@ -153,7 +154,7 @@ impl<R: RawStream> UnbufferedStream<R> {
     }
 
     /// Moves to `offset` bytes from the start (`whence` 0), the place (1) or the end (2), past the end too, and answers the new
-    /// place.
+    /// place. `Whence` has names for the three: `seek(0, Whence::End.into())`.
     ///
     /// `Unsupported` where the raw can't seek, and of a stream that appends; `BadWhence` for another `whence`, `NegativeSeek`
     /// and `TooFar` for a target below 0 or past 9223372036854775807: all is as it was. From the end, the raw is asked first

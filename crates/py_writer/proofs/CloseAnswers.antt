@@ -11,6 +11,8 @@ use Rattle.py_flat.specs.ExactStep.{is_closed, in_life}
 use Rattle.py_flat.specs.AllowedStep.{settled, raw_faulted}
 use Rattle.py_flat.specs.BinaryStep.{SettledBy}
 use Rattle.py_raw.specs.RawStream.{Raw, Keeps, WhereTold, NoFault, NoWait}
+use Rattle.py_raw.proofs.Telling.{tells_its_bytes}
+use Rattle.py_raw.proofs.ReadingOn.{Keeps-then}
 use Rattle.py_stream.specs.Stream.{buffering_of, file_of, writer_can}
 use Rattle.py_stream.specs.Replies.{done_reply}
 use Rattle.py_stream.specs.Writing.{PassesFront, LaidInOrder}
@@ -38,18 +40,6 @@ closing_refuses old new why live whole never = absurd never
 
 -- Closing the raw.
 
-raw_keeps_then : (old mid new : Raw) → Keeps old mid → Keeps mid new → Keeps old new
-raw_keeps_then old mid new first second = record {
-  tells = second.tells ∙ first.tells;
-  readable = second.readable ∙ first.readable;
-  writable = second.writable ∙ first.writable;
-  seekable = second.seekable ∙ first.seekable;
-  takes_memory = second.takes_memory ∙ first.takes_memory;
-  counts_exactly = second.counts_exactly ∙ first.counts_exactly;
-  faults = omega (arith, first.faults, second.faults);
-  waits = omega (arith, first.waits, second.waits);
-}
-
 -- the raw was closed once all was passed on
 record ShutsDown (old new : WriterView) : Type 0 where
   pub keeps : KeepsStream (stream_of old) (stream_of new)
@@ -73,7 +63,7 @@ shuts_down old mid new whole passed closes =
       keeps = record {
         buffer = ap (λ (pending : PendingView). Some pending.size) still ∙ ap Some took.kept.size;
         can = ap (λ (appending : Bool). writer_can appending new.raw.seekable) (closes.appending ∙ took.kept.appending) ∙ ap (writer_can old.appending) (closes.keeps.seekable ∙ took.kept.raw.seekable);
-        raw = raw_keeps_then old.raw mid.raw new.raw took.kept.raw closes.keeps;
+        raw = Keeps-then old.raw mid.raw new.raw took.kept.raw closes.keeps;
         bare = λ bare. absurd (cc);
       };
       closed = closes.closed;
@@ -90,8 +80,8 @@ shuts_down old mid new whole passed closes =
         bytes = ap (λ (pending : PendingView). pending.bytes) still ∙ passes.owed;
         place = λ some. ap (λ (pending : PendingView). pending.place) still ∙ passes.place;
       };
-      lays = λ tells. subst (LaidInOrder (stream_of old) []) (sym (closes.bytes (took.kept.raw.tells ∙ tells))) (passing_lays old mid passes tells);
-      holds = λ tells. closes.bytes (took.kept.raw.tells ∙ tells) ∙ passed_all old mid passes passed.2 tells;
+      lays = λ tells. subst (LaidInOrder (stream_of old) []) (sym (closes.bytes (took.kept.raw.tells_bytes ∙ tells_its_bytes old.raw tells))) (passing_lays old mid passes tells);
+      holds = λ tells. closes.bytes (took.kept.raw.tells_bytes ∙ tells_its_bytes old.raw tells) ∙ passed_all old mid passes passed.2 tells;
     }
 
 -- the flat file of a stream that was shut down

@@ -9,6 +9,7 @@ use Rattle.py_flat.specs.Bytes.{lay}
 use Rattle.py_raw.specs.declared.raw_error.RawError.{RawError}
 use Rattle.py_raw.specs.declared.raw_error.RawError.TheVariants as raw_error
 use Rattle.py_raw.specs.RawStream.{Raw, Keeps, StaysOpen, WhereTold, NoWait, AnswersFor, WritesBytes, FailsWriting, WriteOutcome}
+use Rattle.py_raw.proofs.Telling.{tells_its_place}
 use Rattle.py_writer.specs.declared.writer_data.Passed.TheVariants as passing
 use Rattle.py_writer.specs.Engine.{WriterView, IsWriter, Took, FailsTaking, Lacks, DrainOutcome, FlushOutcome}
 use Rattle.py_writer.proofs.Taking.{no_wait_then, waits_once_then, waited_then, took_none, took_on, fails_on}
@@ -60,7 +61,7 @@ faults_taking_none old new piece result some is outcome =
       cause = writes.none refl (λ none. absurd (omega (arith, some, ap length none)));
       no_wait = writes.no_wait;
       written = writes.written;
-      told = λ tells. (0, omega arith, (writes.told tells).bytes);
+      told = λ tells. (0, omega arith, writes.told tells);
     }
 
 pub faults_writing : (old new : Raw) (piece : List ℕ) (result : Result (Option ℕ) RawError) → result ≡ Err raw_error.Fault → WriteOutcome old piece result new → FaultsWriting old piece new
@@ -101,7 +102,7 @@ fails_giving old raw bytes is live alone keeps stays faults = record {
         least_is = omega arith;
         most = laid.1;
         owes = λ some. omega (arith, laid.1, length-append old.pending.bytes bytes, length-append old.pending.bytes [], ap length (alone (omega (arith, some, length-append old.pending.bytes []))));
-        bytes = laid.2 ∙ ap (λ (place : ℕ). lay old.raw.bytes place (take laid.0 (old.pending.bytes ++ bytes))) (is.stands tells live);
+        bytes = laid.2 ∙ ap (λ (place : ℕ). lay old.raw.bytes place (take laid.0 (old.pending.bytes ++ bytes))) (is.stands (tells_its_place old.raw tells) live);
       };
 }
 

@@ -14,7 +14,7 @@ use Rattle.py_flat.specs.ExactStep.{is_closed, in_life}
 use Rattle.py_flat.specs.AllowedStep.{settled}
 use Rattle.py_flat.specs.BinaryStep.{SettledBy, DetachesIn, HandsBack, StandAt}
 use Rattle.py_flat.proofs.Laying.{lay_reads_back}
-use Rattle.py_raw.specs.RawStream.{Raw, WhereTold}
+use Rattle.py_raw.specs.RawStream.{Raw, WhereTold, WherePlace}
 use Rattle.py_stream.specs.Stream.{Stream, file_of, writer_can, nothing_owed, detached_stream}
 use Rattle.py_stream.specs.Answers.{Answers, refused_by}
 use Rattle.py_stream.specs.Handing.{place_handed, handed_over, left_behind, owed_then, HandsOver}
@@ -62,9 +62,9 @@ given old raw owed = handed_over (stream_of old) raw owed
 given_file : (old new : WriterView) → PassesSome old new → new.pending.bytes ≡ [] → WhereTold old.raw (file_of (given old new.raw (nothing_owed (end_of old.pending))) ≡ in_life (file_of (stream_of old)) life.Detached)
 given_file old new passes none tells = ap (λ (bytes : List ℕ). record (file_of (stream_of old)) { bytes = bytes; life = life.Detached }) (passed_all old new passes none tells)
 
--- told, the raw stands at the place of the stream
-stands_at_end : (old new : WriterView) → Took old [] new → new.pending.bytes ≡ [] → WhereTold old.raw (new.raw.place ≡ end_of old.pending)
-stands_at_end old new took none tells = omega (arith, took.kept.is.stands (subst IsTrue (sym took.kept.raw.tells) tells) took.live, passing_keeps_place old new (took_passes old new took), ap length none)
+-- the raw stands at the place of the stream
+stands_at_end : (old new : WriterView) → Took old [] new → new.pending.bytes ≡ [] → WherePlace old.raw (new.raw.place ≡ end_of old.pending)
+stands_at_end old new took none tells = omega (arith, took.kept.is.stands (took.kept.raw.tells_place ∙ tells) took.live, passing_keeps_place old new (took_passes old new took), ap length none)
 
 detached_live : (old new : WriterView) → old.life ≡ life.Live → end_of old.pending ≤ greatest_place → PassAllOutcome old (Ok tt) new → Answers (stream_of old) Detach (Unwritten [] (place_handed (stream_of old) (nothing_owed (end_of old.pending)))) (given old new.raw (nothing_owed (end_of old.pending)))
 detached_live old new live far passed =

@@ -15,6 +15,7 @@ use Rattle.py_flat.specs.AllowedStep.{settled}
 use Rattle.py_flat.specs.BinaryStep.{is_live, asks_end, does_work, reaches_raw, SettledBy}
 use Rattle.py_flat.proofs.Laying.{length-lay}
 use Rattle.py_raw.specs.RawStream.{WhereTold, NoWait}
+use Rattle.py_raw.proofs.Telling.{tells_its_bytes}
 use Rattle.py_stream.specs.Stream.{Stream, writer_can, file_of}
 use Rattle.py_stream.specs.Kinds.{says_fault, says_no_memory}
 use Rattle.py_stream.specs.Writing.{LaidInOrder, BlocksFull}
@@ -81,7 +82,7 @@ ends_at raw place (byte ∷ more) =
     length-lay raw place bytes (omega arith) ∙ sym (ap (λ (none : Bool). if none then length raw else max (length raw) (place + length bytes)) some)
 
 end_is : (old new : WriterView) (end : ℕ) → AsksEnd old end new → WhereTold old.raw (end ≡ length (file_of (stream_of old)).bytes)
-end_is old new end asks tells = asks.told tells ∙ sym (ends_at old.raw.bytes old.pending.place old.pending.bytes)
+end_is old new end asks tells = asks.told (tells_its_bytes old.raw tells) ∙ sym (ends_at old.raw.bytes old.pending.place old.pending.bytes)
 
 asking_took : (old new : WriterView) (end : ℕ) → old.life ≡ life.Live → AsksEnd old end new → Took old [] new
 asking_took old new end live asks =
@@ -95,7 +96,7 @@ asking_took old new end live asks =
       answered = asks.answered;
       place = omega (arith, ap (λ (pending : PendingView). pending.place) still);
       owed = ap (λ (pending : PendingView). pending.bytes) still ∙ sym (append-nil old.pending.bytes);
-      told = asks.bytes;
+      told = λ tells. asks.bytes (tells_its_bytes old.raw tells);
     }
 
 -- Where the raw fails to move.
@@ -119,7 +120,7 @@ moving_fails old mid new took fails =
         least_is = omega arith;
         most = omega (arith, took.within, ap length (append-nil old.pending.bytes));
         owes = λ some. omega (arith, some);
-        bytes = fails.bytes (took.kept.raw.tells ∙ tells) ∙ took.told tells;
+        bytes = fails.bytes (took.kept.raw.tells_bytes ∙ tells_its_bytes old.raw tells) ∙ took.told tells;
       };
     }
 
@@ -344,7 +345,7 @@ going_fails old mid new offset whence target why may asked took no_wait never = 
 gone_file : (old mid new : WriterView) (target : ℕ) → MaySeek old → PassAllOutcome old (Ok tt) mid → GoesTo mid target new → WhereTold old.raw (file_of (stream_of new) ≡ record (file_of (stream_of old)) { place = target })
 gone_file old mid new target may passed goes tells =
     let took : Took old [] mid = passed.0 in
-    let still : new.raw.bytes ≡ lay old.raw.bytes old.pending.place old.pending.bytes = goes.bytes (took.kept.raw.tells ∙ tells) ∙ passed_all old mid (took_passes old mid took) passed.2 tells in
+    let still : new.raw.bytes ≡ lay old.raw.bytes old.pending.place old.pending.bytes = goes.bytes (took.kept.raw.tells_bytes ∙ tells_its_bytes old.raw tells) ∙ passed_all old mid (took_passes old mid took) passed.2 tells in
     let none : new.pending.bytes ≡ [] = ap (λ (pending : PendingView). pending.bytes) goes.none in
     let bytes : lay new.raw.bytes new.pending.place new.pending.bytes ≡ lay old.raw.bytes old.pending.place old.pending.bytes = ap (lay new.raw.bytes new.pending.place) none ∙ still in
     let there : new.pending.place ≡ target = ap (λ (pending : PendingView). pending.place) goes.none in
@@ -393,7 +394,7 @@ gone old found mid new offset whence target may finds passed goes =
         bytes = none ∙ sym passed.2 ∙ passes.owed;
         place = λ some. absurd (some none);
       };
-      lays = λ tells. subst (LaidInOrder (stream_of old) []) (sym (goes.bytes (took.kept.raw.tells ∙ tells))) (passing_lays old mid passes tells);
+      lays = λ tells. subst (LaidInOrder (stream_of old) []) (sym (goes.bytes (took.kept.raw.tells_bytes ∙ tells_its_bytes old.raw tells))) (passing_lays old mid passes tells);
       does = λ _. none;
       full = tt;
       settles = λ none. omega (arith, ap length none);

@@ -7,6 +7,8 @@ use Rattle.py_flat.specs.Bytes.{lay}
 use Rattle.py_flat.specs.Causes.{Rose, counted}
 use Rattle.py_flat.proofs.Laying.{lay_behind}
 use Rattle.py_raw.specs.RawStream.{Raw, Keeps, NoFault, NoWait, WaitsOnce, AnswersFor}
+use Rattle.py_raw.proofs.Telling.{keeps_same, tells_still}
+use Rattle.py_raw.proofs.ReadingOn.{Keeps-then}
 use Rattle.py_writer.specs.Engine.{WriterView, IsWriter, KeepsWriter, Took, LaysFurther, FailsTaking, Lacks, StarvesTaking, FillsUp}
 
 -- Lists.
@@ -36,7 +38,7 @@ lay_twice raw place bytes more first second within =
 
 pub keeps_self : (writer : WriterView) → IsWriter writer.raw writer.pending writer.life → KeepsWriter writer writer
 keeps_self writer is = record {
-  raw = record { tells = refl; readable = refl; writable = refl; seekable = refl; takes_memory = refl; counts_exactly = refl; faults = omega arith; waits = omega arith };
+  raw = keeps_same writer.raw;
   stays = refl;
   size = refl;
   appending = refl;
@@ -46,16 +48,7 @@ keeps_self writer is = record {
 
 pub keeps_then : (old mid new : WriterView) → KeepsWriter old mid → KeepsWriter mid new → KeepsWriter old new
 keeps_then old mid new first second = record {
-  raw = record {
-    tells = second.raw.tells ∙ first.raw.tells;
-    readable = second.raw.readable ∙ first.raw.readable;
-    writable = second.raw.writable ∙ first.raw.writable;
-    seekable = second.raw.seekable ∙ first.raw.seekable;
-    takes_memory = second.raw.takes_memory ∙ first.raw.takes_memory;
-    counts_exactly = second.raw.counts_exactly ∙ first.raw.counts_exactly;
-    faults = omega (arith, first.raw.faults, second.raw.faults);
-    waits = omega (arith, first.raw.waits, second.raw.waits);
-  };
+  raw = Keeps-then old.raw mid.raw new.raw first.raw second.raw;
   stays = second.stays ∙ first.stays;
   size = second.size ∙ first.size;
   appending = second.appending ∙ first.appending;
@@ -89,7 +82,7 @@ waited_before old mid new kept rose = omega (arith, kept.raw.waits, rose)
 
 -- in two steps: for what it did in each
 pub answers_then : (old mid new : Raw) (first second : ℕ) → Keeps old mid → AnswersFor first old mid → AnswersFor second mid new → AnswersFor (first + second) old new
-answers_then old mid new first second kept one two tells = omega (arith, one tells, two (kept.tells ∙ tells))
+answers_then old mid new first second kept one two tells = omega (arith, one tells, two (kept.tells_transfers ∙ tells))
 
 -- for nothing more in the second
 pub answers_still : (old mid new : Raw) (count : ℕ) → Keeps old mid → AnswersFor count old mid → AnswersFor 0 mid new → AnswersFor count old new
@@ -144,7 +137,7 @@ took_then old mid new front more first second = record {
   answered = answers_then old.raw mid.raw new.raw first.passed second.passed first.kept.raw first.answered second.answered;
   place = omega (arith, first.place, second.place);
   owed = owed_then old.pending.bytes mid.pending.bytes new.pending.bytes front more first.passed second.passed first.within first.owed second.owed;
-  told = λ tells. told_then old.raw.bytes mid.raw.bytes new.raw.bytes old.pending.place mid.pending.place old.pending.bytes mid.pending.bytes front more first.passed second.passed first.within first.owed first.place (first.told tells) (second.told (subst IsTrue (sym first.kept.raw.tells) tells));
+  told = λ tells. told_then old.raw.bytes mid.raw.bytes new.raw.bytes old.pending.place mid.pending.place old.pending.bytes mid.pending.bytes front more first.passed second.passed first.within first.owed first.place (first.told tells) (second.told (tells_still old.raw mid.raw first.kept.raw ∙ tells));
 }
 
 -- a step that takes nothing after another
@@ -181,7 +174,7 @@ fails_then old mid new front more first second = record {
   place = omega (arith, first.place, second.place);
   owed = owed_then old.pending.bytes mid.pending.bytes new.pending.bytes front (take second.taken more) first.passed second.passed first.within first.owed second.owed
       ∙ ap (λ (xs : List ℕ). drop (first.passed + second.passed) (old.pending.bytes ++ xs)) (sym (take_behind front more second.taken));
-  told = λ tells. lays_then old.raw.bytes mid.raw.bytes new.raw.bytes old.pending.place mid.pending.place old.pending.bytes mid.pending.bytes front more first.passed second.passed second.taken first.within first.owed first.place (first.told tells) (second.told (subst IsTrue (sym first.kept.raw.tells) tells));
+  told = λ tells. lays_then old.raw.bytes mid.raw.bytes new.raw.bytes old.pending.place mid.pending.place old.pending.bytes mid.pending.bytes front more first.passed second.passed second.taken first.within first.owed first.place (first.told tells) (second.told (tells_still old.raw mid.raw first.kept.raw ∙ tells));
 }
 
 -- a failing with more bytes behind, that were never reached

@@ -13,7 +13,7 @@ use Rattle.py_flat.specs.Calls.{FileCall, Write, FileReply, Refused}
 use Rattle.py_flat.specs.ExactStep.{is_closed}
 use Rattle.py_flat.specs.AllowedStep.{settled, waited_for, raw_faulted, out_of_memory}
 use Rattle.py_flat.specs.BinaryStep.{payload, SettledBy}
-use Rattle.py_raw.specs.RawStream.{WhereTold}
+use Rattle.py_raw.specs.RawStream.{WhereTold, WherePlace}
 use Rattle.py_stream.specs.Stream.{Stream, file_of}
 use Rattle.py_stream.specs.Kinds.{is_writing}
 use Rattle.py_stream.specs.Writing.{Takes, LaidInOrder, OwesOld, OwesNoneOfIts, TookOwn}
@@ -177,9 +177,9 @@ faults old new call may fails straight =
 
 -- Memory was wanting.
 
--- told, a raw stands where what is owed belongs, however much was taken
-took_stands : (old new : WriterView) (bytes : List ℕ) → Took old bytes new → WhereTold old.raw (new.raw.place ≡ new.pending.place)
-took_stands old new bytes took tells = took.kept.is.stands (subst IsTrue (sym took.kept.raw.tells) tells) took.live
+-- a raw stands where what is owed belongs, however much was taken
+took_stands : (old new : WriterView) (bytes : List ℕ) → Took old bytes new → WherePlace old.raw (new.raw.place ≡ new.pending.place)
+took_stands old new bytes took tells = took.kept.is.stands (took.kept.raw.tells_place ∙ tells) took.live
 
 -- and where it stands behind the place of a call it took some of that call's own bytes
 took_own : (old new : WriterView) (bytes : List ℕ) → Took old bytes new → end_of old.pending < new.pending.place → TookOwn (stream_of old) (stream_of (record new { life = life.Failed; short = false }))

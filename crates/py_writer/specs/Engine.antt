@@ -8,7 +8,7 @@ use Rattle.py_flat.specs.Limits.{greatest_place}
 use Rattle.py_flat.specs.Bytes.{lay}
 use Rattle.py_flat.specs.Causes.{Rose}
 use Rattle.py_flat.specs.Refusals.{life_fault}
-use Rattle.py_raw.specs.RawStream.{Raw, Keeps, StaysOpen, WhereTold, NoFault, NoWait, WaitsOnce, LeavesCounts, AnswersFor}
+use Rattle.py_raw.specs.RawStream.{Raw, Keeps, StaysOpen, WhereTold, WhereBytes, WherePlace, KeepsBytes, NoFault, NoWait, WaitsOnce, LeavesCounts, AnswersFor}
 use Rattle.py_writer.specs.declared.writer_data.Passed.{Passed}
 use Rattle.py_writer.specs.declared.writer_data.Passed.TheVariants as passing
 use Rattle.py_stream.specs.Stream.{Stream, writer_can}
@@ -43,7 +43,7 @@ pub record IsWriter (raw : Raw) (pending : PendingView) (current : Life) : Type 
   pub writes : raw.writable ≡ true
   pub is_open : current ≡ life.Live → raw.closed ≡ false
   pub attached : current ≢ life.Detached
-  pub stands : WhereTold raw (current ≡ life.Live → raw.place ≡ pending.place)
+  pub stands : WherePlace raw (current ≡ life.Live → raw.place ≡ pending.place)
 
 -- what every step keeps of it
 pub record KeepsWriter (old new : WriterView) : Type 0 where
@@ -65,7 +65,7 @@ pub record Begins (raw : Raw) (pending : PendingView) : Type 0 where
   pub none : pending.bytes ≡ []
   pub writes : raw.writable ≡ true
   pub is_open : raw.closed ≡ false
-  pub stands : WhereTold raw (raw.place ≡ pending.place)
+  pub stands : WherePlace raw (raw.place ≡ pending.place)
 
 -- Taking bytes, and passing them on.
 
@@ -204,8 +204,8 @@ pub record AsksEnd (old : WriterView) (end : ℕ) (new : WriterView) : Type 0 wh
   pub answered : AnswersFor 0 old.raw new.raw
   pub same : new ≡ record old { raw = new.raw }
   pub within : end ≤ greatest_place
-  pub bytes : WhereTold old.raw (new.raw.bytes ≡ old.raw.bytes)
-  pub told : WhereTold old.raw (end ≡ end_with old.pending (length old.raw.bytes))
+  pub bytes : KeepsBytes old.raw new.raw
+  pub told : WhereBytes old.raw (end ≡ end_with old.pending (length old.raw.bytes))
 
 -- what asking the raw where it ends, or moving it, leaves where it failed
 pub record FailsMoving (old new : WriterView) : Type 0 where
@@ -215,7 +215,7 @@ pub record FailsMoving (old new : WriterView) : Type 0 where
   pub answered : AnswersFor 0 old.raw new.raw
   pub failed : new.life ≡ life.Failed
   pub still : new.pending ≡ old.pending
-  pub bytes : WhereTold old.raw (new.raw.bytes ≡ old.raw.bytes)
+  pub bytes : KeepsBytes old.raw new.raw
 
 abbrev pub EndOutcome : WriterView → Result ℕ IoFault → WriterView → Type 0
 EndOutcome old (Ok end) new = AsksEnd old end new
@@ -246,7 +246,7 @@ pub record GoesTo (old : WriterView) (target : ℕ) (new : WriterView) : Type 0 
   pub answered : AnswersFor 0 old.raw new.raw
   pub live : new.life ≡ life.Live
   pub none : new.pending ≡ none_at target old.pending
-  pub bytes : WhereTold old.raw (new.raw.bytes ≡ old.raw.bytes)
+  pub bytes : KeepsBytes old.raw new.raw
 
 abbrev pub GoOutcome : WriterView → ℕ → Result (Unit {0}) IoFault → WriterView → Type 0
 GoOutcome old target (Ok done) new = GoesTo old target new
@@ -292,7 +292,7 @@ pub record ClosesRaw (old new : WriterView) : Type 0 where
   pub still : new.pending ≡ old.pending
   pub short : new.short ≡ old.short
   pub is : IsWriter new.raw new.pending new.life
-  pub bytes : WhereTold old.raw (new.raw.bytes ≡ old.raw.bytes)
+  pub bytes : KeepsBytes old.raw new.raw
 
 abbrev pub CloseRawOutcome : WriterView → Result (Unit {0}) IoFault → WriterView → Type 0
 CloseRawOutcome old (Ok done) new = ClosesRaw old new × NoFault old.raw new.raw

@@ -31,7 +31,7 @@ use std::marker::Model;
 /// straight away is never owed: the place tells how far it came). A writer that is let go while it lives loses what it owes:
 /// close, flush or detach it before. What waits and faults leave is this project's choice
 /// (docs/DECISIONS.md), all else the rule of Python's `io` module.
-#[derive(Drop)]
+#[derive(Debug, Drop)]
 pub struct BufferedWriter<R: RawStream> {
     data: Option<WriterData<R>>,
     appending: bool,
@@ -153,7 +153,7 @@ impl<R: RawStream> BufferedWriter<R> {
     }
 
     /// Moves to `offset` bytes from the start (`whence` 0), the place (1) or the end (2), past the end too, and answers the new
-    /// place. What is owed is passed on before; nothing is owed then.
+    /// place. `Whence` has names for the three: `seek(0, Whence::End.into())`. What is owed is passed on before; nothing is owed then.
     ///
     /// `Unsupported` where the raw can't seek, and of a writer that appends; `BadWhence` for another `whence`, `NegativeSeek` and `TooFar` for a target below
     /// 0 or past 9223372036854775807: all is as it was. From the end, the raw is asked first where that is, and may fail.

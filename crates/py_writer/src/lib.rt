@@ -6,3 +6,4 @@ mod pending;
 mod writer_data;
 
 pub use buffered_writer::BufferedWriter;
+pub use py_stream::Whence;

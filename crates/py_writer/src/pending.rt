@@ -3,6 +3,7 @@ ghost use Rattle.std.specs.Prelude.{◌≡◌, ◌≢◌, ◌+◌, ◌-◌, ◌<
 ghost use Rattle.py_flat.specs.Limits.{greatest_place};
 ghost use Rattle.py_writer.specs.Pending.{IsPending, end_of, pushed, passed, cut_at, none_at};
 
+use std::fmt;
 use std::marker::Model;
 
 /// Some bytes in one buffer, from `start` up to `end`; `place` is the place of the first of them.
@@ -28,6 +29,17 @@ impl Model for Pending {
     } };
 
     ghost invariant = { λ p. (0 < vec_len p.buffer) × (p.start ≤ p.end) × (p.end ≤ vec_len p.buffer) × (p.place + (p.end - p.start) ≤ greatest_place) };
+}
+
+// Only how many bytes there are, and not which: thousands of them would hide all else.
+impl fmt::Debug for Pending {
+    fn fmt<W: fmt::Write>(&self, f: &mut fmt::Formatter<W>) -> fmt::Result {
+        f.debug_struct("Pending")
+            .field("place", &self.place)
+            .field("count", &self.bytes().len())
+            .field("size", &self.size())
+            .finish()
+    }
 }
 
 impl Pending {

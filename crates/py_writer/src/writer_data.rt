@@ -21,7 +21,7 @@ pub(crate) enum Passed {
 }
 
 /// The raw stands where the bytes that it is owed belong, while the stream lives.
-#[derive(Drop)]
+#[derive(Debug, Drop)]
 pub(crate) struct WriterData<R: RawStream> {
     raw: R,
     pending: Pending,

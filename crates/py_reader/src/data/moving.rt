@@ -1,5 +1,5 @@
 //! Where the stream stands, and moving it.
-ghost use Rattle.std.specs.Prelude.{◌≡◌, ◌≤◌, pos, true, false};
+ghost use Rattle.std.specs.Prelude.{◌≡◌, ◌≤◌, pos, false};
 ghost use Rattle.py_flat.specs.Limits.{greatest_place};
 ghost use Rattle.py_flat.specs.Calls.{FileCall, Seek, Tell, Flush, Refused};
 ghost use Rattle.py_stream.specs.Answers.{Answers, RefusesAlone};
@@ -60,7 +60,6 @@ impl<R: RawStream> BufferedData<R> {
     /// Where a seek goes.
     fn target(&mut self, offset: i64, whence: i32) -> Result<u64, IoFault>
         requires live { self.old.life ≡ Life.Live }
-        requires can { self.old.raw.seekable ≡ true }
         ensures { TargetOutcome self.old offset whence result self.new }
     {
         match whence {
@@ -77,7 +76,6 @@ impl<R: RawStream> BufferedData<R> {
     /// Where the raw ends.
     fn end(&mut self) -> Result<u64, IoFault>
         requires live { self.old.life ≡ Life.Live }
-        requires can { self.old.raw.seekable ≡ true }
         ensures { EndOutcome self.old result self.new }
     {
         match self.raw.end() {
@@ -93,7 +91,6 @@ impl<R: RawStream> BufferedData<R> {
     /// Moves to a place: among the bytes held where it lies there, else the raw is moved.
     fn go_to(&mut self, target: u64) -> Result<(), IoFault>
         requires live { self.old.life ≡ Life.Live }
-        requires can { self.old.raw.seekable ≡ true }
         requires within { target ≤ greatest_place }
         ensures { GoOutcome self.old target result self.new }
     {

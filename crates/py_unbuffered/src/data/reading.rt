@@ -40,7 +40,7 @@ impl<R: RawStream> UnbufferedData<R> {
         ensures answers { Answers (stream_of self.old) (ReadInto (length buffer.old)) (into_reply result buffer.new) (stream_of self.new) }
         ensures length { length buffer.new ≡ length buffer.old }
         ensures fits { CountFits result buffer.new }
-        ensures refused { KeepsBuffer self.old.life buffer.old buffer.new }
+        ensures refused { KeepsBuffer result buffer.old buffer.new }
     {
         let _ = &self.raw;
         self.begin()?;

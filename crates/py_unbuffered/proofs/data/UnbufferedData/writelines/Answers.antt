@@ -1,4 +1,4 @@
-use Rattle.std.proofs.Common.{◌≡◌, ℕ, ◌+◌, ◌-◌, ◌≤◌, length, Bool, true, false, Ok, refl, sym, ap, ◌∙◌, subst}
+use Rattle.std.proofs.Common.{◌≡◌, ℕ, ◌+◌, ◌-◌, ◌<◌, ◌≤◌, length, Bool, true, false, Ok, refl, sym, ap, ◌∙◌, subst}
 use Rattle.std.proofs.lemmas.Result.{err_from_is_err_and}
 use Rattle.py_flat.specs.Limits.{greatest_place}
 use Rattle.py_flat.specs.Lines.{joined}
@@ -8,7 +8,7 @@ use Rattle.py_stream.specs.Answers.{Answers}
 use Rattle.py_unbuffered.specs.Unbuffered.{can_of}
 use Rattle.py_unbuffered.specs.Engine.{EngineView, stream_of, WriteOutcome}
 use Rattle.py_unbuffered.proofs.Begun.{Stands, begins_in_vain}
-use Rattle.py_unbuffered.proofs.WriteAnswers.{may_write, lines_fit, lines_refused, lines_written, lines_wait}
+use Rattle.py_unbuffered.proofs.WriteAnswers.{is_writelines, may_write, lines_fit, lines_end_too_far, too_far_answers, lines_refused, lines_written, lines_wait}
 use Rattle.py_unbuffered.proofs.data.UnbufferedData.writelines.Goals as goal
 
 pub returns-in_err-begin : goal.returns-in_err-begin
@@ -16,6 +16,14 @@ returns-in_err-begin g c =
     let left = err_from_is_err_and c.from_residual.result c.from_residual.ensures.1 in
     let stands = subst Stands c.self.view_is c.self.invariant in
     rw (left.1, left.2) (begins_in_vain c.args.self.now c.begin.new.self (WriteLines c.args.lines.now) c.in_err-begin.field-0.0 stands refl refl refl c.in_err-begin.ensures)
+
+pub returns-then-is_none : goal.returns-then-is_none
+returns-then-is_none g c =
+    let stands = subst Stands c.self.view_is c.self.invariant in
+    let reads : (can_of c.begin.new.self.access c.begin.new.self.raw.seekable).readable ≡ false = sym c.reads.ensures ∙ c.if-reads.false in
+    let at : c.self-2.inside.place ≡ c.begin.new.self.place = ap (λ (engine : EngineView). engine.place) c.self-2.view_is in
+    let past : greatest_place < c.begin.new.self.place + length (joined c.args.lines.now) = subst (λ (start : ℕ). greatest_place < start + length (joined c.args.lines.now)) at (lines_end_too_far (c.self-2.inside.place + length (joined c.args.lines.now)) c.end_of_lines.result c.is_none.result c.end_of_lines.ensures c.is_none.ensures c.if-is_none.true) in
+    too_far_answers c.args.self.now c.begin.new.self (WriteLines c.args.lines.now) (is_writelines c.args.lines.now) stands c.in_ok-begin.ensures reads past
 
 pub returns-in_err-write_lines : goal.returns-in_err-write_lines
 returns-in_err-write_lines g c =

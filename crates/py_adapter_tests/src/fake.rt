@@ -1,0 +1,71 @@
+//! A file of the system that answers what a test wants.
+ghost use Rattle.std.specs.Prelude.{◌≤◌, IfOk};
+
+use std::fs::{Metadata, OpenFile};
+use std::io;
+use std::io::{Error, ErrorKind, Read, Seek, SeekFrom, Write};
+
+/// What the system answers to a transfer.
+#[derive(Clone, Copy)]
+pub(crate) enum Step {
+    Moves(usize),
+    Fails(ErrorKind),
+}
+
+/// A file that answers every transfer alike, and every seek with the same place.
+#[derive(Drop)]
+pub(crate) struct Fake {
+    pub(crate) step: Step,
+    pub(crate) stands: u64,
+}
+
+impl Fake {
+    fn transfer(&self, length: usize) -> io::Result<usize>
+        ensures { IfOk result (λ count. count ≤ length) }
+    {
+        match self.step {
+            Step::Moves(count) => Ok(count.min(length)),
+            Step::Fails(kind) => Err(Error::from(kind)),
+        }
+    }
+}
+
+impl Read for Fake {
+    fn read(&mut self, buf: &mut [u8]) -> io::Result<usize> {
+        self.transfer(buf.len())
+    }
+}
+
+impl Write for Fake {
+    fn write(&mut self, buf: &[u8]) -> io::Result<usize> {
+        self.transfer(buf.len())
+    }
+
+    fn flush(&mut self) -> io::Result<()> {
+        Ok(())
+    }
+}
+
+impl Seek for Fake {
+    fn seek(&mut self, _to: SeekFrom) -> io::Result<u64> {
+        Ok(self.stands)
+    }
+}
+
+impl OpenFile for Fake {
+    fn metadata(&self) -> io::Result<Metadata> {
+        Err(Error::from(ErrorKind::Other))
+    }
+
+    fn set_len(&self, _size: u64) -> io::Result<()> {
+        Err(Error::from(ErrorKind::Other))
+    }
+
+    fn sync_all(&self) -> io::Result<()> {
+        Ok(())
+    }
+
+    fn sync_data(&self) -> io::Result<()> {
+        Ok(())
+    }
+}
