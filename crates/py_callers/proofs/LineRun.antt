@@ -15,7 +15,8 @@ use Rattle.py_flat.specs.Refusals.{or_else, refused_if, lets_through, life_fault
 use Rattle.py_flat.specs.ExactStep.{rest}
 use Rattle.py_flat.specs.AllowedStep.{settled, waited_for, raw_faulted, out_of_memory}
 use Rattle.py_flat.specs.BinaryStep.{SettledBy, Settled, BinaryStep}
-use Rattle.py_raw.specs.RawStream.{Raw}
+use Rattle.py_raw.specs.RawStream.{Raw, tells}
+use Rattle.py_raw.proofs.Telling.{tells_its_bytes, tells_its_place, tells_still}
 use Rattle.py_stream.specs.Stream.{Stream, file_of}
 use Rattle.py_stream.specs.Kinds.{says_fault}
 use Rattle.py_stream.specs.Opening.{Opens}
@@ -68,11 +69,11 @@ abbrev OpensToRead : Raw → Stream → Type 0
 OpensToRead raw stream = Opens (is_able access.Read) (can_of access.Read) raw (Some 8192) stream
 
 -- where the raw tells, the file has left what the raw has
-rest_of : (raw : Raw) (stream : Stream) → OpensToRead raw stream → IsTrue raw.tells → rest (file_of stream) ≡ left_at raw.bytes raw.place
-rest_of raw stream opens tells =
+rest_of : (raw : Raw) (stream : Stream) → OpensToRead raw stream → IsTrue (tells raw) → rest (file_of stream) ≡ left_at raw.bytes raw.place
+rest_of raw stream opens told =
     ap (λ (owed : Owed). left_at (lay stream.raw.bytes owed.place owed.bytes) stream.place) opens.owed
-    ∙ ap (λ (bytes : List ℕ). left_at bytes stream.place) (opens.untouched.bytes tells)
-    ∙ ap (left_at raw.bytes) (opens.place tells)
+    ∙ ap (λ (bytes : List ℕ). left_at bytes stream.place) (opens.untouched.bytes (tells_its_bytes raw told))
+    ∙ ap (left_at raw.bytes) (opens.place (tells_its_place raw told))
 
 accepts : (raw : Raw) (stream : Stream) → OpensToRead raw stream → refusal (file_of stream) (ReadLine None) ≡ None
 accepts raw stream opens = reads stream.life (file_of stream).buffering stream.can.readable opens.life_is (ap (λ (can : Abilities). can.readable) opens.can_do)
@@ -84,12 +85,12 @@ stream_line raw stream reply after opens step =
     let answered : Stream = step.answered in
     let back : after.raw ≡ answered.raw = ap (λ (s : Stream). s.raw) step.leaves ∙ left_raw answered.life answered in
     subst (λ (shown : Raw). AnswersLine raw (said reply) shown) (sym back) (record {
-      line = λ tells smooth.
+      line = λ seen smooth.
           let whole : answered.short ≡ false = uncaused raw.waits stream.raw.waits answered.raw.waits answered.short opens.untouched.keeps.waits step.answers.causes.waits smooth.waits in
           let sound : says_fault (said reply) ≡ false = uncaused raw.faults stream.raw.faults answered.raw.faults (says_fault (said reply)) opens.untouched.keeps.faults step.answers.causes.faults smooth.faults in
-          let told : BinaryStep (file_of stream) (ReadLine None) (said reply) answered.short (says_fault (said reply)) (file_of answered) = step.answers.told (opens.untouched.keeps.tells ∙ tells) in
+          let told : BinaryStep (file_of stream) (ReadLine None) (said reply) answered.short (says_fault (said reply)) (file_of answered) = step.answers.told (tells_still raw stream.raw opens.untouched.keeps ∙ seen) in
           let step' : BinaryStep (file_of stream) (ReadLine None) (said reply) false false (file_of answered) = rw (whole, sound) at told in
-          subst (λ (left : List ℕ). (said reply ≡ Bytes (first_line Lf None left)) ⊎ (said reply ≡ Refused fault.NoMemory)) (rest_of raw stream opens tells) (line_stepped (file_of stream) (said reply) (file_of answered) (accepts raw stream opens) step');
+          subst (λ (left : List ℕ). (said reply ≡ Bytes (first_line Lf None left)) ⊎ (said reply ≡ Refused fault.NoMemory)) (rest_of raw stream opens seen) (line_stepped (file_of stream) (said reply) (file_of answered) (accepts raw stream opens) step');
       fault = λ says. let on : raw.faults ≤ stream.raw.faults = opens.untouched.keeps.faults in let rises : Rose stream.raw.faults answered.raw.faults = step.answers.causes.faults says in omega arith;
     })
 

@@ -10,6 +10,8 @@ use Rattle.py_flat.specs.Refusals.{or_else, refused_if, life_refusal, argument_r
 use Rattle.py_flat.specs.ExactStep.{rest, after_write}
 use Rattle.py_flat.specs.BinaryStep.{if_unbuffered, CarriedOut, SettledBy, BinaryStep}
 use Rattle.py_flat.proofs.Settling.{smooth_is_settled}
+use Rattle.py_raw.specs.RawStream.{tells}
+use Rattle.py_raw.proofs.Telling.{tells_still}
 use Rattle.py_stream.specs.Stream.{Stream, file_of}
 use Rattle.py_stream.specs.Answers.{Answers}
 use Rattle.py_callers.specs.Copying.{Copied}
@@ -30,9 +32,9 @@ read_settled : (file : FlatFile) (part : List ℕ) (after : FlatFile) (refused :
 read_settled file part after (Some why) h = let e : Bytes part ≡ Refused why = h.0 in cc
 read_settled file part after None h = ap (λ (p : FileReply × FlatFile). bytes_in p.0) h
 
-read_whole : (before : Stream) (part : List ℕ) (after : Stream) → Answers before (Read None) (Bytes part) after → after.short ≡ false → IsTrue before.raw.tells → part ≡ rest (file_of before)
-read_whole before part after answers whole tells =
-    let step : BinaryStep (file_of before) (Read None) (Bytes part) false false (file_of after) = subst (λ (short : Bool). BinaryStep (file_of before) (Read None) (Bytes part) short false (file_of after)) whole (answers.told tells) in
+read_whole : (before : Stream) (part : List ℕ) (after : Stream) → Answers before (Read None) (Bytes part) after → after.short ≡ false → IsTrue (tells before.raw) → part ≡ rest (file_of before)
+read_whole before part after answers whole seen =
+    let step : BinaryStep (file_of before) (Read None) (Bytes part) false false (file_of after) = subst (λ (short : Bool). BinaryStep (file_of before) (Read None) (Bytes part) short false (file_of after)) whole (answers.told seen) in
     read_settled (file_of before) part (file_of after) (refusal (file_of before) (Read None)) (smooth_is_settled (file_of before) (Read None) (Bytes part) (file_of after) step (λ e. cc))
 
 -- The write.
@@ -52,9 +54,9 @@ write_settled : (file : FlatFile) (bytes : List ℕ) (after : FlatFile) (refused
 write_settled file bytes after (Some why) h = let e : Count (length bytes) ≡ Refused why = h.0 in cc
 write_settled file bytes after None h = (refl, write_carried file bytes after file.buffering h)
 
-write_whole : (before : Stream) (bytes : List ℕ) (after : Stream) → Answers before (Write bytes) (Count (length bytes)) after → IsTrue before.raw.tells → (refusal (file_of before) (Write bytes) ≡ None) × (file_of after ≡ after_write (file_of before) bytes)
-write_whole before bytes after answers tells =
-    let step : BinaryStep (file_of before) (Write bytes) (Count (length bytes)) false false (file_of after) = subst (λ (short : Bool). BinaryStep (file_of before) (Write bytes) (Count (length bytes)) short false (file_of after)) answers.shorts (answers.told tells) in
+write_whole : (before : Stream) (bytes : List ℕ) (after : Stream) → Answers before (Write bytes) (Count (length bytes)) after → IsTrue (tells before.raw) → (refusal (file_of before) (Write bytes) ≡ None) × (file_of after ≡ after_write (file_of before) bytes)
+write_whole before bytes after answers seen =
+    let step : BinaryStep (file_of before) (Write bytes) (Count (length bytes)) false false (file_of after) = subst (λ (short : Bool). BinaryStep (file_of before) (Write bytes) (Count (length bytes)) short false (file_of after)) answers.shorts (answers.told seen) in
     write_settled (file_of before) bytes (file_of after) (refusal (file_of before) (Write bytes)) (smooth_is_settled (file_of before) (Write bytes) (Count (length bytes)) (file_of after) step (λ e. cc))
 
 -- a stream that accepts a write can write
@@ -73,7 +75,7 @@ copied reader read writer written flushed part reads whole writes flushes = λ f
     let all : part ≡ rest (file_of reader) = read_whole reader part read reads whole from in
     let wrote = write_whole writer part written writes to in
     let can : written.can.writable ≡ true = ap (λ (can : Abilities). can.writable) writes.keeps.can ∙ writes_of (file_of writer) part wrote.0 in
-    (flushes.writes can).passes.0.holds (writes.keeps.raw.tells ∙ to)
+    (flushes.writes can).passes.0.holds (tells_still writer.raw written.raw writes.keeps.raw ∙ to)
     ∙ ap (λ (file : FlatFile). file.bytes) wrote.1
     ∙ ap (lay (file_of writer).bytes writer.place) all
 

@@ -1,5 +1,6 @@
 -- What the program did, by the status that it ends with.
-use Rattle.std.specs.Prelude.{◌≡◌, ◌≢◌, ℕ, ◌⊎◌, IsTrue, IsFalse, List, [], ◌∷◌, ◌++◌, Option, Some, None, Result, Ok, Err}
+use Rattle.std.specs.Prelude.{◌≡◌, ◌≢◌, ℕ, ◌⊎◌, IsTrue, IsFalse, List, [], ◌∷◌, ◌++◌, Option, Some, None, Result, Ok, Err, String}
+use Rattle.std.specs.declared.alloc.Global.{Global}
 use Rattle.py_flat.specs.declared.fault.IoFault.TheVariants as fault
 use Rattle.py_flat.specs.declared.life.Life.TheVariants as life
 use Rattle.py_flat.specs.Causes.{Rose}
@@ -30,12 +31,20 @@ use Rattle.py_mode.specs.Plan.{plan_of}
 use Rattle.py_raw.specs.declared.opener.OpenError.{OpenError}
 use Rattle.py_raw.specs.declared.opener.OpenError.TheVariants as open_error
 use Rattle.py_program.specs.Status.{code_of}
-use Rattle.py_program.specs.Outside.{IsOutOfForm, ReadsScript, Prints, PrintsFront}
+use Rattle.py_program.specs.Outside.{texts, IsOutOfForm, ReadsScript, Prints, PrintsFront}
 
 -- what the program changes: what its opener shows, and its output
 pub record Outside : Type 0 where
   pub opener : OpenerView
   pub sink : SinkView
+
+-- of an opener and a sink, as they show themselves
+abbrev pub outside : {O K : Type 0} → (O → OpenerView) → (K → SinkView) → O → K → Outside
+outside shows_opener shows_sink opener sink = record { opener = shows_opener opener; sink = shows_sink sink }
+
+-- what the words of the command line ask for; nothing of malformed ones
+abbrev pub asked_in : List (String Global) → Option Command
+asked_in words = command_of (texts words)
 
 -- Over a raw that was opened.
 

@@ -8,10 +8,10 @@ ghost use Rattle.py_stream.specs.Opening.{StandsAtStart};
 ghost use Rattle.py_mode.specs.declared.plan.OpenPlan.{OpenPlan as Plan};
 ghost use Rattle.py_mode.specs.declared.open_args.OpenArgs.{OpenArgs as Arguments};
 ghost use Rattle.py_mode.specs.Plan.{plan_of};
-ghost use Rattle.py_script.specs.CommandWords.{Run as Asks, Help, Version, command_of};
+ghost use Rattle.py_script.specs.CommandWords.{Run as Asks, Help, Version};
 ghost use Rattle.py_script.specs.Help.{help_text, version_text};
 ghost use Rattle.py_program.specs.Outside.{texts, IsOutOfForm, Prints};
-ghost use Rattle.py_program.specs.Outcome.{raw_mode, asked_by, RawOutcome, PlannedOutcome, Outcome, Ends, after_done};
+ghost use Rattle.py_program.specs.Outcome.{raw_mode, asked_by, asked_in, outside, RawOutcome, PlannedOutcome, Outcome, Ends, after_done};
 ghost use Rattle.py_program.specs.Meaning.{AsksForRun, IsRefusedPlan, IsAcceptedAt, TellsForm, TellsNoForm, NothingFails, LeavesPaths, KeepsOthers, PrintsReplies};
 
 use crate::laws::{a_smooth_run_prints_the_exact_replies, a_smooth_run_prints_what_settles};
@@ -66,39 +66,39 @@ pub fn run_program<O: Opener, I: Source, K: Sink>(
     out: &mut K,
 ) -> u8
     ensures ends { Ends result (texts words.now) (I.shows script.old) (I.shows script.new)
-        (record { opener = O.shows opener.old; sink = K.shows out.old }) (record { opener = O.shows opener.new; sink = K.shows out.new }) }
+        (outside O.shows K.shows opener.old out.old) (outside O.shows K.shows opener.new out.new) }
     ensures statuses { (result ≤ 8) × (result ≢ 1) }
-    ensures no_form { result ≡ 2 → command_of (texts words.now) ≡ None }
-    ensures words { command_of (texts words.now) ≡ None → (result ≡ 2) ⊎ (result ≡ 7) }
+    ensures no_form { result ≡ 2 → asked_in words.now ≡ None }
+    ensures words { asked_in words.now ≡ None → (result ≡ 2) ⊎ (result ≡ 7) }
     ensures source { result ≡ 5 → Rose (I.shows script.old).faults (I.shows script.new).faults }
     ensures sink { result ≡ 6 → Rose (K.shows out.old).faults (K.shows out.new).faults }
     ensures opener { result ≡ 8 → Rose (O.shows opener.old).faults (O.shows opener.new).faults }
     ensures source_exact { result ≢ 5 → NoSourceFault (I.shows script.old) (I.shows script.new) }
     ensures sink_exact { result ≢ 6 → NoSinkFault (K.shows out.old) (K.shows out.new) }
     ensures opener_exact { result ≡ 0 → NoOpenerFault (O.shows opener.old) (O.shows opener.new) }
-    ensures refused { result ≡ 4 → IsRefusedPlan (command_of (texts words.now)) ⊎ Rose (O.shows opener.old).raw_faults (O.shows opener.new).raw_faults }
-    ensures planned { IsRefusedPlan (command_of (texts words.now)) → TellsForm (I.shows script.old)
+    ensures refused { result ≡ 4 → IsRefusedPlan (asked_in words.now) ⊎ Rose (O.shows opener.old).raw_faults (O.shows opener.new).raw_faults }
+    ensures planned { IsRefusedPlan (asked_in words.now) → TellsForm (I.shows script.old)
         → (result ≡ 4) ⊎ ((result ≡ 5) ⊎ ((result ≡ 6) ⊎ (result ≡ 7))) }
-    ensures unopened { IsRefusedPlan (command_of (texts words.now)) → O.shows opener.new ≡ O.shows opener.old }
-    ensures complete { command_of (texts words.now) ≢ None → ¬ IsRefusedPlan (command_of (texts words.now)) → NothingFails (I.shows script.old) (I.shows script.new)
-        (record { opener = O.shows opener.old; sink = K.shows out.old }) (record { opener = O.shows opener.new; sink = K.shows out.new })
+    ensures unopened { IsRefusedPlan (asked_in words.now) → O.shows opener.new ≡ O.shows opener.old }
+    ensures complete { asked_in words.now ≢ None → ¬ IsRefusedPlan (asked_in words.now) → NothingFails (I.shows script.old) (I.shows script.new)
+        (outside O.shows K.shows opener.old out.old) (outside O.shows K.shows opener.new out.new)
         → (result ≡ 0) ⊎ ((result ≡ 3) ⊎ (result ≡ 7)) }
     ensures out_of_form { result ≡ 3 → IsTrue (I.shows script.old).tells → IsOutOfForm (I.shows script.old).left }
-    ensures form { AsksForRun (command_of (texts words.now)) → TellsNoForm (I.shows script.old)
+    ensures form { AsksForRun (asked_in words.now) → TellsNoForm (I.shows script.old)
         → (result ≡ 3) ⊎ ((result ≡ 5) ⊎ (result ≡ 7)) }
-    ensures missing { (path : List ℕ) (plan : Plan) → IsAcceptedAt path plan (command_of (texts words.now)) → result ≡ 8 → IsTrue (O.shows opener.old).tells
+    ensures missing { (path : List ℕ) (plan : Plan) → IsAcceptedAt path plan (asked_in words.now) → result ≡ 8 → IsTrue (O.shows opener.old).tells
         → misses (raw_mode plan) ((O.shows opener.old).holds path) ≡ true }
-    ensures found { (path : List ℕ) (plan : Plan) → IsAcceptedAt path plan (command_of (texts words.now)) → TellsForm (I.shows script.old)
+    ensures found { (path : List ℕ) (plan : Plan) → IsAcceptedAt path plan (asked_in words.now) → TellsForm (I.shows script.old)
         → IsTrue (O.shows opener.old).tells → misses (raw_mode plan) ((O.shows opener.old).holds path) ≡ true
         → (result ≡ 8) ⊎ ((result ≡ 5) ⊎ (result ≡ 7)) }
-    ensures kept { IsTrue (O.shows opener.old).tells → LeavesPaths result (command_of (texts words.now)) → HoldsTheSame (O.shows opener.old) (O.shows opener.new) }
-    ensures others { IsTrue (O.shows opener.old).tells → KeepsOthers (command_of (texts words.now)) (O.shows opener.old) (O.shows opener.new) }
-    ensures left { (path : List ℕ) (plan : Plan) → IsAcceptedAt path plan (command_of (texts words.now)) → result ≡ 4 → IsTrue (O.shows opener.old).tells
+    ensures kept { IsTrue (O.shows opener.old).tells → LeavesPaths result (asked_in words.now) → HoldsTheSame (O.shows opener.old) (O.shows opener.new) }
+    ensures others { IsTrue (O.shows opener.old).tells → KeepsOthers (asked_in words.now) (O.shows opener.old) (O.shows opener.new) }
+    ensures left { (path : List ℕ) (plan : Plan) → IsAcceptedAt path plan (asked_in words.now) → result ≡ 4 → IsTrue (O.shows opener.old).tells
         → (O.shows opener.new).holds path ≡ Some (opened_bytes (raw_mode plan) ((O.shows opener.old).holds path)) }
-    ensures printed { (path mode : List ℕ) (args : Arguments) → result ≡ 0 → command_of (texts words.now) ≡ Some (Asks path mode args) → PrintsReplies path mode args (I.shows script.old) (I.shows script.new)
-        (record { opener = O.shows opener.old; sink = K.shows out.old }) (record { opener = O.shows opener.new; sink = K.shows out.new }) }
-    ensures help { result ≡ 0 → command_of (texts words.now) ≡ Some Help → Prints (K.shows out.old) help_text (K.shows out.new) }
-    ensures version { result ≡ 0 → command_of (texts words.now) ≡ Some Version → Prints (K.shows out.old) version_text (K.shows out.new) }
+    ensures printed { (path mode : List ℕ) (args : Arguments) → result ≡ 0 → asked_in words.now ≡ Some (Asks path mode args) → PrintsReplies path mode args (I.shows script.old) (I.shows script.new)
+        (outside O.shows K.shows opener.old out.old) (outside O.shows K.shows opener.new out.new) }
+    ensures help { result ≡ 0 → asked_in words.now ≡ Some Help → Prints (K.shows out.old) help_text (K.shows out.new) }
+    ensures version { result ≡ 0 → asked_in words.now ≡ Some Version → Prints (K.shows out.old) version_text (K.shows out.new) }
 {
     a_smooth_run_prints_what_settles();
     a_smooth_run_prints_the_exact_replies();
@@ -117,7 +117,7 @@ fn run_to_status<O: Opener, I: Source, K: Sink>(
     out: &mut K,
 ) -> Status
     ensures outcome { Outcome result (texts words.now) (I.shows script.old) (I.shows script.new)
-        (record { opener = O.shows opener.old; sink = K.shows out.old }) (record { opener = O.shows opener.new; sink = K.shows out.new }) }
+        (outside O.shows K.shows opener.old out.old) (outside O.shows K.shows opener.new out.new) }
     ensures source { result ≢ Status.SourceFailed → NoSourceFault (I.shows script.old) (I.shows script.new) }
     ensures sink { result ≢ Status.SinkFailed → NoSinkFault (K.shows out.old) (K.shows out.new) }
     ensures opener { result ≡ Status.Done → NoOpenerFault (O.shows opener.old) (O.shows opener.new) }
@@ -147,7 +147,7 @@ fn run_calls<O: Opener, K: Sink>(
 ) -> Status
     ensures sink { SinkKeeps (K.shows out.old) (K.shows out.new) }
     ensures outcome { PlannedOutcome path.now mode.now args calls.items result
-        (record { opener = O.shows opener.old; sink = K.shows out.old }) (record { opener = O.shows opener.new; sink = K.shows out.new }) }
+        (outside O.shows K.shows opener.old out.old) (outside O.shows K.shows opener.new out.new) }
     ensures exact { result ≢ Status.SinkFailed → NoSinkFault (K.shows out.old) (K.shows out.new) }
     ensures opener { result ≡ Status.Done → NoOpenerFault (O.shows opener.old) (O.shows opener.new) }
 {
