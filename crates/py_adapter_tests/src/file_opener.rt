@@ -10,7 +10,7 @@ use std::process::Abort;
 use std::test::Fail;
 use std::{env, fs, process};
 
-/// A mode, and what a path that holds nothing and one that holds `old` hold once a letter was written by it: behind the
+/// A mode, and what a path that holds nothing and one that holds `old` hold once a letter was written by it: after the
 /// end by `a`, at the start by the others, and not at all where it can't be written. `None` is a fault of the opener.
 /// From Python's documentation of `open`.
 const EACH_MODE: [(&str, Option<&str>, Option<&str>); 8] = [
@@ -24,7 +24,7 @@ const EACH_MODE: [(&str, Option<&str>, Option<&str>); 8] = [
     ("ab+", Some("N"), Some("oldN")),
 ];
 
-/// Writes a letter to an open stream: behind the end or at the start.
+/// Writes a letter to an open stream: after the end or at the start.
 fn write_letter<R: RawStream>(rt: &impl Abort, raw: &mut R, behind: bool)
     requires open { (R.shows raw.old).closed ≡ false }
     requires writes { (R.shows raw.old).writable ≡ true }

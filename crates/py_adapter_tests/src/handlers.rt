@@ -134,7 +134,7 @@ impl ErrorHandler for GivesForOne {
     }
 }
 
-/// Refuses runs, and lacks memory for ranges.
+/// Refuses runs, and runs out of memory for ranges.
 #[derive(Clone, Copy)]
 struct GivesNothing;
 
@@ -203,7 +203,7 @@ fn gives(text: &'static str, restart: usize) -> GivesText {
 #[test]
 fn ranges_are_given_to_a_handler_of_ones_own(rt: HostRuntime) -> Result<(), Fail> {
     let alloc = rt.alloc();
-    // behind the range of one byte and of two; past what follows it; and nothing for it
+    // after the range of one byte and of two; past what follows it; and nothing for it
     decodes_to(&rt, alloc, gives("<>", 2), b"a\xFFb", Ok(("a<>b", 3)));
     decodes_to(&rt, alloc, gives("<>", 2), b"\xE2\x82b", Ok(("<>b", 3)));
     decodes_to(&rt, alloc, gives("<>", 3), b"\xFFab", Ok(("<>", 3)));

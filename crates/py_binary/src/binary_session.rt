@@ -27,7 +27,7 @@ use std::mem;
 ///
 /// It is seen as a `Stream`: what its raw shows, its place, what it can do, its life, the buffer's size (none without a
 /// buffer), whether its last answer was short, and the bytes that it owes the raw, with the place of the first of them.
-/// After a `Detach` nothing is left but the raw, the abilities and the buffer's size. A session that is let go lets its raw go,
+/// After a `Detach` nothing is left but the raw, the abilities and the buffer's size. A session that is dropped drops its raw,
 /// and what it owes; `into_parts` hands both back.
 #[derive(Debug, Drop)]
 pub struct BinarySession<R: RawStream> {
@@ -73,7 +73,7 @@ impl<R: RawStream> BinarySession<R> {
         }
     }
 
-    /// The same with a buffer.
+    /// Opens the stream with a buffer.
     fn buffered(alloc: Global, raw: R, access: Access, size: usize) -> Result<Self, NewRefused<R>>
         requires start { StandsAtStart (R.shows raw) }
         ensures { NewOutcome R.shows (is_able access) (can_of access) raw (Some size) result }

@@ -11,23 +11,23 @@ use std::alloc::{AllocError, Global};
 /// says which calls a session has so far; the others it refuses.
 #[derive(Debug, PartialEq, Eq, Drop)]
 pub enum Call {
-    /// Reads so many, or all that are left.
+    /// Reads n, or all that are left.
     Read(Option<usize>),
-    /// Reads by one transfer, at most so many bytes.
+    /// Reads by one transfer, at most n bytes.
     Read1(Option<usize>),
-    /// Reads a line with its end, at most so many of it.
+    /// Reads a line with its end, at most n of it.
     ReadLine(Option<usize>),
     /// Reads lines until their total is above the hint, or all.
     ReadLines(Option<usize>),
     /// Shows some bytes that come next.
     Peek,
-    /// Reads so many bytes into a buffer.
+    /// Reads n bytes into a buffer.
     ReadInto(usize),
-    /// Reads at most so many bytes into a buffer, by one transfer.
+    /// Reads at most n bytes into a buffer, by one transfer.
     ReadInto1(usize),
     /// Writes bytes.
     Write(Data),
-    /// Writes lines, one behind the other.
+    /// Writes lines, one after the other.
     WriteLines(Lines),
     /// Writes a text.
     WriteText(Chars),
@@ -64,7 +64,7 @@ pub enum Call {
 }
 
 impl Call {
-    /// A copy of the same call, or `AllocError` for want of memory; this one stays as it is.
+    /// A copy of the same call, or `AllocError` when out of memory; this one stays as it is.
     pub fn try_clone(&self, alloc: Global) -> Result<Self, AllocError>
         ensures { IfOk result (λ call. call ≡ self.now) }
     {

@@ -21,7 +21,7 @@ pub enum Reply {
     Place(u64),
     /// The call was carried out, and has nothing else to say.
     Done,
-    /// The raw asked to wait before there was anything to answer: nothing was taken, and the call may be made again.
+    /// The raw would have blocked before there was anything to answer: nothing was taken, and the call may be made again.
     NotReady,
     /// Yes or no.
     Flag(bool),
@@ -35,7 +35,7 @@ pub enum Reply {
 }
 
 impl Reply {
-    /// A copy of the same reply, or `AllocError` for want of memory; this one stays as it is.
+    /// A copy of the same reply, or `AllocError` when out of memory; this one stays as it is.
     pub fn try_clone(&self, alloc: Global) -> Result<Self, AllocError>
         ensures { IfOk result (λ reply. reply ≡ self.now) }
     {
@@ -57,7 +57,7 @@ impl Reply {
         })
     }
 
-    /// Whether this says that the raw asked to wait: `NotReady`, or a write that waited.
+    /// Whether this says that the raw would have blocked: `NotReady`, or a write that waited.
     pub fn says_wait(&self) -> bool
         ensures { result ≡ says_wait (said self.now) }
     {

@@ -165,7 +165,7 @@ fn is_left_by_a_fault(alloc: Global, opened: &mut Opened, failed: &Call) -> bool
     refuses
 }
 
-/// What a session hands back at the end, or by a detach; no place where the detach answers otherwise, or leaves more behind.
+/// What a session hands back at the end, or by a detach; no place where the detach answers otherwise, or leaves more after.
 fn hand_over(alloc: Global, opened: Opened, detaches: bool) -> Result<Detached<MemRaw>> {
     if !detaches {
         return Ok(opened.finish(alloc));
@@ -246,7 +246,7 @@ fn reaches(handed: &Detached<MemRaw>, flat: &Flat, failed: Option<&Call>) -> boo
 
 /// Whether the bytes of the raw with those that are handed back laid at their place are all that was taken from the caller before
 /// a call that failed, and a front of what that call gave; a write that failed owes none of its own. They end where the place says;
-/// at most `unanswered` bytes more may lie behind, which the raw laid on without an answer.
+/// at most `unanswered` bytes more may lie after, which the raw laid on without an answer.
 fn holds_all_taken(
     alloc: Global,
     handed: &Detached<MemRaw>,

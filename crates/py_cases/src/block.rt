@@ -4,7 +4,7 @@ use anyhow::{Result, bail};
 use hex::decode;
 use std::alloc::Global;
 
-/// A line of a case: its number in the file, from 1 on, its first word, and what follows the space behind it.
+/// A line of a case: its number in the file, from 1 on, its first word, and what follows the space after it.
 #[derive(Clone, Copy)]
 pub(crate) struct Line<'a> {
     pub(crate) number: usize,

@@ -16,7 +16,7 @@ pub(crate) struct Flat {
 }
 
 impl Flat {
-    /// Lays bytes at the place, behind zeros where that lies past the end.
+    /// Lays bytes at the place, after zeros where that lies past the end.
     pub(crate) fn lay(&mut self, part: &[u8]) -> Result<(), AllocError> {
         if !part.is_empty() && self.bytes.len() < self.place {
             self.bytes.resize(self.place, 0)?;

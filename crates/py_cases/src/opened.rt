@@ -144,7 +144,7 @@ fn words_of(alloc: Global, case: &SessionCase<'_>) -> Result<Vec<String>> {
     Ok(words)
 }
 
-/// The arguments of an opening that words ask for; nothing of words out of form.
+/// The arguments of an opening that words ask for; nothing of malformed words.
 fn args_of(alloc: Global, words: &[String]) -> Result<Option<OpenArgs>> {
     match parse_words(alloc, words)? {
         Some(
@@ -158,7 +158,7 @@ fn args_of(alloc: Global, words: &[String]) -> Result<Option<OpenArgs>> {
     }
 }
 
-/// Opens a text with a buffer of so many bytes, and chunks of a size that is its only option.
+/// Opens a text with a buffer of n bytes, and chunks of a size that is its only option.
 fn open_text(alloc: Global, case: &SessionCase<'_>, raw: MemRaw, size: usize) -> Result<Opening>
     requires { StandsAtStart (shown raw) }
 {
@@ -174,7 +174,7 @@ fn open_text(alloc: Global, case: &SessionCase<'_>, raw: MemRaw, size: usize) ->
     Ok(TextReader::new(alloc, raw, size, chunk).map(Opened::Text))
 }
 
-/// Opens a stream of bytes with a buffer of so many bytes.
+/// Opens a stream of bytes with a buffer of n bytes.
 fn open_bytes(alloc: Global, case: &SessionCase<'_>, raw: MemRaw, size: usize) -> Result<Opening>
     requires { StandsAtStart (shown raw) }
 {

@@ -9,7 +9,7 @@ use py_open::{Call, Reply};
 use py_plain::{Encoding, Newlines, PlainText, Unit, first_line, first_unit};
 use std::alloc::Global;
 
-/// Runs calls on a plain text: `text rule hex` makes it, and each line behind `>` is a call.
+/// Runs calls on a plain text: `text rule hex` makes it, and each line after `>` is a call.
 pub(crate) fn run_plain_block(block: &Block<'_>, report: &mut Report) -> Result<()> {
     let alloc = report.alloc;
     let mut text = PlainText::new(Vec::new(alloc), Newlines::Universal);

@@ -122,7 +122,7 @@ fn run(case: ProgramCase<'_>, report: &mut Report) -> Result<()> {
     report.line(line.as_str())
 }
 
-/// Reports what was printed, each line behind `|`; a last one that lacks its end behind `:`.
+/// Reports what was printed, each line after `|`; a last one that lacks its end after `:`.
 fn report_printed(printed: &str, report: &mut Report) -> Result<()> {
     let (whole, open) = printed.rsplit_once('\n').unwrap_or(("", printed));
     for line in whole.split('\n') {

@@ -30,7 +30,7 @@ pub(crate) struct SessionCase<'a> {
 }
 
 impl<'a> SessionCase<'a> {
-    /// The session of some lines behind a head.
+    /// The session of some lines after a head.
     pub(crate) fn parse(alloc: Global, head: Line<'a>, lines: &[Line<'a>]) -> Result<Self> {
         let mut case = SessionCase {
             open: head,
@@ -89,8 +89,8 @@ impl<'a> SessionCase<'a> {
     }
 }
 
-/// The cuts of some words: `t` and a number of bytes takes at most so many, `w` waits, `b` and a number breaks off after so many;
-/// `*` and a number behind one of them is how often it stands.
+/// The cuts of some words: `t` and a number of bytes takes at most n, `w` waits, `b` and a number breaks off after n;
+/// `*` and a number after one of them is how often it stands.
 pub(crate) fn cuts_of(alloc: Global, line: &Line<'_>, words: &str) -> Result<Vec<Cut>> {
     let mut cuts = Vec::new(alloc);
     for word in words.split_whitespace() {

@@ -136,7 +136,7 @@ given SurrogateEscape writes encoding place rest size = absurd (cc)
 abbrev AlwaysGives : EncodeTreatment → Type 0
 AlwaysGives treat = (place : ℕ) (rest : List ℕ) (size : ℕ) → IsWritten (treat place rest size) size
 
--- an encoding goes on behind a character's bytes, and behind those that stand for a run
+-- an encoding goes on after a character's bytes, and after those that stand for a run
 ends_by : (encoding : Encoding) (treat : EncodeTreatment) → AlwaysGives treat → (place size : ℕ) (rest text : List ℕ) (own : Option (List ℕ)) → ((skip : ℕ) → (encoded_from encoding treat (place + 1) skip text).ending ≡ AllWritten) → (onto_encoded place size (first_written treat place rest size own) (encoded_from encoding treat (place + 1) (characters_behind (first_written treat place rest size own)) text)).ending ≡ AllWritten
 ends_by encoding treat gives place size rest text (Some bytes) behind = behind 0
 ends_by encoding treat gives place size rest text None behind =

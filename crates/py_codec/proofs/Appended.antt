@@ -7,11 +7,11 @@ use Rattle.std.proofs.lemmas.List.{take_more, append-nil, append_assoc}
 use Rattle.std.proofs.lemmas.Str.{IsUtf8-string_bytes, chars-append, chars_from_encodes, encodes-append, encodes-chars}
 use Rattle.py_codec.specs.Answers.{text_of}
 
--- some bytes behind a string
+-- some bytes after a string
 pub text_of-push_str : (before after : String Global) (bytes : List ℕ) → string_bytes after ≡ string_bytes before ++ bytes → text_of after ≡ text_of before ++ chars bytes
 text_of-push_str before after bytes is = ap chars is ∙ chars-append (string_bytes before) bytes (IsUtf8-string_bytes before)
 
--- a character behind a string
+-- a character after a string
 pub text_of-push : (before after : String Global) (c : ℕ) → string_bytes after ≡ string_bytes before ++ encode_utf8 c → text_of after ≡ text_of before ++ c ∷ []
 text_of-push before after c is =
     sym (chars_from_encodes (text_of before ++ c ∷ []) (string_bytes after) (IsUtf8-string_bytes after)

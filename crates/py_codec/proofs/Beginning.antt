@@ -70,7 +70,7 @@ pub count-mask : (bytes : List ℕ) (limit : ℕ) → length bytes ≡ 16 → co
 count-mask bytes limit long =
     ap count_ones (bitmask_splat w8 ltb bytes 16 limit long (omega arith)) ∙ ones-mask_l (λ b. ltb b limit) bytes
 
--- a count of a front and of what stands behind it
+-- a count of a front and of what stands after it
 pub count-further : (bytes : List ℕ) (place size : ℕ) → count_by is_char_start (take place bytes) + count_by is_char_start (take size (drop place bytes)) ≡ count_by is_char_start (take (place + size) bytes)
 count-further bytes place size =
     sym (ap (count_by is_char_start) (take-add place size bytes) ∙ sum_by-append (λ x. cond (is_char_start x) 1 0) (take place bytes) (take size (drop place bytes)))

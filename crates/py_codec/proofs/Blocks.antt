@@ -50,7 +50,7 @@ abbrev pub every_second : (count from : ℕ) → List ℕ
 every_second zero from = []
 every_second (suc count) from = from ∷ every_second count (from + 2)
 
--- places of one list of 16 and of another behind it in turn
+-- places of one list of 16 and of another after it in turn
 abbrev pub in_turn : (count from : ℕ) → List ℕ
 in_turn zero from = []
 in_turn (suc count) from = from ∷ (from + 16) ∷ in_turn count (from + 1)
@@ -108,7 +108,7 @@ text_bytes-halves false first second greater lesser one other same none ascii =
 
 -- Runs and fronts.
 
--- a text behind a run
+-- a text after a run
 pub IsRun-behind : (encoding : Encoding) (bytes before between after : List ℕ) (used size : ℕ) (text own : List ℕ) → IsRun encoding bytes before between used → used + size ≤ length bytes → All IsScalar text → text_bytes encoding text ≡ Some own → take size (drop used bytes) ≡ own → after ≡ between ++ text → IsRun encoding bytes before after (used + size)
 IsRun-behind encoding bytes before between after used size text own run inside scalars written is appended = record {
   text = run.text ++ text;
@@ -118,17 +118,17 @@ IsRun-behind encoding bytes before between after used size text own run inside s
   appended = appended ∙ ap (λ t. t ++ text) run.appended ∙ append_assoc before run.text text;
 }
 
--- a run behind a run
+-- a run after a run
 pub IsRun-both : (encoding : Encoding) (bytes before between after : List ℕ) (used size : ℕ) → IsRun encoding bytes before between used → IsRun encoding (drop used bytes) between after size → IsRun encoding bytes before after (used + size)
 IsRun-both encoding bytes before between after used size run more =
     IsRun-behind encoding bytes before between after used size more.text (take size (drop used bytes)) run (omega (arith, run.within, more.within, length-drop used bytes)) more.scalars more.written refl more.appended
 
--- the same of the bytes behind the run as they are sliced
+-- the same of the bytes after the run as they are sliced
 pub IsRun-sliced : (encoding : Encoding) (bytes before between after : List ℕ) (used size : ℕ) → IsRun encoding bytes before between used → IsRun encoding (take (length bytes - used) (drop used bytes)) between after size → IsRun encoding bytes before after (used + size)
 IsRun-sliced encoding bytes before between after used size run more =
     IsRun-both encoding bytes before between after used size run (IsRun-window encoding (drop used bytes) _ between after (length bytes - used) size refl more)
 
--- a block behind a front of it
+-- a block after a front of it
 pub Wrote-block : {encoding : Encoding} {text before between after : List ℕ} {front : ℕ} (size : ℕ) (wide : List ℕ) → Wrote encoding text before between front (drop front text) → front + size ≤ length text → text_bytes encoding (take size (drop front text)) ≡ Some wide → after ≡ between ++ wide → Wrote encoding text before after (front + size) (drop (front + size) text)
 Wrote-block {encoding} {text} {before} {between} {after} {front} size wide wrote inside own appended =
     let block : Wrote encoding (drop front text) between after size (drop (front + size) text) = record {

@@ -29,7 +29,7 @@ Continues-start encoding treat last bytes out none = record {
   ending = refl;
 }
 
--- more is out behind more bytes, where the walk from the one place has it before that from the other
+-- more is out after more bytes, where the walk from the one place has it before that from the other
 further : (encoding : Encoding) (treat : Treatment) (last : Bool) (bytes : List ℕ) (place to : ℕ) (before after cs : List ℕ) → to ≤ length bytes → characters_of (walk_here encoding treat last bytes place).items ≡ cs ++ characters_of (walk_here encoding treat last bytes to).items → (walk_here encoding treat last bytes place).ending ≡ (walk_here encoding treat last bytes to).ending → after ≡ before ++ cs → Continues encoding treat last bytes place before → Continues encoding treat last bytes to after
 further encoding treat last bytes place to before after cs inside characters ending appended continues = record {
   inside = inside;

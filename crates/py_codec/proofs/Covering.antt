@@ -25,7 +25,7 @@ use Rattle.py_codec.specs.Laws.{came_past, bytes_of_items}
 
 -- What stands for a range uses a byte at least, and no more than there are.
 
--- of some bytes at a place, so many in all
+-- of some bytes at a place, n in all
 abbrev UsesWithin : (total : ℕ) → Treatment → Type 0
 UsesWithin total treat = (place size : ℕ) (rest characters : List ℕ) (used : ℕ) → place + len rest ≡ total → 1 ≤ size → size ≤ len rest → treat place rest size ≡ Replaced characters used → (1 ≤ used) × (used ≤ len rest)
 
@@ -107,7 +107,7 @@ item_within total treat true place bytes (Some (Cut n)) characters used uses all
     handled_within n (len bytes) (treat place bytes n) characters used (uses place n bytes characters used all within.0 (omega (arith, within.1))) is
 item_within total treat false place bytes (Some (Cut n)) characters used uses all within is = absurd (cc)
 
--- The items of a walk over the bytes behind a place.
+-- The items of a walk over the bytes after a place.
 
 pub record Covers (bytes : List ℕ) (from : ℕ) (walk : Walk) : Type 0 where
   pub past : from ≤ came_past bytes walk.ending

@@ -1,4 +1,4 @@
--- How a decoder goes on behind pieces that it answered.
+-- How a decoder goes on after pieces that it answered.
 use Rattle.std.proofs.Common.{◌≡◌, ℕ, ◌+◌, ◌-◌, ◌≤◌, Bool, true, false, List, [], ◌∷◌, ◌++◌, length as len, drop, Ok, Err, refl, sym, ap, subst, ◌∙◌, arith}
 use Rattle.std.proofs.Math.Seq.{drop-length}
 use Rattle.std.proofs.lemmas.List.{append-nil, append_assoc, length-append, length-drop, drop-drop, drop-append-le}
@@ -145,7 +145,7 @@ then_behind text more by further walk between behind first second = record {
   ending = first.ending ∙ (ap (moved by) second.ending ∙ moved_twice by further behind.ending);
 }
 
--- what a run of pieces leaves, and how the walk over all goes on behind it
+-- what a run of pieces leaves, and how the walk over all goes on after it
 pub record GoesOn (before : DecoderView) (run : List Fed) (after : DecoderView) : Type 0 where
   pub gone : ℕ
   pub within : gone + len after.held ≡ len (bytes_behind before run)

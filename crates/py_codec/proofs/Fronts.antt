@@ -1,4 +1,4 @@
--- Fronts of a text that were written, one behind another.
+-- Fronts of a text that were written, one after another.
 use Rattle.std.proofs.Common.{◌≡◌, ℕ, ◌+◌, ◌≤◌, ◌<◌, Bool, true, false, nat_lt, List, [], ◌∷◌, ◌++◌, length, Option, Some, None, take, drop, refl, sym, ap, subst, ◌∙◌, arith}
 use Rattle.std.specs.List.{All}
 use Rattle.std.specs.Char.{encode_utf8}
@@ -60,7 +60,7 @@ Wrote-character encoding c text behind before after own is has appended = record
   appended = appended;
 }
 
--- a front and the character behind it
+-- a front and the character after it
 pub Wrote-next : {encoding : Encoding} {text before middle after behind : List ℕ} {count c : ℕ} {left own : List ℕ} → Wrote encoding text before middle count left → left ≡ c ∷ behind → own_bytes encoding c ≡ Some own → after ≡ middle ++ own → Wrote encoding text before after (count + 1) behind
 Wrote-next {encoding} {middle = middle} {after = after} {behind = behind} {c = c} {left = left} {own = own} first is has appended =
     Wrote-more first (Wrote-character encoding c left behind middle after own is has appended)

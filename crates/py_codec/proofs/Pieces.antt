@@ -127,7 +127,7 @@ refused_for_good before after run piece start end reads fed is last more =
     let reads_after : reads_texts after.handler ≡ true = ap reads_texts same ∙ reads in
     refused before after run last (piece ++ more) start end reads fed (refused_front after last piece more start end reads_after is)
 
--- behind a last piece nothing is held
+-- after a last piece nothing is held
 pub none_held : (before : DecoderView) (final text : List ℕ) (used : ℕ) → decoding_with before true final ≡ Ok (text, used) → (holding before final used).held ≡ []
 none_held before final text used is =
     let bytes : List ℕ = before.held ++ final in

@@ -13,7 +13,7 @@ use Rattle.py_codec.specs.Appending.{IsRun}
 use Rattle.py_codec.specs.Writing.{IsOneByte}
 use Rattle.py_codec.proofs.OwnAscii.{scalars_utf8, own_in_latin1, own_in_ascii}
 
--- what a text with a character behind it is written as
+-- what a text with a character after it is written as
 text_bytes-push : (encoding : Encoding) (cs bytes : List ℕ) (c : ℕ) (own : List ℕ) → text_bytes encoding cs ≡ Some bytes → own_bytes encoding c ≡ Some own → text_bytes encoding (cs ++ c ∷ []) ≡ Some (bytes ++ own)
 text_bytes-push encoding [] bytes c own is one =
     let none : [] ≡ bytes = cc in
@@ -34,7 +34,7 @@ IsRun-none encoding bytes before = record {
   appended = sym (append-nil before);
 }
 
--- one more behind the run
+-- one more after the run
 pub IsRun-more : (encoding : Encoding) (bytes before between after : List ℕ) (used size c : ℕ) (own : List ℕ) → IsRun encoding bytes before between used → used + size ≤ length bytes → IsScalar c → own_bytes encoding c ≡ Some own → take size (drop used bytes) ≡ own → after ≡ between ++ c ∷ [] → IsRun encoding bytes before after (used + size)
 IsRun-more encoding bytes before between after used size c own run inside scalar one is pushed = record {
   text = run.text ++ c ∷ [];
@@ -66,7 +66,7 @@ IsRun-front encoding near before after front within utf8 written appended = reco
   appended = appended;
 }
 
--- the same of an answer, which may be want of memory
+-- the same of an answer, which may be out of memory
 pub front_run : {E : Type 0} (encoding : Encoding) (near before after : List ℕ) (front : ℕ) (result : Result ℕ E) → front ≤ length near → IsUtf8 (take front near) → text_bytes encoding (chars (take front near)) ≡ Some (take front near) → IfOk result (λ used. used ≡ front) → OnOk result (after ≡ before ++ chars (take front near)) → IfOk result (IsRun encoding near before after)
 front_run encoding near before after front (Ok used) within utf8 written all appended = subst (IsRun encoding near before after) (sym all) (IsRun-front encoding near before after front within utf8 written appended)
 front_run encoding near before after front (Err why) within utf8 written all appended = tt

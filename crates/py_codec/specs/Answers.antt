@@ -16,7 +16,7 @@ text_of text = chars (string_bytes text)
 abbrev pub bytes_of : Vec ℕ Global → List ℕ
 bytes_of bytes = bytes.items
 
--- an answer is what was expected, but for want of memory; `shown` reads a list off the value
+-- an answer is what was expected, or out of memory; `shown` reads a list off the value
 abbrev pub IsAnswer : {T : Type 0} → (shown : T → List ℕ) → Result (T × ℕ) IoFault → Expected → Type 0
 IsAnswer shown (Ok answer) expected = expected ≡ Ok (shown answer.0, answer.1)
 IsAnswer shown (Err why) expected = (why ≡ fault.NoMemory) ⊎ (expected ≡ Err why)

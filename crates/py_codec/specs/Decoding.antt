@@ -15,7 +15,7 @@ ended characters total refusal AtEnd = Ok (characters, total)
 ended characters total refusal (AtCut start) = Ok (characters, start)
 ended characters total refusal (AtRange start end) = Err (refusal start end)
 
--- the answer of a walk over so many bytes
+-- the answer of a walk over n bytes
 abbrev pub decoding_of : Walk → (total : ℕ) → (refusal : (start end : ℕ) → IoFault) → Expected
 decoding_of walk total refusal = ended (characters_of walk.items) total refusal walk.ending
 
@@ -23,6 +23,6 @@ decoding_of walk total refusal = ended (characters_of walk.items) total refusal 
 abbrev pub walk_by : {H : Type 0} → (H → DecodeMeaning) → HandlerRef H → Encoding → (last : Bool) → List ℕ → Walk
 walk_by meaning errors encoding last bytes = walk_from encoding (treatment_by meaning errors encoding bytes) last Unknown 0 0 bytes
 
--- what a call that decodes some bytes by a handler answers, but for want of memory
+-- what a call that decodes some bytes by a handler answers, or out of memory
 abbrev pub decoding_by : {H : Type 0} → (H → DecodeMeaning) → HandlerRef H → Encoding → (last : Bool) → List ℕ → Expected
 decoding_by meaning errors encoding last bytes = decoding_of (walk_by meaning errors encoding last bytes) (length bytes) (decode_fault meaning errors encoding bytes)

@@ -17,10 +17,10 @@ encode_ended bytes total refusal (AtRun start end) = Err (refusal start end)
 abbrev pub encoded_by : {H : Type 0} → (H → EncodeMeaning) → HandlerRef H → Encoding → List ℕ → Encoded
 encoded_by meaning errors encoding text = encoded encoding (encode_treatment_by meaning errors encoding text) text
 
--- the answer of an encoding of so many characters
+-- the answer of an encoding of n characters
 abbrev pub encoding_of : Encoded → (total : ℕ) → (refusal : (start end : ℕ) → IoFault) → Expected
 encoding_of made total refusal = encode_ended made.bytes total refusal made.ending
 
--- what a call that encodes some characters by a handler answers, but for want of memory
+-- what a call that encodes some characters by a handler answers, or out of memory
 abbrev pub encoding_by : {H : Type 0} → (H → EncodeMeaning) → HandlerRef H → Encoding → List ℕ → Expected
 encoding_by meaning errors encoding text = encoding_of (encoded_by meaning errors encoding text) (length text) (encode_fault meaning errors encoding text)

@@ -26,7 +26,7 @@ pub record EncoderView : Type 0 where
 abbrev pub nobody : {Answers : Type 0} → ⊥ → Answers
 nobody handler = absurd handler
 
--- the walk over the held bytes and a piece behind them
+-- the walk over the held bytes and a piece after them
 abbrev pub walk_with : DecoderView → (last : Bool) → List ℕ → Walk
 walk_with decoder last bytes = walk_by nobody (Builtin decoder.handler) decoder.encoding last (decoder.held ++ bytes)
 
@@ -34,11 +34,11 @@ walk_with decoder last bytes = walk_by nobody (Builtin decoder.handler) decoder.
 abbrev pub decoding_with : DecoderView → (last : Bool) → List ℕ → Expected
 decoding_with decoder last bytes = decoding_by nobody (Builtin decoder.handler) decoder.encoding last (decoder.held ++ bytes)
 
--- what is held behind a piece of which so many bytes, the held ones with them, were used
+-- what is held after a piece of which n bytes, the held ones with them, were used
 abbrev pub holding : DecoderView → List ℕ → ℕ → DecoderView
 holding decoder bytes used = record decoder { held = drop used (decoder.held ++ bytes) }
 
--- a text is that of the decoding, and what it left unused is held; a refusal is the decoding's or want of memory, and
+-- a text is that of the decoding, and what it left unused is held; a refusal is the decoding's or running out of memory, and
 -- leaves all as it was
 abbrev pub DecoderStep : DecoderView → (last : Bool) → List ℕ → Result (String Global) IoFault → DecoderView → Type 0
 DecoderStep before last bytes (Ok text) after = (used : ℕ) × (decoding_with before last bytes ≡ Ok (text_of text, used)) × (after ≡ holding before bytes used)
@@ -48,7 +48,7 @@ DecoderStep before last bytes (Err why) after = (after ≡ before) × ((why ≡ 
 abbrev pub encoding_with : EncoderView → List ℕ → Expected
 encoding_with encoder text = encoding_by nobody (Builtin encoder.handler) encoder.encoding text
 
--- an encoder answers the encoding of a piece, without the number of its characters, or want of memory
+-- an encoder answers the encoding of a piece, without the number of its characters, or running out of memory
 abbrev pub EncoderAnswer : EncoderView → List ℕ → Result (Vec ℕ Global) IoFault → Type 0
 EncoderAnswer encoder text (Ok bytes) = (total : ℕ) × IsAnswer bytes_of (Ok (bytes, total)) (encoding_with encoder text)
 EncoderAnswer encoder text (Err why) = IsAnswer bytes_of (Err why) (encoding_with encoder text)

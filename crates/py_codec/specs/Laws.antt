@@ -28,7 +28,7 @@ abbrev pub FedRun : (before : DecoderView) → List Fed → (after : DecoderView
 FedRun before [] after = after ≡ before
 FedRun before (fed ∷ run) after = (used : ℕ) × (decoding_with before false fed.piece ≡ Ok (fed.text, used)) × FedRun (holding before fed.piece used) run after
 
--- the bytes that a decoder has had behind a run: those that it held, and the pieces
+-- the bytes that a decoder has had after a run: those that it held, and the pieces
 abbrev pub bytes_behind : DecoderView → List Fed → List ℕ
 bytes_behind before run = before.held ++ pieces_of run
 
@@ -44,7 +44,7 @@ came_past bytes AtEnd = length bytes
 came_past bytes (AtRange start end) = start
 came_past bytes (AtCut start) = start
 
--- the bytes of some items, one behind the other, of those that stand at a place
+-- the bytes of some items, one after the other, of those that stand at a place
 abbrev pub bytes_of_items : (place : ℕ) → List ℕ → List Item → List ℕ
 bytes_of_items place bytes [] = []
 bytes_of_items place bytes (item ∷ items) = bytes_of_item place bytes item ++ bytes_of_items place bytes items

@@ -16,7 +16,7 @@ abbrev pub text_answer : Option (List ℕ) → (restart : ℕ) → EncodeAnswer
 text_answer None restart = EncodeRefused
 text_answer (Some text) restart = TextFor text restart
 
--- what any handler answers to the run of so many characters that a text has at a place; `left` is the text from there on
+-- what any handler answers to the run of n characters that a text has at a place; `left` is the text from there on
 abbrev pub run_answer : {H : Type 0} → (H → EncodeMeaning) → HandlerRef H → Encoding → (text : List ℕ) (place : ℕ) (left : List ℕ) (size : ℕ) → EncodeAnswer
 run_answer meaning (Builtin handler) encoding text place left size = text_answer (replacement handler (take size left)) (place + size)
 run_answer meaning (Custom handler) encoding text place left size = meaning handler encoding text place (place + size)
@@ -32,13 +32,13 @@ pub record IsAppended (bytes : Option (List ℕ)) (before after : List ℕ) : Ty
   pub is : bytes ≡ Some written
   pub appended : after ≡ before ++ written
 
--- what a treatment writes for a run was appended, and stands for so many characters
+-- what a treatment writes for a run was appended, and stands for n characters
 pub record IsTreated (handled : EncodeHandled) (before after : List ℕ) (used : ℕ) : Type 0 where
   pub written : List ℕ
   pub is : handled ≡ Written written used
   pub appended : after ≡ before ++ written
   pub some : 1 ≤ used
 
--- a fault is want of memory; or that of a run which the treatment refuses
+-- a fault says out of memory; or that of a run which the treatment refuses
 abbrev pub IsRunFault : EncodeHandled → IoFault → (refusal : IoFault) → Type 0
 IsRunFault handled fault refusal = (fault ≡ NoMemory) ⊎ ((handled ≡ RefusesRun) × (fault ≡ refusal))

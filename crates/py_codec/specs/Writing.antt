@@ -15,7 +15,7 @@ abbrev pub byte_bytes : Option ℕ → Option (List ℕ)
 byte_bytes None = None
 byte_bytes (Some byte) = Some (byte ∷ [])
 
--- the bytes of so many characters from a text's front were appended, and the rest is left
+-- the bytes of n characters from a text's front were appended, and the rest is left
 pub record Wrote (encoding : Encoding) (text before after : List ℕ) (count : ℕ) (left : List ℕ) : Type 0 where
   pub front : List ℕ
   pub written : List ℕ

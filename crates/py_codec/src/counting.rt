@@ -31,7 +31,7 @@ fn starts_in_block(bytes: Block) -> usize
     BLOCK - count_below(bytes, 0xC0) + count_below(bytes, 0x80)
 }
 
-/// How many bytes of whole blocks begin a character, and the bytes behind those blocks.
+/// How many bytes of whole blocks begin a character, and the bytes after those blocks.
 fn starts_in_blocks(bytes: &[u8]) -> (usize, &[u8])
     ensures { result.0 + count_by is_char_start result.1.now ≡ count_by is_char_start bytes.now }
 {

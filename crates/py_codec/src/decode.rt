@@ -14,7 +14,7 @@ use std::alloc::Global;
 ///
 /// `last` says that no bytes follow; where they may, a suffix that is the front of a character is left unused.
 /// `UnicodeDecodeError` is the first range that the handler refuses, in bytes from the start; `BadRestart`: a handler's
-/// place to go on isn't past the start of its range, or is past the end; `NoMemory` is want of memory.
+/// place to go on isn't past the start of its range, or is past the end; `NoMemory` means out of memory.
 pub fn utf_8_decode<H: ErrorHandler>(
     alloc: Global,
     bytes: &[u8],
@@ -29,7 +29,7 @@ pub fn utf_8_decode<H: ErrorHandler>(
 /// The text of some bytes of UTF-16 with the lesser byte of each unit first, and how many bytes were used (the Unicode
 /// Standard, Table 3-5).
 ///
-/// A single byte at the end, and the first unit of a pair with at most one byte behind it, are left unused where bytes
+/// A single byte at the end, and the first unit of a pair with at most one byte after it, are left unused where bytes
 /// may follow, and are refused ranges where `last` says that none do. The refusals are those of `utf_8_decode`.
 pub fn utf_16_le_decode<H: ErrorHandler>(
     alloc: Global,
@@ -57,7 +57,7 @@ pub fn utf_16_be_decode<H: ErrorHandler>(
 
 /// The text of some bytes of ISO 8859-1, in which byte n is the character n, and how many bytes were used: all.
 ///
-/// Only want of memory refuses, as `NoMemory`.
+/// Only running out of memory refuses, as `NoMemory`.
 pub fn latin_1_decode<H: ErrorHandler>(
     alloc: Global,
     bytes: &[u8],

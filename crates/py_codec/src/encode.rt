@@ -9,7 +9,7 @@ use py_flat::IoFault;
 use py_plain::Encoding;
 use std::alloc::Global;
 
-/// The bytes of a text in UTF-8, and how many characters it has. Only want of memory refuses, as `NoMemory`.
+/// The bytes of a text in UTF-8, and how many characters it has. Only running out of memory refuses, as `NoMemory`.
 pub fn utf_8_encode<H: ErrorHandler>(
     alloc: Global,
     text: &str,
@@ -22,10 +22,9 @@ pub fn utf_8_encode<H: ErrorHandler>(
 
 /// The bytes of a text in ISO 8859-1, which has the characters below U+0100, and how many characters the text has.
 ///
-/// A *run* is characters without bytes, as many as stand together. `UnicodeEncodeError` is the first run that the handler
-/// refuses, in characters from the start, or for which it gives a text with a character that has no bytes itself;
-/// `BadRestart`: a handler's place to go on isn't past the start of its run, or is past the end; `NoMemory` is want of
-/// memory.
+/// A *run* is characters without bytes, as many as stand together. `UnicodeEncodeError` is the first run that the handler refuses,
+/// in characters from the start, or for which it gives a text with a character that has no bytes itself; `BadRestart`: a handler's
+/// place to go on isn't past the start of its run, or is past the end; `NoMemory` means out of memory.
 pub fn latin_1_encode<H: ErrorHandler>(
     alloc: Global,
     text: &str,
@@ -49,7 +48,7 @@ pub fn ascii_encode<H: ErrorHandler>(
 }
 
 /// The bytes of a text in UTF-16 with the lesser byte of each unit first and no mark (the Unicode Standard, Table 3-5),
-/// and how many characters it has. Only want of memory refuses, as `NoMemory`.
+/// and how many characters it has. Only running out of memory refuses, as `NoMemory`.
 pub fn utf_16_le_encode<H: ErrorHandler>(
     alloc: Global,
     text: &str,
@@ -61,7 +60,7 @@ pub fn utf_16_le_encode<H: ErrorHandler>(
 }
 
 /// The bytes of a text in UTF-16 with the greater byte of each unit first and no mark, and how many characters it has.
-/// Only want of memory refuses, as `NoMemory`.
+/// Only running out of memory refuses, as `NoMemory`.
 pub fn utf_16_be_encode<H: ErrorHandler>(
     alloc: Global,
     text: &str,

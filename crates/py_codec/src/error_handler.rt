@@ -11,7 +11,7 @@ use std::alloc::Global;
 pub enum HandlerRefusal {
     /// It refuses the range or run: the call answers a `UnicodeDecodeError` or `UnicodeEncodeError` with it.
     Refuse,
-    /// Want of memory.
+    /// Out of memory.
     Memory,
 }
 
@@ -28,7 +28,7 @@ pub enum EncodeReplace {
 ///
 /// It is asked for each refused range or run, and answers what stands for it and where to go on: past the start of the
 /// range, and no further than the end of the argument; another place makes the call answer `BadRestart`. All its answers
-/// but want of memory are settled by what it is asked with.
+/// but running out of memory are settled by what it is asked with.
 pub trait ErrorHandler: Copy {
     /// What it answers to a refused range of bytes.
     ghost decodes: { Self → DecodeMeaning };

@@ -47,7 +47,7 @@ impl IncrementalDecoder {
         }
     }
 
-    /// The text of the held bytes and a piece behind them; `last` says that no bytes follow, and nothing is held then.
+    /// The text of the held bytes and a piece after them; `last` says that no bytes follow, and nothing is held then.
     ///
     /// `UnicodeDecodeError` is the first range that the handler refuses, in bytes from the first held one. After it, and
     /// after `NoMemory`, all is as before.
@@ -65,7 +65,7 @@ impl IncrementalDecoder {
         }
     }
 
-    /// The held bytes and a piece behind them.
+    /// The held bytes and a piece after them.
     fn joined(&self, alloc: Global, bytes: &[u8]) -> Result<Vec<u8>, AllocError>
         ensures { IfOk result (λ joined. joined.items ≡ self.now.held ++ bytes.now) }
     {
@@ -91,7 +91,7 @@ impl IncrementalDecoder {
         }
     }
 
-    /// What is held, at most three bytes, with the flags 0; `NoMemory` for want of memory alone.
+    /// What is held, at most three bytes, with the flags 0; `NoMemory` only when out of memory.
     pub fn getstate(&self, alloc: Global) -> Result<DecoderState, IoFault>
         ensures held { IfOk result (λ state. state.held ≡ self.now.held) }
         ensures flags { IfOk result (λ state. state.flags ≡ 0) }

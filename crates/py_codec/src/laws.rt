@@ -19,11 +19,11 @@ use crate::ErrorHandler;
 
 /// What a decoder answers to pieces one after another is what it answers to the pieces joined, wherever they are cut.
 ///
-/// While no piece was refused: `so_far` says it of the texts of the pieces and of what is held behind them, `whole` of a
-/// last piece too. `refused`: a refusal behind the pieces is that of one call with all bytes, at the first range that
+/// While no piece was refused: `so_far` says it of the texts of the pieces and of what is held after them, `whole` of a
+/// last piece too. `refused`: a refusal after the pieces is that of one call with all bytes, at the first range that
 /// the handler refuses, in bytes from the first that the decoder had. `refused_for_good`: one that comes while more bytes
-/// may come is so whatever bytes would have come behind. `held`: what is held is the end of the bytes that the decoder
-/// has had. `short`: it is at most three bytes, where it was before. `none`: it is nothing behind a last piece.
+/// may come is so whatever bytes would have come after. `held`: what is held is the end of the bytes that the decoder
+/// has had. `short`: it is at most three bytes, where it was before. `none`: it is nothing after a last piece.
 ///
 /// It does nothing: what it ensures is a law of the definitions.
 pub fn a_decoder_reads_the_pieces_joined()

@@ -16,14 +16,14 @@ pub(crate) const LEAST: usize = 64;
 /// The most: few enough that they are still near when they are copied.
 const MOST: usize = 16384;
 
-/// A front of some bytes, of so many at most.
+/// A front of some bytes, of n at most.
 pub(crate) fn window(bytes: &[u8], most: usize) -> &[u8]
     ensures { result.now ≡ take (min (length bytes.now) most) bytes.now }
 {
     &bytes[..bytes.len().min(most)]
 }
 
-/// How many bytes to look at behind a run: twice as many where it was as long as it could be but for a cut character,
+/// How many bytes to look at after a run: twice as many where it was as long as it could be but for a cut character,
 /// else the fewest, since what ended it may soon end another.
 pub(crate) fn next_most(most: usize, run: usize) -> usize {
     if most.saturating_sub(run) < 4 {

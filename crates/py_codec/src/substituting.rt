@@ -116,7 +116,7 @@ fn push_given(
 }
 
 /// Appends what a handler gives for the run of `size` characters that a text has at a place, in characters; `left` is
-/// the text from there on. Answers how many characters it used, and the text behind them.
+/// the text from there on. Answers how many characters it used, and the text after them.
 pub(crate) fn push_substitute<'a, H: ErrorHandler>(
     alloc: Global,
     encoding: Encoding,

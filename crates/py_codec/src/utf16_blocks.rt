@@ -126,7 +126,7 @@ fn push_wide(big: bool, text: &[u8], bytes: &mut Vec<u8>) -> Result<usize, Alloc
 }
 
 /// Appends the blocks of ASCII that a text begins with in UTF-16, and answers how many characters they are and the text
-/// behind them.
+/// after them.
 pub(crate) fn write_blocks<'a>(
     big: bool,
     text: &'a str,

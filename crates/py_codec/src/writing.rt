@@ -14,7 +14,7 @@ use std::alloc::AllocError;
 /// How many characters are written one at a time before the next test for ASCII.
 const FEW: usize = 8;
 
-/// The first character of a text, and the text behind it.
+/// The first character of a text, and the text after it.
 pub(crate) fn first_character(text: &str) -> Option<(char, &str)>
     ensures parts { MatchOption result (chars text.now ≡ []) (λ t. chars text.now ≡ t.0 ∷ chars t.1.now) }
     ensures utf8 { IfSome result (λ t. IsUtf8 t.1.now) }
@@ -48,8 +48,8 @@ fn push_utf16(big: bool, character: char, bytes: &mut Vec<u8>) -> Result<(), All
     push_unit(big, 0xDC00 + (pair % 0x400) as u16, bytes)
 }
 
-/// Appends a few characters that a text begins with in UTF-16, up to so many, and answers how many they are and the text
-/// behind them.
+/// Appends a few characters that a text begins with in UTF-16, up to n, and answers how many they are and the text
+/// after them.
 fn write_few_utf16<'a>(
     big: bool,
     limit: usize,
@@ -118,7 +118,7 @@ fn byte_of(encoding: Encoding, character: char) -> Option<u8>
     if within { Some(character as u8) } else { None }
 }
 
-/// Appends the bytes of at most so many characters of a text, up to the first that has none, in an encoding that has one
+/// Appends the bytes of at most n characters of a text, up to the first that has none, in an encoding that has one
 /// for each of its characters.
 fn write_bytes<'a>(
     encoding: Encoding,
@@ -188,7 +188,7 @@ fn write_one_byte<'a>(
 }
 
 /// Appends the bytes of the characters of a text up to the first that has none, and answers how many they are and the
-/// text behind them.
+/// text after them.
 pub(crate) fn push_written<'a>(
     encoding: Encoding,
     text: &'a str,

@@ -15,7 +15,7 @@ const MIDDLES: [&str; 8] = [
     "\u{1F600}",
 ];
 
-/// How many characters of ASCII stand behind it: around the lengths of blocks, of 16 bytes or units.
+/// How many characters of ASCII stand after it: around the lengths of blocks, of 16 bytes or units.
 const BEHIND: [usize; 6] = [0, 1, 15, 16, 17, 33];
 
 /// How often a letter and a middle stand in a long text: around the lengths of windows and pieces.
@@ -103,7 +103,7 @@ fn compare_encodings(
     Ok(())
 }
 
-/// Compares texts of a run of ASCII of one length, each middle and a run of each length behind it.
+/// Compares texts of a run of ASCII of one length, each middle and a run of each length after it.
 fn compare_front(alloc: Global, front: usize, tally: &mut Tally) -> Result<(), AllocError> {
     for middle in MIDDLES {
         for behind in BEHIND {
@@ -123,7 +123,7 @@ pub(crate) fn compare(alloc: Global) -> Result<Tally, AllocError> {
     Ok(tally)
 }
 
-/// Compares long texts, each of letters with one other character behind each.
+/// Compares long texts, each of letters with one other character after each.
 pub(crate) fn compare_long(alloc: Global) -> Result<Tally, AllocError> {
     let mut tally = Tally::new();
     for times in LONG {

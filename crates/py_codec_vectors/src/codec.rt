@@ -15,7 +15,7 @@ pub(crate) const ENCODINGS: [Encoding; 5] = [
     Encoding::Utf16Be,
 ];
 
-/// A refused range or run: its start and the place behind it.
+/// A refused range or run: its start and the place after it.
 #[derive(Clone, Copy, PartialEq, Eq)]
 pub(crate) struct Refusal {
     pub start: u64,
@@ -40,7 +40,7 @@ impl Refusal {
         }
     }
 
-    /// The same range, in places that count from so many earlier.
+    /// The range, in places that count from n earlier.
     pub(crate) fn behind(self, front: usize) -> Self {
         Refusal {
             start: self.start.saturating_add(front as u64),
@@ -59,7 +59,7 @@ pub(crate) enum Expected<'a> {
 }
 
 impl Expected<'_> {
-    /// Whether this is what a codec gives and uses, or refuses; its places count behind a front.
+    /// Whether this is what a codec gives and uses, or refuses; its places count after a front.
     pub(crate) fn is_answered(self, answer: Result<(&[u8], usize), IoFault>, front: usize) -> bool {
         match (answer, self) {
             (Ok((output, used)), Expected::All(expected, count)) => {
@@ -96,7 +96,7 @@ pub(crate) struct Codec {
 }
 
 impl Codec {
-    /// The decoding of some bytes at once; `last` says that nothing stands behind them.
+    /// The decoding of some bytes at once; `last` says that nothing stands after them.
     pub(crate) fn decoded(
         self,
         alloc: Global,
@@ -148,7 +148,7 @@ impl Codec {
         Ok((plain.bytes, plain.refusal.map(Refusal::from_places)))
     }
 
-    /// Whether the codec decodes as expected what stands behind a front, which the places count with.
+    /// Whether the codec decodes as expected what stands after a front, which the places count with.
     pub(crate) fn decodes(
         self,
         alloc: Global,

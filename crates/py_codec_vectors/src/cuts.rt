@@ -74,7 +74,7 @@ fn fresh(alloc: Global, codec: Codec) -> Option<Feeding> {
     })
 }
 
-/// Whether pieces came to the whole: all its text, or the same refusal behind a front of it.
+/// Whether pieces came to the whole: all its text, or the same refusal after a front of it.
 fn came_to(feeding: &Feeding, whole: &Whole<'_>) -> bool {
     let text = feeding.text.as_bytes();
     feeding.refusal == whole.refusal
@@ -99,7 +99,7 @@ fn pieces_agree(
         && came_to(&feeding, whole)
 }
 
-/// Whether pieces of one byte, and an empty one behind them, come to the whole.
+/// Whether pieces of one byte, and an empty one after them, come to the whole.
 fn bytes_agree(alloc: Global, whole: &Whole<'_>) -> bool {
     let Some(mut feeding) = fresh(alloc, whole.codec) else {
         return false;

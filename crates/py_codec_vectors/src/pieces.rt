@@ -26,7 +26,7 @@ fn read_call(alloc: Global, words: &[&str]) -> Result<Call, Unread> {
     }
 }
 
-/// What a call answers: a text, or `refused START END`; of the calls of a state the bytes that are held behind it.
+/// What a call answers: a text, or `refused START END`; of the calls of a state the bytes that are held after it.
 fn read_answer(alloc: Global, words: &[&str]) -> Result<Result<Vec<u8>, Refusal>, Unread> {
     match words {
         [output] => Ok(Ok(bytes(alloc, output)?)),
@@ -35,7 +35,7 @@ fn read_answer(alloc: Global, words: &[&str]) -> Result<Result<Vec<u8>, Refusal>
     }
 }
 
-/// Makes a call: its text, or the bytes that are held behind it. `GetState` keeps the state for `SetState`. A state with
+/// Makes a call: its text, or the bytes that are held after it. `GetState` keeps the state for `SetState`. A state with
 /// flags or more than three bytes is none of the five encodings': it is a fault, which no row expects.
 fn given(
     alloc: Global,
@@ -85,7 +85,7 @@ fn step_agrees(
     }
 }
 
-/// Makes the steps of one decoder. A handler that no texts are read with has no decoder: its row is out of form.
+/// Makes the steps of one decoder. A handler that no texts are read with has no decoder: its row is malformed.
 pub(crate) fn try_steps(
     alloc: Global,
     codec: Codec,

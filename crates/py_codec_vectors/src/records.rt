@@ -2,7 +2,7 @@ use crate::codec::{Expected, Refusal};
 use crate::words::Unread;
 use py_codec::Encoding;
 
-/// The records of a table that are left to read; one that is cut is out of form.
+/// The records of a table that are left to read; one that is cut is malformed.
 #[derive(Drop)]
 pub(crate) struct Records<'a> {
     left: &'a [u8],
@@ -21,7 +21,7 @@ impl<'a> Records<'a> {
         Ok(*byte)
     }
 
-    /// A length, in one byte, and so many bytes.
+    /// A length, in one byte, and n bytes.
     pub(crate) fn counted(&mut self) -> Result<&'a [u8], Unread> {
         let count = usize::from(self.byte()?);
         match self.left.split_at_checked(count) {

@@ -14,7 +14,7 @@ pub(crate) struct Tallies {
     pub cuts: Tally,
 }
 
-/// What stands behind the arrow of a row.
+/// What stands after the arrow of a row.
 #[derive(Drop)]
 struct Answer {
     output: Vec<u8>,
@@ -148,7 +148,7 @@ fn try_row(alloc: Global, line: &str, place: &str, tallies: &mut Tallies) -> Res
     }
 }
 
-/// Tries each row of the table. A line that is empty or begins with `#` is none; one that is out of form ends the table
+/// Tries each row of the table. A line that is empty or begins with `#` is none; one that is malformed ends the table
 /// at once: `Some` is its number, and the line.
 pub(crate) fn compare(alloc: Global, table: &str) -> Result<(Tallies, Option<String>), AllocError> {
     let mut tallies = Tallies {

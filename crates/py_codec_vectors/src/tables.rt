@@ -15,7 +15,7 @@ pub(crate) enum Table {
     Encodings,
 }
 
-/// Whether an input behind so many characters of ASCII gives these and what is replaced: so runs of every length that
+/// Whether an input after n characters of ASCII gives these and what is replaced: so runs of every length that
 /// are taken at once end at it.
 fn padded_decodes(
     alloc: Global,
@@ -32,7 +32,7 @@ fn padded_decodes(
     Ok(codec.decodes(alloc, &padded, 0, true, expected))
 }
 
-/// Whether a text behind so many characters of ASCII is written as these and what is escaped.
+/// Whether a text after n characters of ASCII is written as these and what is escaped.
 fn padded_encodes(
     alloc: Global,
     codec: Codec,
@@ -49,7 +49,7 @@ fn padded_encodes(
 }
 
 /// Decodes the next input by each of four handlers, at once and in the plain slow program, and by replace byte by byte and
-/// behind so many characters of ASCII.
+/// after n characters of ASCII.
 fn try_decoding(
     alloc: Global,
     records: &mut Records<'_>,
@@ -107,8 +107,8 @@ fn try_surrogates(
     Ok(())
 }
 
-/// Encodes the next text by each of five handlers, at once and in the plain slow program, and by backslashreplace behind so
-/// many characters of ASCII.
+/// Encodes the next text by each of five handlers, at once and in the plain slow program, and by backslashreplace after n
+/// characters of ASCII.
 fn try_encoding(
     alloc: Global,
     records: &mut Records<'_>,
@@ -145,7 +145,7 @@ fn try_encoding(
     Ok(())
 }
 
-/// Tries each record of a table. One that is cut or out of form ends it, which the counts tell.
+/// Tries each record of a table. One that is cut or malformed ends it, which the counts tell.
 pub(crate) fn compare(alloc: Global, table: Table, bytes: &[u8]) -> Result<Tally, AllocError> {
     let mut records = Records::new(bytes);
     let mut tally = Tally::new();

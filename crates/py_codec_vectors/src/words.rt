@@ -50,7 +50,7 @@ pub(crate) fn number(word: &str) -> Result<u64, Unread> {
     }
 }
 
-/// A refused range or run: its start and the place behind it.
+/// A refused range or run: its start and the place after it.
 pub(crate) fn refusal(start: &str, end: &str) -> Result<Refusal, Unread> {
     Ok(Refusal {
         start: number(start)?,

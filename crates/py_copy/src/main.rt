@@ -11,8 +11,8 @@ use std::process::ExitCode;
 /// How many bytes are read before they are written.
 const PIECE: usize = 1 << 16;
 
-/// Copies what a reader has left to a writer, a piece at a time, and passes all on. `WouldBlock` where the reader's raw asks to
-/// wait, which standard input doesn't unless it was told to.
+/// Copies what a reader has left to a writer, a piece at a time, and passes all on. `WouldBlock` where the reader's raw would
+/// block, which standard input doesn't unless it was told to.
 fn copy<R: RawStream, W: RawStream>(
     reader: &mut BufferedReader<R>,
     writer: &mut BufferedWriter<W>,

@@ -31,12 +31,7 @@ fn main(rt: HostRuntime) -> anyhow::Result<()> {
         return Ok(println!(rt; "usage: count_lines <path>")?);
     };
     let raw = FileOpener::new(&rt).open_raw(alloc, path.as_str(), "rb")?;
-    match BufferedReader::new(alloc, raw, 8192) {
-        Ok(reader) => {
-            let mut reader = reader;
-            let (lines, longest) = count(alloc, &mut reader)?;
-            Ok(println!(rt; "{lines} lines, the longest of {longest} bytes")?)
-        }
-        Err(refused) => Err(refused.fault.into()), // beside the fault it has the raw, with nothing read
-    }
+    let mut reader = BufferedReader::new(alloc, raw, 8192)?; // refused, the raw is dropped with nothing read
+    let (lines, longest) = count(alloc, &mut reader)?;
+    Ok(println!(rt; "{lines} lines, the longest of {longest} bytes")?)
 }

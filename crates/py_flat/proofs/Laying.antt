@@ -1,4 +1,4 @@
--- Bytes laid on a list, by its three parts: what stands before the place, the bytes, and what stands behind them.
+-- Bytes laid on a list, by its three parts: what stands before the place, the bytes, and what stands after them.
 use Rattle.std.proofs.Common.{◌≡◌, ℕ, ◌+◌, ◌-◌, ◌<◌, ◌≤◌, max, List, [], ◌∷◌, ◌++◌, length, take, drop, replicate, refl, sym, ◌∙◌, ap, subst, arith, append_assoc, length-append, length-drop, length-take, add_assoc, add-zero}
 use Rattle.std.proofs.Math.Seq.{take-append-add, drop-append-add, take-add}
 use Rattle.std.proofs.lemmas.List.{length-replicate, length-take-le, take_at, drop_at, take_all, take-append-le, take-append-drop, drop-drop, append-nil}
@@ -35,7 +35,7 @@ drop_behind bytes place laid more some =
     let e = drop-append-add (filled_to bytes place) (laid ++ rest) (length laid + more) in
     rw (lay_parts bytes place laid some) (rw (length-filled_to bytes place) at e ∙ drop-append-add laid rest more ∙ drop-drop more (place + length laid) bytes ∙ ap (λ n. drop n bytes) (add_assoc place (length laid) more))
 
--- what stands behind the laid bytes
+-- what stands after the laid bytes
 pub drop_laid : (bytes : List ℕ) (place : ℕ) (laid : List ℕ) (count : ℕ) → length laid ≤ count → drop (place + count) (lay bytes place laid) ≡ drop (place + count) bytes
 drop_laid bytes place [] count past = refl
 drop_laid bytes place (byte ∷ more) count past =
@@ -52,7 +52,7 @@ lay_some_behind bytes place first second some more =
     rw (lay_parts (lay bytes place first) (place + length first) second more, front, back, lay_parts bytes place (first ++ second) (omega (arith, length-append first second)))
     (append_assoc (filled_to bytes place) first _ ∙ ap (λ t. filled_to bytes place ++ t) (sym (append_assoc first second _)))
 
--- a piece laid right behind another
+-- a piece laid right after another
 pub lay_behind : (bytes : List ℕ) (place : ℕ) (first second : List ℕ) → lay (lay bytes place first) (place + length first) second ≡ lay bytes place (first ++ second)
 lay_behind bytes place [] second = ap (λ p. lay bytes p second) (add-zero place)
 lay_behind bytes place (byte ∷ first) [] = ap (lay bytes place) (sym (append-nil (byte ∷ first)))

@@ -111,7 +111,7 @@ abbrev pub asks_end : FlatFile → FileCall → Bool
 asks_end file (Seek offset (pos (suc (suc zero)))) = is_live file.life && not (lacks file (Seek offset (pos (suc (suc zero)))))
 asks_end file _ = false
 
--- the same, with a seek from the end, which is asked before the target is tried
+-- whether the call may go to the raw: it does work, or is a seek from the end, of which the raw is asked before the target is tried
 abbrev pub reaches_raw : FlatFile → FileCall → Bool
 reaches_raw file call = does_work file call || asks_end file call
 
@@ -130,7 +130,7 @@ NotReadyYet file reply after = (reply ≡ NotReady) × (after ≡ file)
 abbrev pub ReadsPart : FlatFile → List ℕ → FileReply → FlatFile → Type 0
 ReadsPart file wanted reply after = NotReadyYet file reply after ⊎ ((part : List ℕ) × (reply ≡ Bytes part) × GivesPart file wanted part after)
 
--- the same by lines, of which the last may lack its end
+-- a short answer of lines, of which the last may lack its end, or none
 abbrev pub ReadsLinesPart : FlatFile → List ℕ → FileReply → FlatFile → Type 0
 ReadsLinesPart file wanted reply after = NotReadyYet file reply after ⊎ ((part : List ℕ) × (reply ≡ Lines (lines_of part)) × GivesPart file wanted part after)
 
@@ -149,7 +149,7 @@ abbrev pub WritesPart : FlatFile → Buffering → List ℕ → FileReply → Fl
 WritesPart file Unbuffered bytes reply after = NotReadyYet file reply after
 WritesPart file _ bytes reply after = TakesPart file bytes reply after
 
--- what may come of each call where the raw asked to wait
+-- what may come of each call where the raw would have blocked
 abbrev pub WaitedBy : FlatFile → FileCall → FileReply → FlatFile → Type 0
 WaitedBy file (Read size) reply after = ReadsPart file (first_of size (rest file)) reply after
 WaitedBy file (ReadLine limit) reply after = ReadsPart file (first_line Lf limit (rest file)) reply after
@@ -170,7 +170,7 @@ WaitedBy file _ reply after = ⊥
 abbrev pub Waited : FlatFile → FileCall → FileReply → FlatFile → Type 0
 Waited file call reply after = IsTrue (does_work file call) × WaitedBy file call reply after
 
--- Faults and want of memory.
+-- Faults and running out of memory.
 
 -- the bytes that a call would lay on
 abbrev pub payload : FileCall → List ℕ
@@ -199,15 +199,15 @@ FaultedBy file call after = FailsWriting file call life.Failed after
 abbrev pub Faulted : FlatFile → FileCall → FlatFile → Type 0
 Faulted file call after = IsTrue (reaches_raw file call) × FaultedBy file call after
 
--- a write fails for want of memory only after the raw took bytes of its argument
+-- a write fails when out of memory only after the raw took bytes of its argument
 abbrev pub FailsMidway : FlatFile → FileCall → FlatFile → Type 0
 FailsMidway file call after = (count : ℕ) × (0 < count) × (count ≤ length (payload call)) × Fails file life.Failed (lay file.bytes file.place (take count (payload call))) after
 
--- a read fails for want of memory only after bytes left the raw, so only where it has any to give
+-- a read fails when out of memory only after bytes left the raw, so only where it has any to give
 abbrev pub FailsReading : FlatFile → List ℕ → FlatFile → Type 0
 FailsReading file wanted after = (wanted ≢ []) × Fails file life.Failed file.bytes after
 
--- what want of memory may leave of each call: all as before; a read, after bytes left the raw, and a write, after
+-- what running out of memory may leave of each call: all as before; a read, after bytes left the raw, and a write, after
 -- the raw took some, fail
 abbrev pub StarvedBy : FlatFile → FileCall → FlatFile → Type 0
 StarvedBy file (Read size) after = (after ≡ file) ⊎ FailsReading file (first_of size (rest file)) after

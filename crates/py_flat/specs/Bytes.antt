@@ -5,11 +5,11 @@ use Rattle.std.specs.Prelude.{ℕ, ◌+◌, ◌-◌, List, [], ◌∷◌, ◌++�
 abbrev pub left_at : List ℕ → ℕ → List ℕ
 left_at bytes place = drop place bytes
 
--- the bytes up to a place, zeros behind their end where it lies past it
+-- the bytes up to a place, zeros after their end where it lies past it
 abbrev pub filled_to : List ℕ → ℕ → List ℕ
 filled_to bytes place = take place bytes ++ replicate (place - length bytes) 0
 
--- the bytes after a write at a place: zeros up to it, then what is written over what stands there; what lies behind stays. A write of nothing changes nothing
+-- the bytes after a write at a place: zeros up to it, then what is written over what stands there; what lies after stays. A write of nothing changes nothing
 abbrev pub lay : List ℕ → ℕ → List ℕ → List ℕ
 lay bytes place [] = bytes
 lay bytes place (byte ∷ more) = filled_to bytes place ++ (byte ∷ more) ++ drop (place + length (byte ∷ more)) bytes
@@ -23,6 +23,6 @@ abbrev pub first_of : Option ℕ → List ℕ → List ℕ
 first_of None bytes = bytes
 first_of (Some size) bytes = take size bytes
 
--- the same where a size of 0 asks for all, as a buffer of no size does
+-- the first bytes, at most as many as a size says; all for a size of 0, as a buffer of no size gives
 abbrev pub first_or_all : ℕ → List ℕ → List ℕ
 first_or_all size bytes = if nat_eq size 0 then bytes else take size bytes

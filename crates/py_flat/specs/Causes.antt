@@ -3,7 +3,7 @@
 use Rattle.std.specs.Prelude.{◌≡◌, ℕ, ◌+◌, ◌≤◌, min, Bool, nat_le}
 use Rattle.py_flat.specs.Limits.{greatest_count}
 
--- a count after so many more, of which it tells no more than it can hold
+-- a count after n more, of which it tells no more than it can hold
 abbrev pub counted : ℕ → ℕ → ℕ
 counted old more = min (old + more) greatest_count
 
@@ -11,7 +11,7 @@ counted old more = min (old + more) greatest_count
 abbrev pub Rose : ℕ → ℕ → Type 0
 Rose old new = counted old 1 ≤ new
 
--- the same as a test
+-- whether a count rose, as a test
 abbrev pub rose : ℕ → ℕ → Bool
 rose old new = nat_le (counted old 1) new
 

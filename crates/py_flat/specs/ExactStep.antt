@@ -1,4 +1,4 @@
--- The exact step: what an accepted call answers and leaves, where nothing waits, fails or lacks memory.
+-- The exact step: what an accepted call answers and leaves, where nothing waits, fails or runs out of memory.
 use Rattle.std.specs.Prelude.{ℕ, ◌+◌, Bool, true, false, ℤ, List, [], length, take, Option, Some, None, option_and_then, unwrap_or, if◌then◌else◌}
 use Rattle.py_flat.specs.declared.fault.IoFault.{IoFault}
 use Rattle.py_flat.specs.declared.life.Life.{Life}
@@ -17,7 +17,7 @@ is_closed _ = false
 abbrev pub rest : FlatFile → List ℕ
 rest file = left_at file.bytes file.place
 
--- after a read of so many bytes
+-- after a read of n bytes
 abbrev pub after_read : FlatFile → ℕ → FlatFile
 after_read file count = record file { place = file.place + count }
 
@@ -28,7 +28,7 @@ after_write file bytes = record file { bytes = lay file.bytes file.place bytes; 
 abbrev pub in_life : FlatFile → Life → FlatFile
 in_life file life = record file { life = life }
 
--- bytes that are given, and the place behind them
+-- bytes that are given, and the place after them
 abbrev pub gives : FlatFile → List ℕ → FileReply × FlatFile
 gives file bytes = (Bytes bytes, after_read file (length bytes))
 

@@ -13,7 +13,7 @@ can_all = record { readable = true; writable = true; seekable = true; appending 
 abbrev pub opened : Abilities → Buffering → List ℕ → FlatFile
 opened can buffering bytes = record { bytes = bytes; place = 0; can = can; buffering = buffering; life = life.Live }
 
--- the same file, moved to a place
+-- a file, moved to a place
 abbrev pub standing : FlatFile → ℕ → FlatFile
 standing file place = record file { place = place }
 

@@ -76,7 +76,7 @@ abbrev pub lines_within : Option ℕ → List ℕ → List (List ℕ)
 lines_within None bytes = lines_of bytes
 lines_within (Some hint) bytes = if nat_eq hint 0 then lines_of bytes else until_above hint 0 (lines_of bytes)
 
--- some lists, one behind the other
+-- some lists, one after the other
 abbrev pub joined : List (List ℕ) → List ℕ
 joined [] = []
 joined (part ∷ parts) = part ++ joined parts

@@ -36,7 +36,7 @@ impl Chars {
         Chars { text }
     }
 
-    /// A copy of a text, or `Err` for want of memory.
+    /// A copy of a text, or `Err` when out of memory.
     pub fn from_text(alloc: Global, text: &str) -> Result<Self, AllocError>
         ensures { IfOk result (λ c. c ≡ chars text.now) }
     {
@@ -60,7 +60,7 @@ impl Chars {
         self.text.as_str()
     }
 
-    /// A copy of the same characters, or `Err` for want of memory.
+    /// A copy of the same characters, or `Err` when out of memory.
     pub fn try_clone(&self, alloc: Global) -> Result<Self, AllocError>
         ensures { IfOk result (λ c. c ≡ self.now) }
     {

@@ -36,7 +36,7 @@ impl Data {
         Data { bytes }
     }
 
-    /// A copy of these bytes, or `Err` for want of memory.
+    /// A copy of these bytes, or `Err` when out of memory.
     pub fn from_slice(alloc: Global, bytes: &[u8]) -> Result<Self, AllocError>
         ensures { IfOk result (λ d. d ≡ bytes.now) }
     {
@@ -74,7 +74,7 @@ impl Data {
         self.bytes.is_empty()
     }
 
-    /// A copy of the same bytes, or `Err` for want of memory.
+    /// A copy of the same bytes, or `Err` when out of memory.
     pub fn try_clone(&self, alloc: Global) -> Result<Self, AllocError>
         ensures { IfOk result (λ d. d ≡ self.now) }
     {

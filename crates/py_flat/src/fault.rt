@@ -35,7 +35,7 @@ pub enum IoFault {
     /// The raw stream failed in this call.
     #[error("the raw stream failed")]
     RawFault,
-    /// The raw stream asked to wait in this call; `taken` bytes of the argument were taken.
+    /// The raw stream would have blocked in this call; `taken` bytes of the argument were taken.
     #[error("write could not complete without blocking ({taken} bytes taken)")]
     WouldBlock { taken: u64 },
     /// There was no memory left.
@@ -62,7 +62,7 @@ pub enum IoFault {
     /// No handler of decoding or encoding faults has that name.
     #[error("unknown error handler name")]
     UnknownHandler,
-    /// The mode of an opening is out of form.
+    /// The mode of an opening is malformed.
     #[error("{0}")]
     ParseMode(ParseModeError),
     /// An export of the buffer is out.
@@ -74,7 +74,7 @@ pub enum IoFault {
     /// There is no further line.
     #[error("EOF when reading a line")]
     EndOfFile,
-    /// The mode of a raw stream is out of form.
+    /// The mode of a raw stream is malformed.
     #[error("{0}")]
     ModeText(ModeError),
     /// The index in that dimension, the first that is so, is out of bounds.

@@ -29,7 +29,7 @@ pub fn a_settled_refusal_leaves_all()
     ensures { (before : FlatFile) (call : FileCall) (fault : IoFault) (after : FlatFile) → Settled before call (Refused fault) after → after ≡ before }
 {}
 
-/// Bytes laid on, and then more right behind them, are both laid on as one.
+/// Bytes laid on, and then more right after them, are both laid on as one.
 pub fn laying_behind_is_laying_both()
     ensures { (bytes : List ℕ) (place : ℕ) (first second : List ℕ) → lay (lay bytes place first) (place + length first) second ≡ lay bytes place (first ++ second) }
 {}
@@ -65,7 +65,7 @@ pub fn nothing_owed_is_the_raw()
     ensures { (raw flat : List ℕ) (owed : Owed) → owed.bytes ≡ [] → IsFlatOver raw owed flat → flat ≡ raw }
 {}
 
-/// The lines of some bytes, one behind the other, are all of them.
+/// The lines of some bytes, one after the other, are all of them.
 pub fn lines_joined_are_the_whole()
     ensures { (bytes : List ℕ) → joined (lines_of bytes) ≡ bytes }
 {}

@@ -1,7 +1,7 @@
 //! What every binary stream is compared with: the flat file, a list of bytes with a place.
 //!
 //! Here are the definitions (`specs/`): how bytes are laid on, the exact step of each call, what a wait, a
-//! fault or want of memory may leave, the bytes that are owed, and when a count of the outside rose. Beside
+//! fault or running out of memory may leave, the bytes that are owed, and when a count of the outside rose. Beside
 //! them are the small types that these speak of: the faults, the lives, and lists of bytes, characters and lines.
 //!
 //! The functions of `laws` and `examples` do nothing: their contracts are the laws of these definitions and what they

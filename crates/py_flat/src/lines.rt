@@ -59,7 +59,7 @@ impl Lines {
         self.lines.len()
     }
 
-    /// Adds a line at the end. At `Err`, for want of memory, the lines are unchanged.
+    /// Adds a line at the end. At `Err`, when out of memory, the lines are unchanged.
     pub fn push(&mut self, line: Data) -> Result<(), AllocError>
         ensures ok { OnOk result (self.new ≡ self.old ++ line ∷ []) }
         ensures err { OnErr result (self.new ≡ self.old) }
@@ -68,7 +68,7 @@ impl Lines {
         Ok(())
     }
 
-    /// A copy of the same lines, or `Err` for want of memory.
+    /// A copy of the same lines, or `Err` when out of memory.
     pub fn try_clone(&self, alloc: Global) -> Result<Self, AllocError>
         ensures { IfOk result (λ l. l ≡ self.now) }
     {

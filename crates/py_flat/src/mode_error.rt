@@ -16,7 +16,7 @@ pub enum ModeError {
 }
 
 impl ModeError {
-    /// The message of Python's raw files for a mode that is refused for this reason, or `AllocError` for want of memory.
+    /// The message of Python's raw files for a mode that is refused for this reason, or `AllocError` when out of memory.
     /// `mode` is the text that was refused; only the message of `Invalid` shows it.
     pub fn error_msg(&self, alloc: Global, mode: &str) -> Result<String, AllocError>
         ensures { IfOk result (λ message. string_bytes message ≡ raw_message_of self.now mode.now) }
@@ -49,7 +49,7 @@ pub enum ParseModeError {
 }
 
 impl ParseModeError {
-    /// The message of Python's `open` for a mode that is refused for this reason, or `AllocError` for want of memory.
+    /// The message of Python's `open` for a mode that is refused for this reason, or `AllocError` when out of memory.
     /// `mode` is the text that was refused; only the message of `InvalidMode` shows it.
     pub fn error_msg(&self, alloc: Global, mode: &str) -> Result<String, AllocError>
         ensures { IfOk result (λ message. string_bytes message ≡ message_of self.now mode.now) }

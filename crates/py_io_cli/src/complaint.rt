@@ -38,7 +38,7 @@ where
     }
 }
 
-/// Which word is out of form: the last of the shortest front of the words that is no form, once a command, a path and a mode are there.
+/// Which word is malformed: the last of the shortest front of the words that is no form, once a command, a path and a mode are there.
 fn words_complaint(alloc: Global, words: &[String]) -> Result<String, AllocError> {
     if words.len() < 3 {
         return String::from_str(
@@ -56,7 +56,7 @@ fn words_complaint(alloc: Global, words: &[String]) -> Result<String, AllocError
     String::from_str(alloc, "a word is not UTF-8")
 }
 
-/// Which line of a script is out of form, from 1 on.
+/// Which line of a script is malformed, from 1 on.
 fn script_complaint(alloc: Global, script: &[u8]) -> Result<String, AllocError> {
     for (index, line) in script.split(|byte| *byte == b'\n').enumerate() {
         let is_skipped = line.is_empty() || line.starts_with(b"#");

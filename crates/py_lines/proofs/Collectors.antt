@@ -1,4 +1,4 @@
--- What a collector has taken of a stream, and what of it is wanted whatever comes behind.
+-- What a collector has taken of a stream, and what of it is wanted whatever comes after.
 use Rattle.std.proofs.Common.{◌≡◌, ◌≢◌, ℕ, zero, suc, ◌+◌, ◌-◌, ◌<◌, ◌≤◌, Bool, true, false, nat_eq, nat_lt, List, [], ◌∷◌, ◌++◌, length, take, drop, Option, Some, None, refl, sym, ap, subst, inl, inr, ◌∙◌, arith, add-one, append_assoc, append-nil}
 use Rattle.std.specs.Option.{option_eq}
 use Rattle.std.proofs.lemmas.Bool.{cases_lt, eqb-true, ltb-true, ltb-false}
@@ -44,7 +44,7 @@ within_less (Some size) m n less fits = omega arith
 pub fits_less : (view : LineView) (m n : ℕ) → m ≤ n → FitsLimit view n → FitsLimit view m
 fits_less view m n less fits = within_less view.limit (length view.line + m) (length view.line + n) (omega arith) fits
 
--- where no line ends in a part that the limit allows, the first line goes on behind it
+-- where no line ends in a part that the limit allows, the first line goes on after it
 first_behind : (limit : Option ℕ) (part more : List ℕ) → has_end_after Lf false part ≡ false → WithinLimit limit (length part) → first_line Lf limit (part ++ more) ≡ part ++ first_line Lf (limit_left limit (length part)) more
 first_behind None part more none fits = line_behind false part more none
 first_behind (Some size) part more none fits =
@@ -81,7 +81,7 @@ module _ (limit : Option ℕ) (line : List ℕ) (stays : LineIsOpen (record { li
       ∙ (ap (λ (t : List ℕ). line ++ t) (first_of_none (limit_left limit (length line)))
       ∙ append-nil line))
 
-  -- it goes on behind what it has
+  -- it goes on after what it has
   open_goes_on : (more : List ℕ) → IsFrontOf line (first_line Lf limit (line ++ more))
   open_goes_on more = (first_line Lf (limit_left limit (length line)) more, sym (stays more))
 
@@ -141,7 +141,7 @@ line_is_full view new bytes used stays within none fits is full =
       alone = open_alone view.limit line opened;
     })
 
--- the line goes on behind the piece
+-- the line goes on after the piece
 line_goes_behind : (view : LineView) (bytes : List ℕ) → LineIsOpen view → has_end_after Lf false bytes ≡ false → FitsLimit view (length bytes) → limit_left view.limit (length (view.line ++ bytes)) ≢ Some 0 → LineIsOpen (took view bytes) × WantsMore (line_wanted view) view.line bytes (view.line ++ bytes)
 line_goes_behind view bytes stays none fits left =
     let line : List ℕ = view.line ++ bytes in
@@ -155,7 +155,7 @@ line_goes_behind view bytes stays none fits left =
       },
     )
 
--- a piece is used up where the limit leaves something behind it
+-- a piece is used up where the limit leaves something after it
 used_up : (view new : LineView) (bytes : List ℕ) (used : ℕ) → used ≤ length bytes → (used < length bytes → limit_left view.limit (length view.line + used) ≡ Some 0) → new ≡ took view (take used bytes) → limit_left new.limit (length new.line) ≢ Some 0 → used ≡ length bytes
 used_up view new bytes used within short is left =
     elim (cases_lt used (length bytes)) [
@@ -183,7 +183,7 @@ handed_all view lines is = ap joined is ∙ joined_with_part view.lines view.par
 pub handed_cut : (view : LinesView) (lines : List (List ℕ)) → AreCut view.lines view.part → lines ≡ all_lines view → lines_of (joined lines) ≡ lines
 handed_cut view lines cut is = ap lines_of (handed_all view lines is) ∙ (lines_of_cut view.lines view.part cut ∙ sym is)
 
--- a line that was ended stands behind the others
+-- a line that was ended stands after the others
 pub cut_pushed : (lines new : List (List ℕ)) (part line pushed : List ℕ) → AreCut lines part → IsOneLine line → pushed ≡ line → new ≡ lines ++ (pushed ∷ []) → part ≡ [] → AreCut new part
 cut_pushed lines new part line pushed cut one is behind none =
     subst (λ (t : List (List ℕ)). AreCut t part) (sym (behind ∙ ap (λ (l : List ℕ). lines ++ (l ∷ [])) is))

@@ -20,7 +20,7 @@ same_after : (after_cr : Bool) (ys : List ℕ) → line_after Lf after_cr ys ≡
 same_after after_cr [] = refl
 same_after after_cr (c ∷ cs) = refl
 
--- where no line ends in a list, the first line goes on behind it
+-- where no line ends in a list, the first line goes on after it
 pub line_behind : (after_cr : Bool) (xs ys : List ℕ) → has_end_after Lf after_cr xs ≡ false → line_after Lf after_cr (xs ++ ys) ≡ xs ++ line_after Lf false ys
 line_behind after_cr [] ys none = same_after after_cr ys
 line_behind after_cr (c ∷ cs) ys none = behind_at (nat_eq c lf) (has_end_after Lf (nat_eq c cr) cs) c (line_after Lf (nat_eq c cr) (cs ++ ys)) (cs ++ line_after Lf false ys) none (line_behind (nat_eq c cr) cs ys)
@@ -85,14 +85,14 @@ none_here : (here behind : Bool) → ((here || false) || behind) ≡ false → (
 none_here true behind none = absurd (cc)
 none_here false behind none = (refl, none)
 
--- bytes in which no line ends begin the first line of what comes behind
+-- bytes in which no line ends begin the first line of what comes after
 pub lines_onto : (after_cr : Bool) (part more : List ℕ) → has_end_after Lf after_cr part ≡ false → lines_of (part ++ more) ≡ onto part (lines_of more)
 lines_onto after_cr [] more none = refl
 lines_onto after_cr (c ∷ cs) more none =
     let parts = none_here (nat_eq c lf) (has_end_after Lf (nat_eq c cr) cs) none in
     line_onto c (cs ++ more) parts.0 ∙ ap (onto_first c) (lines_onto (nat_eq c cr) cs more parts.1)
 
--- and do so of a line that comes behind
+-- and do so of a line that comes after
 pub one_behind : (part rest : List ℕ) → has_end_after Lf false part ≡ false → IsOneLine rest → IsOneLine (part ++ rest)
 one_behind part rest none one = λ more.
     ap lines_of (append_assoc part rest more)
@@ -120,7 +120,7 @@ none_in_both : (after_cr : Bool) (xs ys : List ℕ) → has_end_after Lf after_c
 none_in_both after_cr [] ys first second = same_end_after after_cr ys ∙ second
 none_in_both after_cr (c ∷ cs) ys first second = none_both_at (nat_eq c lf) (has_end_after Lf (nat_eq c cr) cs) (has_end_after Lf (nat_eq c cr) (cs ++ ys)) first (λ none. none_in_both (nat_eq c cr) cs ys none second)
 
--- Lines that are ended, and a part behind them.
+-- Lines that are ended, and a part after them.
 
 pub joined_both : (lines more : List (List ℕ)) → joined (lines ++ more) ≡ joined lines ++ joined more
 joined_both [] more = refl
@@ -130,7 +130,7 @@ joined_both (line ∷ lines) more = ap (λ (t : List ℕ). line ++ t) (joined_bo
 pub joined_more : (lines : List (List ℕ)) (line : List ℕ) → joined (lines ++ (line ∷ [])) ≡ joined lines ++ line
 joined_more lines line = joined_both lines (line ∷ []) ∙ ap (λ (t : List ℕ). joined lines ++ t) (append-nil line)
 
--- a line behind lines that are ended
+-- a line after lines that are ended
 pub cut_more : (lines : List (List ℕ)) (line part : List ℕ) → AreCut lines part → IsOneLine line → AreCut (lines ++ (line ∷ [])) []
 cut_more lines line part cut one = record {
   ended = λ more.
@@ -248,7 +248,7 @@ within_is_cut (Some (suc hint)) bytes = subst (λ (lines : List (List ℕ)). lin
 pub lines_left : (hint : Option ℕ) (bytes : List ℕ) (lines : List (List ℕ)) → lines_of (joined lines) ≡ lines → joined (lines_within hint bytes) ≡ joined lines → lines_within hint bytes ≡ lines
 lines_left hint bytes lines cut same = sym (within_is_cut hint bytes) ∙ (ap lines_of same ∙ cut)
 
--- a part in which no line ends is a front of what a hint leaves with more behind it
+-- a part in which no line ends is a front of what a hint leaves with more after it
 first_goes_on : (hint total : ℕ) (line x : List ℕ) (lines : List (List ℕ)) → IsFrontOf line (joined (until_above hint total ((line ++ x) ∷ lines)))
 first_goes_on hint total line x lines =
     let rest : List ℕ = joined (if nat_lt hint (total + length (line ++ x)) then [] else until_above hint (total + length (line ++ x)) lines) in
@@ -293,7 +293,7 @@ within_alone (Some (suc hint)) left lines part cut leaves =
     ∙ (joined_both lines rest
     ∙ ap (λ (t : List ℕ). joined lines ++ t) (part_alone (suc hint) (length (joined lines)) part cut.unended))
 
--- lines that a hint allows, and a part, are what it leaves of them, and a front of what it leaves with more behind them
+-- lines that a hint allows, and a part, are what it leaves of them, and a front of what it leaves with more after them
 pub lines_go_on : (view : LinesView) → AreCut view.lines view.part → LinesAreOpen view → (more : List ℕ) → IsFrontOf (lines_collected view) (lines_wanted view (lines_collected view ++ more))
 lines_go_on view cut stays more = within_goes_on view.hint view.left view.lines view.part cut stays more
 

@@ -7,21 +7,21 @@ use Rattle.py_flat.specs.BinaryStep.{IsFrontOf}
 use Rattle.py_lines.specs.declared.collector.Collected.{Collected}
 use Rattle.py_lines.specs.declared.collector.Collected.TheVariants as collected
 
--- enough: the bytes used end what is wanted, whatever comes behind
+-- enough: the bytes used end what is wanted, whatever comes after
 pub record HasEnough (wanted : List ℕ → List ℕ) (before bytes : List ℕ) (used : ℕ) (after : List ℕ) : Type 0 where
   pub fits : used ≤ length bytes
   pub takes : after ≡ before ++ take used bytes
   pub exact : (more : List ℕ) → wanted (before ++ (bytes ++ more)) ≡ after
   pub alone : wanted after ≡ after
 
--- all was used, and what is wanted goes on behind it, by some of whatever comes there
+-- all was used, and what is wanted goes on after it, by some of whatever comes there
 pub record WantsMore (wanted : List ℕ → List ℕ) (before bytes after : List ℕ) : Type 0 where
   pub takes : after ≡ before ++ bytes
   pub goes_on : (more : List ℕ) → IsFrontOf after (wanted (after ++ more))
   pub asks : (more : List ℕ) → more ≢ [] → length after < length (wanted (after ++ more))
   pub alone : wanted after ≡ after
 
--- what a piece comes to: enough, not yet enough, or want of memory
+-- what a piece comes to: enough, not yet enough, or running out of memory
 abbrev pub CollectOutcome : (List ℕ → List ℕ) → List ℕ → List ℕ → Result Collected AllocError → List ℕ → Type 0
 CollectOutcome wanted before bytes (Ok (collected.Enough used)) after = HasEnough wanted before bytes used after
 CollectOutcome wanted before bytes (Ok collected.All) after = WantsMore wanted before bytes after
@@ -42,7 +42,7 @@ abbrev pub limit_left : Option ℕ → ℕ → Option ℕ
 limit_left None taken = None
 limit_left (Some limit) taken = Some (limit - taken)
 
--- the line isn't ended: its own end lies behind it
+-- the line isn't ended: its own end lies after it
 abbrev pub LineIsOpen : LineView → Type 0
 LineIsOpen view = (more : List ℕ) → first_line Lf view.limit (view.line ++ more) ≡ view.line ++ first_line Lf (limit_left view.limit (length view.line)) more
 
@@ -51,7 +51,7 @@ abbrev pub WithinLimit : Option ℕ → ℕ → Type 0
 WithinLimit None taken = Unit {0}
 WithinLimit (Some limit) taken = taken ≤ limit
 
--- so many bytes more fit
+-- n bytes more fit
 abbrev pub FitsLimit : LineView → ℕ → Type 0
 FitsLimit view more = WithinLimit view.limit (length view.line + more)
 
@@ -61,14 +61,14 @@ TakesBytes old bytes (Err none) new = new.limit ≡ old.limit
 
 -- Lines.
 
--- the lines that are ended; the bytes behind the last end; the hint; and how many bytes it still allows, if it bounds them
+-- the lines that are ended; the bytes after the last end; the hint; and how many bytes it still allows, if it bounds them
 pub record LinesView : Type 0 where
   pub lines : List (List ℕ)
   pub part : List ℕ
   pub hint : Option ℕ
   pub left : Option ℕ
 
--- lines, and bytes behind them as a line of their own
+-- lines, and bytes after them as a line of their own
 abbrev pub lines_and_part : List (List ℕ) → List ℕ → List (List ℕ)
 lines_and_part lines [] = lines
 lines_and_part lines part = lines ++ (part ∷ [])
@@ -84,16 +84,16 @@ lines_wanted view rest = joined (lines_within view.hint rest)
 abbrev pub all_lines : LinesView → List (List ℕ)
 all_lines view = lines_and_part view.lines view.part
 
--- one line with its end: what comes behind it begins another
+-- one line with its end: what comes after it begins another
 abbrev pub IsOneLine : List ℕ → Type 0
 IsOneLine line = (more : List ℕ) → lines_of (line ++ more) ≡ line ∷ lines_of more
 
--- each line is ended, and no line ends in the part behind them
+-- each line is ended, and no line ends in the part after them
 pub record AreCut (lines : List (List ℕ)) (part : List ℕ) : Type 0 where
   pub ended : (more : List ℕ) → lines_of (joined lines ++ more) ≡ lines ++ lines_of more
   pub unended : has_end_after Lf false part ≡ false
 
--- there is room for one line more, where bytes stand behind the last end
+-- there is room for one line more, where bytes stand after the last end
 abbrev pub HasRoomForPart : Vec (List ℕ) Global → List ℕ → Type 0
 HasRoomForPart lines part = part ≢ [] → length lines.items < vec_capacity lines
 
@@ -110,7 +110,7 @@ HintLeaves (Some (suc hint)) total left = (total ≤ suc hint) × (left ≡ Some
 abbrev pub LinesAreOpen : LinesView → Type 0
 LinesAreOpen view = HintLeaves view.hint (length (joined view.lines)) view.left
 
--- the hint allows no more: these lines are wanted, whatever comes behind
+-- the hint allows no more: these lines are wanted, whatever comes after
 abbrev pub AreEnough : LinesView → Type 0
 AreEnough view = (more : List ℕ) → lines_within view.hint (joined view.lines ++ more) ≡ view.lines
 
@@ -130,12 +130,12 @@ pub record EndsLine (old : LinesView) (rest : List ℕ) (enough : Bool) (new : L
   pub hint : new.hint ≡ old.hint
   pub enough_is : AreEnoughIf enough new
 
--- for want of memory the part may be lost
+-- when out of memory the part may be lost
 abbrev pub EndLineOutcome : LinesView → List ℕ → Result Bool AllocError → LinesView → Type 0
 EndLineOutcome old rest (Ok enough) new = EndsLine old rest enough new
 EndLineOutcome old rest (Err none) new = new.hint ≡ old.hint
 
--- bytes were put behind the part
+-- bytes were put after the part
 abbrev pub KeepOutcome : LinesView → List ℕ → Result (Unit {0}) AllocError → LinesView → Type 0
 KeepOutcome old bytes (Ok done) new = (new ≡ record old { part = old.part ++ bytes }) × AreCut new.lines new.part
 KeepOutcome old bytes (Err none) new = new ≡ old

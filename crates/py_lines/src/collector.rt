@@ -6,7 +6,7 @@ use std::alloc::AllocError;
 /// What a piece came to.
 #[derive(Clone, Copy, Debug, PartialEq, Eq)]
 pub enum Collected {
-    /// There are enough, with so many bytes of the piece, from its start. Those behind them weren't taken.
+    /// There are enough, with n bytes of the piece, from its start. Those after them weren't taken.
     Enough(usize),
     /// All of the piece was taken, and more is wanted.
     All,
@@ -25,11 +25,11 @@ pub trait Collector {
     /// It hasn't enough yet.
     ghost is_open: { Self → Type 0 };
 
-    /// Takes what it wants of a piece, the bytes of the stream behind those that it took.
+    /// Takes what it wants of a piece, the bytes of the stream after those that it took.
     ///
-    /// `Enough(used)`: with the first `used` bytes of the piece it has all that it wants, whatever comes behind them.
+    /// `Enough(used)`: with the first `used` bytes of the piece it has all that it wants, whatever comes after them.
     /// `All`: it took the whole piece, and has a front of what it wants; hand it the next piece, or take what it has where
-    /// the stream ends. For want of memory (`Err`) it wants what it wanted, but what it has isn't told: begin anew.
+    /// the stream ends. When out of memory (`Err`) it wants what it wanted, but what it has isn't told: begin anew.
     fn collect(&mut self, bytes: &[u8]) -> Result<Collected, AllocError>
         requires open { is_open self.old }
         ensures same { (rest : List ℕ) → wanted self.new rest ≡ wanted self.old rest }

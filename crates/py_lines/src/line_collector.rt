@@ -78,7 +78,7 @@ impl Collector for LineCollector {
 }
 
 impl LineCollector {
-    /// How many of so many bytes the limit allows.
+    /// How many of n bytes the limit allows.
     fn allowed(&self, count: usize) -> usize
         ensures within { result ≤ count }
         ensures fits { FitsLimit self.now result }
@@ -90,7 +90,7 @@ impl LineCollector {
         }
     }
 
-    /// Puts bytes behind the line, no more than the limit leaves.
+    /// Puts bytes after the line, no more than the limit leaves.
     fn take(&mut self, bytes: &[u8]) -> Result<(), AllocError>
         requires { FitsLimit self.old (length bytes.now) }
         ensures { TakesBytes self.old bytes.now result self.new }

@@ -12,7 +12,7 @@ use std::mem;
 /// Collects lines, each with its LF: those of a stream up to the one with which they have more bytes than a hint, all of
 /// them where none does. The last of the stream may lack its LF.
 ///
-/// Contracts see the lines that are ended, the bytes behind the last end, the hint, and how many bytes it still allows.
+/// Contracts see the lines that are ended, the bytes after the last end, the hint, and how many bytes it still allows.
 #[derive(Debug, Drop)]
 pub struct LinesCollector {
     alloc: Global,

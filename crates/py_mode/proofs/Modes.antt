@@ -6,7 +6,7 @@ use Rattle.py_mode.specs.declared.mode.Mode.{Mode}
 use Rattle.py_mode.specs.declared.letters.Letters.{Letters}
 use Rattle.py_mode.specs.Mode.{with_letter, mode_said, mode_from}
 
--- what a letter's answer and the letters behind it come to
+-- what a letter's answer and the letters after it come to
 abbrev mode_behind : List ℕ → Result Letters ParseModeError → Result Mode ParseModeError
 mode_behind letters (Ok more) = mode_from more letters
 mode_behind letters (Err why) = Err why
@@ -22,6 +22,6 @@ letter_taken said more letters at within taken = front_letter said letters at wi
 pub letter_refused : (said : Letters) (why : ParseModeError) (letters : List ℕ) (at : ℕ) → at < length letters → with_letter said (get_or letters at 0) ≡ Err why → mode_from said (drop at letters) ≡ Err why
 letter_refused said why letters at within refused = front_letter said letters at within ∙ ap (mode_behind (drop (at + 1) letters)) refused
 
--- behind the last letter
+-- after the last letter
 pub letters_end : (said : Letters) (letters : List ℕ) (at : ℕ) → length letters ≤ at → mode_from said (drop at letters) ≡ mode_said said
 letters_end said letters at past = ap (mode_from said) (drop_all at letters past)

@@ -42,25 +42,25 @@ is_text Bytes = false
 abbrev pub no_letters : Letters
 no_letters = record { file = None; encode = None; plus = false }
 
--- with a file letter: the first, the same again, or a second
+-- letters with a file letter more: it is the first, or the same again, or a second
 abbrev pub with_file : Letters → FileMode → Result Letters ParseModeError
 with_file said file = elim said.file as (λ _. Result Letters ParseModeError) [
   | None ↦ Ok (record said { file = Some file })
   | Some before ↦ Err (if nat_eq (letter_of before) (letter_of file) then InvalidMode else MultipleFile)
 ]
 
--- with t or b: the first of them, the same again, or both
+-- letters with t or b more: it is the first of the two, or the same again, or the other
 abbrev pub with_encode : Letters → EncodeMode → Result Letters ParseModeError
 with_encode said encode = elim said.encode as (λ _. Result Letters ParseModeError) [
   | None ↦ Ok (record said { encode = Some encode })
   | Some before ↦ Err (if nat_eq (encode_letter before) (encode_letter encode) then InvalidMode else MultipleEncode)
 ]
 
--- with a plus: the first, or a second
+-- letters with a plus more: it is the first, or a second
 abbrev pub with_plus : Letters → Result Letters ParseModeError
 with_plus said = if said.plus then Err InvalidMode else Ok (record said { plus = true })
 
--- with one more letter; every other character is none
+-- letters with one more; a character that is no letter of a mode is refused
 abbrev pub with_letter : Letters → ℕ → Result Letters ParseModeError
 with_letter said letter =
     if nat_eq letter letter_r then with_file said Read

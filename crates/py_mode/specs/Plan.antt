@@ -50,7 +50,7 @@ is_planned_text mode args = is_read mode.file && (are_planned_names args && is_s
 abbrev pub is_planned : Mode → OpenArgs → Bool
 is_planned mode args = not mode.plus && (not (is_text mode.encode) || is_planned_text mode args)
 
--- the plan of a mode that is taken apart: an argument that can't be had is refused before what isn't opened so far
+-- the plan of a mode that is parsed: an argument that can't be had is refused before what isn't opened so far
 abbrev pub plan_by : Result Mode ParseModeError → OpenArgs → Result OpenPlan IoFault
 plan_by (Err why) args = Err (ParseMode why)
 plan_by (Ok mode) args =
@@ -58,6 +58,6 @@ plan_by (Ok mode) args =
     else (if is_planned mode args then Ok (record { mode = mode; buffer_size = buffer_size_of args.buffering })
     else Err Unsupported)
 
--- a mode out of form is refused first, whatever the arguments are
+-- a malformed mode is refused first, whatever the arguments are
 abbrev pub plan_of : List ℕ → OpenArgs → Result OpenPlan IoFault
 plan_of mode args = plan_by (mode_of mode) args

@@ -55,7 +55,7 @@ pub fn a_text_is_read_through_a_buffer()
     ensures other_ends_of_lines { plan_of (codes "r") default_args ≡ Err fault.Unsupported }
 {}
 
-/// Whatever the arguments are, a mode out of form is refused as such.
+/// Whatever the arguments are, a malformed mode is refused as such.
 pub fn a_mode_is_refused_before_any_argument()
     ensures same_letter_twice { (args : OpenArgs) → plan_of (codes "rr") args ≡ Err (fault.ParseMode InvalidMode) }
     ensures text_and_bytes { (args : OpenArgs) → plan_of (codes "rtb") args ≡ Err (fault.ParseMode MultipleEncode) }

@@ -25,7 +25,7 @@ impl Letters {
         }
     }
 
-    /// With one more letter, or how it offends.
+    /// The letters with one more, or how it offends.
     pub(crate) fn with(self, letter: u8) -> Result<Self, ParseModeError>
         ensures { result ≡ with_letter self letter }
     {
@@ -41,7 +41,7 @@ impl Letters {
         }
     }
 
-    /// With a file letter: the first, or one that stood before, or another.
+    /// The letters with a file letter more: it is the first, or one that stood before, or another.
     fn with_file(self, file: FileMode) -> Result<Self, ParseModeError>
         ensures { result ≡ with_file self file }
     {
@@ -55,7 +55,7 @@ impl Letters {
         }
     }
 
-    /// With `t` or `b`: the first of them, or the one that stood before, or the other.
+    /// The letters with `t` or `b` more: it is the first of the two, or the one that stood before, or the other.
     fn with_encode(self, encode: EncodeMode) -> Result<Self, ParseModeError>
         ensures { result ≡ with_encode self encode }
     {
@@ -69,7 +69,7 @@ impl Letters {
         }
     }
 
-    /// With a plus.
+    /// The letters with a plus more.
     fn with_plus(self) -> Result<Self, ParseModeError>
         ensures { result ≡ with_plus self }
     {

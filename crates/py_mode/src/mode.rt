@@ -1,4 +1,4 @@
-//! The mode of an opening, taken apart.
+//! The mode of an opening, parsed.
 ghost use Rattle.std.specs.Prelude.{◌≡◌};
 ghost use Rattle.py_raw.specs.RawMode.{IsRawMode, raw_mode_text};
 ghost use Rattle.py_mode.specs.Mode.{mode_of, letter_of, is_read, is_text};

@@ -104,7 +104,7 @@ fn is_planned(mode: Mode, args: &OpenArgs) -> bool
 /// 0 asks for no buffer, 1 and any negative number for 8192 bytes, any greater number for as many bytes.
 ///
 /// It is refused, by the first of these that applies:
-/// - as `ParseMode` with the reason, where the mode is out of form (`Mode`'s `from_str`), whatever the arguments are;
+/// - as `ParseMode` with the reason, where the mode is malformed (`Mode`'s `from_str`), whatever the arguments are;
 /// - as `BadArgument`, also with a mode that isn't opened so far: where an encoding, errors or a newline argument is given
 ///   with a binary mode, whatever it says, also an empty text (Python's `open` takes no such argument in binary mode); and
 ///   where the chunk size is 0, in any mode, since a text that asks for no bytes comes to no end (this project's choice);

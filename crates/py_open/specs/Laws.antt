@@ -18,7 +18,7 @@ use Rattle.py_open.specs.Run.{Entry, IsRun, IsMarkedRun, IsHistory, calls_of, re
 
 -- Texts.
 
--- what a text answers and leaves where nothing waits, fails or lacks memory
+-- what a text answers and leaves where nothing waits, fails or runs out of memory
 abbrev pub exact_by : Bool → TextFile → Call → FileReply × TextFile
 exact_by true file call = (flag_seen (OfText file) call, file)
 exact_by false file call = text_exact file (text_call call)
@@ -35,7 +35,7 @@ abbrev pub exact_after : TextFile → List Call → TextFile
 exact_after file [] = file
 exact_after file (call ∷ calls) = exact_after (session_exact file call).1 calls
 
--- each reply is the exact one, and so is the text behind them
+-- each reply is the exact one, and so is the text after them
 pub record IsExact (before : TextFile) (calls : List Call) (replies : List FileReply) (after : SessionFile) : Type 0 where
   pub says : replies ≡ exact_replies before calls
   pub leaves : after ≡ OfText (exact_after before calls)
@@ -58,7 +58,7 @@ pub record RunsInTwo (before : SessionView) (calls more : List Call) (replies ot
 
 -- Completeness.
 
--- a question is answered by its flag; a call that isn't refused by an answer of its own, or for want of memory
+-- a question is answered by its flag; a call that isn't refused by an answer of its own, or when out of memory
 abbrev pub CompletesBy : Bool → SessionView → Call → FileReply → Type 0
 CompletesBy true before call reply = reply ≡ flag_seen (file_seen before) call
 CompletesBy false (TextSession before) call reply = text_refusal before.file (text_call call) ≡ None → text.IsAnswerTo (text_call call) reply

@@ -51,13 +51,13 @@ abbrev pub IsHistory : SessionFile → List Entry → SessionFile → Type 0
 IsHistory before [] after = after ≡ before
 IsHistory before (entry ∷ entries) after = (mid : SessionFile) × SessionStep before entry.call (said entry.reply) entry.waited entry.faulted mid × IsHistory mid entries after
 
--- no entry waited, faulted or lacked memory
+-- no entry waited, faulted or ran out of memory
 abbrev pub IsCalm : List Entry → Type 0
 IsCalm [] = Unit {0}
 IsCalm (entry ∷ entries) = (entry.waited ≡ false) × (entry.faulted ≡ false) × (said entry.reply ≢ Refused fault.NoMemory) × IsCalm entries
 
 -- each call settles: there is a file between any two calls, and each reply is what the file there answers where nothing waits,
--- fails or lacks memory
+-- fails or runs out of memory
 abbrev pub AllSettle : SessionFile → List Call → List FileReply → SessionFile → Type 0
 AllSettle before [] [] after = after ≡ before
 AllSettle before (call ∷ calls) (reply ∷ replies) after = (mid : SessionFile) × Settles before call reply mid × AllSettle mid calls replies after
@@ -69,7 +69,7 @@ abbrev pub all_said : List Reply → List FileReply
 all_said [] = []
 all_said (reply ∷ replies) = said reply ∷ all_said replies
 
--- no reply is for want of memory
+-- no reply says out of memory
 abbrev pub NoneLacksMemory : List FileReply → Type 0
 NoneLacksMemory [] = Unit {0}
 NoneLacksMemory (reply ∷ replies) = (reply ≢ Refused fault.NoMemory) × NoneLacksMemory replies
@@ -81,7 +81,7 @@ pub record IsSmooth (before after : Raw) : Type 0 where
 
 -- The opening, and the whole run.
 
--- why a planned opening is refused, and the raw that is handed back: as its session is, whose want of memory is also that of
+-- why a planned opening is refused, and the raw that is handed back: as its session is, whose running out of memory is also that of
 -- space for the replies
 abbrev pub RefusesOpening : Raw → OpenPlan → IoFault → Raw → Type 0
 RefusesOpening raw plan refused back = RefusesSession raw plan refused back

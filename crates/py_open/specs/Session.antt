@@ -93,7 +93,7 @@ pub record LeavesFile (before : FlatFile) (call : Call) (reply : FileReply) (wai
   pub step : BinaryStep before (file_call call) reply waited faulted file
   pub left : FileLeft file after
 
--- the same where nothing waits, fails or lacks memory
+-- what a flat file answers and leaves where nothing waits, fails or runs out of memory
 pub record SettlesFile (before : FlatFile) (call : Call) (reply : FileReply) (after : FlatFile) : Type 0 where
   pub file : FlatFile
   pub settled : Settled before (file_call call) reply file
@@ -125,7 +125,7 @@ SettlesBy false (OfText before) call reply (OfText after) = TextSettled before (
 SettlesBy false (OfBinary before) call reply (OfBinary after) = SettlesFile before call reply after
 SettlesBy false before call reply after = ⊥
 
--- what a call answers and leaves where nothing waits, fails or lacks memory: the exact answer, but that a single transfer gives
--- some front of what is asked
+-- what a call answers and leaves where nothing waits, fails or runs out of memory: the exact answer, but that a single transfer
+-- gives some front of what is asked
 abbrev pub Settles : SessionFile → Call → FileReply → SessionFile → Type 0
 Settles before call reply after = SettlesBy (is_getter (file_call call)) before call reply after

@@ -16,9 +16,9 @@ ghost use Rattle.py_open.specs.Opening.{OpensSession};
 ghost use Rattle.py_open.specs.Run.{Entry, IsRun, IsHistory, IsCalm, IsSmooth, NoneLacksMemory, AllSettle, all_said, calls_of, replies_of};
 ghost use Rattle.py_open.specs.Laws.{IsExact, HasHistory, RunsInTwo, RunsComplete, KeepsSettings, OnlyReads, IsInStep, PassesAll, HoldsFlat, StaysClosed};
 
-/// A run over a raw that tells, in which no count of the raw rose and no call lacked memory, is the model's: there is a flat file
-/// between any two calls, and each reply is what the file there answers, exactly, but that a single transfer gives some front of
-/// what it is asked for.
+/// A run over a raw that tells, in which no count of the raw rose and no call ran out of memory, is the model's: there is a flat
+/// file between any two calls, and each reply is what the file there answers, exactly, but that a single transfer gives some front
+/// of what it is asked for.
 pub fn a_smooth_run_settles()
     ensures { (before : SessionView) (calls : List Call) (replies : List Reply) (after : SessionView) → IsRun before calls replies after → IsTrue (tells (raw_of before)) → IsSmooth (raw_of before) (raw_of after) → NoneLacksMemory (all_said replies) → AllSettle (file_seen before) calls (all_said replies) (file_seen after) }
 {}
@@ -30,13 +30,13 @@ pub fn a_settled_text_is_exact()
 {}
 
 /// A run, over any raw, told or not, in which no count of the raw rose is complete: each call that the session doesn't refuse is
-/// answered by an answer of its own, or for want of memory.
+/// answered by an answer of its own, or when out of memory.
 pub fn a_smooth_run_is_complete()
     ensures { (before : SessionView) (calls : List Call) (replies : List Reply) (after : SessionView) → IsRun before calls replies after → IsSmooth (raw_of before) (raw_of after) → RunsComplete before calls replies after }
 {}
 
 /// A run may be looked at in two parts, anywhere: there is a session between them, to which the first leads and from which
-/// the second goes on. So what holds of a run up to its first wait, fault or want of memory holds whatever comes after.
+/// the second goes on. So what holds of a run up to its first wait, fault or running out of memory holds whatever comes after.
 pub fn a_run_splits_anywhere()
     ensures { (before : SessionView) (calls more : List Call) (replies others : List Reply) (after : SessionView) → length replies ≡ length calls → IsRun before (calls ++ more) (replies ++ others) after → RunsInTwo before calls more replies others after }
 {}
@@ -47,8 +47,8 @@ pub fn a_run_is_a_history()
     ensures { (before : SessionView) (calls : List Call) (replies : List Reply) (after : SessionView) → IsRun before calls replies after → IsTrue (tells (raw_of before)) → HasHistory before calls replies after }
 {}
 
-/// A history in which no entry waited, faulted or lacked memory is the model's: each reply settles. This needs no counts, only the
-/// marks of its entries.
+/// A history in which no entry waited, faulted or ran out of memory is the model's: each reply settles. This needs no counts, only
+/// the marks of its entries.
 pub fn a_calm_history_settles()
     ensures { (before : SessionFile) (entries : List Entry) (after : SessionFile) → IsHistory before entries after → IsCalm entries → AllSettle before (calls_of entries) (all_said (replies_of entries)) after }
 {}

@@ -46,7 +46,7 @@ pub fn run_session<R: RawStream>(
     }
 }
 
-/// The same as it is planned.
+/// Opens a session by a plan, and makes calls in order.
 pub(crate) fn run_opened<R: RawStream>(
     alloc: Global,
     raw: R,

@@ -29,7 +29,7 @@ pub(crate) enum Kind<R: RawStream> {
 /// written or appended to, with a buffer or without.
 ///
 /// It is seen as a text's state or as a stream: the flat file, the raw under it, its buffer's size, whether its last answer was
-/// short, and of a stream the bytes that it owes the raw. A session that is let go lets its raw go, and what it owes;
+/// short, and of a stream the bytes that it owes the raw. A session that is dropped drops its raw, and what it owes;
 /// `finish` hands both back.
 #[derive(Debug, Drop)]
 pub struct Session<R: RawStream> {
@@ -95,7 +95,7 @@ impl<R: RawStream> Session<R> {
     ///
     /// - Readings answer bytes, lines or characters, as many as asked for, or all that are left; fewer come only at the end.
     ///   `Read1`, `ReadInto1`, `Peek` and, without a buffer, `Read` of a size and `ReadInto` answer what one transfer of the raw gives,
-    ///   none only where none is asked for or left. Where the raw asked to wait, what came by then is answered, never nothing, or it is
+    ///   none only where none is asked for or left. Where the raw would have blocked, what came by then is answered, never nothing, or it is
     ///   `NotReady` with nothing taken; `short` says so.
     /// - `Write` answers how many bytes were taken: all, or without a buffer those of one transfer; `WriteLines` is `Done`.
     /// - `Seek` and `Tell` answer the place, `Flush` and `Close` `Done`. `Detach` answers what is unwritten, and its place; the
@@ -103,13 +103,13 @@ impl<R: RawStream> Session<R> {
     ///
     /// A write without a buffer that had to wait is `NotReady`, with nothing taken. Else a call is `Refused`:
     ///
-    /// - `Failed` once a fault or want of memory failed the session (a stream with a buffer may still be detached), `Closed` after a
+    /// - `Failed` once a fault or running out of memory failed the session (a stream with a buffer may still be detached), `Closed` after a
     ///   `Close` (which may be made again), `Detached` after a `Detach`; then `Unsupported` to a call that the session lacks,
     ///   `BadWhence`, `NegativeSeek` and `TooFar`: no raw is called, but for a `Seek` from the end, and all stays as it was.
     ///   `ChunkSize`, `Encoding` and `Errors` are `Unsupported` in every life of a stream of bytes.
     /// - `UnicodeDecodeError`, with byte places from the start of the stream, where a range that is no UTF-8 stands before the end of a
     ///   text's answer: place and life stay, and a shorter read gives the characters before it.
-    /// - `WouldBlock` where the raw asked to wait and the rest of a `Write` had no room in the buffer, or some of `WriteLines` wasn't
+    /// - `WouldBlock` where the raw would have blocked and the rest of a `Write` had no room in the buffer, or some of `WriteLines` wasn't
     ///   taken: the first `taken` bytes were. A `Seek`, `Flush`, `Close` or `Detach` that had to wait took none, and may be made again.
     /// - `RawFault` where the raw failed: the session is failed from then on; after `Close` it is closed.
     /// - `NoMemory`: place and life stay, and the call may be made again; but a `Read`, `ReadInto`, `ReadLine` or `ReadLines` of bytes
@@ -126,8 +126,8 @@ impl<R: RawStream> Session<R> {
         }
     }
 
-    /// Whether the raw asked to wait before the last call was answered in full: its answer is what came by then, or was taken, or
-    /// `NotReady`. It is false before the first call, and after a call that the wait didn't cut short.
+    /// Whether the raw would have blocked before the last call was answered in full: its answer is what came by then, or was taken,
+    /// or `NotReady`. It is false before the first call, and after a call that the wait didn't cut short.
     pub fn short(&self) -> bool
         ensures { result ≡ short_of self.now }
     {
@@ -137,8 +137,8 @@ impl<R: RawStream> Session<R> {
         }
     }
 
-    /// What became of the session: live from its opening on, failed by a fault of the raw or want of memory, closed by `Close`,
-    /// or detached by `Detach`.
+    /// What became of the session: live from its opening on, failed by a fault of the raw or running out of memory, closed by
+    /// `Close`, or detached by `Detach`.
     pub fn life(&self) -> Life
         ensures { result ≡ life_of self.now }
     {
@@ -152,7 +152,7 @@ impl<R: RawStream> Session<R> {
     /// none unwritten a stream's own place, and of a text the byte from which its place counts characters, where it was opened, or
     /// the end once all was read. No place comes where the raw can't seek, nor of a session that was detached, whose reply had what
     /// was unwritten. The raw is closed where a `Close` closed it, and else stands wherever its last call left it. What was read and
-    /// not taken is let go. It takes no memory.
+    /// not taken is dropped. It takes no memory.
     pub fn finish(self) -> Detached<R>
         ensures raw { R.shows result.raw ≡ raw_of self }
         ensures unwritten { result.unwritten.items ≡ owed_of self }

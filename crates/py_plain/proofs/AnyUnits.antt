@@ -64,9 +64,9 @@ unit_within_any Ascii order at_start (byte ∷ rest) = ascii_within byte (len re
 unit_within_any Utf16Le order at_start bytes = utf16_within false bytes
 unit_within_any Utf16Be order at_start bytes = utf16_within true bytes
 
--- What a front begins with stays so whatever comes behind it, unless its end cuts it.
+-- What a front begins with stays so whatever comes after it, unless its end cuts it.
 
--- what may come of bytes that are a unit, once more come behind them
+-- what may come of bytes that are a unit, once more come after them
 abbrev pub Stays : Read → Read → Type 0
 Stays (Cut n) longer = Unit {0}
 Stays unit longer = longer ≡ unit

@@ -12,12 +12,12 @@ use Rattle.py_plain.proofs.Spells.{least-grows, greatest-grows}
 abbrev pub continuing : ℕ → ℕ
 continuing bits = 128 + bits % 64
 
--- a character without its last six bits, so many times
+-- a character without its last six bits, n times
 abbrev pub upper : ℕ → ℕ → ℕ
 upper zero c = c
 upper (suc count) c = upper count c / 64
 
--- the last so many bytes of a character
+-- the last n bytes of a character
 abbrev pub tail : ℕ → ℕ → List ℕ
 tail zero c = []
 tail (suc count) c = continuing (upper count c) ∷ tail count c

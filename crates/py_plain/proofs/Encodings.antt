@@ -11,7 +11,7 @@ use Rattle.py_plain.specs.Writing.{WritesFirst, first_encoded}
 abbrev pub encoded_at : Encoding → EncodeTreatment → List ℕ → ℕ → Encoded
 encoded_at encoding treat text place = encoded_from encoding treat place 0 (drop place text)
 
--- passing over characters is to stand behind them
+-- passing over characters is to stand after them
 pub encoded-skip : (encoding : Encoding) (treat : EncodeTreatment) (place skip : ℕ) (text : List ℕ) → encoded_from encoding treat place skip text ≡ encoded_from encoding treat (place + skip) 0 (drop skip text)
 encoded-skip encoding treat place zero text = ap (λ p. encoded_from encoding treat p 0 text) (omega arith)
 encoded-skip encoding treat place (suc skip) [] = refl
@@ -53,7 +53,7 @@ writes-refused : (size : ℕ) (handled : EncodeHandled) (length : ℕ) (before a
 writes-refused size (Written bytes count) length before after writes = absurd (cc)
 writes-refused size RefusesRun length before after writes = (refl, cc, writes.0)
 
--- what the program has out behind what comes first goes on to the whole encoding
+-- what the program has out after what comes first goes on to the whole encoding
 pub GoesOn-written : (encoding : Encoding) (handler : Handler) (text : List ℕ) (place used : ℕ) (before after : List ℕ) → place < len text → 1 ≤ used → WritesFirst (run_length encoding (drop place text)) (first_encoded encoding (encode_treatment handler encoding) place (drop place text)) before after (seen.Written used) → GoesOn encoding handler text place before → GoesOn encoding handler text (place + used) after
 GoesOn-written encoding handler text place used before after inside some writes goes =
     let treat = encode_treatment handler encoding in

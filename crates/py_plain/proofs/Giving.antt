@@ -31,7 +31,7 @@ plain-refused encoding treat order bytes place size inside first =
     ap (λ bs. walk_from encoding treat true order place 0 bs) split
     ∙ ap (λ item. onto_walk place item (walk_from encoding treat true order (place + 1) (used_behind item) rest)) here
 
--- what the program has out behind an item goes on to the whole decoding
+-- what the program has out after an item goes on to the whole decoding
 pub Continues-given : (encoding : Encoding) (handler : Handler) (order : Order) (bytes : List ℕ) (from place used : ℕ) (before after : List ℕ) → place < len bytes → 1 ≤ used → Gives (first_item encoding (treatment handler encoding) true order place (drop place bytes)) before after (seen.Given used) → Continues encoding handler order bytes from place before → Continues encoding handler order bytes from (place + used) after
 Continues-given encoding handler order bytes from place used before after inside some gives continues =
     let given = Gives-given (first_item encoding (treatment handler encoding) true order place (drop place bytes)) used before after gives in

@@ -40,7 +40,7 @@ past encoding treat order place zero (byte ∷ tail) =
     let first : FirstItem = first_item encoding treat false order place (byte ∷ tail) in
     past_onto place first (walk_from encoding treat false order (place + 1) (used_behind first) tail) (past encoding treat order (place + 1) (used_behind first) tail)
 
--- behind a byte more, the decoding goes on as it did
+-- after a byte more, the decoding goes on as it did
 on_behind : (encoding : Encoding) (treat : Treatment) (last : Bool) (order : Order) (place byte : ℕ) (tail rest : List ℕ) (items : List Item) (ending : Ending) → IsPast (place + 1) ending → on_from encoding treat last order place (byte ∷ tail) rest (record { items = items; ending = ending }) ≡ on_from encoding treat last order (place + 1) tail rest (record { items = items; ending = ending })
 on_behind encoding treat last order place byte tail rest items AtEnd past =
     let far : place + suc (len tail) ≡ place + 1 + len tail = omega arith in
@@ -52,7 +52,7 @@ on_behind encoding treat last order place byte tail rest items (AtCut start) pas
 
 -- The law of two pieces.
 
--- what is to be shown of a front behind the first `skip` of its bytes
+-- what is to be shown of a front after the first `skip` of its bytes
 abbrev IsOne : Encoding → Treatment → Bool → Order → (front rest : List ℕ) → (place skip : ℕ) → Type 0
 IsOne encoding treat last order front rest place skip = on_from encoding treat last order place front rest (walk_from encoding treat false order place skip front) ≡ walk_from encoding treat last order place skip (front ++ rest)
 

@@ -37,7 +37,7 @@ is_ascii-true : (byte : ℕ) → is_ascii byte ≡ true → byte < 0x80
 unfolding is_ascii
 is_ascii-true byte is = ltb-true byte 0x80 is
 
--- the bytes of a character are one unit, whatever stands behind them
+-- the bytes of a character are one unit, whatever stands after them
 pub own_unit : (encoding : Encoding) (order : Order) (at_start : Bool) (c : ℕ) (bytes rest : List ℕ) → IsScalar c → own_bytes encoding c ≡ Some bytes → first_unit encoding order at_start (bytes ++ rest) ≡ Some (Character c (len bytes))
 own_unit Utf8 order at_start c bytes rest scalar is = unit_some_of utf8_unit c rest (encode_utf8 c) bytes is (one_unit c rest scalar)
 own_unit Latin1 order at_start c bytes rest scalar is = unit_if latin1_unit c rest bytes (nat_lt c 0x100) is (λ below. refl)

@@ -37,7 +37,7 @@ character_before c place n text walk between behind is before = record {
   ending = ap (λ (w : Walk). w.ending) is ∙ before.ending;
 }
 
--- the bytes that a text is written as are read as that text, and then what stands behind them is read
+-- the bytes that a text is written as are read as that text, and then what stands after them is read
 pub walk-own : (encoding : Encoding) (treat : Treatment) (last : Bool) (order : Order) (place : ℕ) (text bytes rest : List ℕ) → All IsScalar text → text_bytes encoding text ≡ Some bytes → IsTextBefore text (walk_from encoding treat last order place 0 (bytes ++ rest)) (walk_from encoding treat last order (place + len bytes) 0 rest)
 walk-own encoding treat last order place [] bytes rest scalars is =
     let none : [] ≡ bytes = cc in
@@ -60,7 +60,7 @@ walk-own encoding treat last order place (c ∷ text) bytes rest scalars is =
     subst (λ (p : ℕ). IsTextBefore (c ∷ text) (walk_from encoding treat last order place 0 (bytes ++ rest)) (walk_from encoding treat last order p 0 rest)) far
     (character_before c place (len own) text _ _ _ first further)
 
--- where nothing stands behind them they are read as that text, to the end
+-- where nothing stands after them they are read as that text, to the end
 pub walk-text : (encoding : Encoding) (treat : Treatment) (last : Bool) (order : Order) (place : ℕ) (text bytes : List ℕ) → All IsScalar text → text_bytes encoding text ≡ Some bytes → (characters_of (walk_from encoding treat last order place 0 bytes).items ≡ text) × ((walk_from encoding treat last order place 0 bytes).ending ≡ AtEnd)
 walk-text encoding treat last order place text bytes scalars is =
     let before = walk-own encoding treat last order place text bytes [] scalars is in

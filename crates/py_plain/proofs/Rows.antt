@@ -25,7 +25,7 @@ unfolding is_within
 is_within-false low high byte is =
     elim (and_cases _ _ is) [ inl below ↦ inl (leb-false low byte below) | inr above ↦ inr (leb-false byte high above) ]
 
--- a byte outside a row is looked for in the rows behind it
+-- a byte outside a row is looked for in the rows after it
 past : (low high byte : ℕ) (row others : Lead) → (byte < low) ⊎ (high < byte) → cond (is_within low high byte) row others ≡ others
 past low high byte row others out =
     elim out [ inl below ↦ cond-false _ row others (is_within-below low high byte below) | inr above ↦ cond-false _ row others (is_within-above low high byte above) ]

@@ -31,7 +31,7 @@ Spells-next follow low high bits byte spells from to = record {
       elim spells.scalars [ inl below ↦ inl (omega arith) | inr above ↦ inr (omega arith, omega arith) ];
 }
 
--- what stands behind the first byte: the byte fits, the joined bits are a number below all that UTF-8 can spell, and what is left still spells
+-- what stands after the first byte: the byte fits, the joined bits are a number below all that UTF-8 can spell, and what is left still spells
 pub Spells-joined : (follow low high bits byte : ℕ) → Spells follow low high bits → 0 < follow → is_within low high byte ≡ true → (0x80 ≤ byte) × (bits * 64 + (byte - 0x80) < 0x110000) × Spells (follow - 1) 0x80 0xBF (bits * 64 + (byte - 0x80))
 Spells-joined zero low high bits byte spells more is = absurd (omega arith)
 Spells-joined (suc follow) low high bits byte spells more is =

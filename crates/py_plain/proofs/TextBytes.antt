@@ -21,7 +21,7 @@ pub joined-last : (a : Option (List ℕ)) → joined_bytes a (Some []) ≡ a
 joined-last None = refl
 joined-last (Some bytes) = ap Some (append-nil bytes)
 
--- the bytes of one text behind another
+-- the bytes of one text after another
 pub text_bytes-append : (encoding : Encoding) (text more : List ℕ) → text_bytes encoding (text ++ more) ≡ joined_bytes (text_bytes encoding text) (text_bytes encoding more)
 text_bytes-append encoding [] more = sym (joined-first (text_bytes encoding more))
 text_bytes-append encoding (c ∷ text) more =
@@ -36,7 +36,7 @@ pub Writes-no : (o : Option (List ℕ)) (before after : List ℕ) → Writes o b
 Writes-no None before after writes = (refl, writes.0)
 Writes-no (Some bytes) before after writes = absurd (cc)
 
--- a character's bytes stand behind those of the characters before it
+-- a character's bytes stand after those of the characters before it
 pub Writes-more : (encoding : Encoding) (text : List ℕ) (at c : ℕ) (old now after : List ℕ) → at < length text → c ≡ get_or text at c → Writes (text_bytes encoding (take at text)) old now true → Writes (own_bytes encoding c) now after true → Writes (text_bytes encoding (take (at + 1) text)) old after true
 Writes-more encoding text at c old now after inside is front here =
     let done = Writes-yes (text_bytes encoding (take at text)) old now front in

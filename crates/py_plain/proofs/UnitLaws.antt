@@ -133,7 +133,7 @@ spelled-4 c rest from below =
       ]
     ]
 
--- the bytes of a character are one unit, whatever stands behind them
+-- the bytes of a character are one unit, whatever stands after them
 pub one_unit : (c : ℕ) (rest : List ℕ) → IsScalar c → utf8_unit (encode_utf8 c ++ rest) ≡ Some (Character c (len (encode_utf8 c)))
 one_unit c rest scalar =
     let ranges = scalar_cases c scalar in

@@ -10,20 +10,20 @@ use Rattle.py_plain.specs.Handlers.{Treatment, treatment}
 use Rattle.py_plain.specs.Items.{Given, item_of, first_item, used_behind, onto_walk, walk_from, plain, characters_of, refusal_of}
 use Rattle.py_plain.proofs.AnyUnits.{unit_within_any}
 
--- passing over bytes is to stand behind them
+-- passing over bytes is to stand after them
 pub walk-skip : (encoding : Encoding) (treat : Treatment) (last : Bool) (order : Order) (place skip : ℕ) (bytes : List ℕ) → walk_from encoding treat last order place skip bytes ≡ walk_from encoding treat last order (place + skip) 0 (drop skip bytes)
 walk-skip encoding treat last order place zero bytes = ap (λ p. walk_from encoding treat last order p 0 bytes) (omega arith)
 walk-skip encoding treat last order place (suc skip) [] = refl
 walk-skip encoding treat last order place (suc skip) (byte ∷ rest) =
     walk-skip encoding treat last order (place + 1) skip rest ∙ ap (λ p. walk_from encoding treat last order p 0 (drop skip rest)) (omega arith)
 
--- a walk over bytes whose first item is characters goes on behind the bytes of that item
+-- a walk over bytes whose first item is characters goes on after the bytes of that item
 pub walk-given : (encoding : Encoding) (treat : Treatment) (last : Bool) (order : Order) (place : ℕ) (byte : ℕ) (rest cs : List ℕ) (used : ℕ) → 1 ≤ used → first_item encoding treat last order place (byte ∷ rest) ≡ Given cs used → walk_from encoding treat last order place 0 (byte ∷ rest) ≡ onto_walk place (Given cs used) (walk_from encoding treat last order (place + used) 0 (drop (used - 1) rest))
 walk-given encoding treat last order place byte rest cs used some first =
     ap (λ item. onto_walk place item (walk_from encoding treat last order (place + 1) (used_behind item) rest)) first
     ∙ ap (λ w. onto_walk place (Given cs used) w) (walk-skip encoding treat last order (place + 1) (used - 1) rest ∙ ap (λ p. walk_from encoding treat last order p 0 (drop (used - 1) rest)) (omega arith))
 
--- a walk over bytes that begin with a character goes on behind it
+-- a walk over bytes that begin with a character goes on after it
 pub walk-character : (encoding : Encoding) (treat : Treatment) (last : Bool) (order : Order) (place : ℕ) (bytes : List ℕ) (c n : ℕ) → first_unit encoding order (nat_eq place 0) bytes ≡ Some (Character c n) → walk_from encoding treat last order place 0 bytes ≡ onto_walk place (Given (c ∷ []) n) (walk_from encoding treat last order (place + n) 0 (drop n bytes))
 walk-character encoding treat last order place [] c n is =
     let within = subst (λ unit. IfSome unit (λ u. IsWithin u 0)) is (unit_within_any encoding order (nat_eq place 0) []) in

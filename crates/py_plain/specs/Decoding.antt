@@ -5,12 +5,13 @@ use Rattle.py_plain.specs.Items.{FirstItem, Given, RefusedRange, Unfinished}
 use Rattle.py_plain.specs.declared.decoded.FirstItem.{FirstItem as Seen}
 use Rattle.py_plain.specs.declared.decoded.FirstItem.TheVariants as seen
 
--- the characters that a handler gives stand behind those of before, and the answer is the bytes that it used; or nothing is given, and there is no answer
+-- the characters that a handler gives stand after those of before, and the answer is the bytes that it used; or nothing is given, and there is no answer
 abbrev pub Treats : Handled → (before after : List ℕ) → Option ℕ → Type 0
 Treats (Replaced characters used) before after answer = (after ≡ before ++ characters) × (answer ≡ Some used)
 Treats Refuses before after answer = (after ≡ before) × (answer ≡ None)
 
--- the same of the first item; where nothing comes behind the bytes, none is unfinished
+-- the characters of the first item are appended, and the bytes that it used answered; where nothing comes after the bytes, no item
+-- is unfinished
 abbrev pub Gives : FirstItem → (before after : List ℕ) → Seen → Type 0
 Gives (Given characters used) before after answer = (after ≡ before ++ characters) × (answer ≡ seen.Given used)
 Gives (RefusedRange length) before after answer = (after ≡ before) × (answer ≡ seen.RefusedRange length)

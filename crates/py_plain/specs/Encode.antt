@@ -102,7 +102,7 @@ abbrev pub first_written : EncodeTreatment → ℕ → List ℕ → ℕ → Opti
 first_written treat place rest size (Some bytes) = Written bytes 1
 first_written treat place rest size None = treat place rest size
 
--- the characters behind the first that it uses
+-- the characters after the first that it uses
 abbrev pub characters_behind : EncodeHandled → ℕ
 characters_behind (Written bytes used) = used - 1
 characters_behind RefusesRun = 0
@@ -111,7 +111,7 @@ abbrev pub onto_encoded : (place size : ℕ) → EncodeHandled → Encoded → E
 onto_encoded place size (Written bytes used) behind = record { bytes = bytes ++ behind.bytes; ending = behind.ending }
 onto_encoded place size RefusesRun behind = record { bytes = []; ending = AtRun place (place + size) }
 
--- the encoding of the characters that stand at a place, behind the first `skip` of them
+-- the encoding of the characters that stand at a place, after the first `skip` of them
 abbrev pub encoded_from : Encoding → EncodeTreatment → (place skip : ℕ) → List ℕ → Encoded
 encoded_from encoding treat place skip [] = record { bytes = []; ending = AllWritten }
 encoded_from encoding treat place (suc skip) (c ∷ cs) = encoded_from encoding treat (place + 1) skip cs

@@ -5,7 +5,7 @@ use Rattle.std.specs.Prelude.{ℕ, zero, suc, ◌+◌, ◌/◌, ◌%◌, nat_lt,
 abbrev pub hex_digit : ℕ → ℕ
 hex_digit value = if nat_lt value 10 then 0x30 + value else 0x57 + value
 
--- the last so many hexadecimal digits of a number
+-- the last n hexadecimal digits of a number
 abbrev pub hex_digits : ℕ → ℕ → List ℕ
 hex_digits zero value = []
 hex_digits (suc count) value = hex_digits count (value / 16) ++ hex_digit (value % 16) ∷ []
@@ -30,7 +30,7 @@ surrogate_escape byte = codes "#" ++ decimal (0xDC00 + byte)
 abbrev pub surrogate_pass : ℕ → List ℕ
 surrogate_pass surrogate = codes "\\x" ++ hex_digits 4 surrogate
 
--- each of some numbers spelled, one behind the other
+-- each of some numbers spelled, one after the other
 abbrev pub each_spelled : (ℕ → List ℕ) → List ℕ → List ℕ
 each_spelled spell [] = []
 each_spelled spell (value ∷ values) = spell value ++ each_spelled spell values

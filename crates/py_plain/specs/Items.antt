@@ -12,7 +12,7 @@ pub record Item : Type 0 where
   pub length : ℕ
   pub characters : List ℕ
 
--- what comes first: characters for so many bytes; a range that is refused; or bytes that may still become a character
+-- what comes first: characters for n bytes; a range that is refused; or bytes that may still become a character
 pub data FirstItem : Type 0 where
   Given : (characters : List ℕ) (used : ℕ) → FirstItem
   RefusedRange : (length : ℕ) → FirstItem
@@ -32,7 +32,7 @@ item_of treat last place rest (Some (Cut length)) = if last then item_handled le
 abbrev pub first_item : Encoding → Treatment → Bool → Order → ℕ → List ℕ → FirstItem
 first_item encoding treat last order place rest = item_of treat last place rest (first_unit encoding order (nat_eq place 0) rest)
 
--- the bytes behind the first that the item uses
+-- the bytes after the first that the item uses
 abbrev pub used_behind : FirstItem → ℕ
 used_behind (Given characters used) = used - 1
 used_behind (RefusedRange length) = 0
@@ -54,7 +54,7 @@ onto_walk place (Given characters used) walk = record { items = record { start =
 onto_walk place (RefusedRange length) walk = record { items = []; ending = AtRange place (place + length) }
 onto_walk place Unfinished walk = record { items = []; ending = AtCut place }
 
--- the items of the bytes that stand at a place, behind the first `skip` of them
+-- the items of the bytes that stand at a place, after the first `skip` of them
 abbrev pub walk_from : Encoding → Treatment → Bool → Order → (place skip : ℕ) → List ℕ → Walk
 walk_from encoding treat last order place skip [] = record { items = []; ending = AtEnd }
 walk_from encoding treat last order place (suc skip) (byte ∷ rest) = walk_from encoding treat last order (place + 1) skip rest
@@ -73,6 +73,6 @@ refusal_of AtEnd = None
 refusal_of (AtRange start end) = Some (start, end)
 refusal_of (AtCut start) = None
 
--- the plain decoding: the items of all bytes from a place on, with nothing behind them
+-- the plain decoding: the items of all bytes from a place on, with nothing after them
 abbrev pub plain : Encoding → Treatment → Order → List ℕ → ℕ → Walk
 plain encoding treat order bytes place = walk_from encoding treat true order place 0 (drop place bytes)

@@ -16,7 +16,7 @@ line_end rule.Crlf = CrLf
 abbrev pub released : Bool → List ℕ
 released held = if held then lf ∷ [] else []
 
--- what a character gives under the universal rule: a CR is held; an LF behind a held CR is one with it
+-- what a character gives under the universal rule: a CR is held; an LF after a held CR is one with it
 abbrev pub passes : Bool → ℕ → List ℕ
 passes held c = if nat_eq c cr || (held && nat_eq c lf) then [] else c ∷ []
 
@@ -26,7 +26,7 @@ abbrev pub universal : Bool → List ℕ → List ℕ
 universal held [] = []
 universal held (c ∷ cs) = released held ++ (passes held c ++ universal (nat_eq c cr) cs)
 
--- whether a CR is held behind some characters
+-- whether a CR is held after some characters
 abbrev pub ends_held : Bool → List ℕ → Bool
 ends_held held [] = held
 ends_held held (c ∷ cs) = ends_held (nat_eq c cr) cs
@@ -40,7 +40,7 @@ abbrev pub holds_after : Newlines → Bool → List ℕ → Bool
 holds_after rule.Universal held cs = ends_held held cs
 holds_after _ held cs = false
 
--- what a rule gives of some characters behind which nothing comes: the end, and a refusal, release a held CR
+-- what a rule gives of some characters after which nothing comes: the end, and a refusal, release a held CR
 abbrev pub read_all : Newlines → Bool → List ℕ → List ℕ
 read_all rule held cs = read_so_far rule held cs ++ released (holds_after rule held cs)
 

@@ -18,7 +18,7 @@ walk_at encoding treat last order place bytes = walk_from encoding treat last or
 abbrev pub items_before : List Item → Walk → Walk
 items_before items walk = record { items = items ++ walk.items; ending = walk.ending }
 
--- where the decoding of a front goes on: behind it, or at the sequence that its end cuts
+-- where the decoding of a front goes on: after it, or at the sequence that its end cuts
 abbrev pub place_behind : ℕ → List ℕ → Ending → ℕ
 place_behind place front AtEnd = place + length front
 place_behind place front (AtCut start) = start
@@ -30,7 +30,7 @@ unused place front AtEnd = []
 unused place front (AtCut start) = drop (start - place) front
 unused place front (AtRange start end) = []
 
--- a refused range ends a decoding, whatever comes behind it
+-- a refused range ends a decoding, whatever comes after it
 abbrev pub unless_refused : Ending → Walk → Walk
 unless_refused (AtRange start end) walk = record { items = []; ending = AtRange start end }
 unless_refused _ walk = walk
@@ -41,7 +41,7 @@ in_two encoding treat last order place front rest =
     let first = walk_at encoding treat false order place front in
     items_before first.items (unless_refused first.ending (walk_at encoding treat last order (place_behind place front first.ending) (unused place front first.ending ++ rest)))
 
--- the decoding of any number of pieces behind the bytes that were kept, and of the last one
+-- the decoding of any number of pieces after the bytes that were kept, and of the last one
 abbrev pub in_pieces : Encoding → Treatment → Order → ℕ → List ℕ → List (List ℕ) → List ℕ → Walk
 in_pieces encoding treat order place kept [] final = walk_at encoding treat true order place (kept ++ final)
 in_pieces encoding treat order place kept (piece ∷ pieces) final =

@@ -57,7 +57,7 @@ abbrev pub refused_or : Option IoFault → List ℕ → Result (List ℕ) IoFaul
 refused_or (Some fault) characters = Err fault
 refused_or None characters = Ok characters
 
--- the answer is the refusal or else the characters, but for want of memory
+-- the answer is the refusal or else the characters, or out of memory
 abbrev pub IsAnswer : Result (List ℕ) IoFault → Option IoFault → List ℕ → Type 0
 IsAnswer answer refusal characters = (answer ≡ Err fault.NoMemory) ⊎ (answer ≡ refused_or refusal characters)
 

@@ -144,7 +144,7 @@ life_after_fault call = life.Failed
 abbrev pub TextFaulted : TextFile → TextCall → TextFile → Type 0
 TextFaulted file call after = IsTrue (text_reaches_raw file call) × TextFails file (life_after_fault call) after
 
--- want of memory leaves all as before
+-- running out of memory leaves all as before
 abbrev pub TextStarved : TextFile → TextCall → TextFile → Type 0
 TextStarved file call after = IsTrue (text_reaches_raw file call) × (after ≡ file)
 

@@ -4,7 +4,7 @@ use Rattle.std.specs.List.{All}
 use Rattle.py_plain.specs.declared.unit.Unit.{Unit}
 use Rattle.py_plain.specs.declared.unit.Unit.TheVariants.{Character, Malformed, Cut}
 
--- a unit of UTF-8 of so many bytes that are left: a character has at most four, a refused range at most three, and a cut one is all that is left
+-- a unit of UTF-8 of n bytes that are left: a character has at most four, a refused range at most three, and a cut one is all that is left
 abbrev pub IsUtf8Long : Unit → ℕ → Type 0
 IsUtf8Long (Character c n) left = (1 ≤ n) × (n ≤ 4) × (n ≤ left)
 IsUtf8Long (Malformed n) left = (1 ≤ n) × (n ≤ 3) × (n ≤ left)

@@ -22,6 +22,6 @@ first_unit Ascii order at_start bytes = ascii_unit bytes
 first_unit Utf16Le order at_start bytes = utf16_unit false bytes
 first_unit Utf16Be order at_start bytes = utf16_unit true bytes
 
--- the order that holds behind a unit
+-- the order that holds after a unit
 abbrev pub order_after : Encoding → Order → Option Unit → Order
 order_after encoding order unit = order

@@ -20,7 +20,7 @@ is_low unit = is_within 0xDC00 0xDFFF unit
 abbrev pub joined : ℕ → ℕ → ℕ
 joined high low = 0x10000 + (high - 0xD800) * 0x400 + (low - 0xDC00)
 
--- behind the first of a pair: its second, or the end within it, or an unpaired unit
+-- after the first of a pair: its second, or the end within it, or an unpaired unit
 abbrev pub behind_high : Bool → ℕ → List ℕ → Unit
 behind_high big high [] = Cut 2
 behind_high big high (first ∷ []) = Cut 3

@@ -8,7 +8,7 @@ use Rattle.py_plain.specs.declared.unit.Unit.TheVariants.{Character, Malformed, 
 pub data Lead : Type 0 where
   -- it is a character by itself
   Alone : Lead
-  -- so many bytes follow, the first of them from `low` to `high`; `bits` are what it adds to the character
+  -- n bytes follow, the first of them from `low` to `high`; `bits` are what it adds to the character
   Leads : (follow low high bits : ℕ) → Lead
   -- no well-formed sequence begins with it
   Never : Lead
@@ -31,7 +31,7 @@ lead byte =
     else if is_within 0xF4 0xF4 byte then Leads 3 0x80 0x8F (byte - 0xF0)
     else Never
 
--- behind `length` bytes of a sequence whose character is `bits` so far, `follow` more must stand, the next of them
+-- after `length` bytes of a sequence whose character is `bits` so far, `follow` more must stand, the next of them
 -- from `low` to `high`
 abbrev pub sequence : (length follow low high bits : ℕ) → List ℕ → Unit
 sequence length zero low high bits rest = Character bits length

@@ -5,12 +5,12 @@ use Rattle.py_plain.specs.Encode.{EncodeHandled, Written, RefusesRun, EncodeTrea
 use Rattle.py_plain.specs.declared.plain_encode.FirstWritten.{FirstWritten}
 use Rattle.py_plain.specs.declared.plain_encode.FirstWritten.TheVariants as seen
 
--- where there are numbers, they stand behind those of before, and the answer is yes; else nothing is written
+-- where there are numbers, they stand after those of before, and the answer is yes; else nothing is written
 abbrev pub Writes : Option (List ℕ) → (before after : List ℕ) → Bool → Type 0
 Writes (Some written) before after answer = (after ≡ before ++ written) × (answer ≡ true)
 Writes None before after answer = (after ≡ before) × (answer ≡ false)
 
--- bytes that are written stand behind those of before, and the answer is the characters that they stand for; at a run of so many characters that is refused, nothing is written
+-- bytes that are written stand after those of before, and the answer is the characters that they stand for; at a run of n characters that is refused, nothing is written
 abbrev pub WritesFirst : ℕ → EncodeHandled → (before after : List ℕ) → FirstWritten → Type 0
 WritesFirst size (Written bytes used) before after answer = (after ≡ before ++ bytes) × (answer ≡ seen.Written used)
 WritesFirst size RefusesRun before after answer = (after ≡ before) × (answer ≡ seen.RefusedRun size)

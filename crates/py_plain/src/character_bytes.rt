@@ -6,8 +6,7 @@ ghost use Rattle.py_plain.specs.Writing.{Writes};
 use crate::Encoding;
 use std::alloc::AllocError;
 
-/// Appends a code unit's two bytes; `big` says that the greater comes first. The `Err`, here as below, is want of
-/// memory.
+/// Appends a code unit's two bytes; `big` says that the greater comes first. The `Err`, here as below, means out of memory.
 fn push_unit(out: &mut Vec<u8>, big: bool, unit: u16) -> Result<(), AllocError>
     ensures { OnOk result (out.new.items ≡ out.old.items ++ unit_bytes big unit) }
 {
@@ -68,7 +67,7 @@ fn push_byte(out: &mut Vec<u8>, limit: u32, character: char) -> Result<bool, All
     Ok(true)
 }
 
-/// Appends the bytes of a character, and answers whether the encoding has any for it. The `Err` is want of memory.
+/// Appends the bytes of a character, and answers whether the encoding has any for it. The `Err` means out of memory.
 pub fn push_character(
     out: &mut Vec<u8>,
     encoding: Encoding,

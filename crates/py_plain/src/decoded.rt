@@ -13,20 +13,20 @@ use std::alloc::{AllocError, Global};
 pub struct Decoded {
     /// The characters up to the end of the bytes or up to a refused range.
     pub characters: Vec<char>,
-    /// Where that range begins and the place behind it, in bytes from the start of the list.
+    /// Where that range begins and the place after it, in bytes from the start of the list.
     pub refusal: Option<(usize, usize)>,
 }
 
-/// What comes first of some bytes, where nothing comes behind them.
+/// What comes first of some bytes, where nothing comes after them.
 #[derive(Clone, Copy)]
 enum FirstItem {
-    /// Characters, or none, that stand for so many bytes.
+    /// Characters, or none, that stand for n bytes.
     Given { used: usize },
-    /// A range of so many bytes that the handler refuses.
+    /// A range of n bytes that the handler refuses.
     RefusedRange { length: usize },
 }
 
-/// Appends what a handler gives for the refused range of so many bytes that `rest` begins with.
+/// Appends what a handler gives for the refused range of n bytes that `rest` begins with.
 fn handled(
     alloc: Global,
     out: &mut Vec<char>,
@@ -73,9 +73,9 @@ fn first_item(
     }
 }
 
-/// The plain decoding: all the bytes from a place on, with nothing behind them.
+/// The plain decoding: all the bytes from a place on, with nothing after them.
 ///
-/// A place at or past the end of the bytes gives no characters. The `Err` is want of memory.
+/// A place at or past the end of the bytes gives no characters. The `Err` means out of memory.
 pub fn decode(
     alloc: Global,
     encoding: Encoding,

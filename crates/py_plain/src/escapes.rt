@@ -87,7 +87,7 @@ fn push_surrogate(alloc: Global, out: &mut Vec<char>, value: u32) -> Result<(), 
     push_decimal(alloc, out, 0xDC00 + value)
 }
 
-/// Appends `\x` and the four digits of a surrogate. The `Err`, here as below, is want of memory.
+/// Appends `\x` and the four digits of a surrogate. The `Err`, here as below, means out of memory.
 pub(crate) fn push_surrogate_pass(out: &mut Vec<char>, surrogate: u16) -> Result<(), AllocError>
     ensures { OnOk result (out.new.items ≡ out.old.items ++ surrogate_pass surrogate) }
 {

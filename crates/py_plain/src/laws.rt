@@ -30,7 +30,7 @@ pub fn utf8_units()
         → IsUtf8Long unit (length bytes) }
 {}
 
-/// In every encoding the bytes that a character is written as are read as that character, whatever stands behind them,
+/// In every encoding the bytes that a character is written as are read as that character, whatever stands after them,
 /// and bytes that are read as a character are those that it is written as.
 ///
 /// It does nothing: what it ensures is a law of the definitions.
@@ -41,7 +41,7 @@ pub fn characters_and_their_bytes()
         → IsScalar c × (own_bytes encoding c ≡ Some (take n bytes)) }
 {}
 
-/// Each item of a decoding is all that its own bytes decode to alone, with nothing behind them: wherever in a stream
+/// Each item of a decoding is all that its own bytes decode to alone, with nothing after them: wherever in a stream
 /// they stand, and under each of the five handlers of texts that are read.
 ///
 /// It does nothing: what it ensures is a law of the definitions.

@@ -30,7 +30,7 @@ fn release(out: &mut Vec<char>, held: bool) -> Result<(), AllocError>
     Ok(())
 }
 
-/// Gives what a character behind a CR, or behind none, passes: a CR is held, and an LF is one with the CR before it.
+/// Gives what a character after a CR, or after none, passes: a CR is held, and an LF is one with the CR before it.
 fn pass(out: &mut Vec<char>, held: bool, character: char) -> Result<(), AllocError>
     ensures { OnOk result (out.new.items ≡ out.old.items ++ passes held character) }
 {
@@ -65,7 +65,7 @@ fn universal(alloc: Global, characters: &[char]) -> Result<Vec<char>, AllocError
 }
 
 /// The newline rule: what is read of a whole list of characters, by the `newline` argument of Python's `open`. The
-/// `Err` is want of memory.
+/// `Err` means out of memory.
 pub fn translate(
     alloc: Global,
     rule: Newlines,

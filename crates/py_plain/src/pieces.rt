@@ -7,7 +7,7 @@ ghost use Rattle.py_plain.specs.Handlers.{Treatment, treatment, reads_texts};
 ghost use Rattle.py_plain.specs.Pieces.{LooksAtRange, walk_at, in_two, in_pieces};
 
 /// Decoding pieces one after another and then the last one is decoding them joined, wherever they are cut: the same
-/// items, and the same refused range. Behind each piece the bytes of a sequence that its end cuts are kept for the next.
+/// items, and the same refused range. After each piece the bytes of a sequence that its end cuts are kept for the next.
 ///
 /// It holds in every encoding of each treatment that looks at nothing but the refused range, as those of the five
 /// handlers of texts that are read do. It does nothing: what it ensures is a law of the definitions.

@@ -14,16 +14,16 @@ use std::alloc::{AllocError, Global};
 pub struct EncodedText {
     /// The bytes of all the characters, or of those before a refused run.
     pub bytes: Vec<u8>,
-    /// Where that run begins and the place behind it, in characters from the start of the text.
+    /// Where that run begins and the place after it, in characters from the start of the text.
     pub refusal: Option<(usize, usize)>,
 }
 
 /// What comes first of some characters.
 #[derive(Clone, Copy)]
 enum FirstWritten {
-    /// Bytes, or none, that stand for so many characters.
+    /// Bytes, or none, that stand for n characters.
     Written { used: usize },
-    /// A run of so many characters that is refused.
+    /// A run of n characters that is refused.
     RefusedRun { size: usize },
 }
 
@@ -43,7 +43,7 @@ fn push_each(
 }
 
 /// Appends the text that a handler gives for a run of characters that have no bytes, and answers whether it gives one;
-/// nothing is appended where it refuses the run. The `Err` is want of memory.
+/// nothing is appended where it refuses the run. The `Err` means out of memory.
 pub fn push_replacement_text(
     alloc: Global,
     out: &mut Vec<char>,
@@ -134,8 +134,7 @@ fn push_first(
 /// The plain encoding: the bytes of a whole text, with what the handler gives for each run of characters that the
 /// encoding has no bytes for.
 ///
-/// A run that the handler refuses ends it, and so does one whose replacement has no bytes either. The `Err` is want of
-/// memory.
+/// A run that the handler refuses ends it, and so does one whose replacement has no bytes either. The `Err` means out of memory.
 pub fn encode(
     alloc: Global,
     encoding: Encoding,

@@ -34,7 +34,7 @@ impl Model for PlainText {
     ghost invariant = { IsTaken };
 }
 
-/// The characters as a text, or `Err` for want of memory.
+/// The characters as a text, or `Err` when out of memory.
 fn spelled(alloc: Global, characters: &[char]) -> Result<Chars, AllocError>
     ensures { IfOk result (λ c. c ≡ characters.now) }
 {
@@ -108,7 +108,7 @@ fn answer(
     }
 }
 
-/// What is left of some bytes from a place on, without the characters that were taken. `Err` for want of memory.
+/// What is left of some bytes from a place on, without the characters that were taken. `Err` when out of memory.
 fn left(
     alloc: Global,
     newline: Newlines,
@@ -183,7 +183,7 @@ impl PlainText {
         self.dirty = false;
     }
 
-    /// Reads so many characters, or all that are left for none: fewer only at the end.
+    /// Reads n characters, or all that are left for none: fewer only at the end.
     ///
     /// `UnicodeDecodeError` where a refused range stands before the last of them, `Closed` where the text is closed,
     /// `NoMemory` where there is none: the text is then as it was. Otherwise those characters are taken from it.

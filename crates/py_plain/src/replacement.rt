@@ -138,8 +138,8 @@ fn push_passed(
     Ok(Some(number_length(encoding)))
 }
 
-/// Appends what a handler gives for the refused range of so many bytes that `rest` begins with, and answers how many
-/// bytes it used, at least one; nothing where it refuses the range. The `Err` is want of memory.
+/// Appends what a handler gives for the refused range of n bytes that `rest` begins with, and answers how many
+/// bytes it used, at least one; nothing where it refuses the range. The `Err` means out of memory.
 pub fn push_replacement(
     alloc: Global,
     out: &mut Vec<char>,

@@ -10,7 +10,7 @@ use crate::utf16::utf16_unit;
 /// What some bytes begin with.
 #[derive(Clone, Copy, Debug, PartialEq, Eq)]
 pub enum Unit {
-    /// A character, in so many bytes.
+    /// A character, in n bytes.
     Character { character: char, length: usize },
     /// A range that no character begins with: the longest front of what is left that a well-formed sequence goes on
     /// from, or one byte where there is none.

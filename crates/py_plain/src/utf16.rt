@@ -39,7 +39,7 @@ fn joined(high: u16, low: u16) -> char
     char::from_u32(bits).unwrap()
 }
 
-/// What stands behind the first unit of a pair.
+/// What stands after the first unit of a pair.
 fn behind_high(big: bool, high: u16, rest: &[u8]) -> Unit
     requires { is_high high ≡ true }
     ensures { result ≡ behind_high big high rest.now }

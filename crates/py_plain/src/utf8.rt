@@ -9,7 +9,7 @@ use crate::Unit;
 enum Lead {
     /// It is a character by itself.
     Alone,
-    /// So many bytes follow, the first of them from `low` to `high`; `bits` are what it adds to the character.
+    /// This many bytes follow, the first of them from `low` to `high`; `bits` are what it adds to the character.
     Leads {
         follow: u8,
         low: u8,
@@ -66,7 +66,7 @@ fn with_six_bits(bits: u32, byte: u8) -> u32
     bits * 64 + u32::from(byte - 0x80)
 }
 
-/// What stands behind `length` bytes of a sequence whose character is `bits` so far, of which `follow` more must come,
+/// What stands after `length` bytes of a sequence whose character is `bits` so far, of which `follow` more must come,
 /// the next from `low` to `high`.
 fn sequence(length: usize, follow: u8, low: u8, high: u8, bits: u32, rest: &[u8]) -> Unit
     requires spells { Spells follow low high bits }

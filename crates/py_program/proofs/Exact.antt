@@ -1,5 +1,5 @@
--- A run of the program that ends with 0: what was printed, what the path holds, and, where no raw failed or asked to wait, that the
--- replies are the model's.
+-- A run of the program that ends with 0: what was printed, what the path holds, and, where no raw failed or would have blocked,
+-- that the replies are the model's.
 use Rattle.std.proofs.Common.{◌≡◌, ℕ, Bool, true, false, IsTrue, List, [], ◌++◌, length, Option, Some, None, unwrap_or, Ok, inl, inr, refl, sym, ◌∙◌, ap, subst, if◌then◌else◌, arith}
 use Rattle.std.proofs.lemmas.Bool.Decides.{nat_tests}
 use Rattle.py_flat.specs.declared.life.Life.TheVariants as life

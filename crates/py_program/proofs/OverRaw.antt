@@ -50,7 +50,7 @@ refusal_printed raw asked back lines old new (Err status.Refused) ended refused 
 refusal_printed raw asked back lines old new (Err status.SourceFailed) ended refused prints is = absurd prints
 refusal_printed raw asked back lines old new (Err status.OpenerFailed) ended refused prints is = absurd prints
 
--- refused for want of memory, with nothing printed
+-- refused when out of memory, with nothing printed
 pub starved : (raw back : Raw) (asked : Asked) (refused : IoFault) (sink : SinkView) → RefusesOpening raw asked.plan refused back → refused ≡ fault.NoMemory → RawOutcome raw asked status.NoMemory back sink sink
 starved raw back asked refused sink why is = inr (record { hands = inr (subst (λ (by : IoFault). RefusesOpening raw asked.plan by back) is why); sink = refl })
 

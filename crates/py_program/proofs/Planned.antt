@@ -47,7 +47,7 @@ opened_able Write plus raw opened = opened.writes
 opened_able Exclusive plus raw opened = opened.writes
 opened_able Append plus raw opened = opened.writes
 
--- so it is refused by a fault of its own, or for want of memory
+-- so it is refused by a fault of its own, or when out of memory
 refused_session : (raw back : Raw) (plan : OpenPlan) (refused : IoFault) → IsOpened (raw_mode plan) raw → plan.buffer_size ≢ Some 0 → RefusesSession raw plan refused back → (refused ≡ fault.NoMemory) ⊎ ((refused ≡ fault.RawFault) × RefusesSession raw plan fault.RawFault back)
 refused_session raw back plan fault.NoMemory opened some why = inl refl
 refused_session raw back plan fault.RawFault opened some why = inr (refl, why)

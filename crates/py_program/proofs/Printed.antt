@@ -1,4 +1,4 @@
--- Lines that are printed one behind the other.
+-- Lines that are printed one after the other.
 use Rattle.std.proofs.Common.{◌≡◌, ℕ, ◌+◌, ◌≤◌, ◌<◌, IsTrue, List, [], ◌∷◌, ◌++◌, length, take, drop, get_or, Err, refl, sym, ◌∙◌, ap, subst, append_assoc, append-nil, arith}
 use Rattle.std.proofs.lemmas.List.{take-append-drop, take_more}
 use Rattle.py_flat.specs.Causes.{Rose}
@@ -20,12 +20,12 @@ fails_at_front old new line fails told =
 pub rose_later : (old mid new : ℕ) → old ≤ mid → Rose mid new → Rose old new
 rose_later old mid new le rose = omega arith
 
--- what is printed behind what was printed
+-- what is printed after what was printed
 pub prints_more : (old mid new : SinkView) (before line : List ℕ) → SinkKeeps old mid → Prints old before mid → Prints mid line new → Prints old (before ++ line) new
 prints_more old mid new before line keeps printed more told =
     more (subst IsTrue (sym keeps.tells) told) ∙ ap (λ bytes. bytes ++ line) (printed told) ∙ append_assoc old.written before line
 
--- a front of a line behind what was printed is a front of all
+-- a front of a line after what was printed is a front of all
 front_behind : (old mid new : SinkView) (before line whole : List ℕ) → SinkKeeps old mid → Prints old before mid → IsFrontOf (before ++ line) whole → PrintsFront mid line new → PrintsFront old whole new
 front_behind old mid new before line whole keeps printed (rest, joins) stops told =
     let part = stops (subst IsTrue (sym keeps.tells) told) in

@@ -31,7 +31,7 @@ pub record TellsForm (source : SourceView) : Type 0 where
   pub told : IsTrue source.tells
   pub form : ¬ IsOutOfForm source.left
 
--- the source tells that its script is out of form
+-- the source tells that its script is malformed
 pub record TellsNoForm (source : SourceView) : Type 0 where
   pub told : IsTrue source.tells
   pub out_of_form : IsOutOfForm source.left
@@ -60,8 +60,8 @@ pub record BeginsWith (raw : Raw) (bytes : List ℕ) : Type 0 where
 -- the path was opened as it is planned; calls and a Close were made over the raw, those of the script, where the source tells it; the
 -- lines of their replies were printed; the faults and waits of the raw were added to the opener's; and where the opener
 -- tells, the raw began at the start of what the mode leaves of the path's bytes, and the path holds the raw's bytes in the end, the flat
--- ones where a close or detach of a live session was done. Where no raw failed or asked to wait, each call that isn't refused is
--- answered by an answer of its own, or for want of memory
+-- ones where a close or detach of a live session was done. Where no raw failed or would have blocked, each call that isn't refused is
+-- answered by an answer of its own, or when out of memory
 pub record PrintsReplies (path mode : List ℕ) (args : OpenArgs) (old new : SourceView) (before after : Outside) : Type 0 where
   pub calls : List Call
   pub reads : IsTrue old.tells → ReadsScript old calls new
@@ -129,7 +129,7 @@ file_by Bytes plan chunk bytes = OfBinary (record {
 abbrev pub opened_file : OpenPlan → ℕ → List ℕ → SessionFile
 opened_file plan chunk bytes = file_by plan.mode.encode plan chunk bytes
 
--- what was printed is the lines of replies to the script's calls and a Close; unless one is for want of memory, they settle on the
+-- what was printed is the lines of replies to the script's calls and a Close; unless one says out of memory, they settle on the
 -- file that the mode opens of what the path held
 pub record PrintsSettled (path : List ℕ) (plan : OpenPlan) (chunk : ℕ) (old : SourceView) (before after : Outside) : Type 0 where
   pub calls : List Call

@@ -88,7 +88,7 @@ HasLines raw asked back lines = RanCalls raw asked back lines ⊎ RefusedRaw raw
 abbrev pub PrintsSome : Raw → Asked → Raw → SinkView → SinkView → Type 0
 PrintsSome raw asked back old new = (lines : List ℕ) × HasLines raw asked back lines × PrintsFront old lines new
 
--- no call was made for want of memory, before the opening or in it, and nothing printed
+-- no call was made when out of memory, before the opening or in it, and nothing printed
 pub record MakesNoCall (raw : Raw) (asked : Asked) (back : Raw) (old new : SinkView) : Type 0 where
   pub hands : (back ≡ raw) ⊎ RefusesOpening raw asked.plan fault.NoMemory back
   pub sink : new ≡ old
@@ -238,7 +238,7 @@ pub record Ends (code : ℕ) (words : List (List ℕ)) (old new : SourceView) (b
   pub code_is : code ≡ code_of ended
   pub outcome : Outcome ended words old new before after
 
--- the status once a raw was put away: that of the calls, unless all was done and the opener failed or lacked memory
+-- the status once a raw was put away: that of the calls, unless all was done and the opener failed or ran out of memory
 abbrev pub after_done : Status → Result (Unit {0}) OpenError → Status
 after_done status.Done (Err open_error.Fault) = status.OpenerFailed
 after_done status.Done (Err open_error.Memory) = status.NoMemory

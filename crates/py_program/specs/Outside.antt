@@ -20,7 +20,7 @@ texts words = map string_bytes words
 abbrev pub script_limit : ℕ
 script_limit = 1048576
 
--- a script that is too long, or has a line out of form
+-- a script that is too long, or has a malformed line
 abbrev pub IsOutOfForm : List ℕ → Type 0
 IsOutOfForm script = (script_limit < length script) ⊎ (script_calls script ≡ None)
 
@@ -30,7 +30,7 @@ pub record ReadsScript (old : SourceView) (calls : List Call) (new : SourceView)
   pub form : script_calls old.left ≡ Some calls
   pub end : new.left ≡ []
 
--- reading the script: its calls; or it is out of form, the source failed, or there is no memory
+-- reading the script: its calls; or it is malformed, the source failed, or there is no memory
 abbrev pub ScriptOutcome : SourceView → Result (Vec Call Global) Status → SourceView → Type 0
 ScriptOutcome old (Ok calls) new = IsTrue old.tells → ReadsScript old calls.items new
 ScriptOutcome old (Err status.OutOfForm) new = IsTrue old.tells → IsOutOfForm old.left
@@ -40,7 +40,7 @@ ScriptOutcome old (Err _) new = ⊥
 
 -- The output.
 
--- told: these bytes were printed, behind what was there
+-- told: these bytes were printed, after what was there
 abbrev pub Prints : SinkView → List ℕ → SinkView → Type 0
 Prints old bytes new = IsTrue old.tells → new.written ≡ old.written ++ bytes
 

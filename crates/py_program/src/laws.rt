@@ -11,9 +11,9 @@ ghost use Rattle.py_program.specs.Meaning.{RawsAreReady, PrintsSettled, PrintsEx
 
 use py_open::{a_settled_text_is_exact, a_smooth_run_settles};
 
-/// A run that ends with 0, over a file in which no call failed or asked to wait, prints what settles: the lines of replies that
+/// A run that ends with 0, over a file in which no call failed or would have blocked, prints what settles: the lines of replies that
 /// are the model's to the script's calls on the file that the mode opens of the bytes that the path held, exactly, but that a single
-/// transfer gives some front of what it is asked for. Only a reply for want of memory frees the others.
+/// transfer gives some front of what it is asked for. Only a reply when out of memory frees the others.
 pub fn a_smooth_run_prints_what_settles()
     ensures { (words : List (List ℕ)) (old new : SourceView) (before after : Outside) (path mode : List ℕ) (args : OpenArgs) (plan : OpenPlan) → Ends 0 words old new before after → command_of words ≡ Some (Run path mode args) → plan_of mode args ≡ Ok plan → IsTrue old.tells → IsTrue before.opener.tells → RawsAreReady before after → PrintsSettled path plan args.chunk_size old before after }
 {

@@ -35,28 +35,28 @@ use std::alloc::Global;
 /// `ends` says all that was read, opened, printed and put away, by the status. The other clauses follow from it:
 ///
 /// - `statuses`: it is 0 or one of 2 to 8;
-/// - `no_form`, `words`: 2 comes only of words of no form, and such words end with 2 unless memory was wanting;
+/// - `no_form`, `words`: 2 comes only of words of no form, and such words end with 2 unless memory ran out;
 /// - `source`, `sink`, `opener`: 5, 6 and 8 come only where a count of faults rose, of the source, the sink, the opener;
 /// - `source_exact`, `sink_exact`, `opener_exact`: a source that counts exactly counted no fault, unless it is 5; such a sink none,
 ///   unless it is 6; and such an opener none, where it is 0: so 0 hides no fault of the three;
 /// - `refused`: 4 comes only where the plan refuses the opening, or the raw's count of faults rose;
 /// - `planned`, `unopened`: an opening that the plan refuses opens nothing, and with a script that the source tells to be
-///   in form it ends with 4 unless the source or the sink failed or memory was wanting;
-/// - `complete`: of words in form, where no count rose and no plan refuses, it is 0, or 3 for a script out of form, or 7 for
-///   want of memory;
-/// - `out_of_form`, `form`: of a source that tells, 3 comes only of a script out of form, and such a script of a run ends
-///   with 3 unless the source failed or memory was wanting;
+///   in form it ends with 4 unless the source or the sink failed or memory ran out;
+/// - `complete`: of words in form, where no count rose and no plan refuses, it is 0, or 3 for a malformed script, or 7 for
+///   running out of memory;
+/// - `out_of_form`, `form`: of a source that tells, 3 comes only of a malformed script, and such a script of a run ends
+///   with 3 unless the source failed or memory ran out;
 /// - `missing`, `found`: of an opener that tells, and an opening that the plan accepts, 8 comes only where `x` finds the path or
 ///   `r` misses it, and such a path, with a script that the source tells to be in form, ends with 8 unless the source failed or
-///   memory was wanting;
+///   memory ran out;
 /// - `kept`: of an opener that tells every path holds what it held with 2, 3, 5 and 8, where the plan refuses, and where the
 ///   path is only read;
 /// - `others`: of an opener that tells, whatever the status is, every path but that of the words holds what it held;
 /// - `left`: the same with 4 of an opening that the plan accepts, the path holds what its opening left;
 /// - `printed`: with 0, what was printed is the lines of a run of calls, those of the whole script, where the source tells it, and
 ///   a Close; of an opener that tells, the path holds the raw's bytes in the end, the flat ones where a `Close` or `Detach` of a live
-///   session was done; where no raw failed or asked to wait, each call that isn't refused is answered by an answer of its own, or for
-///   want of memory;
+///   session was done; where no raw failed or would have blocked, each call that isn't refused is answered by an answer of its own, or for
+///   running out of memory;
 /// - `help`, `version`: with 0 the text that was asked for was printed.
 pub fn run_program<O: Opener, I: Source, K: Sink>(
     alloc: Global,
@@ -108,7 +108,7 @@ pub fn run_program<O: Opener, I: Source, K: Sink>(
     run_to_status(alloc, words, opener, script, out).code()
 }
 
-/// The same, by the status.
+/// Runs the program as `run_program` does, and answers the status itself.
 fn run_to_status<O: Opener, I: Source, K: Sink>(
     alloc: Global,
     words: &[String],

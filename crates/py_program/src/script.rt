@@ -9,14 +9,14 @@ use py_raw::Source;
 use py_script::parse_script;
 use std::alloc::Global;
 
-/// The most bytes that a script may have: a longer one is out of form.
+/// The most bytes that a script may have: a longer one is malformed.
 const MAX_SCRIPT_SIZE: usize = 1_048_576;
 
 /// How many bytes are read from a source at once.
 const PIECE_SIZE: usize = 4096;
 
 /// The calls of a script that is read to its end: `OutOfForm` as soon as it has more than 1,048,576 bytes or where a line
-/// is out of form, `SourceFailed` where the source fails, `NoMemory` where there is none.
+/// is malformed, `SourceFailed` where the source fails, `NoMemory` where there is none.
 pub fn read_script<I: Source>(alloc: Global, source: &mut I) -> Result<Vec<Call>, Status>
     ensures keeps { SourceKeeps (I.shows source.old) (I.shows source.new) }
     ensures outcome { ScriptOutcome (I.shows source.old) result (I.shows source.new) }

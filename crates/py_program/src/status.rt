@@ -8,7 +8,7 @@ pub enum Status {
     Done,
     /// 2: the words are no form.
     NoForm,
-    /// 3: a line of the script is out of form, or it has more than 1,048,576 bytes.
+    /// 3: a line of the script is malformed, or it has more than 1,048,576 bytes.
     OutOfForm,
     /// 4: the opening was refused, and the refusal printed.
     Refused,

@@ -5,7 +5,7 @@ use Rattle.py_flat.specs.declared.mode_error.ModeError.{ModeError}
 use Rattle.py_flat.specs.declared.mode_error.ModeError.TheVariants.{BadRwa}
 use Rattle.py_raw.specs.ComputeMode.{first_offence, offence_behind, has_file_letter}
 
--- what a letter's offence and the letters behind it come to
+-- what a letter's offence and the letters after it come to
 abbrev offence_or : List ℕ → List ℕ → Option ModeError → Option ModeError
 offence_or before more (Some why) = Some why
 offence_or before more None = first_offence before more
@@ -21,6 +21,6 @@ letter_passes letters place within passes = at_letter letters place within ∙ a
 pub letter_offends : (letters : List ℕ) (place : ℕ) (why : ModeError) → place < length letters → offence_behind (take place letters) (get_or letters place 0) ≡ Some why → first_offence (take place letters) (drop place letters) ≡ Some why
 letter_offends letters place why within offends = at_letter letters place within ∙ ap (offence_or (take (place + 1) letters) (drop (place + 1) letters)) offends
 
--- behind the last letter
+-- after the last letter
 pub letters_end : (letters : List ℕ) (place : ℕ) → length letters ≤ place → first_offence (take place letters) (drop place letters) ≡ (if has_file_letter letters then None else Some BadRwa)
 letters_end letters place past = rw (drop_all place letters past, take_all place letters past) refl

@@ -1,4 +1,4 @@
--- Reading on: a part, then the next bytes behind it, is a longer part.
+-- Reading on: a part, then the next bytes after it, is a longer part.
 use Rattle.std.proofs.Common.{◌≡◌, ◌≢◌, ℕ, ◌+◌, ◌-◌, ◌<◌, ◌≤◌, List, [], ◌∷◌, ◌++◌, length, take, drop, refl, sym, ap, ◌∙◌, arith, append_assoc, length-append, inl, inr}
 use Rattle.std.specs.Prelude.{IsTrue, Bool, true, false, nat_lt, Option, Ok}
 use Rattle.std.specs.Bool.{then_some}
@@ -10,12 +10,12 @@ use Rattle.py_raw.specs.RawStream.{Raw, Keeps, KeepsBytes, WherePlace, NoFault, 
 use Rattle.py_raw.proofs.Telling.{tells_its_bytes, tells_its_place, tells_still}
 use Rattle.py_raw.specs.ReadAll.{ReadOn, ReadSoFar, CameBy, ReadsAll, ReadAllOutcome}
 
--- the bytes that were held, then what a transfer put in front of the room behind them
+-- the bytes that were held, then what a transfer put in front of the room after them
 held_and_read : (held buffer behind more : List ℕ) (count whole : ℕ) → count ≤ length buffer → length held + count ≤ whole → take (length held + count) (take whole ((held ++ (buffer ++ behind)) ++ more)) ≡ held ++ take count buffer
 held_and_read held buffer behind more count whole within enough =
     rw (take-take (length held + count) whole ((held ++ (buffer ++ behind)) ++ more) enough, append_assoc held (buffer ++ behind) more, append_assoc buffer behind more, take-add (length held) count (held ++ (buffer ++ (behind ++ more))), take_at held (buffer ++ (behind ++ more)) (length held) refl, drop_at held (buffer ++ (behind ++ more)) (length held) refl, take-append-le count buffer (behind ++ more) within) refl
 
--- the same for a vector that was cut behind them
+-- the same for a vector that was cut after them
 pub cut_behind : (held front buffer behind more cut : List ℕ) (size count whole : ℕ) → front ≡ held → size ≡ length held → count ≤ length buffer → size + count ≤ whole → cut ≡ take (size + count) (take whole ((front ++ (buffer ++ behind)) ++ more)) → cut ≡ held ++ take count buffer
 cut_behind held front buffer behind more cut size count whole same long within enough is =
     let here : take (length held + count) (take whole ((held ++ (buffer ++ behind)) ++ more)) ≡ held ++ take count buffer = held_and_read held buffer behind more count whole within (omega arith) in
@@ -28,7 +28,7 @@ cut_back held front buffer behind more cut size whole same long enough is =
     ∙ (take-take size whole ((front ++ (buffer ++ behind)) ++ more) enough
     ∙ (ap (take size) (append_assoc front (buffer ++ behind) more) ∙ (take_at front _ size (ap length same ∙ sym long) ∙ same)))
 
--- what two calls keep, one behind the other
+-- what two calls keep, one after the other
 pub Keeps-then : (old mid new : Raw) → Keeps old mid → Keeps mid new → Keeps old new
 Keeps-then old mid new first second = record {
   tells_bytes = second.tells_bytes ∙ first.tells_bytes;
@@ -62,7 +62,7 @@ uncounted_then old mid new keeps first second = record {
   no_wait = no_wait_then old mid new keeps first.no_wait second.no_wait;
 }
 
--- two parts one behind the other
+-- two parts one after the other
 next_part : (bytes part more : List ℕ) (place : ℕ) → take (length part) (left_at bytes place) ≡ part → take (length more) (left_at bytes (place + length part)) ≡ more → take (length (part ++ more)) (left_at bytes place) ≡ part ++ more
 next_part bytes part more place first second =
     rw (length-append part more, take-add (length part) (length more) (drop place bytes), first, drop-drop (length part) place bytes, second) refl
@@ -146,7 +146,7 @@ reads_to_end old mid new start held before after none count keeps was is is_none
       transfers = λ tells. came_by_more old mid new start held (count + 1) tells was (is.transfers (keeps.tells_transfers ∙ tells)) (omega arith);
     }
 
--- the stream asked to wait after some bytes
+-- the stream would have blocked after some bytes
 pub reads_to_wait : (old mid new : Raw) (start held : List ℕ) (count : ℕ) → Keeps old mid → ReadSoFar old start held mid → AsksToWait mid new → length start < length held → count ≡ length held - length start → ReadsAll old start count held new
 reads_to_wait old mid new start held count keeps was is some counts =
     let long : length held ≡ length start + length was.part = ap length was.appended ∙ length-append start was.part in
@@ -161,7 +161,7 @@ reads_to_wait old mid new start held count keeps was is some counts =
       transfers = λ tells. came_by_more old mid new start held (count + 1) tells was (is.still.transfers (keeps.tells_transfers ∙ tells)) (omega arith);
     }
 
--- it asked to wait before any
+-- it would have blocked before any
 pub waits_at_first : (old mid new : Raw) (start held : List ℕ) → ReadSoFar old start held mid → AsksToWait mid new → length held ≤ length start → AsksToWait old new × (held ≡ start)
 waits_at_first old mid new start held was is none =
     let long : length held ≡ length start + length was.part = ap length was.appended ∙ length-append start was.part in

@@ -18,7 +18,7 @@ says_file letter = letter == letter_x || (letter == letter_r || (letter == lette
 abbrev pub has_file_letter : List ℕ → Bool
 has_file_letter letters = list_any says_file letters
 
--- how a letter offends behind others: as a second file letter, as a second plus, or as no letter of a mode
+-- how a letter offends after others: as a second file letter, as a second plus, or as no letter of a mode
 abbrev pub offence_behind : List ℕ → ℕ → Option ModeError
 offence_behind before letter =
     if says_file letter then (if has_file_letter before then Some BadRwa else None)
@@ -26,7 +26,7 @@ offence_behind before letter =
     else (if letter == letter_b then None
     else Some Invalid))
 
--- letters behind others: the first that offends decides, and no other is looked at; at the end, that no file letter stood
+-- letters after others: the first that offends decides, and no other is looked at; at the end, that no file letter stood
 abbrev pub first_offence : List ℕ → List ℕ → Option ModeError
 first_offence before [] = if has_file_letter before then None else Some BadRwa
 first_offence before (letter ∷ more) = elim (offence_behind before letter) as (λ _. Option ModeError) [

@@ -75,7 +75,7 @@ pub record OpenFaults (old : OpenerView) (path mode : List ℕ) (new : OpenerVie
   pub missed : IsTrue old.tells → misses mode (old.holds path) ≡ true
   pub same : IsTrue old.tells → HoldsTheSame old new
 
--- refused for want of memory
+-- refused when out of memory
 pub record OpenLacksMemory (old : OpenerView) (path mode : List ℕ) (new : OpenerView) : Type 0 where
   pub faults : new.faults ≡ old.faults
   pub found : IsTrue old.tells → misses mode (old.holds path) ≡ false

@@ -8,7 +8,7 @@ use Rattle.py_raw.specs.declared.raw_error.RawError.TheVariants.{Fault, Memory}
 
 -- what a raw stream shows. It may tell three things: its bytes, its place, and its number of transfers, with the number of bytes
 -- that its writes answered for; each means something only where it tells it. It counts exactly where its counts of faults and of
--- waits rise in the calls alone that answer a fault, or ask to wait
+-- waits rise in the calls alone that answer a fault, or would block
 pub record Raw : Type 0 where
   pub tells_bytes : Bool
   pub tells_place : Bool
@@ -74,15 +74,15 @@ StaysOpen old new = new.closed ≡ old.closed
 abbrev pub NoFault : Raw → Raw → Type 0
 NoFault old new = IsTrue old.counts_exactly → new.faults ≡ old.faults
 
--- and no wait
+-- where the stream counts exactly: no wait was counted
 abbrev pub NoWait : Raw → Raw → Type 0
 NoWait old new = IsTrue old.counts_exactly → new.waits ≡ old.waits
 
--- and one wait, no more
+-- where the stream counts exactly: one wait was counted
 abbrev pub WaitsOnce : Raw → Raw → Type 0
 WaitsOnce old new = IsTrue old.counts_exactly → new.waits ≡ counted old.waits 1
 
--- no fault was counted, and no wait
+-- where the stream counts exactly: no fault was counted, and no wait
 pub record LeavesCounts (old new : Raw) : Type 0 where
   pub no_fault : NoFault old new
   pub no_wait : NoWait old new
@@ -107,29 +107,29 @@ WhereTransfers raw Fact = IsTrue raw.tells_transfers → Fact
 abbrev pub KeepsBytes : Raw → Raw → Type 0
 KeepsBytes old new = WhereBytes old (new.bytes ≡ old.bytes)
 
--- it made so many transfers more
+-- it made n transfers more
 abbrev pub Transfers : ℕ → Raw → Raw → Type 0
 Transfers more old new = WhereTransfers old (new.transfers ≡ counted old.transfers more)
 
--- none
+-- no transfer was made
 abbrev pub KeepsTransfers : Raw → Raw → Type 0
 KeepsTransfers old new = WhereTransfers old (new.transfers ≡ old.transfers)
 
--- at most so many
+-- at most n transfers more were made
 abbrev pub TransfersAtMost : ℕ → Raw → Raw → Type 0
 TransfersAtMost most old new = WhereTransfers old ((old.transfers ≤ new.transfers) × (new.transfers ≤ counted old.transfers most))
 
--- it answered for so many bytes more, as far as a count can tell
+-- it answered for n bytes more, as far as a count can tell
 abbrev pub AnswersFor : ℕ → Raw → Raw → Type 0
 AnswersFor more old new = WhereTransfers old (counted new.written 0 ≡ counted old.written more)
 
--- bytes and place as before, after so many transfers
+-- bytes and place as before, after n transfers
 pub record StandsStill (more : ℕ) (old new : Raw) : Type 0 where
   pub bytes : KeepsBytes old new
   pub place : WherePlace old (new.place ≡ old.place)
   pub transfers : Transfers more old new
 
--- want of memory leaves all as it was, and comes only of a stream that takes memory
+-- running out of memory leaves all as it was, and comes only of a stream that takes memory
 pub record LacksMemory (old new : Raw) : Type 0 where
   pub takes : IsTrue old.takes_memory
   pub same : new ≡ old
@@ -142,7 +142,7 @@ pub record AsksToWait (old new : Raw) : Type 0 where
   pub written : AnswersFor 0 old new
   pub still : StandsStill 1 old new
 
--- a fault that leaves the bytes as they were; at most so many transfers more are counted
+-- a fault that leaves the bytes as they were; at most n transfers more are counted
 pub record FailsWithout (most : ℕ) (old new : Raw) : Type 0 where
   pub cause : Rose old.faults new.faults
   pub no_wait : NoWait old new

@@ -28,7 +28,7 @@ pub record ReadsOnce (old : Raw) (size : ℕ) (bytes : List ℕ) (new : Raw) : T
   pub end : WhereTold old (length bytes ≡ 0 → size ≢ 0 → length old.bytes ≤ old.place)
   pub transfers : Transfers 1 old new
 
--- want of memory, of the stream or for the vector, leaves the stream as it was
+-- running out of memory, of the stream or for the vector, leaves the stream as it was
 abbrev pub ReadOnceOutcome : Raw → ℕ → Result (Option (Vec ℕ Global)) RawError → Raw → Type 0
 ReadOnceOutcome old size (Ok (Some bytes)) new = ReadsOnce old size bytes.items new
 ReadOnceOutcome old size (Ok None) new = AsksToWait old new
@@ -54,11 +54,11 @@ pub record ReadSoFar (old : Raw) (before after : List ℕ) (new : Raw) : Type 0 
   pub on : ReadOn old part new
   pub transfers : WhereTransfers old (part ≢ [] → CameBy (length part) old.transfers new.transfers)
 
--- why a reading up to the end stops: the end was reached, or the stream asked to wait after some bytes, once
+-- why a reading up to the end stops: the end was reached, or the stream would have blocked after some bytes, once
 abbrev pub Stops : Raw → ℕ → Raw → Type 0
 Stops old count new = (NoWait old new × WhereTold old (length old.bytes ≤ new.place)) ⊎ ((1 ≤ count) × Rose old.waits new.waits × WaitsOnce old new)
 
--- so many bytes were read and appended; one transfer more found that no more come
+-- n bytes were read and appended; one transfer more found that no more come
 pub record ReadsAll (old : Raw) (before : List ℕ) (count : ℕ) (after : List ℕ) (new : Raw) : Type 0 where
   pub part : List ℕ
   pub appended : after ≡ before ++ part

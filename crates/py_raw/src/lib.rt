@@ -1,8 +1,8 @@
 //! Raw streams, and what opens them: the traits, and what an opener's mode says.
 //!
-//! Each is a trait whose clauses say all that the layers above may rest on: what moves, when it may fail or ask to
-//! wait, and which counts rise then. What an outside doesn't tell (a real file tells no content) is claimed of none.
-//! The streams themselves are elsewhere: `py_raw_memory` has those in memory, `py_raw_files` those of the system.
+//! Each is a trait whose clauses say all that the layers above may rest on: what moves, when it may fail or block, and which counts
+//! rise then. What an outside doesn't tell (a real file tells no content) is claimed of none. The streams themselves are elsewhere:
+//! `py_raw_memory` has those in memory, `py_raw_files` those of the system.
 //!
 //! The sources and sinks of `py_source_sink` are re-exported here.
 #![tactic(auto)]

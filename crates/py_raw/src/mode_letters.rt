@@ -20,7 +20,7 @@ fn has_file_letter(letters: &[u8]) -> bool
     letters.iter().any(|letter| says_file(*letter))
 }
 
-/// How a letter offends behind others, if it does.
+/// How a letter offends after others, if it does.
 fn offence_behind(before: &[u8], letter: u8) -> Option<ModeError>
     ensures { result ≡ offence_behind before.now letter }
 {

@@ -10,7 +10,7 @@ use std::alloc::Global;
 /// Python's `io`.
 pub const GREATEST_PLACE: u64 = 9223372036854775807;
 
-/// How many bytes the next transfer of a reading up to the end asks for, after so many: 8192, and then as many as came,
+/// How many bytes the next transfer of a reading up to the end asks for, after n: 8192, and then as many as came,
 /// so that the room doubles.
 fn next_chunk(came: usize) -> usize
     ensures { result ≡ max came 8192 }
@@ -21,7 +21,7 @@ fn next_chunk(came: usize) -> usize
 /// A stream of bytes under the buffers: a file, a pipe, a device, or memory.
 ///
 /// Places and sizes are bytes from the start, at most 9223372036854775807. A call may move fewer bytes than asked,
-/// ask to wait (`None`) or fail; each of these has its cause in a count of the stream that rose.
+/// say that it would block (`None`) or fail; each of these has its cause in a count of the stream that rose.
 ///
 /// A stream that lacks a call by its type, as a pipe lacks `seek`, doesn't write it: the call then counts a fault and answers it.
 pub trait RawStream {
@@ -35,7 +35,7 @@ pub trait RawStream {
         ensures answer { result ≡ RawError.Fault }
         ensures fails { FailsWithout 0 (shows self.old) (shows self.new) };
 
-    /// Reads up to as many bytes as `buf` is long, from the place on, into its front; the place moves behind them.
+    /// Reads up to as many bytes as `buf` is long, from the place on, into its front; the place moves after them.
     ///
     /// `Some(n)` says how many: 0 into a buffer that isn't empty only at the end or past it. `None`: not ready, all is
     /// as before. After `Fault` the bytes are unchanged; after `Memory` all is.
@@ -48,10 +48,10 @@ pub trait RawStream {
         Err(self.unsupported())
     }
 
-    /// Reads up to `n` bytes from the place on by one transfer, into a vector of its own; the place moves behind them.
+    /// Reads up to `n` bytes from the place on by one transfer, into a vector of its own; the place moves after them.
     ///
     /// `Some(bytes)`: the next bytes, at most `n`; none only where `n` is 0, or at the end or past it. `None`: not ready,
-    /// all is as before. After `Fault` the bytes of the stream are unchanged. `Memory`: the stream lacked memory, or there
+    /// all is as before. After `Fault` the bytes of the stream are unchanged. `Memory`: the stream ran out of memory, or there
     /// was none for the vector, which is taken before the transfer, so all is unchanged. The rule is that of `read` of
     /// Python's `io.RawIOBase`.
     fn read(&mut self, alloc: Global, n: usize) -> Result<Option<Vec<u8>>, RawError>
@@ -74,14 +74,14 @@ pub trait RawStream {
         }
     }
 
-    /// Reads from the place on up to the end, or until the stream asks to wait, and appends what comes to `out`; the place
-    /// moves behind it.
+    /// Reads from the place on up to the end, or until the stream would block, and appends what comes to `out`; the place
+    /// moves after it.
     ///
-    /// `Some(n)`: `n` bytes were appended, and the end was reached or, after at least one byte, the stream asked to wait.
-    /// `None`: it asked to wait before any byte, and all else is as before. After `Fault` and `Memory` what was read until
+    /// `Some(n)`: `n` bytes were appended, and the end was reached or, after at least one byte, the stream would have blocked.
+    /// `None`: it would have blocked before any byte, and all else is as before. After `Fault` and `Memory` what was read until
     /// then is in `out`. After `Fault` the bytes of the stream are unchanged; where it stands isn't told. `Memory`: the
-    /// stream lacked memory, or there was none to lengthen `out`, which is done before each transfer, so the place is
-    /// behind what was appended. The rule is that of `readall` of Python's `io.RawIOBase`.
+    /// stream ran out of memory, or there was none to lengthen `out`, which is done before each transfer, so the place is
+    /// after what was appended. The rule is that of `readall` of Python's `io.RawIOBase`.
     fn readall(&mut self, out: &mut Vec<u8>) -> Result<Option<usize>, RawError>
         requires open { (shows self.old).closed ≡ false }
         ensures keeps { Keeps (shows self.old) (shows self.new) }
@@ -112,7 +112,7 @@ pub trait RawStream {
         }
     }
 
-    /// Writes a front of `piece` at the place, zeros up to it where it lies past the end; the place moves behind it.
+    /// Writes a front of `piece` at the place, zeros up to it where it lies past the end; the place moves after it.
     ///
     /// `Some(n)` says how many bytes were taken; 0 of a piece that isn't empty is a fault. `None`: not ready, all is as
     /// before. After `Fault` a front of the piece may have been written; after `Memory` all is unchanged.

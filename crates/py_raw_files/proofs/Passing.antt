@@ -14,7 +14,7 @@ put_and_kept (Some held) None new part puts keeps = absurd puts
 put_and_kept (Some held) (Some more) None part puts keeps = absurd keeps
 put_and_kept (Some held) (Some more) (Some still) part puts keeps = keeps ∙ puts
 
--- nothing was put, whether the writer asks to wait or failed
+-- nothing was put, whether the writer would block or failed
 pub none_through : (waits : Bool) (old new : Option (List ℕ)) (piece : List ℕ) → Keeps old new → StopsThrough waits old new piece
 none_through true old new piece keeps = keeps
 none_through false old new piece keeps = record { count = 0; within = omega arith; held = nothing_put old new keeps }

@@ -23,7 +23,7 @@ shown_handle handle = record (untold handle.counts.faults handle.counts.waits (i
 abbrev pub opened : (readable writable seekable : Bool) → Raw
 opened readable writable seekable = record (untold 0 0 false readable writable seekable) { tells_transfers = true }
 
--- which errors of a transfer ask to wait and try again
+-- which errors of a transfer says that the call is to be made again later
 abbrev pub asks_to_wait : ErrorKind → Bool
 asks_to_wait WouldBlock = true
 asks_to_wait Interrupted = true
@@ -98,7 +98,7 @@ pub record PutsFront (old new : Option (List ℕ)) (piece : List ℕ) : Type 0 w
   pub within : count ≤ length piece
   pub held : Appends old new (take count piece)
 
--- a write that asks to wait puts nothing, and one that failed a front of the piece
+-- a write that would block puts nothing, and one that failed a front of the piece
 abbrev pub StopsThrough : Bool → Option (List ℕ) → Option (List ℕ) → List ℕ → Type 0
 StopsThrough true old new piece = Keeps old new
 StopsThrough false old new piece = PutsFront old new piece
@@ -108,7 +108,7 @@ abbrev pub PassesThrough : Option (List ℕ) → Option (List ℕ) → Result �
 PassesThrough old new (Ok count) piece = Appends old new (take count piece)
 PassesThrough old new (Err error) piece = StopsThrough (asks_to_wait (error_kind error)) old new piece
 
--- the same of what it comes to
+-- what a write that was passed on puts, by the answer that it comes to
 abbrev pub PutsThrough : Option (List ℕ) → Option (List ℕ) → Result (Option ℕ) RawError → List ℕ → Type 0
 PutsThrough old new (Ok (Some count)) piece = Appends old new (take count piece)
 PutsThrough old new (Ok None) piece = Keeps old new

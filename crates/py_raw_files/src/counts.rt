@@ -7,6 +7,6 @@ pub struct Counts {
     pub written: u64,
     /// How many faults there were.
     pub faults: u64,
-    /// How many times it asked to wait.
+    /// How many times it would have blocked.
     pub waits: u64,
 }

@@ -13,7 +13,7 @@ use std::io::{ErrorKind, Seek};
 ///
 /// It tells nothing of what a path holds. A path that can't be opened is a fault, and so is a directory, which the
 /// system would open to read. A file opened by `a` begins at its end or its start, as the system has it, and each write
-/// of it goes behind the end.
+/// of it goes after the end.
 #[derive(Drop)]
 pub struct FileOpener<'a, R: Files> {
     files: &'a R,

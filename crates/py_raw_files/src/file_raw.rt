@@ -15,7 +15,7 @@ use std::io::{ErrorKind, Read, Seek, SeekFrom, Write};
 /// A raw stream over a file, a pipe or a device of the system.
 ///
 /// It tells no content: what a file holds is the system's; but it tells its transfers. An answer that a call would block or was
-/// interrupted asks to wait; every other error is a fault, and so is an answer that can't be true, as a place past
+/// interrupted is a wait; every other error is a fault, and so is an answer that can't be true, as a place past
 /// 9223372036854775807 or a seek that ends elsewhere, and a write that takes nothing of a piece that isn't empty. Each wait and
 /// each fault is counted once, and nothing else is. `close` lets the file go, and so does dropping the stream: that can't report a
 /// fault, so none of the system's at its own closing is seen.

@@ -7,7 +7,7 @@ use crate::Counts;
 use std::io::ErrorKind;
 
 /// What a raw stream of the system stands on: a file, a reader or a writer, until it is closed, with what it can do and what was
-/// counted. One rule for all of them: an answer that a transfer would block or was interrupted asks to wait, every other error is a
+/// counted. One rule for all of them: an answer that a transfer would block or was interrupted is a wait, every other error is a
 /// fault, and so is an answer that can't be true; each is counted once, and nothing else is.
 #[derive(Debug, Drop)]
 pub(crate) struct Handle<T> {

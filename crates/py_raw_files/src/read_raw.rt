@@ -12,7 +12,7 @@ use std::io::{ErrorKind, Read};
 /// A raw stream over any reader of `std`: standard input, a socket, a pipe in hand.
 ///
 /// It can't be written or moved: those calls count a fault and answer it. It tells no content, but its transfers. An answer of the
-/// reader that it would block or was interrupted asks to wait; every other error is a fault. `close` drops the reader.
+/// reader that it would block or was interrupted is a wait; every other error is a fault. `close` drops the reader.
 #[derive(Debug, Drop)]
 pub struct ReadRaw<R> {
     handle: Handle<R>,

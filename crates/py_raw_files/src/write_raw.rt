@@ -12,7 +12,7 @@ use std::io::{ErrorKind, Write};
 /// A raw stream over any writer of `std`: standard output, a socket, a pipe in hand.
 ///
 /// It can't be read or moved: those calls count a fault and answer it. It tells no content, but its transfers, and how many bytes
-/// the writer took. An answer of the writer that it would block or was interrupted asks to wait; every other error is a fault, and
+/// the writer took. An answer of the writer that it would block or was interrupted is a wait; every other error is a fault, and
 /// so is a write that takes nothing of a piece that isn't empty. A writer with a buffer of its own is flushed at each write, and
 /// at `close`, which drops it.
 #[derive(Debug, Drop)]

@@ -70,7 +70,7 @@ refused_once raw = called raw (record raw.shows { faults = counted raw.shows.fau
 abbrev pub broken : MemRawView → MemRawView
 broken raw = called raw (record raw.shows { transfers = counted raw.shows.transfers 1; faults = counted raw.shows.faults 1 })
 
--- after a transfer that asked to wait
+-- after a transfer that would have blocked
 abbrev pub waited : MemRawView → MemRawView
 waited raw = called raw (record raw.shows { transfers = counted raw.shows.transfers 1; waits = counted raw.shows.waits 1 })
 
@@ -78,15 +78,15 @@ waited raw = called raw (record raw.shows { transfers = counted raw.shows.transf
 abbrev pub moved : MemRawView → ℕ → MemRawView
 moved raw count = called raw (record raw.shows { transfers = counted raw.shows.transfers 1; place = raw.shows.place + count })
 
--- after a write that answered for so many bytes: the place moved behind them
+-- after a write that answered for n bytes: the place moved after them
 abbrev pub wrote : MemRawView → ℕ → MemRawView
 wrote raw count = called raw (record raw.shows { transfers = counted raw.shows.transfers 1; place = raw.shows.place + count; written = counted raw.shows.written count })
 
--- with a piece laid on at the place
+-- a stream with a piece laid on at its place
 abbrev pub laid : MemRawView → List ℕ → MemRawView
 laid raw piece = record raw { shows = record raw.shows { bytes = lay raw.shows.bytes raw.shows.place piece } }
 
--- with the bytes cut or lengthened to a size
+-- a stream with its bytes cut or lengthened to a size
 abbrev pub cut_to : MemRawView → ℕ → MemRawView
 cut_to raw size = record raw { shows = record raw.shows { bytes = resized raw.shows.bytes size } }
 
@@ -104,7 +104,7 @@ reply_of (Breaks count) = Err Fault
 abbrev pub readable_count : MemRawView → ℕ → ℕ
 readable_count raw size = min size (length (left_at raw.shows.bytes raw.shows.place))
 
--- what the next call makes of a read of so many bytes, which are there
+-- what the next call makes of a read of n bytes, which are there
 abbrev pub read_turn : MemRawView → ℕ → Turn
 read_turn raw asked = if refuses raw.shows.readable raw then Refuses else read_by (next_cut raw) asked
 
@@ -126,7 +126,7 @@ buffer_after raw before (Breaks count) = before
 
 -- `write`
 
--- what the next call makes of a write of so many bytes
+-- what the next call makes of a write of n bytes
 abbrev pub write_turn : MemRawView → ℕ → Turn
 write_turn raw asked = if refuses raw.shows.writable raw then Refuses else write_by (next_cut raw) asked
 
@@ -155,13 +155,13 @@ pub record Gives {A : Type 0} (expected : Result A RawError) (after : MemRawView
   pub answer : result ≡ expected
   pub state : new ≡ after
 
--- want of memory leaves all as it was; else it is the planned result
+-- running out of memory leaves all as it was; else it is the planned result
 abbrev pub GivesOrLacks : {A : Type 0} → MemRawView → Result A RawError → MemRawView → Result A RawError → MemRawView → Type 0
 GivesOrLacks old expected after (Err Memory) new = new ≡ old
 GivesOrLacks old expected after (Err Fault) new = Gives expected after (Err Fault) new
 GivesOrLacks old expected after (Ok answer) new = Gives expected after (Ok answer) new
 
--- a write by its turn, or want of memory
+-- a write by its turn, or running out of memory
 abbrev pub WritePlanned : MemRawView → List ℕ → Result (Option ℕ) RawError → MemRawView → Type 0
 WritePlanned old piece result new =
     let turn = write_turn old (length piece) in
@@ -179,11 +179,11 @@ after_call can raw after = if refuses can raw then refused_once raw else called 
 abbrev pub CallPlanned : {A : Type 0} → Bool → MemRawView → A → Raw → Result A RawError → MemRawView → Type 0
 CallPlanned can old answer after result new = Gives (answer_or_fault can old answer) (after_call can old after) result new
 
--- a truncation, or want of memory; one that failed outright leaves the bytes
+-- a truncation, or running out of memory; one that failed outright leaves the bytes
 abbrev pub TruncatePlanned : MemRawView → ℕ → Result (Unit {0}) RawError → MemRawView → Type 0
 TruncatePlanned old size result new = GivesOrLacks old (answer_or_fault old.shows.writable old tt) (after_call old.shows.writable old (cut_to old size).shows) result new
 
--- with the stream closed
+-- a stream, closed
 abbrev pub shut : MemRawView → MemRawView
 shut raw = record raw { shows = record raw.shows { closed = true } }
 

@@ -4,12 +4,12 @@ ghost use Rattle.py_raw_memory.specs.Cuts.{takes, read_by, write_by};
 /// What an element of a plan makes of one transfer of a raw stream in memory.
 #[derive(Clone, Copy, Debug, PartialEq, Eq)]
 pub enum Cut {
-    /// At most so many bytes move. With 0 a read moves at most one, and a write takes nothing: a fault where its piece
+    /// At most n bytes move. With 0 a read moves at most one, and a write takes nothing: a fault where its piece
     /// isn't empty.
     Take(u32),
-    /// The stream asks to wait.
+    /// The stream would block.
     Wait,
-    /// The stream fails; of a written piece at most so many bytes are laid on before.
+    /// The stream fails; of a written piece at most n bytes are laid on before.
     Break(u32),
 }
 
@@ -18,13 +18,13 @@ pub enum Cut {
 pub(crate) enum Turn {
     /// The call is listed as one that fails: no transfer.
     Refuses,
-    /// So many bytes move.
+    /// This many bytes move.
     Moves(usize),
     /// Nothing is taken of a piece that isn't empty, which is a fault.
     Stalls,
-    /// The stream asks to wait.
+    /// The stream would block.
     Waits,
-    /// So many bytes are laid on, and the stream fails.
+    /// This many bytes are laid on, and the stream fails.
     Breaks(usize),
 }
 

@@ -96,7 +96,7 @@ fn open_stream(
     ensures held { OnOk result (HoldsNow (bytes_in entries.old.items) path.now (opened_bytes mode.now (bytes_in entries.old.items path.now)) (bytes_in entries.new.items)) }
     ensures err { OnErr result (entries.new.items ≡ entries.old.items) }
 {
-    // Copied first, so that an opening that lacks the memory for it leaves the path.
+    // Copied first, so that an opening that has not the memory for it leaves the path.
     let Plan { cuts, refused } = plan_of(plans, alloc, path)?;
     let bytes = open_in(entries, alloc, path, mode)?;
     Ok(MemRaw::new(bytes, mode_flags(mode), cuts, refused))

@@ -10,11 +10,10 @@ use py_raw::RawFlags;
 
 /// A raw stream in memory, which moves, waits and fails by a plan.
 ///
-/// Its calls are `readinto`, `write`, `seek`, `tell`, `end`, `truncate` and `close`, counted from 0; a call that lacks
-/// memory isn't counted. A call whose number is listed fails and moves nothing, though a `close` closes; so does one that the
-/// flags don't allow. Each other
-/// transfer, `readinto` or `write`, uses the next element of the plan; past the plan all is moved. A write that breaks
-/// off leaves the place.
+/// Its calls are `readinto`, `write`, `seek`, `tell`, `end`, `truncate` and `close`, counted from 0; a call that runs out of memory
+/// isn't counted. A call whose number is listed fails and moves nothing, though a `close` closes; so does one that the flags don't
+/// allow. Each other transfer, `readinto` or `write`, uses the next element of the plan; past the plan all is moved. A write that
+/// breaks off leaves the place.
 #[derive(Debug, Drop)]
 pub struct MemRaw {
     bytes: Vec<u8>,

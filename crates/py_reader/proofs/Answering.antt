@@ -423,11 +423,11 @@ answers_unready old new call on live given waits hides once idle =
 
 -- How far a refusal moves the place.
 
--- a place moved forth, and no further than so many bytes
+-- a place moved forth, and no further than n bytes
 forth_within : (most before after : ℕ) → before ≤ after → after ≤ before + most → MovesForth (Some most) before after
 forth_within most before after forth within = (forth, within)
 
--- a failed reading that moved no further than so many bytes
+-- a failed reading that moved no further than n bytes
 pub fails_within : (most : ℕ) (old new : EngineView) → FailsInReading None old new → place_of new.window ≤ place_of old.window + most → FailsInReading (Some most) old new
 fails_within most old new fails within = record {
   kept = fails.kept;
@@ -554,7 +554,7 @@ answers_faulted old new call reads live whole fails goes asks_some one stands =
       hides = λ shortened. absurd (cc);
     })
 
--- Where memory was wanting.
+-- Where memory ran out.
 
 want_short : (call : FileCall) → IsShort call (Refused fault.NoMemory) false
 want_short (Read1 size) = refl
@@ -575,7 +575,7 @@ pub stays_forth : (most : Option ℕ) (before after : ℕ) → after ≡ before 
 stays_forth None before after same = omega (arith, same)
 stays_forth (Some most) before after same = (omega (arith, same), omega (arith, same))
 
--- want of memory leaves the place of a stream that lives on
+-- running out of memory leaves the place of a stream that lives on
 want_leaves : (most : Option ℕ) (current : Life) (before after : ℕ) → (current ≡ life.Live → after ≡ before) → MovesForth most before after → PlaceStarves current most before after
 want_leaves most life.Live before after same forth = same refl
 want_leaves most current before after same forth = forth
@@ -652,7 +652,7 @@ starved_by_failing file (ReadLine limit) after on some fails = inr (some, fails)
 starved_by_failing file (ReadLines hint) after on some fails = inr (some, fails)
 starved_by_failing file call after on some fails = absurd (cc)
 
--- a reading that memory was wanting for once bytes had left the raw, some of them wanted
+-- a reading that memory ran out for once bytes had left the raw, some of them wanted
 pub record FailsWanting (old : EngineView) (call : FileCall) (new : EngineView) : Type 0 where
   pub kept : KeepsEngine old new
   pub counts : LeavesCounts old.raw new.raw

@@ -41,7 +41,7 @@ unmoved_for_nothing : (old now : EngineView) (part : List ℕ) (moved : Bool) (w
 unmoved_for_nothing old now part true wanted gathered some nothing = absurd (some.wants refl nothing)
 unmoved_for_nothing old now part false wanted gathered some nothing = gathered.unmoved refl
 
--- what stands behind some bytes is nothing where all is
+-- what stands after some bytes is nothing where all is
 none_behind : (xs ys : List ℕ) → xs ++ ys ≡ [] → ys ≡ []
 none_behind [] ys none = none
 none_behind (x ∷ xs) ys none = absurd (cc)
@@ -58,7 +58,7 @@ wants_something wanted first before piece after same more nothing =
 
 -- What comes next.
 
--- what came next, and all behind it
+-- what came next, and all after it
 next_parts : (bytes part : List ℕ) (place : ℕ) → take (length part) (left_at bytes place) ≡ part → left_at bytes place ≡ part ++ left_at bytes (place + length part)
 next_parts bytes part place next =
     sym (take-append-drop (length part) (left_at bytes place))
@@ -66,7 +66,7 @@ next_parts bytes part place next =
     ∙ ap (λ (t : List ℕ). part ++ t) (drop-drop (length part) place bytes))
 
 module _ (old now : EngineView) (part : List ℕ) (moved : Bool) (gathered : GatheredTo old part moved now) where
-  -- what is held behind the bytes that were collected comes next
+  -- what is held after the bytes that were collected comes next
   held_behind : (used : ℕ) → used ≤ length (ahead_of now.window) → WhereTold old.raw (take used (left_at old.raw.bytes (place_of old.window + length part)) ≡ take used (ahead_of now.window))
   held_behind used fits = λ tells.
       let kept : KeepsEngine old now = gathered.given.kept in
@@ -166,7 +166,7 @@ module _ (old now : EngineView) (part : List ℕ) (moved : Bool) (took : Took ol
         raw_forth = λ is tells. omega (arith, not_back moved refl tells, fills.forth (took.kept.raw.tells_place ∙ tells));
       }
 
-  -- so something came behind what was collected
+  -- so something came after what was collected
   some_behind : (new : EngineView) (count : ℕ) → Fills now count new → WhereTold old.raw (left_at old.raw.bytes (place_of old.window + length part) ≢ [])
   some_behind new count fills = λ tells none.
       let bytes : now.raw.bytes ≡ old.raw.bytes = keeps_told old now took.kept tells in
@@ -274,7 +274,7 @@ keeps_failed engine is = record {
   };
 }
 
--- memory was wanting
+-- memory ran out
 pub starves_so_far : (old now new : EngineView) (part after : List ℕ) (moved : Bool) (first : List ℕ → List ℕ) → GatheredTo old part moved now → MovedSome first old part moved → StarvesWith moved now new → GatherOutcome first old (Err fault.NoMemory) after new
 starves_so_far old now new part after false first gathered some starves = (
   inl (starves ∙ gathered.unmoved refl),

@@ -103,7 +103,7 @@ hands_in life.Failed raw window short unclosed attached far = record { answers =
 hands_in life.Closed raw window short unclosed attached far = absurd (unclosed refl)
 hands_in life.Detached raw window short unclosed attached far = absurd (attached refl)
 
--- a reader that was let go of its engine
+-- a reader that dropped its engine
 pub detaches : (old new : Option EngineView) (seekable : Bool) (size : ℕ) (engine : EngineView) (raw : Raw) (unwritten : List ℕ) (place : Option ℕ) → IsReader old seekable size → BeginsDetach old (Ok tt) new → new ≡ Some engine → raw ≡ engine.raw → unwritten ≡ [] → place ≡ handed seekable (place_of engine.window) → HandsOver (reader_of old seekable size) raw unwritten place (detached_stream (reader_can seekable) (Some size))
 detaches (Some old) (Some new) seekable size engine raw unwritten place is begins same raw_is none place_is =
     let begun : new ≡ record old { short = false } = begins.0.1 in

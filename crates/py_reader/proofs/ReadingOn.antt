@@ -37,7 +37,7 @@ some_counted items count empty size is some none =
 
 -- Where the reading stopped without an answer.
 
--- memory was wanting before anything moved
+-- memory ran out before anything moved
 unmoved : (old new : EngineView) (call : FileCall) → reads_on call ≡ true → old.life ≡ life.Live → old.short ≡ false → IsEngine old.raw old.window old.life → (IsTrue (has_room call) → IsTrue old.raw.takes_memory) → new ≡ old → Answers (stream_of old) call (Refused fault.NoMemory) (stream_of new)
 unmoved old new call on live whole is wants same =
     subst (λ (engine : EngineView). Answers (stream_of old) call (Refused fault.NoMemory) (stream_of engine)) (sym same)
@@ -59,7 +59,7 @@ starved old new call on room later live whole is (inr fails) idle some =
       some = some fails.failed;
     })
 
--- where bytes had left the raw before memory was wanting, some are wanted
+-- where bytes had left the raw before memory ran out, some are wanted
 abbrev pub WantsSome : FileCall → EngineView → IoFault → EngineView → Type 0
 WantsSome call old fault.NoMemory new = new.life ≡ life.Failed → WhereTold old.raw (wanted_by call (left_at old.raw.bytes (place_of old.window)) ≢ [])
 WantsSome call old why new = Unit {0}
@@ -114,7 +114,7 @@ gathers_rest old new part stops.Waits outcome = (outcome, record { alone = refl;
 
 -- Into a buffer.
 
--- a call that wants so many bytes
+-- a call that wants n bytes
 abbrev pub WantsSize : FileCall → ℕ → Type 0
 WantsSize call size = (left : List ℕ) → wanted_by call left ≡ take size left
 

@@ -39,7 +39,7 @@ asks_for size (Read1 bytes) = unwrap_or bytes size
 asks_for size (ReadInto1 bytes) = bytes
 asks_for size call = size
 
--- and how far so many bytes that it gives move the place
+-- and how far n bytes that it gives move the place
 abbrev pub moves_by : FileCall → ℕ → ℕ
 moves_by Peek count = 0
 moves_by call count = count

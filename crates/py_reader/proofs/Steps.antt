@@ -27,7 +27,7 @@ lengthened start more before = take (start + more) before ++ replicate (start + 
 pub length-lengthened : (start more : ℕ) (before : List ℕ) → length before ≡ start → length (lengthened start more before) ≡ start + more
 length-lengthened start more before size = length-append (take (start + more) before) (replicate (start + more - start) 0) ∙ omega (arith, ap length (take_all (start + more) before (omega arith)), length-replicate {A = ℕ} (start + more - start) 0)
 
--- and cut again behind the bytes that came in the place of zeros
+-- and cut again after the bytes that came in the place of zeros
 pub vector_read : (before resized buffer after : List ℕ) (start more count long : ℕ) → length before ≡ start → resized ≡ lengthened start more before → length buffer ≡ length resized → take start buffer ≡ take start resized → long ≡ length resized → count ≤ length (drop start buffer) → after ≡ take (start + count) (take long (buffer ++ drop (length buffer) resized)) → after ≡ before ++ take count (drop start buffer)
 vector_read before resized buffer after start more count long size is same front whole fits cut =
     let all : length resized ≡ start + more = ap length is ∙ length-lengthened start more before size in
@@ -64,7 +64,7 @@ held_enough old count buffer is live all fits front = record {
   );
 }
 
--- so many bytes have come into the front of a buffer that isn't full: all that were held, and those of the transfers since
+-- n bytes have come into the front of a buffer that isn't full: all that were held, and those of the transfers since
 pub record Reads (old : EngineView) (was : Bool) (count : ℕ) (buffer : List ℕ) (moved : Bool) (now : EngineView) : Type 0 where
   pub kept : KeepsEngine old now
   pub counts : LeavesCounts old.raw now.raw
@@ -98,7 +98,7 @@ not_back old was count buffer moved now reads tells = ⊎_elim (λ same. omega (
 pub end_not_back : (old : EngineView) (was : Bool) (count : ℕ) (buffer : List ℕ) (moved : Bool) (now : EngineView) → Reads old was count buffer moved now → end_of old.window ≤ end_of now.window
 end_not_back old was count buffer moved now reads = ⊎_elim (λ same. omega (arith, ap (λ (engine : EngineView). end_of engine.window) same.1)) (λ forth. omega (arith, forth.2)) reads.stepped
 
--- what one more transfer brings, behind what came
+-- what one more transfer brings, after what came
 pub behind_told : (old : EngineView) (was : Bool) (count : ℕ) (buffer : List ℕ) (moved : Bool) (now : EngineView) (more : ℕ) (rest : List ℕ) (new : EngineView) → Reads old was count buffer moved now → StepsOn now more rest new → WhereTold old.raw (take (count + more) (left_at old.raw.bytes (place_of old.window)) ≡ take (count + more) (take count buffer ++ rest))
 behind_told old was count buffer moved now more rest new reads steps tells =
     let bytes : now.raw.bytes ≡ old.raw.bytes = keeps_told old now reads.kept tells in
@@ -186,7 +186,7 @@ pub record ReadsAll (old : EngineView) (bytes : List ℕ) (more : ℕ) (moved : 
   pub first : moved ≡ false → (now ≡ old) × (bytes ≡ []) × (length (ahead_of old.window) < more)
   pub later : moved ≡ true → (more ≡ length bytes) × (end_of old.window < place_of now.window)
 
--- what was given, and what was given behind it
+-- what was given, and what was given after it
 pub gives_then : (old mid new : EngineView) (first second : List ℕ) → Gives old first mid → Gives mid second new → Gives old (first ++ second) new
 gives_then old mid new first second before behind =
     let long : length (first ++ second) ≡ length first + length second = length-append first second in
@@ -204,7 +204,7 @@ gives_then old mid new first second before behind =
           ∙ take_all (length first + length second) (first ++ second) (omega arith));
     }
 
--- what is asked for reaches behind the bytes that were held at first
+-- what is asked for reaches after the bytes that were held at first
 pub past_held : (old : EngineView) (bytes : List ℕ) (more : ℕ) (moved : Bool) (now : EngineView) → ReadsAll old bytes more moved now → end_of old.window < place_of now.window + more
 past_held old bytes more false now reads =
     let same : now ≡ old = (reads.first refl).0 in

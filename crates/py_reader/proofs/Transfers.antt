@@ -13,11 +13,11 @@ use Rattle.py_reader.specs.Engine.{EngineView, IsEngine, HoldsBytes, KeepsEngine
 
 -- Lists.
 
--- the front of a list behind another
+-- the front of a list after another
 pub more_taken : (n m : ℕ) (front rest : List ℕ) → length front ≡ n → take (n + m) (front ++ rest) ≡ front ++ take m rest
 more_taken n m front rest long = ap (λ (k : ℕ). take (k + m) (front ++ rest)) (sym long) ∙ take-append-add front rest m
 
--- what came next, and what came next behind it
+-- what came next, and what came next after it
 pub next_behind : (bytes front rest : List ℕ) (place n m : ℕ) → length front ≡ n → take n (left_at bytes place) ≡ front → take m (left_at bytes (place + n)) ≡ take m rest → take (n + m) (left_at bytes place) ≡ take (n + m) (front ++ rest)
 next_behind bytes front rest place n m long next behind =
     let left : List ℕ = left_at bytes place in
@@ -27,7 +27,7 @@ next_behind bytes front rest place n m long next behind =
     ∙ (ap (λ (xs : List ℕ). front ++ xs) behind
     ∙ sym (more_taken n m front rest long))))
 
--- so many bytes that came next lie before the end
+-- n bytes that came next lie before the end
 pub within_end : (bytes part : List ℕ) (place count : ℕ) → take count (left_at bytes place) ≡ part → length part ≡ count → place + count ≤ max place (length bytes)
 within_end bytes part place count next long = omega (arith, length-take count (left_at bytes place), length-drop place bytes, ap length next, long)
 
@@ -88,7 +88,7 @@ uncounted_then old mid new kept first second = record {
   no_wait = no_wait_then old mid new kept first.no_wait second.no_wait;
 }
 
--- a wait behind steps that counted none is the only one
+-- a wait after steps that counted none is the only one
 pub waits_once_then : (old mid new : EngineView) → KeepsEngine old mid → NoWait old.raw mid.raw → WaitsOnce mid.raw new.raw → WaitsOnce old.raw new.raw
 waits_once_then old mid new kept first second exact = second (kept.raw.counts_exactly ∙ exact) ∙ ap (λ (waits : ℕ). counted waits 1) (first exact)
 

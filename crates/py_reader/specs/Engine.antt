@@ -40,7 +40,7 @@ stream_of engine = record {
 abbrev pub HoldsBytes : Raw → WindowView → Type 0
 HoldsBytes raw window = take (length window.held) (left_at raw.bytes window.begin) ≡ window.held
 
--- what holds of every engine; of a live one that its raw stands behind the bytes held, and told, that these are the raw's
+-- what holds of every engine; of a live one that its raw stands after the bytes held, and told, that these are the raw's
 pub record IsEngine (raw : Raw) (window : WindowView) (current : Life) : Type 0 where
   pub window_is : IsWindow window
   pub is_open : current ≡ life.Live → raw.closed ≡ false
@@ -62,7 +62,7 @@ abbrev pub BeginOutcome : EngineView → Result (Unit {0}) IoFault → EngineVie
 BeginOutcome old (Ok done) new = (old.life ≡ life.Live) × (new ≡ record old { short = false })
 BeginOutcome old (Err why) new = (life_fault old.life ≡ Some why) × (new ≡ record old { short = false })
 
--- the same of a detaching, which a failed stream allows too
+-- a detaching begins: it is refused by the life, which may be failed, and nothing is short yet
 abbrev pub BeginDetach : EngineView → Result (Unit {0}) IoFault → EngineView → Type 0
 BeginDetach old (Ok done) new = (old.life ≢ life.Closed) × (new ≡ record old { short = false })
 BeginDetach old (Err why) new = (old.life ≡ life.Closed) × (why ≡ fault.Closed) × (new ≡ record old { short = false })
@@ -82,7 +82,8 @@ pub record FailsByRaw (old new : EngineView) : Type 0 where
   pub place : place_of new.window ≡ end_of old.window
   pub transfers : WhereTransfers old.raw (new.raw.transfers ≤ old.raw.transfers + 1)
 
--- the same of a reading that may have made many transfers, for no more than so many bytes, where it knows how many
+-- the raw failed, and the stream with it, in a reading that may have made many transfers, for at most `most` bytes, where it knows
+-- how many
 pub record FailsInReading (most : Option ℕ) (old new : EngineView) : Type 0 where
   pub kept : KeepsEngine old new
   pub cause : Rose old.raw.faults new.raw.faults
@@ -91,7 +92,7 @@ pub record FailsInReading (most : Option ℕ) (old new : EngineView) : Type 0 wh
   pub place : MovesForth most (place_of old.window) (place_of new.window)
   pub reach : Reaches old new
 
--- memory was wanting once bytes had left the raw, so some were left of the stream
+-- memory ran out once bytes had left the raw, so some were left of the stream
 pub record FailsMoved (most : Option ℕ) (old new : EngineView) : Type 0 where
   pub kept : KeepsEngine old new
   pub counts : LeavesCounts old.raw new.raw
@@ -102,7 +103,7 @@ pub record FailsMoved (most : Option ℕ) (old new : EngineView) : Type 0 where
   pub raw_forth : WherePlace old.raw (old.raw.place < new.raw.place)
   pub some : WhereTold old.raw (left_at old.raw.bytes (place_of old.window) ≢ [])
 
--- memory was wanting: nothing changed, or bytes had left the raw
+-- memory ran out: nothing changed, or bytes had left the raw
 abbrev pub StarvesAt : Option ℕ → EngineView → EngineView → Type 0
 StarvesAt most old new = (new ≡ old) ⊎ FailsMoved most old new
 
@@ -115,7 +116,7 @@ pub record Transferred (old new : EngineView) : Type 0 where
   pub live : new.life ≡ life.Live
   pub transfers : WhereTransfers old.raw (new.raw.transfers ≤ old.raw.transfers + 1)
 
--- the raw asked to wait, or said that nothing comes: the window is used up
+-- the raw would have blocked, or said that nothing comes: the window is used up
 pub record UsesUp (old new : EngineView) : Type 0 where
   pub transferred : Transferred old new
   pub place : place_of new.window ≡ end_of old.window
@@ -123,11 +124,11 @@ pub record UsesUp (old new : EngineView) : Type 0 where
   pub none : ahead_of new.window ≡ []
   pub still : WherePlace old.raw (new.raw.place ≡ old.raw.place)
 
--- told: no byte comes behind those held
+-- told: no byte comes after those held
 abbrev pub IsLast : EngineView → Type 0
 IsLast old = WhereTold old.raw (length old.raw.bytes ≤ end_of old.window)
 
--- memory was wanting: fails where bytes had moved in this call
+-- memory ran out: fails where bytes had moved in this call
 abbrev pub StarvesWith : Bool → EngineView → EngineView → Type 0
 StarvesWith true old new = new ≡ record old { life = life.Failed }
 StarvesWith false old new = new ≡ old
@@ -189,7 +190,7 @@ pub record Took (old : EngineView) (part : List ℕ) (moved : Bool) (now : Engin
   pub forth : moved ≡ true → end_of old.window < end_of now.window
   pub raw_forth : moved ≡ true → WherePlace old.raw (old.raw.place < now.raw.place)
 
--- it gave these bytes, and the place moved behind them
+-- it gave these bytes, and the place moved after them
 pub record Gives (old : EngineView) (part : List ℕ) (new : EngineView) : Type 0 where
   pub kept : KeepsEngine old new
   pub no_fault : NoFault old.raw new.raw
@@ -197,7 +198,7 @@ pub record Gives (old : EngineView) (part : List ℕ) (new : EngineView) : Type 
   pub place : place_of new.window ≡ place_of old.window + length part
   pub told : WhereTold old.raw (ComesNext old part)
 
--- why it stopped: it has enough; nothing comes behind; the raw asked to wait, and nothing is held back
+-- why it stopped: it has enough; nothing comes after; the raw would have blocked, and nothing is held back
 abbrev pub StopOutcome : EngineView → List ℕ → Result Stop IoFault → EngineView → Type 0
 StopOutcome old part (Ok stop.Enough) new = Gives old part new × NoWait old.raw new.raw
 StopOutcome old part (Ok stop.End) new = Gives old part new × NoWait old.raw new.raw × WhereTold old.raw (length old.raw.bytes ≤ place_of new.window)
@@ -211,7 +212,7 @@ abbrev pub is_wait : Stop → Bool
 is_wait stop.Waits = true
 is_wait other = false
 
--- whether there is an answer: none where the raw asked to wait before anything came
+-- whether there is an answer: none where the raw would have blocked before anything came
 abbrev pub has_answer : Stop → Bool → Bool
 has_answer where_stopped empty = not (is_wait where_stopped && empty)
 

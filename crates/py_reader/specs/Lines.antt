@@ -22,7 +22,7 @@ abbrev pub IsLine : Option (Result (Option (Vec ℕ Global)) IoFault) → Type 0
 IsLine (Some (Ok (Some line))) = line.items ≢ []
 IsLine item = Unit {0}
 
--- The next item of so many that may still come: what `readline` answers. Where none may come any more, the reader isn't called
+-- The next item of n that may still come: what `readline` answers. Where none may come any more, the reader isn't called
 pub record GivesLine (before : Stream) (left : ℕ) (item : Option (Result (Option (Vec ℕ Global)) IoFault)) (after : Stream) (more : ℕ) : Type 0 where
   pub ended : left ≡ 0 → (item ≡ None) × (after ≡ before)
   pub answers : 0 < left → Answers before (ReadLine None) (answer_to item) after

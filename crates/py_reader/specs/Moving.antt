@@ -36,7 +36,7 @@ EndOutcome old (Err other) new = ⊥
 abbrev pub TargetFrom : ℕ → ℤ → EngineView → Result ℕ IoFault → EngineView → Type 0
 TargetFrom base offset old result new = MovedBy base offset result × (new ≡ old)
 
--- and from the end: some end was answered, or the asking failed
+-- where a seek from the end goes: some end was answered, or the asking failed
 abbrev pub TargetFromEnd : ℤ → EngineView → Result ℕ IoFault → EngineView → Type 0
 TargetFromEnd offset old (Err fault.RawFault) new = FailsMoving old new
 TargetFromEnd offset old (Err fault.NoMemory) new = IsTrue old.raw.takes_memory × (new ≡ old)

@@ -19,7 +19,7 @@ use Rattle.py_reader.specs.Engine.{EngineView, KeepsEngine, Reaches, FailsByRaw,
 
 -- Into a caller's buffer.
 
--- bytes came behind those held, which were all taken, into the front of what is left of a caller's buffer
+-- bytes came after those held, which were all taken, into the front of what is left of a caller's buffer
 pub record StepsOn (old : EngineView) (count : ℕ) (rest : List ℕ) (new : EngineView) : Type 0 where
   pub kept : KeepsEngine old new
   pub counts : LeavesCounts old.raw new.raw
@@ -29,7 +29,7 @@ pub record StepsOn (old : EngineView) (count : ℕ) (rest : List ℕ) (new : Eng
   pub told : WhereTold old.raw (take count (left_at old.raw.bytes (end_of old.window)) ≡ take count rest)
   pub forth : WherePlace old.raw (old.raw.place < new.raw.place)
 
--- one transfer: it brought less than what is left of the buffer, and the window's end lies behind it; or as much, and the
+-- one transfer: it brought less than what is left of the buffer, and the window's end lies after it; or as much, and the
 -- place does; or none
 abbrev pub StepOutcome : EngineView → Bool → Result Step IoFault → List ℕ → EngineView → Type 0
 StepOutcome old moved (Ok (step.On count)) rest new = StepsOn old count rest new × (count < length rest) × (end_of new.window ≡ end_of old.window + count)
@@ -40,7 +40,7 @@ StepOutcome old moved (Err fault.RawFault) rest new = FailsByRaw old new
 StepOutcome old moved (Err fault.NoMemory) rest new = RawStarves moved old new
 StepOutcome old moved (Err other) rest new = ⊥
 
--- the raw's want of memory: all is as it was where no byte had moved in this call; else the stream fails
+-- the raw's running out of memory: all is as it was where no byte had moved in this call; else the stream fails
 pub record FailsStarved (most : Option ℕ) (old : EngineView) (moved : Bool) (new : EngineView) : Type 0 where
   pub kept : KeepsEngine old new
   pub counts : LeavesCounts old.raw new.raw
@@ -56,7 +56,7 @@ pub record FailsStarved (most : Option ℕ) (old : EngineView) (moved : Bool) (n
 abbrev pub StarvesIn : Option ℕ → EngineView → Bool → EngineView → Type 0
 StarvesIn most old moved new = IsTrue old.raw.takes_memory × (((moved ≡ false) × (new ≡ old)) ⊎ FailsStarved most old moved new)
 
--- so many bytes came into the front of the buffer; all of it where there are enough; for none the raw isn't called
+-- n bytes came into the front of the buffer; all of it where there are enough; for none the raw isn't called
 pub record ReadsInto (old : EngineView) (progress : Progress) (buffer : List ℕ) (new : EngineView) : Type 0 where
   pub fits : progress.count ≤ length buffer
   pub full : progress.stop ≡ stop.Enough → progress.count ≡ length buffer
@@ -69,7 +69,7 @@ ReadIntoOutcome old moved (Err fault.RawFault) buffer new = FailsInReading (Some
 ReadIntoOutcome old moved (Err fault.NoMemory) buffer new = StarvesIn (Some (length buffer)) old moved new × (0 < length buffer)
 ReadIntoOutcome old moved (Err other) buffer new = ⊥
 
--- so many bytes more were asked for, and some of them came behind what a vector had; all of them where there are enough
+-- n bytes more were asked for, and some of them came after what a vector had; all of them where there are enough
 pub record ReadsMore (old : EngineView) (before : List ℕ) (more : ℕ) (where_stopped : Stop) (after : List ℕ) (new : EngineView) : Type 0 where
   pub part : List ℕ
   pub behind : after ≡ before ++ part
@@ -99,7 +99,7 @@ ReadyOutcome old (Err fault.RawFault) new = FailsByRaw old new × (place_of new.
 ReadyOutcome old (Err fault.NoMemory) new = IsTrue old.raw.takes_memory × (new ≡ old)
 ReadyOutcome old (Err other) new = ⊥
 
--- what is held is given, at most so many bytes: the raw isn't called
+-- what is held is given, at most n bytes: the raw isn't called
 abbrev pub GivesHeld : EngineView → ℕ → Result (Vec ℕ Global) IoFault → EngineView → Type 0
 GivesHeld old size (Ok part) new = (part.items ≡ take size (ahead_of old.window)) × (new ≡ record old { window = advanced (length part.items) old.window })
 GivesHeld old size (Err refused) new = (refused ≡ fault.NoMemory) × (new ≡ old)
@@ -121,7 +121,7 @@ Gathers wanted old part (Ok stop.End) = GathersEnough wanted old part
 Gathers wanted old part (Ok stop.Waits) = GathersFront wanted old part
 Gathers wanted old part (Err refused) = Unit {0}
 
--- memory was wanting once bytes had left the raw: some of what is left are wanted
+-- memory ran out once bytes had left the raw: some of what is left are wanted
 abbrev pub StarvesWanting : (List ℕ → List ℕ) → EngineView → Result Stop IoFault → EngineView → Type 0
 StarvesWanting wanted old (Err fault.NoMemory) new = new.life ≡ life.Failed → WhereTold old.raw (wanted (left_at old.raw.bytes (place_of old.window)) ≢ [])
 StarvesWanting wanted old result new = Unit {0}

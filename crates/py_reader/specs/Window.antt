@@ -19,7 +19,7 @@ pub record WindowView : Type 0 where
 abbrev pub place_of : WindowView → ℕ
 place_of window = window.begin + window.cursor
 
--- the place behind the bytes held
+-- the place after the bytes held
 abbrev pub end_of : WindowView → ℕ
 end_of window = window.begin + length window.held
 
@@ -42,11 +42,11 @@ advanced count window = record window { cursor = window.cursor + count }
 abbrev pub emptied_at : ℕ → WindowView → WindowView
 emptied_at place window = record { size = window.size; begin = place; held = []; cursor = 0 }
 
--- nothing is held, behind what was
+-- nothing is held, after what was
 abbrev pub used_up : WindowView → WindowView
 used_up window = emptied_at (end_of window) window
 
--- whether a place lies among the bytes held, or right behind them
+-- whether a place lies among the bytes held, or right after them
 abbrev pub covers : WindowView → ℕ → Bool
 covers window place = nat_le window.begin place && nat_le place (end_of window)
 
@@ -54,10 +54,10 @@ covers window place = nat_le window.begin place && nat_le place (end_of window)
 abbrev pub moved_to : ℕ → WindowView → WindowView
 moved_to place window = record window { cursor = place - window.begin }
 
--- One transfer of the raw behind the bytes held, which are used up then.
+-- One transfer of the raw after the bytes held, which are used up then.
 
 -- some bytes came, not none; they lie below the greatest place. Of a raw that stood where the last held byte ended: told, they
--- are those that come next in it; and it stands behind them
+-- are those that come next in it; and it stands after them
 pub record Brings (old : Raw) (place : ℕ) (part : List ℕ) (new : Raw) : Type 0 where
   pub some : part ≢ []
   pub within : place + length part ≤ greatest_place
@@ -67,7 +67,7 @@ pub record Brings (old : Raw) (place : ℕ) (part : List ℕ) (new : Raw) : Type
   pub bytes : KeepsBytes old new
   pub transfers : Transfers 1 old new
 
--- nothing came; told, nothing comes behind the place, where the raw stood there; and it stands where it stood
+-- nothing came; told, nothing comes after the place, where the raw stood there; and it stands where it stood
 pub record BringsNone (old : Raw) (place : ℕ) (new : Raw) : Type 0 where
   pub counts : LeavesCounts old new
   pub last : WhereTold old (old.place ≡ place → length old.bytes ≤ place)

@@ -27,12 +27,11 @@ use std::marker::Model;
 /// 9223372036854775807.
 ///
 /// Each call first answers by the life, with all as it was: `Failed` after a fault (a `detach` still works), `Closed` after a
-/// `close` (which may be called again), `Detached` after a `detach`. Else, where the raw failed in the call, it is
-/// `RawFault`: the reader is failed from then on (after `close` closed); its place is where the call began, or further on where a
-/// reading had taken bytes by then. Where the raw asked to wait, a reading call answers what came by then, never nothing, or
-/// `None` where nothing had, with all as it was; `short` is true then. `NoMemory` is
-/// want of memory; what stands then, each call says. What waits and faults leave is this project's choice
-/// (docs/DECISIONS.md), all else the rule of Python's `io` module.
+/// `close` (which may be called again), `Detached` after a `detach`. Else, where the raw failed in the call, it is `RawFault`: the
+/// reader is failed from then on (after `close` closed); its place is where the call began, or further on where a reading had taken
+/// bytes by then. Where the raw would have blocked, a reading call answers what came by then, never nothing, or `None` where
+/// nothing had, with all as it was; `short` is true then. `NoMemory` means out of memory; what stands then, each call says. What
+/// waits and faults leave is this project's choice (docs/DECISIONS.md), all else the rule of Python's `io` module.
 #[derive(Debug, Drop)]
 pub struct BufferedReader<R: RawStream> {
     data: Option<BufferedData<R>>,
@@ -144,7 +143,7 @@ impl<R: RawStream> BufferedReader<R> {
     }
 
     /// Reads as many bytes as `buffer` is long into its front, and answers how many; fewer come only at the end. What `buffer`
-    /// has behind them may have changed, and after `None`, `RawFault` and `NoMemory` all of it; every other refusal leaves it.
+    /// has after them may have changed, and after `None`, `RawFault` and `NoMemory` all of it; every other refusal leaves it.
     ///
     /// It takes no memory: `NoMemory` comes only of a raw that takes some, and leaves the reader as it was, unless bytes had
     /// left the raw already: then it is failed.
@@ -161,7 +160,7 @@ impl<R: RawStream> BufferedReader<R> {
     }
 
     /// Reads some of the next bytes into the front of `buffer`, by at most one transfer of the raw, and answers how many. No
-    /// bytes come only where `buffer` is empty or nothing is left. What `buffer` has behind them stays as it was; `None` and
+    /// bytes come only where `buffer` is empty or nothing is left. What `buffer` has after them stays as it was; `None` and
     /// refusals leave all of it.
     ///
     /// It takes no memory: `NoMemory` comes only of a raw that takes some, and leaves place and life as they were.
@@ -280,7 +279,7 @@ impl<R: RawStream> BufferedReader<R> {
     }
 
     /// Hands the raw back, with nothing unwritten, and the place (`None` where the raw can't seek). The raw isn't called: it
-    /// stands behind what was last read from it, and after a fault anywhere. A failed reader may be detached, a closed
+    /// stands after what was last read from it, and after a fault anywhere. A failed reader may be detached, a closed
     /// one not. It takes no memory.
     pub fn detach(&mut self) -> Result<Detached<R>, IoFault>
         ensures { DetachOutcome R.shows self.old result self.new }
@@ -384,7 +383,7 @@ impl<R: RawStream> BufferedReader<R> {
     }
 }
 
-/// Sees to it that some of the bytes that come next are held; else the raw asked to wait.
+/// Sees to it that some of the bytes that come next are held; else the raw would have blocked.
 fn look<R: RawStream>(engine: &mut Option<BufferedData<R>>) -> Result<bool, IoFault>
     ensures { Looks engine.old result engine.new }
 {

@@ -21,11 +21,11 @@ pub(crate) enum Stop {
     Enough,
     /// Nothing comes any more.
     End,
-    /// The raw asked to wait.
+    /// The raw would have blocked.
     Waits,
 }
 
-/// The raw stands behind the bytes that the window holds, while the stream lives.
+/// The raw stands after the bytes that the window holds, while the stream lives.
 #[derive(Debug, Drop)]
 pub(crate) struct BufferedData<R: RawStream> {
     raw: R,
@@ -156,7 +156,7 @@ impl<R: RawStream> BufferedData<R> {
         }
     }
 
-    /// Whether there is an answer: none where the raw asked to wait before anything came. A wait is remembered.
+    /// Whether there is an answer: none where the raw would have blocked before anything came. A wait is remembered.
     fn answers(&mut self, stop: Stop, empty: bool) -> bool
         ensures answer { result ≡ has_answer stop empty }
         ensures stream { self.new ≡ answered_at stop self.old }

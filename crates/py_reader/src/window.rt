@@ -11,7 +11,7 @@ use std::marker::Model;
 /// What one transfer brought.
 #[derive(Clone, Copy)]
 pub(crate) enum Filled {
-    /// So many bytes, not none.
+    /// This many bytes, not none.
     More(usize),
     /// Nothing, at the end.
     End,
@@ -121,7 +121,7 @@ impl Window {
         self.begin + self.cursor as u64
     }
 
-    /// The place behind the bytes held.
+    /// The place after the bytes held.
     fn end_place(&self) -> u64
         ensures place { result ≡ end_of self.now }
         ensures within { result ≤ greatest_place }
@@ -136,7 +136,7 @@ impl Window {
         &self.buffer[self.cursor..self.end]
     }
 
-    /// Whether the cursor stands behind all that is held.
+    /// Whether the cursor stands after all that is held.
     pub fn is_used_up(&self) -> bool
         ensures used { result ≡ true → ahead_of self.now ≡ [] }
         ensures left { result ≡ false → 0 < length (ahead_of self.now) }
@@ -152,7 +152,7 @@ impl Window {
         self.cursor += count;
     }
 
-    /// Whether a place lies among the bytes held, or right behind them.
+    /// Whether a place lies among the bytes held, or right after them.
     pub fn covers(&self, place: u64) -> bool
         ensures { result ≡ covers_place self.now place }
     {
@@ -177,7 +177,7 @@ impl Window {
         self.end = 0;
     }
 
-    /// Lets go of what is held, and fills the buffer by one transfer of a raw that stands behind it.
+    /// Lets go of what is held, and fills the buffer by one transfer of a raw that stands after it.
     pub fn fill<R: RawStream>(&mut self, raw: &mut R) -> Result<Filled, RawError>
         requires open { (R.shows raw.old).closed ≡ false }
         ensures keeps { Keeps (R.shows raw.old) (R.shows raw.new) }
@@ -204,7 +204,7 @@ impl Window {
         }
     }
 
-    /// Lets go of what is held, and passes bytes of a raw that stands behind it straight into the front of a caller's
+    /// Lets go of what is held, and passes bytes of a raw that stands after it straight into the front of a caller's
     /// buffer, by one transfer.
     pub fn pass<R: RawStream>(&mut self, raw: &mut R, buffer: &mut [u8]) -> Result<Filled, RawError>
         requires open { (R.shows raw.old).closed ≡ false }

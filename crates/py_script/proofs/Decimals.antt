@@ -10,7 +10,7 @@ pub decimal_value_of_some : (digits : List ℕ) → 0 < length digits → decima
 decimal_value_of_some [] some = absurd (omega arith)
 decimal_value_of_some (digit ∷ digits) some = refl
 
--- a value that is too large for a size stays so with any digits behind it
+-- a value that is too large for a size stays so with any digits after it
 pub value_onto_large : (value : ℕ) (digits : List ℕ) → 2 ^ 64 ≤ value → as_size (value_onto value digits) ≡ None
 value_onto_large value [] large = grind (arith, nat_tests)
 value_onto_large value (digit ∷ digits) large =

@@ -1,10 +1,10 @@
--- Words of a line, one behind the other.
+-- Words of a line, one after the other.
 use Rattle.std.proofs.Common.{◌≡◌, ℕ, ◌+◌, ◌<◌, List, [], ◌∷◌, ◌++◌, map, length, get_or, take, refl, sym, ap, ◌∙◌, append_assoc}
 use Rattle.std.proofs.lemmas.List.{take_more, map-append}
 use Rattle.py_script.specs.Words.{spaced}
 use Rattle.py_script.specs.ReplyLine.{hex_of}
 
--- words behind words
+-- words after words
 pub spaced-append : (words more : List (List ℕ)) → spaced (words ++ more) ≡ spaced words ++ spaced more
 spaced-append [] more = refl
 spaced-append (word ∷ words) more = ap (λ rest. (32 ∷ word) ++ rest) (spaced-append words more) ∙ sym (append_assoc (32 ∷ word) (spaced words) (spaced more))

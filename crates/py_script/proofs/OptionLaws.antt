@@ -127,6 +127,6 @@ clash_behind : (given : Given) (front between words : List (List ℕ)) (first se
 clash_behind given [] between words first second same = clash_between given between words first second same
 clash_behind given (word ∷ front) between words first second same = and_then_none (λ next. given_with_words next (front ++ (first ∷ between ++ second ∷ words))) (given_with_word given word) (λ next. clash_behind next front between words first second same)
 
--- so the words are out of form
+-- so the words are malformed
 pub each_once : (front between words : List (List ℕ)) (first second : List ℕ) → name_of first ≡ name_of second → arguments_of (front ++ (first ∷ between ++ second ∷ words)) ≡ None
 each_once front between words first second same = ap (option_map arguments_by) (clash_behind nothing_given front between words first second same)

@@ -146,7 +146,7 @@ unfolding kind
 text_same x (Text y) alike = ap Text (encodes_same x y (hex_same (encode_utf8_all x) (encode_utf8_all y) alike.range_a alike.range_b (one_word_same (hex_of (encode_utf8_all x)) (hex_of (encode_utf8_all y)) alike.rests)))
 text_same x b alike = absurd (omega (arith, alike.kinds))
 
--- lines, behind how many they are
+-- lines, after how many they are
 lines_words : (lines : List (List ℕ)) → IsInRange (Lines lines) → AreWords (reply_fields (Lines lines))
 lines_words lines range = (decimal_word (length lines) range.1, hex_lines_words lines)
 

@@ -17,6 +17,6 @@ pub calls_from_more : (calls : List Call) (call : Call) (lines : List (Bor (List
 calls_from_more calls call lines i default within stays makes =
     rw (drop-cons lines i default, add-one) (rw (stays, makes) (behind_more calls call _))
 
--- a line that is out of form
+-- a malformed line
 pub calls_from_none : (lines : List (Bor (List ℕ))) (i : ℕ) (default : Bor (List ℕ)) → i < length lines → is_skipped (get_or lines i default).now ≡ false → line_call (get_or lines i default).now ≡ None → calls_from lines i ≡ None
 calls_from_none lines i default within stays makes = rw (drop-cons lines i default) (rw (stays, makes) refl)

@@ -59,7 +59,7 @@ cut (c ∷ u) (d ∷ v) r s word_u word_v ends_r ends_s same =
     let whole : c ∷ u ≡ d ∷ v = cc in
     (whole, parts.1)
 
--- the words of a line behind its first, with its LF
+-- the words of a line after its first, with its LF
 abbrev pub rest_of_line : List (List ℕ) → List ℕ
 rest_of_line words = spaced words ++ 10 ∷ []
 
@@ -73,7 +73,7 @@ abbrev pub AreWords : List (List ℕ) → Type 0
 AreWords [] = ⊤
 AreWords (word ∷ words) = (is_word word ≡ true) × AreWords words
 
--- the words behind a first one
+-- the words after a first one
 rest_of_line_more : (word : List ℕ) (words : List (List ℕ)) → rest_of_line (word ∷ words) ≡ 32 ∷ (word ++ rest_of_line words)
 rest_of_line_more word words = ap (λ rest. 32 ∷ rest) (append_assoc word (spaced words) (10 ∷ []))
 
@@ -146,7 +146,7 @@ spaceless [] is = All-nil (λ byte. eqb byte 32 ≡ false)
 spaceless (byte ∷ bytes) is =
     All-cons (λ byte. eqb byte 32 ≡ false) byte bytes (no_space byte (first_of_word byte bytes is)) (spaceless bytes (rest_of_word byte bytes is))
 
--- words behind one another are told apart
+-- words after one another are told apart
 pub words_apart : (word : List ℕ) (words : List (List ℕ)) → is_word word ≡ true → AreWords words → words_of (word ++ spaced words) ≡ word ∷ words
 words_apart word [] is are = rw append-nil (slice_split_none (λ byte. eqb byte 32) word (spaceless word is))
 words_apart word (next ∷ words) is are =

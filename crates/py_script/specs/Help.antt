@@ -1,12 +1,12 @@
 -- What `--help` and `--version` print: this project's own.
 use Rattle.std.specs.Prelude.{ℕ, nat_le, Bool, true, ◌&&◌, List, [], ◌∷◌, ◌++◌, length, codes}
 
--- lines as a text, each with an LF behind it
+-- lines as a text, each with an LF after it
 abbrev pub text_of_lines : List (List ℕ) → List ℕ
 text_of_lines [] = []
 text_of_lines (line ∷ lines) = line ++ (10 ∷ text_of_lines lines)
 
--- whether each line has at most so many bytes
+-- whether each line has at most n bytes
 abbrev pub are_within : ℕ → List (List ℕ) → Bool
 are_within width [] = true
 are_within width (line ∷ lines) = nat_le (length line) width && are_within width lines

@@ -24,7 +24,7 @@ plain_call name =
     else if bytes_eq name (codes "closed") then Some Closed
     else None
 
--- the call of a word with a size behind it: each reading of so much
+-- the call of a word with a size after it: each reading of so much
 abbrev pub sized_call : List ℕ → ℕ → Option Call
 sized_call name size =
     if bytes_eq name (codes "read") then Some (Read (Some size))
@@ -35,29 +35,29 @@ sized_call name size =
     else if bytes_eq name (codes "readinto1") then Some (ReadInto1 size)
     else None
 
--- the call of a word with at most a size behind it
+-- the call of a word with at most a size after it
 abbrev pub reading_call : List ℕ → List (List ℕ) → Option Call
 reading_call name [] = plain_call name
 reading_call name (size ∷ []) = option_and_then (sized_call name) (decimal_value size)
 reading_call name _ = None
 
--- a move by an offset and a whence; None where either is out of form
+-- a move by an offset and a whence; None where either is malformed
 abbrev pub seek_by : Option ℤ → Option ℤ → Option Call
 seek_by (Some offset) (Some whence) = Some (Seek offset whence)
 seek_by _ _ = None
 
--- the call of what stands behind `seek`: an offset, and a whence, which is 0 (from the start) where there is none
+-- the call of what stands after `seek`: an offset, and a whence, which is 0 (from the start) where there is none
 abbrev pub seek_call : List (List ℕ) → Option Call
 seek_call (offset ∷ []) = seek_by (integer_value offset) (Some (pos 0))
 seek_call (offset ∷ whence ∷ []) = seek_by (integer_value offset) (whence_value whence)
 seek_call _ = None
 
--- the call of what stands behind `write`: bytes
+-- the call of what stands after `write`: bytes
 abbrev pub write_call : List (List ℕ) → Option Call
 write_call (bytes ∷ []) = option_map Write (word_bytes bytes)
 write_call _ = None
 
--- the call of what stands behind `writelines`: the bytes of each line, of any number of them
+-- the call of what stands after `writelines`: the bytes of each line, of any number of them
 abbrev pub writelines_call : List (List ℕ) → Option Call
 writelines_call lines = option_map WriteLines (words_bytes lines)
 

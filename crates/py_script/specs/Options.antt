@@ -16,7 +16,7 @@ text_of bytes = if is_utf8 bytes then Some (chars bytes) else None
 abbrev pub hex_text : List ℕ → Option (List ℕ)
 hex_text digits = option_and_then text_of (hex_bytes digits)
 
--- the option of a name and its value; None where there is no such name, or the value is out of form
+-- the option of a name and its value; None where there is no such name, or the value is malformed
 abbrev pub named_option : List ℕ → List ℕ → Option WordOption
 named_option name value =
     if bytes_eq name (codes "buffering") then option_map Buffering (integer_value value)
@@ -67,7 +67,7 @@ arguments_by given = record {
   chunk_size = unwrap_or given.chunk_size 8192;
 }
 
--- the arguments of an opening by the words of its options; None where these are out of form
+-- the arguments of an opening by the words of its options; None where these are malformed
 abbrev pub arguments_of : List (List ℕ) → Option OpenArgs
 arguments_of words = option_map arguments_by (given_with_words nothing_given words)
 

@@ -47,7 +47,7 @@ reply_fields _ = []
 abbrev pub reply_line : Reply → List ℕ
 reply_line reply = reply_word reply ++ spaced (reply_fields reply) ++ 10 ∷ []
 
--- the lines of replies, one behind the other
+-- the lines of replies, one after the other
 abbrev pub reply_lines : List Reply → List ℕ
 reply_lines [] = []
 reply_lines (reply ∷ replies) = reply_line reply ++ reply_lines replies

@@ -19,7 +19,7 @@ spaced (word ∷ words) = (32 ∷ word) ++ spaced words
 unfoldable pub is_digit : ℕ → Bool
 is_digit byte = nat_le 48 byte && nat_le byte 57
 
--- the value of decimal digits behind those of `value`; None where a byte is no digit
+-- the value of decimal digits after those of `value`; None where a byte is no digit
 abbrev pub value_onto : ℕ → List ℕ → Option ℕ
 value_onto value [] = Some value
 value_onto value (digit ∷ digits) = if is_digit digit then value_onto (value * 10 + (digit - 48)) digits else None
@@ -67,12 +67,12 @@ abbrev pub word_bytes : List ℕ → Option (List ℕ)
 word_bytes [] = None
 word_bytes (digit ∷ digits) = if bytes_eq (digit ∷ digits) (codes "-") then Some [] else hex_bytes (digit ∷ digits)
 
--- an item before those that follow; None where either is out of form
+-- an item before those that follow; None where either is malformed
 abbrev pub item_before : {A : Type 0} → Option A → Option (List A) → Option (List A)
 item_before (Some item) (Some items) = Some (item ∷ items)
 item_before _ _ = None
 
--- the bytes of words, each one's apart; None where one is out of form
+-- the bytes of words, each one's apart; None where one is malformed
 abbrev pub words_bytes : List (List ℕ) → Option (List (List ℕ))
 words_bytes [] = Some []
 words_bytes (word ∷ words) = item_before (word_bytes word) (words_bytes words)

@@ -23,8 +23,8 @@ pub enum Command<'a> {
     Version,
 }
 
-/// What the words of a command line ask for, without the program's own name; `None` where they are no form, `Err` for want
-/// of memory.
+/// What the words of a command line ask for, without the program's own name; `None` where they are no form, `Err` when out of
+/// memory.
 ///
 /// A form is `--help` alone, `--version` alone, or `run`, a path, a mode and options, each at most once and in any
 /// order: `buffering=` and one or more decimal digits after at most one `-`, from -9223372036854775808 to

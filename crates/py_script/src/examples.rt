@@ -78,7 +78,7 @@ pub fn examples_of_writes()
     ensures odd_line { script_calls (codes "writelines 61 6") ≡ None }
 {}
 
-/// Worked examples of scripts out of form, computed from the definition.
+/// Worked examples of malformed scripts, computed from the definition.
 #[tactic(auto, unfolding(crate::specs::Words::is_digit))]
 pub fn examples_out_of_form()
     ensures misspelled { script_calls (codes "red") ≡ None }

@@ -60,7 +60,7 @@ pub fn fault_name(fault: IoFault) -> &'static str
 }
 
 /// Adds the line of an opening that is refused, `refused`, the fault's name and an LF, at the end of some bytes. At
-/// `Err`, for want of memory, the bytes are unchanged.
+/// `Err`, when out of memory, the bytes are unchanged.
 pub fn push_refused_line(alloc: Global, out: &mut Vec<u8>, fault: IoFault) -> Result<(), AllocError>
     ensures ok { OnOk result (out.new.items ≡ out.old.items ++ refused_line fault) }
     ensures err { OnErr result (out.new.items ≡ out.old.items) }

@@ -5,8 +5,8 @@ use hex::{FromHexError, decode};
 use py_flat::{Data, Lines};
 use std::alloc::{AllocError, Global};
 
-/// The bytes that are written in hex, two digits of either case to a byte, or `None` where they are no hex; `Err` for want
-/// of memory.
+/// The bytes that are written in hex, two digits of either case to a byte, or `None` where they are no hex; `Err` when out of
+/// memory.
 pub(crate) fn hex_bytes(alloc: Global, digits: &[u8]) -> Result<Option<Data>, AllocError>
     ensures { IfOk result (λ bytes. bytes ≡ hex_bytes digits.now) }
 {
@@ -17,7 +17,7 @@ pub(crate) fn hex_bytes(alloc: Global, digits: &[u8]) -> Result<Option<Data>, Al
     }
 }
 
-/// The bytes of a word, at least one in hex, or `-` for none; `None` where it is neither, and `Err` for want of memory.
+/// The bytes of a word, at least one in hex, or `-` for none; `None` where it is neither, and `Err` when out of memory.
 pub(crate) fn word_bytes(alloc: Global, word: &[u8]) -> Result<Option<Data>, AllocError>
     ensures { IfOk result (λ bytes. bytes ≡ word_bytes word.now) }
 {
@@ -30,7 +30,7 @@ pub(crate) fn word_bytes(alloc: Global, word: &[u8]) -> Result<Option<Data>, All
     }
 }
 
-/// The bytes of words, those of each a line, or `None` where one is out of form; `Err` for want of memory.
+/// The bytes of words, those of each a line, or `None` where one is malformed; `Err` when out of memory.
 pub(crate) fn words_bytes(alloc: Global, words: &[&[u8]]) -> Result<Option<Lines>, AllocError>
     ensures { IfOk result (λ lines. lines ≡ words_bytes (map (λ word. word.now) words.now)) }
 {

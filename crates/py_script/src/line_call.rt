@@ -6,7 +6,7 @@ use crate::hex_words::{word_bytes, words_bytes};
 use py_calls::Call;
 use std::alloc::{AllocError, Global};
 
-/// The call of a line's words, or `None` where they are no form; `Err` for want of memory.
+/// The call of a line's words, or `None` where they are no form; `Err` when out of memory.
 pub(crate) fn words_call(alloc: Global, words: &[&[u8]]) -> Result<Option<Call>, AllocError>
     ensures { IfOk result (λ call. call ≡ words_call (map (λ word. word.now) words.now)) }
 {
@@ -24,7 +24,7 @@ pub(crate) fn words_call(alloc: Global, words: &[&[u8]]) -> Result<Option<Call>,
     }
 }
 
-/// The call of what stands behind `seek`: an offset, and a whence, which is 0 (from the start) where there is none.
+/// The call of what stands after `seek`: an offset, and a whence, which is 0 (from the start) where there is none.
 fn seek_call(words: &[&[u8]]) -> Option<Call>
     ensures { result ≡ seek_call (map (λ word. word.now) words.now) }
 {
@@ -35,7 +35,7 @@ fn seek_call(words: &[&[u8]]) -> Option<Call>
     }
 }
 
-/// The call of what stands behind `write`: bytes.
+/// The call of what stands after `write`: bytes.
 fn write_call(alloc: Global, words: &[&[u8]]) -> Result<Option<Call>, AllocError>
     ensures { IfOk result (λ call. call ≡ write_call (map (λ word. word.now) words.now)) }
 {
@@ -45,14 +45,14 @@ fn write_call(alloc: Global, words: &[&[u8]]) -> Result<Option<Call>, AllocError
     }
 }
 
-/// The call of what stands behind `writelines`: the bytes of each line, of any number of them.
+/// The call of what stands after `writelines`: the bytes of each line, of any number of them.
 fn writelines_call(alloc: Global, words: &[&[u8]]) -> Result<Option<Call>, AllocError>
     ensures { IfOk result (λ call. call ≡ writelines_call (map (λ word. word.now) words.now)) }
 {
     Ok(words_bytes(alloc, words)?.map(Call::WriteLines))
 }
 
-/// The call of a word with at most a size behind it.
+/// The call of a word with at most a size after it.
 fn reading_call(name: &[u8], words: &[&[u8]]) -> Option<Call>
     ensures { result ≡ reading_call name.now (map (λ word. word.now) words.now) }
 {
@@ -98,7 +98,7 @@ fn plain_call(name: &[u8]) -> Option<Call>
     }
 }
 
-/// The call of a word with a size behind it: each reading of so much.
+/// The call of a word with a size after it: each reading of so much.
 fn sized_call(name: &[u8], size: usize) -> Option<Call>
     ensures { result ≡ sized_call name.now size }
 {

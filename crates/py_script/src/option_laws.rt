@@ -6,12 +6,12 @@ ghost use Rattle.py_script.specs.Options.{name_of, hex_text, arguments_of};
 use crate::reply_law::read_bytes;
 use py_flat::Chars;
 
-/// Options stand in any order: where two neighbours change places, the arguments stay the same, or out of form.
+/// Options stand in any order: where two neighbours change places, the arguments stay the same, or malformed.
 pub fn options_stand_in_any_order()
     ensures { (front words : List (List ℕ)) (first second : List ℕ) → arguments_of (front ++ first ∷ second ∷ words) ≡ arguments_of (front ++ second ∷ first ∷ words) }
 {}
 
-/// An option stands once: two words of one name are out of form, wherever they stand and whatever their values are.
+/// An option stands once: two words of one name are malformed, wherever they stand and whatever their values are.
 pub fn an_option_stands_once()
     ensures { (front between words : List (List ℕ)) (first second : List ℕ) → name_of first ≡ name_of second → arguments_of (front ++ (first ∷ between ++ second ∷ words)) ≡ None }
 {}

@@ -32,8 +32,8 @@ struct Given {
     chunk_size: Option<usize>,
 }
 
-/// The arguments of an opening by the words of its options, or `None` where one is no option or is given twice; `Err` for
-/// want of memory.
+/// The arguments of an opening by the words of its options, or `None` where one is no option or is given twice; `Err` when out of
+/// memory.
 pub(crate) fn parse_options(alloc: Global, words: &[String]) -> Result<Option<OpenArgs>, AllocError>
     ensures { IfOk result (λ args. args ≡ arguments_of (map string_bytes words.now)) }
 {
@@ -106,7 +106,7 @@ fn arguments_by(given: Given) -> OpenArgs
     }
 }
 
-/// The option of a word, a name, `=` and a value, or `None` where it is none; `Err` for want of memory.
+/// The option of a word, a name, `=` and a value, or `None` where it is none; `Err` when out of memory.
 fn parse_option(alloc: Global, word: &str) -> Result<Option<WordOption>, AllocError>
     ensures { IfOk result (λ option. option ≡ option_of word.now) }
 {
@@ -116,7 +116,7 @@ fn parse_option(alloc: Global, word: &str) -> Result<Option<WordOption>, AllocEr
     }
 }
 
-/// The option of a name and its value, or `None` where there is none; `Err` for want of memory.
+/// The option of a name and its value, or `None` where there is none; `Err` when out of memory.
 fn named_option(alloc: Global, name: &str, value: &str) -> Result<Option<WordOption>, AllocError>
     ensures { IfOk result (λ option. option ≡ named_option name.now value.now) }
 {
@@ -130,7 +130,7 @@ fn named_option(alloc: Global, name: &str, value: &str) -> Result<Option<WordOpt
     }
 }
 
-/// The text whose UTF-8 is written in hex, in digits of either case, or `None` where it is none; `Err` for want of memory.
+/// The text whose UTF-8 is written in hex, in digits of either case, or `None` where it is none; `Err` when out of memory.
 fn hex_text(alloc: Global, digits: &str) -> Result<Option<Chars>, AllocError>
     ensures { IfOk result (λ text. text ≡ hex_text digits.now) }
 {

@@ -12,10 +12,10 @@ use py_calls::Reply;
 use py_flat::{Chars, Data, IoFault};
 use std::alloc::{AllocError, Global};
 
-/// Adds the line of a reply, with its LF, at the end of some bytes. At `Err`, for want of memory, the bytes are
+/// Adds the line of a reply, with its LF, at the end of some bytes. At `Err`, when out of memory, the bytes are
 /// unchanged.
 ///
-/// The line begins with a word for the reply's kind, and each further word stands behind one space: bytes, a text's
+/// The line begins with a word for the reply's kind, and each further word stands after one space: bytes, a text's
 /// UTF-8 and lines as hex in lower case (`-` for none), numbers as decimals (docs/PROGRAM.md). It tells the reply: no other
 /// has this line.
 pub fn push_reply_line(alloc: Global, out: &mut Vec<u8>, reply: &Reply) -> Result<(), AllocError>
@@ -57,7 +57,7 @@ fn reply_word(reply: &Reply) -> &'static str
     }
 }
 
-/// Adds the words that follow the first, each behind a space.
+/// Adds the words that follow the first, each after a space.
 fn push_fields(alloc: Global, line: &mut Vec<u8>, reply: &Reply) -> Result<(), AllocError>
     ensures { OnOk result (line.new.items ≡ line.old.items ++ spaced (reply_fields reply.now)) }
 {
@@ -83,7 +83,7 @@ pub(crate) fn utf8(text: &Chars) -> &[u8]
     text.as_str().as_bytes()
 }
 
-/// Adds a word, behind a space.
+/// Adds a word, after a space.
 fn push_word(line: &mut Vec<u8>, word: &[u8]) -> Result<(), AllocError>
     ensures { OnOk result (line.new.items ≡ line.old.items ++ spaced (word.now ∷ [])) }
 {
@@ -91,7 +91,7 @@ fn push_word(line: &mut Vec<u8>, word: &[u8]) -> Result<(), AllocError>
     line.extend_from_slice(word)
 }
 
-/// Adds a number as a decimal, behind a space.
+/// Adds a number as a decimal, after a space.
 fn push_number(alloc: Global, line: &mut Vec<u8>, number: u64) -> Result<(), AllocError>
     ensures { OnOk result (line.new.items ≡ line.old.items ++ spaced (decimal number ∷ [])) }
 {
@@ -99,7 +99,7 @@ fn push_number(alloc: Global, line: &mut Vec<u8>, number: u64) -> Result<(), All
     push_word(line, digits.as_bytes())
 }
 
-/// Adds bytes as hex, behind a space.
+/// Adds bytes as hex, after a space.
 fn push_hex(alloc: Global, line: &mut Vec<u8>, bytes: &[u8]) -> Result<(), AllocError>
     ensures { OnOk result (line.new.items ≡ line.old.items ++ spaced (hex_of bytes.now ∷ [])) }
 {
@@ -111,7 +111,7 @@ fn push_hex(alloc: Global, line: &mut Vec<u8>, bytes: &[u8]) -> Result<(), Alloc
     }
 }
 
-/// Adds how many lines there are, and each as hex, all behind a space.
+/// Adds how many lines there are, and each as hex, all after a space.
 fn push_lines(alloc: Global, line: &mut Vec<u8>, lines: &[Data]) -> Result<(), AllocError>
     ensures { OnOk result (line.new.items ≡ line.old.items ++ spaced (decimal (length lines.now) ∷ map hex_of lines.now)) }
 {
@@ -122,7 +122,7 @@ fn push_lines(alloc: Global, line: &mut Vec<u8>, lines: &[Data]) -> Result<(), A
     Ok(())
 }
 
-/// Adds bytes that are not known to be written, and where the first of them belongs, each behind a space.
+/// Adds bytes that are not known to be written, and where the first of them belongs, each after a space.
 fn push_unwritten(
     alloc: Global,
     line: &mut Vec<u8>,
@@ -138,7 +138,7 @@ fn push_unwritten(
     }
 }
 
-/// Adds a fault's name and its numbers, each behind a space.
+/// Adds a fault's name and its numbers, each after a space.
 fn push_fault(alloc: Global, line: &mut Vec<u8>, fault: IoFault) -> Result<(), AllocError>
     ensures { OnOk result (line.new.items ≡ line.old.items ++ spaced (fault_name fault ∷ map decimal (fault_numbers fault))) }
 {
@@ -152,7 +152,7 @@ fn push_fault(alloc: Global, line: &mut Vec<u8>, fault: IoFault) -> Result<(), A
     }
 }
 
-/// Adds two numbers as decimals, each behind a space.
+/// Adds two numbers as decimals, each after a space.
 fn push_two_numbers(
     alloc: Global,
     line: &mut Vec<u8>,

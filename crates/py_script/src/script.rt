@@ -7,7 +7,7 @@ use crate::line_call::words_call;
 use py_calls::Call;
 use std::alloc::{AllocError, Global};
 
-/// The calls of a script, in order, or `None` where a line is out of form; `Err` for want of memory.
+/// The calls of a script, in order, or `None` where a line is malformed; `Err` when out of memory.
 ///
 /// Lines end at LF, and the last may lack it. An empty line and one that begins with `#` are skipped, whatever follows
 /// the `#`. The script language is this project's own: docs/PROGRAM.md.
@@ -18,7 +18,7 @@ pub fn parse_script(alloc: Global, script: &[u8]) -> Result<Option<Vec<Call>>, A
     parse_lines(alloc, &lines)
 }
 
-/// The calls of lines, without their LF, or `None` where one is out of form; `Err` for want of memory.
+/// The calls of lines, without their LF, or `None` where one is malformed; `Err` when out of memory.
 fn parse_lines(alloc: Global, lines: &[&[u8]]) -> Result<Option<Vec<Call>>, AllocError>
     ensures { IfOk result (λ calls. option_map (λ some. some.items) calls ≡ lines_calls (map (λ line. line.now) lines.now)) }
 {
@@ -35,7 +35,7 @@ fn parse_lines(alloc: Global, lines: &[&[u8]]) -> Result<Option<Vec<Call>>, Allo
     Ok(Some(calls))
 }
 
-/// The call of a script's line, without its LF, or `None` where the line is out of form; `Err` for want of memory.
+/// The call of a script's line, without its LF, or `None` where the line is malformed; `Err` when out of memory.
 ///
 /// A line is one of these, with one space between its words:
 /// - `read`, `read1`, `readline` or `readlines`, alone or with a size;
@@ -47,7 +47,7 @@ fn parse_lines(alloc: Global, lines: &[&[u8]]) -> Result<Option<Vec<Call>>, Allo
 /// A size is one or more decimal digits, up to 18446744073709551615. An offset is the same after at most one `-`, from
 /// -9223372036854775808 to 9223372036854775807, and so is a whence, from -2147483648 to 2147483647: which of them mean
 /// something is left to the call. Leading zeros are allowed, `+` is not. Bytes are hex of either case, two digits to a
-/// byte, or `-` for none. Every other line is out of form (docs/PROGRAM.md).
+/// byte, or `-` for none. Every other line is malformed (docs/PROGRAM.md).
 pub fn parse_line(alloc: Global, line: &[u8]) -> Result<Option<Call>, AllocError>
     ensures { IfOk result (λ call. call ≡ line_call line.now) }
 {
@@ -55,7 +55,7 @@ pub fn parse_line(alloc: Global, line: &[u8]) -> Result<Option<Call>, AllocError
     words_call(alloc, &words)
 }
 
-/// The pieces of some bytes that are cut at each byte of one kind; `Err` for want of memory.
+/// The pieces of some bytes that are cut at each byte of one kind; `Err` when out of memory.
 fn pieces(alloc: Global, bytes: &[u8], at: u8) -> Result<Vec<&[u8]>, AllocError>
     ensures { IfOk result (λ pieces. map (λ piece. piece.now) pieces.items ≡ slice_split (λ byte. byte == at) bytes.now) }
 {

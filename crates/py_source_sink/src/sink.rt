@@ -8,7 +8,7 @@ pub trait Sink {
     /// What the sink shows: its count of faults, whether that is exact, and, where it tells them, the bytes that were written.
     ghost shows: { Self → SinkView };
 
-    /// Writes all of a piece behind what was written. A failed write leaves a front of it written. A sink that counts exactly
+    /// Writes all of a piece after what was written. A failed write leaves a front of it written. A sink that counts exactly
     /// counts no fault in a write that succeeds.
     fn write(&mut self, piece: &[u8]) -> Result<(), Failed>
         ensures keeps { SinkKeeps (shows self.old) (shows self.new) }

@@ -3,7 +3,7 @@ use Rattle.std.proofs.Common.{◌≡◌, ℕ, ◌+◌, ◌≤◌, ◌<◌, List,
 use Rattle.std.proofs.lemmas.List.{take-append-drop, take_more}
 use Rattle.py_flat.specs.Lines.{joined}
 
--- lines behind lines
+-- lines after lines
 pub joined_behind : (first second : List (List ℕ)) → joined (first ++ second) ≡ joined first ++ joined second
 joined_behind [] second = refl
 joined_behind (line ∷ first) second = ap (λ bytes. line ++ bytes) (joined_behind first second) ∙ sym (append_assoc line (joined first) (joined second))

@@ -17,7 +17,7 @@ use Rattle.py_stream.specs.Answers.{LifeMoves, PlaceMoves, GivesWithin, IsShort,
 
 -- A call that is refused, and leaves all.
 
--- a refusal that isn't the raw's, nor want of memory
+-- a refusal that isn't the raw's, nor running out of memory
 abbrev pub is_own : IoFault → Bool
 is_own fault.RawFault = false
 is_own fault.NoMemory = false

@@ -65,7 +65,7 @@ IsAnswerTo Tell (Refused fault.NoMemory) = ⊥
 IsAnswerTo call (Refused fault.NoMemory) = Unit {0}
 IsAnswerTo call reply = ⊥
 
--- and where its raw asked to wait, or failed, which stop no `tell`
+-- and where its raw would have blocked, or failed, which stop no `tell`
 abbrev pub IsReplyTo : Option ℕ → Bool → FileCall → FileReply → Type 0
 IsReplyTo buffer writes call NotReady = IsTrue (waits_unready buffer call)
 IsReplyTo buffer writes Tell (Refused (fault.WouldBlock taken)) = ⊥
@@ -88,7 +88,7 @@ pub record IsCounted (buffer : Option ℕ) (old : Raw) (call : FileCall) (reply 
   pub waits : short ≡ false → outlasts buffer call ≡ false → new.waits ≡ old.waits
   pub once : IsTrue short → outlasts buffer call ≡ false → new.waits ≡ counted old.waits 1
 
--- what is short: each reply that says by itself that the raw asked to wait, always; some bytes, never none; nothing else
+-- what is short: each reply that says by itself that the raw would have blocked, always; some bytes, never none; nothing else
 abbrev pub IsShort : FileCall → FileReply → Bool → Type 0
 IsShort (Read1 size) (Bytes part) short = short ≡ false
 IsShort (ReadInto1 size) (Bytes part) short = short ≡ false
@@ -99,7 +99,7 @@ IsShort call reply short = short ≡ says_wait reply
 
 -- Life and place, whether the raw tells or not.
 
--- want of memory fails a call that goes on, once bytes moved between raw and call
+-- running out of memory fails a call that goes on, once bytes moved between raw and call
 abbrev pub StarvesTo : Bool → Life → Life → Type 0
 StarvesTo true before after = (after ≡ before) ⊎ (after ≡ life.Failed)
 StarvesTo false before after = after ≡ before
@@ -137,7 +137,7 @@ abbrev pub PlaceFails : Bool → Option ℕ → ℕ → ℕ → Type 0
 PlaceFails true most before after = MovesForth most before after
 PlaceFails false most before after = after ≡ before
 
--- want of memory leaves the place, but of a call that it failed
+-- running out of memory leaves the place, but of a call that it failed
 abbrev pub PlaceStarves : Life → Option ℕ → ℕ → ℕ → Type 0
 PlaceStarves life.Live most before after = after ≡ before
 PlaceStarves current most before after = MovesForth most before after
@@ -161,7 +161,7 @@ PlaceMoves buffer (WriteLines lines) Done current before after = after ≡ befor
 PlaceMoves buffer (WriteLines lines) (Refused (fault.WouldBlock taken)) current before after = (taken < length (joined lines)) × (after ≡ before + taken)
 PlaceMoves buffer call reply current before after = after ≡ before
 
--- no more is given than is asked for: a size in bytes; one line, and no byte behind its end; lines up to the hint
+-- no more is given than is asked for: a size in bytes; one line, and no byte after its end; lines up to the hint
 abbrev pub Within : Option ℕ → List ℕ → Type 0
 Within None part = Unit {0}
 Within (Some size) part = length part ≤ size
@@ -222,20 +222,20 @@ SeeksByEnd before call reply after = Unit {0}
 abbrev pub WantsMemory : Bool → FileReply → Raw → Type 0
 WantsMemory room reply raw = IsTrue (says_no_memory reply) → IsTrue room → IsTrue raw.takes_memory
 
--- want of memory leaves a reading that goes on as it was, its raw too, or fails it; that only where bytes left the raw in
+-- running out of memory leaves a reading that goes on as it was, its raw too, or fails it; that only where bytes left the raw in
 -- this call
 pub record Starves (before after : Stream) : Type 0 where
   pub unmoved : after.life ≡ life.Live → after ≡ record before { short = false }
   pub moved : after.life ≡ life.Failed → before.raw_place < after.raw_place
   pub stands : after.life ≡ life.Failed → WherePlace before.raw (before.raw.place < after.raw.place)
 
--- where the space is taken first, the call's own want of memory leaves all as it was
+-- where the space is taken first, the call's own running out of memory leaves all as it was
 abbrev pub StarvesFirst : Stream → FileCall → FileReply → Stream → Type 0
 StarvesFirst before call reply after = IsTrue (says_no_memory reply) → IsTrue (takes_space_first call) → before.raw.takes_memory ≡ false → after ≡ record before { short = false }
 
 -- Transfers.
 
--- no raw is called: so the raw is as it was, and neither it nor want of memory refuses the call
+-- no raw is called: so the raw is as it was, and neither it nor running out of memory refuses the call
 pub record IsIdle (before : Stream) (reply : FileReply) (after : Stream) : Type 0 where
   pub raw : after.raw ≡ before.raw
   pub fault : says_fault reply ≡ false
@@ -263,7 +263,7 @@ pub record SparesBytes (before after : Stream) : Type 0 where
   pub bytes : KeepsBytes before.raw after.raw
   pub owed : after.owed ≡ nothing_owed after.place
 
--- One call of a stream over any raw; `room` says which calls have their room, so that they want no memory of their own.
+-- One call of a stream over any raw; `room` says which calls have their room, so that they need no memory of their own.
 pub record AnswersWith (room : FileCall → Bool) (before : Stream) (call : FileCall) (reply : FileReply) (after : Stream) : Type 0 where
   -- the buffer's size and what the stream and its raw can do stay, and the raw's counts never fall
   pub keeps : KeepsStream before after
@@ -285,13 +285,13 @@ pub record AnswersWith (room : FileCall → Bool) (before : Stream) (call : File
   pub ends : SeeksByEnd before call reply after
   -- a call that has its room wants memory only where its raw takes some
   pub wants : WantsMemory (room call) reply before.raw
-  -- want of memory leaves a reading that goes on as it was, or fails it once bytes left the raw
+  -- running out of memory leaves a reading that goes on as it was, or fails it once bytes left the raw
   pub starves : IsTrue (says_no_memory reply) → IsTrue (reads_on call) → Starves before after
   -- a call that takes its space first leaves all as it was where there is none
   pub first : StarvesFirst before call reply after
   -- calls that ask no raw: it is as it was, and gives no fault
   pub nothing : IsTrue (asks_none before.buffer call) → AsksNothing before reply after
-  -- calls that call no raw at all: neither it nor want of memory refuses them
+  -- calls that call no raw at all: neither it nor running out of memory refuses them
   pub idle : IsTrue (calls_none before.buffer before.can.writable call) → IsIdle before reply after
   -- calls that make at most one transfer
   pub single : IsTrue (makes_one before.buffer call) → AtMostOne before after
@@ -303,9 +303,9 @@ pub record AnswersWith (room : FileCall → Bool) (before : Stream) (call : File
   pub writes : before.can.writable ≡ true → Writes before call reply after
   -- which replies an accepted call may have
   pub answer : refused_by before call ≡ None → IsReplyTo before.buffer before.can.writable call reply
-  -- a failed stream is detached at once: neither its raw nor want of memory stops that
+  -- a failed stream is detached at once: neither its raw nor running out of memory stops that
   pub at_once : before.life ≡ life.Failed → call ≡ Detach → refused_by before call ≡ None → (bytes : List ℕ) × (place : Option ℕ) × (reply ≡ Unwritten bytes place)
-  -- where no count of the raw rose, an accepted call is answered in full, or lacked memory
+  -- where no count of the raw rose, an accepted call is answered in full, or ran out of memory
   pub complete : refused_by before call ≡ None → rose before.raw.waits after.raw.waits ≡ false → rose before.raw.faults after.raw.faults ≡ false → IsAnswerTo call reply × (after.short ≡ false)
   -- where the raw tells, the call is the step of the model from flat file to flat file
   pub told : WhereTold before.raw (BinaryStep (file_of before) call reply after.short (says_fault reply) (file_of after))

@@ -31,7 +31,7 @@ is_single (ReadInto1 size) = true
 is_single Peek = true
 is_single call = false
 
--- calls for which a stream has its room from its opening on: they want no memory but their raw's
+-- calls for which a stream has its room from its opening on: they need no memory but their raw's
 abbrev pub has_room : FileCall → Bool
 has_room (Seek offset whence) = true
 has_room Tell = true
@@ -120,7 +120,7 @@ abbrev pub says_would_block : FileReply → Bool
 says_would_block (Refused (fault.WouldBlock taken)) = true
 says_would_block reply = false
 
--- the raw asked to wait, and nothing was answered
+-- the raw would have blocked, and nothing was answered
 abbrev pub says_wait : FileReply → Bool
 says_wait NotReady = true
 says_wait reply = says_would_block reply

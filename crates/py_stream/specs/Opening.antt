@@ -82,7 +82,7 @@ pub record PlaceOf (appends : Bool) (old : Raw) (place : ℕ) (new : Raw) : Type
   pub stands : IsTrue old.seekable → WherePlace old (new.place ≡ place)
   pub still : IsFalse old.seekable → WherePlace old (new.place ≡ old.place)
 
--- want of memory leaves a raw as it was; one that was to be moved to its end may have been asked where that is, and counted
+-- running out of memory leaves a raw as it was; one that was to be moved to its end may have been asked where that is, and counted
 -- nothing
 abbrev pub Lacking : Bool → Raw → Raw → Type 0
 Lacking true raw back = Untouched raw back × LeavesCounts raw back × StandsWhereItStood raw back
@@ -93,8 +93,8 @@ PlaceOutcome appends old (Ok place) new = PlaceOf appends old place new
 PlaceOutcome appends old (Err raw_error.Fault) new = IsTrue old.seekable × Rose old.faults new.faults × Untouched old new
 PlaceOutcome appends old (Err raw_error.Memory) new = IsTrue old.takes_memory × Lacking appends old new
 
--- why a raw is refused, in this order: it is closed; it isn't able; the buffer's size is 0; want of memory; it failed when it
--- was asked where it stands or ends, or was moved, which may have moved it
+-- why a raw is refused, in this order: it is closed; it isn't able; the buffer's size is 0; running out of memory; it failed when
+-- it was asked where it stands or ends, or was moved, which may have moved it
 abbrev pub RefusesRaw : (Raw → Bool) → Bool → Raw → Option ℕ → IoFault → Raw → Type 0
 RefusesRaw able appends raw buffer fault.Closed back = (raw.closed ≡ true) × (back ≡ raw)
 RefusesRaw able appends raw buffer fault.Unsupported back = (raw.closed ≡ false) × (able raw ≡ false) × (back ≡ raw)

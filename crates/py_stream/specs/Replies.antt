@@ -23,14 +23,15 @@ abbrev pub CountFits : Result (Option ℕ) IoFault → List ℕ → Type 0
 CountFits (Ok (Some count)) buffer = count ≤ length buffer
 CountFits result buffer = Unit {0}
 
--- what the stream refuses by itself leaves the caller's buffer as it was: every error but those of its raw and want of memory
+-- what the stream refuses by itself leaves the caller's buffer as it was: every error but those of its raw and running out of
+-- memory
 abbrev pub KeepsBuffer : Result (Option ℕ) IoFault → List ℕ → List ℕ → Type 0
 KeepsBuffer (Err fault.RawFault) before after = Unit {0}
 KeepsBuffer (Err fault.NoMemory) before after = Unit {0}
 KeepsBuffer (Err why) before after = after ≡ before
 KeepsBuffer (Ok answer) before after = Unit {0}
 
--- the caller's buffer is as it was behind the bytes that were given, and all of it where none were
+-- the caller's buffer is as it was after the bytes that were given, and all of it where none were
 abbrev pub KeepsUnread : Result (Option ℕ) IoFault → List ℕ → List ℕ → Type 0
 KeepsUnread (Ok (Some count)) before after = drop count after ≡ drop count before
 KeepsUnread result before after = after ≡ before

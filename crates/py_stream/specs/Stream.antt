@@ -42,11 +42,11 @@ file_of stream = record {
 abbrev pub reader_can : Bool → Abilities
 reader_can seekable = record { readable = true; writable = false; seekable = seekable; appending = false }
 
--- and a writer: it writes, and never reads; one that appends begins at the end, and is never moved
+-- what a writer can do: it writes, and never reads; one that appends begins at the end, and is never moved
 abbrev pub writer_can : Bool → Bool → Abilities
 writer_can appending seekable = record { readable = false; writable = true; seekable = seekable; appending = appending }
 
--- nothing is owed, behind a place
+-- nothing is owed, after a place
 abbrev pub nothing_owed : ℕ → Owed
 nothing_owed place = record { bytes = []; place = place }
 

@@ -19,7 +19,7 @@ OwesUpTo owed place = (owed.bytes ≡ []) ⊎ (owed.place + length owed.bytes �
 abbrev pub NoneAtPlace : Stream → Type 0
 NoneAtPlace stream = stream.owed.bytes ≡ [] → stream.owed.place ≡ stream.place
 
--- a call that writes, whatever it answers: the stream took the first so many of the bytes, behind those that it owed, and
+-- a call that writes, whatever it answers: the stream took the first n of the bytes, after those that it owed, and
 -- passed on the first of them all, exactly as many as the raw answered for; so it owes a suffix, up to its place. Told, those
 -- that it took are laid on in the flat file, and after a fault of the raw some more may be
 pub record Takes (before : Stream) (bytes : List ℕ) (after : Stream) : Type 0 where
@@ -39,7 +39,7 @@ pub record OwesRest (before after : Owed) : Type 0 where
   pub bytes : after.bytes ≡ drop passed before.bytes
   pub place : after.bytes ≢ [] → after.place ≡ before.place + passed
 
--- and passed on exactly what the raw answered for
+-- what is left of what was owed is a suffix, where that stood, and what was passed on is exactly what the raw answered for
 pub record PassesFront (before after : Stream) : Type 0 where
   pub passed : ℕ
   pub most : passed ≤ length before.owed.bytes
@@ -99,8 +99,8 @@ pub record TookOwn (before after : Stream) : Type 0 where
   pub stands : WherePlace before.raw (before.place < after.raw.place)
   pub answered : WhereTransfers before.raw (counted before.raw.written (length before.owed.bytes + 1) ≤ counted after.raw.written 0)
 
--- A call of a stream that writes: what it took, what it owes then, and what the raw's bytes are; what is passed on; where it
--- had to wait; that want of memory fails a write only once the raw took some of its own bytes; that what went straight to the raw
+-- A call of a stream that writes: what it took, what it owes then, and what the raw's bytes are; what is passed on; where it had to
+-- wait; that running out of memory fails a write only once the raw took some of its own bytes; that what went straight to the raw
 -- isn't owed; where nothing is owed; that a raw is closed only where nothing is owed; and that a stream that isn't live calls no
 -- raw
 pub record Writes (before : Stream) (call : FileCall) (reply : FileReply) (after : Stream) : Type 0 where

@@ -39,7 +39,7 @@ pub fn moved_by(base: u64, offset: i64) -> Result<u64, IoFault>
     }
 }
 
-/// The place behind all lines that are written at a place; `None` where it lies past 9223372036854775807.
+/// The place after all lines that are written at a place; `None` where it lies past 9223372036854775807.
 pub fn end_of_lines(place: u64, lines: &Lines) -> Option<u64>
     requires { place ≤ greatest_place }
     ensures { EndsWithin (place + length (joined lines.now)) result }

@@ -28,7 +28,7 @@ use Rattle.py_textio.proofs.Enough.{answer_in, passes, IsEnough, IsShort, is_eno
 
 -- What is left of a text.
 
--- the characters behind those that are known, and the refused range that ends them
+-- the characters after those that are known, and the refused range that ends them
 abbrev pub behind : TextView → List ℕ
 behind text = characters_of (ahead text.held text.reader.place (left_at text.reader.raw.bytes text.reader.place)).items
 
@@ -147,7 +147,7 @@ moves_enough old new asked count characters live is gave =
 
 -- Where the known characters are not enough.
 
--- told: nothing but a refusal comes behind the known characters
+-- told: nothing but a refusal comes after the known characters
 exact_last : (text : TextView) (asked : Wanted) (refusal : Option (ℕ × ℕ)) → Tied text → IsShort asked text.pending → ComesLast text refusal → text_exact (file_of text) (call_of asked) ≡ answered_text (file_of text) (range_refusal true refusal) text.pending (after_whole (file_of text) asked text.pending)
 unfolding rest_of
 exact_last text asked refusal told is last =
@@ -190,7 +190,7 @@ step_all old new (wanted.Characters None) characters told all forth none within 
 step_all old new (wanted.Characters (Some size)) characters told all forth none within gave = absurd (cc)
 step_all old new (wanted.Line limit) characters told all forth none within gave = absurd (cc)
 
--- Where the raw asked to wait.
+-- Where the raw would have blocked.
 
 reaches : (text : TextView) (asked : Wanted) → text.reader.life ≡ life.Live → IsTrue (text_reaches_raw (file_of text) (call_of asked))
 reaches text (wanted.Characters size) live = ap (λ (current : Life). is_live current && true) live

@@ -32,12 +32,12 @@ decoded_more bytes before after used c n decoded is =
       ap (λ (cs : List ℕ). cs ++ c ∷ []) decoded.3 ∙ append_assoc before decoded.0 (c ∷ []),
     )
 
--- The decoding of bytes at a place; `last` says that nothing comes behind them.
+-- The decoding of bytes at a place; `last` says that nothing comes after them.
 
 abbrev pub walk_by : Bool → ℕ → List ℕ → Walk
 walk_by last place bytes = walk_from Utf8 (treatment Strict Utf8) last Unknown place 0 bytes
 
--- with nothing behind them
+-- with nothing after them
 abbrev pub walk_at : ℕ → List ℕ → Walk
 walk_at place bytes = walk_by true place bytes
 
@@ -81,7 +81,7 @@ pub walk_unfinished : (place : ℕ) (bytes : List ℕ) → IsNoCharacter (utf8_u
 walk_unfinished place [] whole none = record { characters = refl; refusal = refl }
 walk_unfinished place (byte ∷ rest) whole none = given_none place byte rest (unit_after byte (lead byte) rest) whole none
 
--- the characters that some bytes spell come before what comes behind those bytes
+-- the characters that some bytes spell come before what comes after those bytes
 pub record Precedes (characters : List ℕ) (whole behind : Walk) : Type 0 where
   pub characters_are : characters_of whole.items ≡ characters ++ characters_of behind.items
   pub refusal_is : refusal_of whole.ending ≡ refusal_of behind.ending
@@ -93,7 +93,7 @@ precedes_more place c n cs whole between behind is precedes = record {
   refusal_is = ap (λ (walk : Walk). refusal_of walk.ending) is ∙ precedes.refusal_is;
 }
 
--- the bytes of one character, whatever stands behind them
+-- the bytes of one character, whatever stands after them
 walk_spelled : (last : Bool) (place c : ℕ) (rest : List ℕ) → IsScalar c → walk_by last place (encode_utf8 c ++ rest) ≡ onto_walk place (Given (c ∷ []) (len (encode_utf8 c))) (walk_by last (place + len (encode_utf8 c)) rest)
 walk_spelled last place c rest scalar =
     walk_character last place (encode_utf8 c ++ rest) c (len (encode_utf8 c)) (one_unit c rest scalar)
@@ -110,7 +110,7 @@ walk_spelling last (c ∷ cs) place rest scalars =
     (ap (walk_by last place) (append_assoc first others rest) ∙ walk_spelled last place c (others ++ rest) (All-head IsScalar c cs scalars))
     (subst (λ (p : ℕ). Precedes cs (walk_by last (place + len first) (others ++ rest)) (walk_by last p rest)) far (walk_spelling last cs (place + len first) rest (All-tail IsScalar c cs scalars)))
 
--- A refused range at the front of some bytes stays one whatever comes behind them.
+-- A refused range at the front of some bytes stays one whatever comes after them.
 
 -- a choice whose first branch stays refused
 cond_cases : (b : Bool) (first then other refused : Read) → (first ≡ refused → then ≡ refused) → cond b first other ≡ refused → cond b then other ≡ refused

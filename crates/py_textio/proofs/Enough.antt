@@ -1,4 +1,4 @@
--- When the known characters are the whole answer of a call, whatever comes behind them.
+-- When the known characters are the whole answer of a call, whatever comes after them.
 use Rattle.std.proofs.Common.{◌≡◌, ℕ, ◌+◌, ◌-◌, ◌≤◌, ◌<◌, Bool, true, false, ◌||◌, not, nat_eq, nat_le, if◌then◌else◌, List, [], ◌∷◌, ◌++◌, length, take, Option, Some, None, IfSome, refl, sym, ap, subst, ◌∙◌, arith}
 use Rattle.std.proofs.lemmas.List.{length-append, length-take, take-append-le, take_all}
 use Rattle.std.proofs.lemmas.Bool.{leb-true, leb-false, le-leb}
@@ -14,13 +14,13 @@ use Rattle.py_textio.specs.declared.text.Wanted.{Wanted}
 use Rattle.py_textio.specs.declared.text.Wanted.TheVariants as wanted
 use Rattle.py_textio.specs.Text.{enough, size_of}
 
--- A line of a list, behind which more may come.
+-- A line of a list, after which more may come.
 
 ended_at : (here behind : Bool) (c : ℕ) (long short : List ℕ) → ((here || false) || behind) ≡ true → (behind ≡ true → long ≡ short) → c ∷ (if here || false then [] else long) ≡ c ∷ (if here || false then [] else short)
 ended_at true behind c long short ended same = refl
 ended_at false behind c long short ended same = ap (λ (t : List ℕ). c ∷ t) (same ended)
 
--- a line that ends in a list is the same with more behind it
+-- a line that ends in a list is the same with more after it
 line_ended : (after_cr : Bool) (xs ys : List ℕ) → has_end_after Lf after_cr xs ≡ true → line_after Lf after_cr (xs ++ ys) ≡ line_after Lf after_cr xs
 line_ended after_cr [] ys ended = absurd (cc)
 line_ended after_cr (c ∷ cs) ys ended = ended_at (nat_eq c lf) (has_end_after Lf (nat_eq c cr) cs) c (line_after Lf (nat_eq c cr) (cs ++ ys)) (line_after Lf (nat_eq c cr) cs) ended (line_ended (nat_eq c cr) cs ys)
@@ -37,7 +37,7 @@ open_at : (here behind : Bool) (c : ℕ) (part long : List ℕ) → ((here || fa
 open_at true behind c part long none front = absurd (cc)
 open_at false behind c part long none front = let found = front none in (found.0, ap (λ (t : List ℕ). c ∷ t) found.1)
 
--- a list in which no line ends is a front of the line with more behind it
+-- a list in which no line ends is a front of the line with more after it
 line_open : (after_cr : Bool) (xs ys : List ℕ) → has_end_after Lf after_cr xs ≡ false → IsFrontOf xs (line_after Lf after_cr (xs ++ ys))
 line_open after_cr [] ys none = (line_after Lf after_cr ys, refl)
 line_open after_cr (c ∷ cs) ys none = open_at (nat_eq c lf) (has_end_after Lf (nat_eq c cr) cs) c cs (line_after Lf (nat_eq c cr) (cs ++ ys)) none (line_open (nat_eq c cr) cs ys)
@@ -69,19 +69,19 @@ abbrev pub answer_in : Wanted → List ℕ → List ℕ
 answer_in (wanted.Characters size) cs = first_of size cs
 answer_in (wanted.Line limit) cs = first_line Lf limit cs
 
--- whether the answer would have to pass a refused range that comes behind them
+-- whether the answer would have to pass a refused range that comes after them
 abbrev pub passes : Wanted → List ℕ → Bool
 passes (wanted.Characters size) cs = asks_past size cs
 passes (wanted.Line limit) cs = not (is_ended Lf limit cs)
 
--- the first of the known characters are the answer, whatever comes behind them
+-- the first of the known characters are the answer, whatever comes after them
 pub record IsEnough (asked : Wanted) (pending : List ℕ) (count : ℕ) : Type 0 where
   pub within : count ≤ length pending
   pub size : IfSome (size_of asked) (λ size. count ≤ size)
   pub answer : (more : List ℕ) → answer_in asked (pending ++ more) ≡ take count pending
   pub stops : (more : List ℕ) → passes asked (pending ++ more) ≡ false
 
--- the known characters are only a front of the answer, unless nothing comes behind them
+-- the known characters are only a front of the answer, unless nothing comes after them
 pub record IsShort (asked : Wanted) (pending : List ℕ) : Type 0 where
   pub size : IfSome (size_of asked) (λ size. length pending ≤ size)
   pub answer : answer_in asked pending ≡ pending

@@ -36,7 +36,7 @@ cut_in_hand (byte ∷ rest) some none is =
     let unit : utf8_unit (byte ∷ rest) ≡ Some (Cut cut.0) = ap (λ (u : Read). Some u) cut.1 in
     unit ∙ ap (λ (n : ℕ). Some (Cut n)) (unit_within (byte ∷ rest) (Cut cut.0) unit).2
 
--- What comes behind the known characters.
+-- What comes after the known characters.
 
 abbrev ended_by : ℕ → ℕ → Walk
 ended_by start n = record { items = []; ending = AtRange start (start + n) }
@@ -47,7 +47,7 @@ comes_last text n is = record {
   refusal_is = ap (λ (walk : Walk). refusal_of walk.ending) is;
 }
 
--- a refused range in hand is one whatever comes behind it
+-- a refused range in hand is one whatever comes after it
 pub range_refuses : (text : TextView) (asked : Wanted) (n : ℕ) → enough asked text.pending ≡ None → utf8_unit text.held ≡ Some (Malformed n) → GatheredAt text asked (range_in_hand text n)
 range_refuses text asked n short is =
     let left : List ℕ = left_at text.reader.raw.bytes text.reader.place in

@@ -52,7 +52,7 @@ text_closed old new result at taken chunk held pending keeps forth outcome is =
 
 -- Reading.
 
--- a read of a live reader that failed for want of memory left it where it was
+-- a read of a live reader that failed when out of memory left it where it was
 failed_live : (old new : ReaderView) (why : IoFault) → old.life ≡ life.Live → ReadFails old why new → new.life ≡ life.Live → new.place ≡ old.place
 failed_live old new fault.RawFault before fails live = absurd (let failed = fails.1 in cc)
 failed_live old new fault.NoMemory before fails live = fails.place
@@ -62,7 +62,7 @@ pub text_failed : (old new : ReaderView) (why : IoFault) (at taken chunk : ℕ) 
 text_failed old new why at taken chunk held pending before keeps forth fails is =
     text_over old new at taken chunk held pending keeps forth (λ live. (before, failed_live old new why before fails live)) is
 
--- what is left behind a part that was read
+-- what is left after a part that was read
 left_behind : (bytes part : List ℕ) (place : ℕ) → IsFrontOf part (left_at bytes place) → left_at bytes place ≡ part ++ left_at bytes (place + len part)
 left_behind bytes part place front =
     let more : List ℕ = front.0 in

@@ -1,4 +1,4 @@
--- An answer of a text is the front of what is left, and what is left behind it is the rest.
+-- An answer of a text is the front of what is left, and what is left after it is the rest.
 use Rattle.std.proofs.Common.{◌≡◌, ◌≢◌, ℕ, ◌+◌, inl, inr, max, Bool, true, List, [], ◌++◌, length, drop, Option, Some, None, refl, sym, ap, subst, ◌∙◌, arith}
 use Rattle.std.proofs.Math.Seq.{drop-append_seam}
 use Rattle.std.proofs.lemmas.List.{append-nil, drop_all, drop-drop}

@@ -88,7 +88,7 @@ none_owed reader none = ap (λ (owed : Owed). owed.bytes) none
 flat_bytes : (reader : Stream) → reader.owed.bytes ≡ [] → reader.raw.bytes ≡ (file_of reader).bytes
 flat_bytes reader none = sym (ap (λ (owed : List ℕ). lay reader.raw.bytes reader.owed.place owed) none)
 
--- want of memory never fails a reading by one transfer
+-- running out of memory never fails a reading by one transfer
 wanting_lives : (buffer size : Option ℕ) (before after : Life) → StarvesTo (goes_on buffer (Read1 size)) before after → after ≡ before
 wanting_lives None size before after starves = starves
 wanting_lives (Some holds) size before after starves = starves

@@ -24,14 +24,14 @@ known_at old new before after at taken held pending bytes place told =
 
 -- The tie.
 
--- told: from the text place on there are the characters that are known, then what comes behind them
+-- told: from the text place on there are the characters that are known, then what comes after them
 pub record TiedTold (bytes : List ℕ) (place at taken : ℕ) (held pending : List ℕ) : Type 0 where
   pub characters : drop taken (characters_of (decoded_from bytes at).items) ≡ pending ++ characters_of (ahead held place (left_at bytes place)).items
   pub refusal : refusal_of (decoded_from bytes at).ending ≡ refusal_of (ahead held place (left_at bytes place)).ending
   -- no byte past the end was read
   pub within : place ≤ max at (len bytes)
 
--- what was decoded comes before what comes behind it
+-- what was decoded comes before what comes after it
 pub decoded_before : (bytes : List ℕ) (place at taken : ℕ) (held pending : List ℕ) → (told : KnowsTold bytes place at taken held pending) → Precedes told.decoded (decoded_from bytes at) (ahead held place (left_at bytes place))
 decoded_before bytes place at taken held pending told =
     let behind : List ℕ = held ++ left_at bytes place in
@@ -78,7 +78,7 @@ text_decoded raw place current at taken chunk cs held pending scalars is =
       told = λ tells live. known_decoded raw.bytes place at taken cs held pending scalars (is.told tells live);
     }
 
--- the bytes that spell what was decoded, and those behind them
+-- the bytes that spell what was decoded, and those after them
 pub spelled_front : (held before : List ℕ) (used : ℕ) (after : List ℕ) (decoded : DecodedSoFar held before used after) → held ≡ encode_utf8_all decoded.0 ++ drop used held
 spelled_front held before used after decoded = sym (take-append-drop used held) ∙ ap (λ (bytes : List ℕ). bytes ++ drop used held) decoded.2
 

@@ -23,7 +23,7 @@ text_reply (Err why) = Refused why
 
 -- Completeness.
 
--- the replies that an accepted call may have where nothing waits or fails; want of memory is free
+-- the replies that an accepted call may have where nothing waits or fails; running out of memory is free
 abbrev pub IsAnswerTo : TextCall → FileReply → Type 0
 IsAnswerTo (Read size) (Text characters) = Unit {0}
 IsAnswerTo (Read size) (Refused (fault.UnicodeDecodeError start end)) = Unit {0}
@@ -46,7 +46,7 @@ pub record GoesToEnd (before after : TextPlace) : Type 0 where
   pub clean : after ≡ clean_at after.at before.order
   pub forth : before.at ≤ after.at
 
--- so many characters were taken, no more than asked for
+-- n characters were taken, no more than asked for
 pub record TakesText (size : Option ℕ) (characters : List ℕ) (dirty : Bool) (before after : TextPlace) : Type 0 where
   pub taken : after ≡ place_taking before (length characters) dirty
   pub within : (limit : ℕ) → size ≡ Some limit → length characters ≤ limit
@@ -82,14 +82,14 @@ pub record LeavesText (before : TextFile) (old : Raw) (expected reply : FileRepl
   pub raw : new ≡ old
   pub whole : short ≡ false
 
--- what is short: some characters, never none; and each reply that says by itself that the raw asked to wait, always
+-- what is short: some characters, never none; and each reply that says by itself that the raw would have blocked, always
 abbrev pub IsShort : FileReply → Bool → Type 0
 IsShort (Text characters) true = characters ≢ []
 IsShort NotReady short = short ≡ true
 IsShort (Refused (fault.WouldBlock taken)) short = short ≡ true
 IsShort reply short = short ≡ false
 
--- a close wants no memory but its raw's
+-- a close needs no memory but its raw's
 abbrev pub WantsMemory : TextCall → FileReply → Raw → Type 0
 WantsMemory Close (Refused fault.NoMemory) raw = IsTrue raw.takes_memory
 WantsMemory call reply raw = Unit {0}

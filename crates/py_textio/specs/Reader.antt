@@ -57,20 +57,20 @@ pub record GivesTold (old : ReaderView) (size : ℕ) (part : List ℕ) : Type 0 
   pub front : IsFrontOf part (left_at old.raw.bytes old.place)
   pub end : part ≡ [] → 0 < size → length old.raw.bytes ≤ old.place
 
--- some bytes were given, and the place moved behind them
+-- some bytes were given, and the place moved after them
 pub record Gives (old : ReaderView) (size : ℕ) (part : List ℕ) (new : ReaderView) : Type 0 where
   pub fits : length part ≤ size
   pub live : new.life ≡ life.Live
   pub place : new.place ≡ old.place + length part
   pub told : WhereTold old.raw (GivesTold old size part)
 
--- the faults of a read: by the life, with all as it was; of the raw, which fails the reader; for want of memory
+-- the faults of a read: by the life, with all as it was; of the raw, which fails the reader; when out of memory
 abbrev pub ReadFails : ReaderView → IoFault → ReaderView → Type 0
 ReadFails old fault.RawFault new = Rose old.raw.faults new.raw.faults × (new.life ≡ life.Failed)
 ReadFails old fault.NoMemory new = GivesNothing old new
 ReadFails old fault new = (life_fault old.life ≡ Some fault) × (new ≡ old)
 
--- the raw asked to wait: nothing was given, and nothing is held back, so that a raw that tells its place stands there
+-- the raw would have blocked: nothing was given, and nothing is held back, so that a raw that tells its place stands there
 pub record WaitsEmpty (old new : ReaderView) : Type 0 where
   pub cause : Rose old.raw.waits new.raw.waits
   pub nothing : GivesNothing old new
@@ -81,8 +81,8 @@ ChunkReadOutcome old size (Ok (Some part)) new = Gives old size part.items new
 ChunkReadOutcome old size (Ok None) new = WaitsEmpty old new
 ChunkReadOutcome old size (Err fault) new = ReadFails old fault new
 
--- closing a live reader: closed, after a fault of the raw too, which then is the answer; want of memory comes of a raw that takes
--- some, and leaves place and life
+-- closing a live reader: closed, after a fault of the raw too, which then is the answer; running out of memory comes of a raw that
+-- takes some, and leaves place and life
 abbrev pub ClosesRaw : ReaderView → Result (Unit {0}) IoFault → ReaderView → Type 0
 ClosesRaw old (Ok done) new = (new.life ≡ life.Closed) × NoFault old.raw new.raw
 ClosesRaw old (Err fault.RawFault) new = Rose old.raw.faults new.raw.faults × (new.life ≡ life.Closed)

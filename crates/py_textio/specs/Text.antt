@@ -52,7 +52,7 @@ pub record TextView : Type 0 where
 abbrev pub decoded_from : List ℕ → ℕ → Walk
 decoded_from bytes place = plain Utf8 (treatment Strict Utf8) Unknown bytes place
 
--- what comes behind the characters that are known: the decoding of the bytes in hand and of those that the reader still has
+-- what comes after the characters that are known: the decoding of the bytes in hand and of those that the reader still has
 abbrev pub ahead : List ℕ → ℕ → List ℕ → Walk
 ahead held place left = walk_from Utf8 (treatment Strict Utf8) true Unknown (place - length held) 0 (held ++ left)
 
@@ -82,7 +82,7 @@ pub record KeepsPlace (old new : TextView) : Type 0 where
   pub dirty : new.dirty ≡ old.dirty
   pub chunk : new.chunk ≡ old.chunk
 
--- what stops a decoding: nothing is left, or a sequence is cut that more bytes may complete; or a refused range of so many bytes
+-- what stops a decoding: nothing is left, or a sequence is cut that more bytes may complete; or a refused range of n bytes
 abbrev pub stop_at : Option Read → Option ℕ
 stop_at None = None
 stop_at (Some (Character character length)) = None
@@ -108,7 +108,7 @@ abbrev pub DecodeOutcome : TextView → Result (Option ℕ) IoFault → TextView
 DecodeOutcome old (Ok stop) new = Decodes old new × IsNoCharacter (utf8_unit new.held) × (stop ≡ stop_at (utf8_unit new.held))
 DecodeOutcome old (Err refused) new = Decodes old new × (refused ≡ fault.NoMemory)
 
--- the life after a fault of the reader, and its cause; want of memory leaves the life
+-- the life after a fault of the reader, and its cause; running out of memory leaves the life
 abbrev pub ReadFault : ReaderView → IoFault → ReaderView → Type 0
 ReadFault old fault.RawFault new = Rose old.raw.faults new.raw.faults × (new.life ≡ life.Failed)
 ReadFault old fault.NoMemory new = new.life ≡ old.life
@@ -120,7 +120,7 @@ ReadFault old _ new = ⊥
 abbrev pub BringsTold : ReaderView → List ℕ → Type 0
 BringsTold old part = IsFrontOf part (left_at old.raw.bytes old.place)
 
--- some bytes came behind those in hand
+-- some bytes came after those in hand
 pub record Brings (old new : TextView) : Type 0 where
   pub part : List ℕ
   pub some : part ≢ []
@@ -155,19 +155,19 @@ abbrev pub call_of : Wanted → TextCall
 call_of (wanted.Characters size) = TextRead size
 call_of (wanted.Line limit) = TextReadLine limit
 
--- how many of the known characters are the whole answer, whatever comes behind them; None where they aren't enough
+-- how many of the known characters are the whole answer, whatever comes after them; None where they aren't enough
 abbrev pub enough : Wanted → List ℕ → Option ℕ
 enough (wanted.Characters None) pending = None
 enough (wanted.Characters (Some size)) pending = if nat_le size (length pending) then Some size else None
 enough (wanted.Line limit) pending = if is_ended Lf limit pending then Some (length (first_line Lf limit pending)) else None
 
--- told: nothing but this comes behind the known characters
+-- told: nothing but this comes after the known characters
 pub record ComesLast (text : TextView) (refusal : Option (ℕ × ℕ)) : Type 0 where
   pub characters : characters_of (ahead text.held text.reader.place (left_at text.reader.raw.bytes text.reader.place)).items ≡ []
   pub refusal_is : refusal_of (ahead text.held text.reader.place (left_at text.reader.raw.bytes text.reader.place)).ending ≡ refusal
 
 -- what is known of a text when a call stops gathering: its known characters are enough; or they aren't, and no byte
--- is left in hand or below, or a refused range comes behind them, or the raw asked to wait with nothing in hand but a
+-- is left in hand or below, or a refused range comes after them, or the raw would have blocked with nothing in hand but a
 -- sequence that is cut, and nothing held below
 abbrev pub GatheredAt : TextView → Wanted → Gathered → Type 0
 GatheredAt text asked (gathered.Enough count) = enough asked text.pending ≡ Some count
@@ -175,7 +175,7 @@ GatheredAt text asked gathered.Ends = (enough asked text.pending ≡ None) × (t
 GatheredAt text asked (gathered.Refuses start end) = (enough asked text.pending ≡ None) × WhereTold text.reader.raw (ComesLast text (Some (start, end)))
 GatheredAt text asked gathered.Waits = (enough asked text.pending ≡ None) × IsNoCharacter (utf8_unit text.held) × (stop_at (utf8_unit text.held) ≡ None) × WherePlace text.reader.raw (text.reader.raw.place ≡ text.reader.place)
 
--- the refused range of so many bytes at the front of those in hand
+-- the refused range of n bytes at the front of those in hand
 abbrev pub range_in_hand : TextView → ℕ → Gathered
 range_in_hand text count = gathered.Refuses (text.reader.place - length text.held) (text.reader.place - length text.held + count)
 
@@ -215,7 +215,7 @@ reply_of (Ok (answer.Short characters)) = Text characters
 reply_of (Ok answer.NotReady) = NotReady
 reply_of (Err refused) = Refused refused
 
--- whether the raw asked to wait in the call
+-- whether the raw would have blocked in the call
 abbrev pub waited_in : Result Answer IoFault → Bool
 waited_in (Ok (answer.Short characters)) = true
 waited_in (Ok answer.NotReady) = true
@@ -273,7 +273,7 @@ abbrev pub asks_all : Wanted → Bool
 asks_all (wanted.Characters None) = true
 asks_all _ = false
 
--- so many characters were taken from where the text stood
+-- n characters were taken from where the text stood
 pub record Takes (old : TextView) (count : ℕ) (asks : Bool) (new : TextView) : Type 0 where
   pub at : new.at ≡ old.at
   pub taken : new.taken ≡ old.taken + count
@@ -281,7 +281,7 @@ pub record Takes (old : TextView) (count : ℕ) (asks : Bool) (new : TextView) :
   pub chunk : new.chunk ≡ old.chunk
   pub live : new.reader.life ≡ life.Live
 
--- the text stands clean behind all that was read
+-- the text stands clean after all that was read
 pub record TakesAll (old new : TextView) : Type 0 where
   pub at : new.at ≡ new.reader.place
   pub taken : new.taken ≡ 0
@@ -329,6 +329,6 @@ pub record HidesNothing (text : TextView) : Type 0 where
   pub empty : text.reader.raw.place ≡ text.reader.place
   pub shows : ShowsAll (file_of text) text.reader.raw
 
--- told of an answer that says that the raw asked to wait
+-- told of an answer that says that the raw would have blocked
 abbrev pub AnswerHides : TextView → Result Answer IoFault → TextView → Type 0
 AnswerHides old result new = IsTrue (waited_in result) → WhereTold old.reader.raw (HidesNothing new)

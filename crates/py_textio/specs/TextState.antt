@@ -4,7 +4,7 @@ use Rattle.py_plain.specs.TextFile.{TextFile}
 use Rattle.py_raw.specs.RawStream.{Raw}
 
 -- the flat file; the raw under it, with its counts; the buffer's size in bytes; and whether the last answer was short,
--- since the raw asked to wait
+-- since the raw would have blocked
 pub record TextState : Type 0 where
   pub file : TextFile
   pub raw : Raw

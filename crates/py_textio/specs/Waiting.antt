@@ -1,4 +1,4 @@
--- A wait hides nothing: what has been answered of a text once its raw asked to wait.
+-- A wait hides nothing: what has been answered of a text once its raw would have blocked.
 use Rattle.std.specs.Prelude.{◌≡◌, ◌-◌, ◌≤◌, false, length, take, None}
 use Rattle.py_flat.specs.Bytes.{left_at}
 use Rattle.py_plain.specs.Handlers.{treatment}
@@ -7,7 +7,7 @@ use Rattle.py_plain.specs.NewlineRule.{read_so_far}
 use Rattle.py_plain.specs.TextFile.{TextFile}
 use Rattle.py_raw.specs.RawStream.{Raw}
 
--- the decoding of the bytes that were taken from a raw since the text place, while more may come behind them
+-- the decoding of the bytes that were taken from a raw since the text place, while more may come after them
 abbrev pub taken_walk : TextFile → Raw → Walk
 taken_walk file raw = walk_from file.settings.encoding (treatment file.settings.handler file.settings.encoding) false file.place.order file.place.at 0 (take (raw.place - file.place.at) (left_at raw.bytes file.place.at))
 

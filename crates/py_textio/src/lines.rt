@@ -9,7 +9,7 @@ use py_raw::RawStream;
 use std::alloc::Global;
 
 /// The lines that a text has left, which `TextReader::lines` gives. Each item is what `readline` answers without a limit: a
-/// line with its LF, which the last may lack; `None` where the raw asked to wait; or a refusal.
+/// line with its LF, which the last may lack; `None` where the raw would have blocked; or a refusal.
 ///
 /// A wait doesn't end it: the next item goes on, and after a line that the wait cut short it is the rest of that line. It ends
 /// where nothing is left, after a refusal, which is its last item, and after 18446744073709551615 items, so that every loop over

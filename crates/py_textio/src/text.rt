@@ -29,21 +29,21 @@ pub(crate) enum Chunk {
 /// What a call asks for.
 #[derive(Clone, Copy)]
 pub(crate) enum Wanted {
-    /// So many characters, or all.
+    /// This many characters, or all.
     Characters(Option<usize>),
-    /// A line, at most so many characters of it.
+    /// A line, at most n characters of it.
     Line(Option<usize>),
 }
 
 /// How far the characters that are known reach.
 pub(crate) enum Gathered {
-    /// So many of them are the whole answer.
+    /// This many of them are the whole answer.
     Enough(usize),
     /// They are all that is left.
     Ends,
-    /// A refused range comes behind them, in byte places.
+    /// A refused range comes after them, in byte places.
     Refuses { start: u64, end: u64 },
-    /// The raw asked to wait before there were enough.
+    /// The raw would have blocked before there were enough.
     Waits,
 }
 
@@ -51,7 +51,7 @@ pub(crate) enum Gathered {
 pub(crate) enum Answer {
     /// All that was asked for and is there.
     Whole(Chars),
-    /// Some of it, since the raw asked to wait.
+    /// Some of it, since the raw would have blocked.
     Short(Chars),
     /// Nothing yet.
     NotReady,
@@ -117,8 +117,8 @@ fn drop_front<T: Copy>(items: &mut Vec<T>, count: usize)
     items.truncate(rest);
 }
 
-/// How far a decoding came: how many bytes were used, and the length of the refused range that stopped it, if any; for
-/// want of memory it stops early.
+/// How far a decoding came: how many bytes were used, and the length of the refused range that stopped it, if any; when out of
+/// memory it stops early.
 #[derive(Drop)]
 struct Decoding {
     used: usize,
@@ -179,7 +179,7 @@ fn spelled(alloc: Global, characters: &[char]) -> Result<Chars, IoFault>
 }
 
 impl Wanted {
-    /// How many of the known characters are the whole answer, whatever comes behind them; `None` where they aren't
+    /// How many of the known characters are the whole answer, whatever comes after them; `None` where they aren't
     /// enough.
     fn enough(self, known: &[char]) -> Option<usize>
         ensures count { result ≡ enough self known.now }
@@ -283,7 +283,7 @@ impl<R: RawStream> Text<R> {
         }
     }
 
-    /// Asks the reader for a chunk, and puts it behind the bytes in hand. Space is taken before anything is read.
+    /// Asks the reader for a chunk, and puts it after the bytes in hand. Space is taken before anything is read.
     fn read_chunk(&mut self, alloc: Global) -> Result<Chunk, IoFault>
         requires { self.old.reader.life ≡ Life.Live }
         ensures known { KeepsKnown self.old self.new }
@@ -308,7 +308,7 @@ impl<R: RawStream> Text<R> {
         }
     }
 
-    /// The refused range of so many bytes at the front of those in hand.
+    /// The refused range of n bytes at the front of those in hand.
     fn refused(&self, count: usize) -> Gathered
         requires { count ≤ length self.now.held }
         ensures { result ≡ range_in_hand self.now count }
@@ -384,7 +384,7 @@ impl<R: RawStream> Text<R> {
         Ok(text)
     }
 
-    /// The answer where nothing is left behind the known characters.
+    /// The answer where nothing is left after the known characters.
     fn finish_at_end(&mut self, alloc: Global, wanted: Wanted) -> Result<Answer, IoFault>
         requires live { self.old.reader.life ≡ Life.Live }
         requires stands { GatheredAt self.old wanted Gathered.Ends }
@@ -403,7 +403,7 @@ impl<R: RawStream> Text<R> {
         Ok(Answer::Whole(text))
     }
 
-    /// The answer where the raw asked to wait: all known characters, if there are any.
+    /// The answer where the raw would have blocked: all known characters, if there are any.
     fn finish_short(&mut self, alloc: Global, wanted: Wanted) -> Result<Answer, IoFault>
         requires live { self.old.reader.life ≡ Life.Live }
         requires stands { GatheredAt self.old wanted Gathered.Waits }
@@ -450,7 +450,7 @@ impl<R: RawStream> Text<R> {
         }
     }
 
-    /// The characters that were asked for, as far as they come. Where the raw asked to wait, all that came are given.
+    /// The characters that were asked for, as far as they come. Where the raw would have blocked, all that came are given.
     pub fn answer(&mut self, alloc: Global, wanted: Wanted) -> Result<Answer, IoFault>
         requires { self.old.reader.life ≡ Life.Live }
         ensures keeps { KeepsReader self.old.reader self.new.reader }

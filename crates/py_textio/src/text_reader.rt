@@ -26,11 +26,11 @@ use std::marker::Model;
 ///
 /// Each call first answers by the life, with all as it was and no raw called: `Failed` after a fault, `Closed` after a `close`
 /// (which may be called again). Else, where the raw failed in the call, it is `RawFault`: the text is failed from then on, and
-/// its place isn't told; after `close` it is closed. `NoMemory` is want of memory: place and life stay, and the call may be
+/// its place isn't told; after `close` it is closed. `NoMemory` means out of memory: place and life stay, and the call may be
 /// made again.
 ///
 /// The rules are those of Python's `io.TextIOWrapper`; what waits, faults and refused ranges leave is this project's choice
-/// (docs/DECISIONS.md). A reader that is let go lets its raw go; `into_parts` hands it back.
+/// (docs/DECISIONS.md). A reader that is dropped drops its raw; `into_parts` hands it back.
 #[derive(Debug, Drop)]
 pub struct TextReader<R: RawStream> {
     text: Text<R>,
@@ -74,7 +74,7 @@ impl<R: RawStream> TextReader<R> {
 
     /// Reads the next `size` characters, or all that are left for `None`; fewer come only at the end.
     ///
-    /// Where the raw asked to wait, what came by then is answered, never nothing, or it is `None` with nothing taken; `short`
+    /// Where the raw would have blocked, what came by then is answered, never nothing, or it is `None` with nothing taken; `short`
     /// says so. A wait hides nothing: then each character that the bytes taken from the raw so far surely give has been
     /// answered, and no refused range stands among them.
     ///
@@ -170,7 +170,7 @@ impl<R: RawStream> TextReader<R> {
         self.text.life()
     }
 
-    /// Whether the raw asked to wait before the last call was answered in full: its answer is the characters that came by
+    /// Whether the raw would have blocked before the last call was answered in full: its answer is the characters that came by
     /// then, or `None`. It is false before the first call, and after a call that the wait didn't cut short.
     pub fn short(&self) -> bool
         ensures { result ≡ self.now.short }
@@ -187,7 +187,7 @@ impl<R: RawStream> TextReader<R> {
 
     /// Hands the raw back, in every life, with nothing unwritten, and with the byte of the text place where it can seek. The
     /// raw isn't moved: it is closed where `close` closed the text, and else stands wherever its last transfer left it. What
-    /// was read and not taken is let go. It takes no memory.
+    /// was read and not taken is dropped. It takes no memory.
     pub fn into_parts(self, alloc: Global) -> Detached<R>
         ensures raw { R.shows result.raw ≡ self.raw }
         ensures unwritten { result.unwritten.items ≡ [] }

@@ -1,4 +1,4 @@
--- The answers of readings that the raw, or want of memory, refused.
+-- The answers of readings that the raw, or running out of memory, refused.
 use Rattle.std.proofs.Common.{◌≡◌, ◌≢◌, ℕ, ◌+◌, ◌<◌, ◌≤◌, inl, inr, Bool, true, false, IsTrue, List, [], ◌∷◌, length, Option, Some, None, refl, sym, ap, ◌∙◌, subst, arith}
 use Rattle.py_flat.specs.declared.fault.IoFault.TheVariants as fault
 use Rattle.py_flat.specs.declared.life.Life.{Life}
@@ -99,9 +99,9 @@ answers_faulted old new call reads asks begun fails =
       reach = fails.reach;
     })
 
--- Where memory was wanting.
+-- Where memory ran out.
 
--- want of memory isn't short
+-- running out of memory isn't short
 want_short : (call : FileCall) → IsShort call (Refused fault.NoMemory) false
 want_short (Read1 size) = refl
 want_short call = refl
@@ -123,7 +123,7 @@ stays_forth : (most : Option ℕ) (place : ℕ) → MovesForth most place place
 stays_forth None place = omega arith
 stays_forth (Some most) place = (omega arith, omega arith)
 
--- want of memory leaves the place of a stream that lives on
+-- running out of memory leaves the place of a stream that lives on
 want_leaves : (most : Option ℕ) (current : Life) (before after : ℕ) → (current ≡ life.Live → after ≡ before) → MovesForth most before after → PlaceStarves current most before after
 want_leaves most life.Live before after same forth = same refl
 want_leaves most current before after same forth = forth
@@ -133,7 +133,7 @@ want_place : (call : FileCall) (current : Life) (before after : ℕ) → (curren
 want_place (Write bytes) current before after same forth = want_leaves (moves_most (Write bytes)) current before after same forth
 want_place call current before after same forth = want_leaves (moves_most call) current before after same forth
 
--- want of memory may leave the life
+-- running out of memory may leave the life
 starving_stays : (may : Bool) (current : Life) → StarvesTo may current current
 starving_stays true current = inl refl
 starving_stays false current = refl
@@ -180,7 +180,7 @@ unmoved old call reads begun takes =
       reach = λ tells. omega arith;
     })
 
--- want of memory may fail a reading by several transfers
+-- running out of memory may fail a reading by several transfers
 want_fails : (call : FileCall) (before after : Life) → reads_several call ≡ true → after ≡ life.Failed → LifeMoves None call (Refused fault.NoMemory) before after
 want_fails (Read None) before after several failed = inr failed
 want_fails (ReadLine limit) before after several failed = inr failed
@@ -213,7 +213,7 @@ some_bytes : (part : List ℕ) → part ≢ [] → 0 < length part
 some_bytes [] some = absurd (some refl)
 some_bytes (byte ∷ part) some = omega arith
 
--- a reading that memory was wanting for once bytes had left the raw, some of them wanted
+-- a reading that memory ran out for once bytes had left the raw, some of them wanted
 pub answers_failing : (old between : EngineView) (call : FileCall) (part : List ℕ) → reads_several call ≡ true → asks_none None call ≡ false → Reads old → Took old part between → part ≢ [] → MovesForth (moves_most call) old.place between.place → WhereTold old.raw (wanted_by call (left_at old.raw.bytes old.place) ≢ []) → Answers (stream_of old) call (Refused fault.NoMemory) (stream_of (record between { life = life.Failed }))
 answers_failing old between call part several asks begun took some forth wanted =
     let new : EngineView = record between { life = life.Failed } in

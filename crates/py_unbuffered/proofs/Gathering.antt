@@ -15,7 +15,7 @@ use Rattle.py_unbuffered.specs.declared.data.Stop.TheVariants as stop
 use Rattle.py_unbuffered.specs.Engine.{EngineView, IsEngine, Waits, StarvesWith, Brings, TransferOutcome, Took, FailsAfter, GathersUpTo, GatherOutcome}
 use Rattle.py_unbuffered.proofs.Steps.{next_parts, took_none, took_on, gives_taken, stops_at_end, stops_waiting, fails_after, starves_after}
 
--- what was taken was collected, and all of it is wanted, with some of whatever comes behind it; nothing was taken where no byte was moved
+-- what was taken was collected, and all of it is wanted, with some of whatever comes after it; nothing was taken where no byte was moved
 pub record GatheredTo (wanted : List ℕ → List ℕ) (old : EngineView) (part : List ℕ) (moved : Bool) (now : EngineView) : Type 0 where
   pub took : Took old part now
   pub alone : wanted part ≡ part
@@ -54,7 +54,7 @@ module _ (wanted : List ℕ → List ℕ) (old now : EngineView) (part : List �
         },
       )
 
-  -- the raw asked to wait
+  -- the raw would have blocked
   pub gather_waits : (new : EngineView) → Waits now new → GatherOutcome wanted old (Ok stop.Waits) part new
   gather_waits new waits = (
     stops_waiting old now part gathered.took new waits,
@@ -73,12 +73,12 @@ module _ (wanted : List ℕ → List ℕ) (old now : EngineView) (part : List �
         absurd (omega (arith, forth, place, length-append part front.0, ap length front.1, ap length none));
   }
 
-  -- want of memory leaves the place
+  -- running out of memory leaves the place
   starved_place : (flag : Bool) (new : EngineView) → StarvesWith flag now new → new.place ≡ now.place
   starved_place true new starves = ap (λ (e : EngineView). e.place) starves
   starved_place false new starves = ap (λ (e : EngineView). e.place) starves
 
-  -- the raw failed, or lacked memory
+  -- the raw failed, or ran out of memory
   pub gather_refused : (before : List ℕ) (why : IoFault) (after any : List ℕ) (new : EngineView) → TransferOutcome now moved before (Err why) after new → GatherOutcome wanted old (Err why) any new
   gather_refused before fault.RawFault after any new outcome =
       let fails : FailsAfter old part new = fails_after old now part gathered.took new outcome in
@@ -134,7 +134,7 @@ module _ (wanted : List ℕ → List ℕ) (old now : EngineView) (part : List �
           },
         )
 
-    -- memory was wanting for it, which had left the raw
+    -- memory ran out for it, which had left the raw
     pub gather_starves : (after : EngineView) (why : IoFault) (any : List ℕ) → why ≡ fault.NoMemory → StarvesWith true new after → GatherOutcome wanted old (Err why) any after
     gather_starves after why any says starves =
         let place : after.place ≡ old.place + (length part + 1) = ap (λ (e : EngineView). e.place) starves ∙ omega (arith, took_piece.place, length-append part piece) in

@@ -15,7 +15,7 @@ use Rattle.py_stream.proofs.Joined.{joined_parts, length-joined_more, length-joi
 use Rattle.py_unbuffered.specs.Engine.{EngineView, IsEngine, Waits, StarvesWith, Puts, LaysSome, PutOutcome, Wrote, Stays, FailsWriting, StarvesWriting, WriteOutcome}
 use Rattle.py_unbuffered.proofs.Steps.{more_taken, keeps_self, keeps_then, no_fault_then, no_wait_then, answers_none, answers_then}
 
--- the raw took so many of the bytes, and never asked to wait; before the first nothing changed
+-- the raw took n of the bytes, and never would have blocked; before the first nothing changed
 pub record WroteTo (old : EngineView) (bytes : List ℕ) (taken : ℕ) (now : EngineView) : Type 0 where
   pub wrote : Wrote old bytes taken now
   pub no_wait : NoWait old.raw now.raw
@@ -37,7 +37,7 @@ wrote_none old bytes is live = record {
   none = λ nothing. refl;
 }
 
--- A piece of the bytes behind those that were taken.
+-- A piece of the bytes after those that were taken.
 
 module _ (old now : EngineView) (bytes front piece rest : List ℕ) (taken : ℕ) (cut : bytes ≡ front ++ (piece ++ rest)) (long : length front ≡ taken) (so_far : WroteTo old bytes taken now) where
   -- how long all of it is
@@ -82,7 +82,7 @@ module _ (old now : EngineView) (bytes front piece rest : List ℕ) (taken : ℕ
     none = λ nothing. none (omega arith) ∙ so_far.none (omega arith);
   }
 
-  -- the raw asked to wait
+  -- the raw would have blocked
   pub stays_then : (new : EngineView) → Stays now piece new → Stays old bytes new
   stays_then new stays = record {
     taken = taken + stays.taken;
@@ -116,7 +116,7 @@ module _ (old now : EngineView) (bytes front piece rest : List ℕ) (taken : ℕ
     told = lays_then fails.taken new fails.told;
   }
 
-  -- memory was wanting
+  -- memory ran out
   pub starves_then : (start : ℕ) (new : EngineView) → StarvesWriting now piece start new → StarvesWriting old bytes start new
   starves_then start new starves = record {
     taken = taken + starves.taken;
@@ -149,7 +149,7 @@ put_wrote old bytes count new puts = record {
   told = puts.told;
 }
 
--- it asked to wait
+-- it would have blocked
 pub put_waits : (old : EngineView) (bytes : List ℕ) (new : EngineView) → 0 < length bytes → Waits old new → Stays old bytes new
 put_waits old bytes new some waits = record {
   taken = 0;
@@ -167,7 +167,7 @@ put_waits old bytes new some waits = record {
   once = waits.once;
 }
 
--- memory was wanting, which fails the stream where the call had moved bytes
+-- memory ran out, which fails the stream where the call had moved bytes
 put_starves : (old : EngineView) (bytes : List ℕ) (start : ℕ) (moved : Bool) (new : EngineView) → moved ≡ nat_lt start old.place → IsEngine old.raw old.place old.access old.life → old.life ≡ life.Live → IsTrue old.raw.takes_memory → StarvesWith moved old new → StarvesWriting old bytes start new
 put_starves old bytes start true new by is live takes starves = record {
   taken = 0;
@@ -216,7 +216,7 @@ none_of_length : (xs : List ℕ) → length xs ≡ 0 → xs ≡ []
 none_of_length [] none = refl
 none_of_length (x ∷ xs) none = absurd (omega arith)
 
--- A line, of which so many bytes were taken.
+-- A line, of which n bytes were taken.
 
 -- the line by those that were taken and those that are left
 line_cut : (line : List ℕ) (taken : ℕ) → line ≡ take taken line ++ (drop taken line ++ [])
@@ -256,7 +256,7 @@ module _ (old now : EngineView) (line piece : List ℕ) (taken start : ℕ) (is 
   pub line_on : (count : ℕ) (new : EngineView) → Puts now piece count new → WroteTo old line (taken + count) new
   line_on count new puts = wrote_on old now line (take taken line) piece [] taken piece_cut piece_long so_far count new (put_wrote now piece count new puts) puts.counts.no_wait (λ zero. absurd (omega (arith, some_put count new puts)))
 
-  -- where it asked to wait, fewer than all are
+  -- where it would have blocked, fewer than all are
   pub line_waits : (new : EngineView) → Waits now new → Stays old line new
   line_waits new waits = stays_then old now line (take taken line) piece [] taken piece_cut piece_long so_far new (put_waits now piece new (omega (arith, piece_size)) waits)
 
@@ -282,7 +282,7 @@ module _ (old now : EngineView) (all lines : List (List ℕ)) (i start : ℕ) (e
   item_is : line ≡ get_or lines i line
   item_is = subst (λ (xs : List ℕ). xs ≡ get_or lines i xs) (sym lent) item
 
-  -- all by the lines so far, the next and those behind it
+  -- all by the lines so far, the next and those after it
   lines_cut : joined all ≡ joined (take i lines) ++ (line ++ joined (drop (i + 1) lines))
   lines_cut = ap joined (sym are) ∙ joined_parts lines i line within item_is
 
@@ -296,7 +296,7 @@ module _ (old now : EngineView) (all lines : List (List ℕ)) (i start : ℕ) (e
       subst (λ (n : ℕ). WroteTo old (joined all) n new) (sym (length-joined_more lines i line within item_is))
       (wrote_on old now (joined all) (joined (take i lines)) line (joined (drop (i + 1) lines)) (length (joined (take i lines))) lines_cut refl so_far (length line) new outcome.0 outcome.1 (λ zero. outcome.2 (none_of_length line zero)))
 
-  -- the raw asked to wait in it
+  -- the raw would have blocked in it
   pub lines_wait : (new : EngineView) → WriteOutcome now line start (Ok false) new → WriteOutcome old (joined all) start (Ok false) new
   lines_wait new outcome = stays_then old now (joined all) (joined (take i lines)) line (joined (drop (i + 1) lines)) (length (joined (take i lines))) lines_cut refl so_far new outcome
 

@@ -277,7 +277,7 @@ pub said : (call : FileCall) (part : List ℕ) → says_fault (reply_by call par
 said (ReadLines hint) part = refl
 said call part = refl
 
--- nor that memory was wanting
+-- nor that memory ran out
 pub gave_bytes : (call : FileCall) (part : List ℕ) → says_no_memory (reply_by call part) ≡ false
 gave_bytes (ReadLines hint) part = refl
 gave_bytes call part = refl

@@ -19,7 +19,7 @@ by_tests able appends raw why false true shut can by = let never : None ≡ Some
 pub refuses_first : (able : Raw → Bool) (appends : Bool) (raw : Raw) (may : Bool) (why : IoFault) → may ≡ able raw → first_refusal may raw None ≡ Some why → RefusesRaw able appends raw None why raw
 refuses_first able appends raw may why is by = by_tests able appends raw why raw.closed may refl (sym is) by
 
--- a refusal before the raw is asked is none for want of memory
+-- a refusal before the raw is asked is none when out of memory
 pub lacks_none : (takes : Bool) (closed may : Bool) (why : IoFault) → or_else (refused_if closed fault.Closed) (or_else (refused_if (not may) fault.Unsupported) None) ≡ Some why → why ≡ fault.NoMemory → IsTrue takes
 lacks_none takes true may why by is = let same : Some fault.Closed ≡ Some why = by in absurd (cc)
 lacks_none takes false false why by is = let same : Some fault.Unsupported ≡ Some why = by in absurd (cc)

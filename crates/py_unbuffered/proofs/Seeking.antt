@@ -239,7 +239,7 @@ same_file old new kept bytes same tell =
     ∙ ap (λ (bytes : List ℕ). record (file_of (stream_of old)) { bytes = bytes; can = can_of old.access new.raw.seekable }) (bytes (tells_its_bytes old.raw tell))
     ∙ ap (λ (seekable : Bool). record (file_of (stream_of old)) { can = can_of old.access seekable }) kept.raw.seekable
 
--- what a seek found out before want of memory, and that is nothing that stays
+-- what a seek found out before running out of memory, and that is nothing that stays
 pub record Asked (old new : EngineView) : Type 0 where
   pub kept : KeepsEngine (begun old) new
   pub counts : LeavesCounts old.raw new.raw

@@ -197,7 +197,7 @@ forth_by : (most : Option ℕ) (before after : ℕ) → before ≤ after → ((b
 forth_by None before after forth within = forth
 forth_by (Some most) before after forth within = (forth, within most refl)
 
--- a reading that memory was wanting for, before or after bytes had left the raw
+-- a reading that memory ran out for, before or after bytes had left the raw
 starved : (old new : EngineView) (call : FileCall) (taken : List ℕ) → reads_several call ≡ true → asks_none None call ≡ false → Reads old → StarvesAfter old taken new → RefusesWithin old call new → Answers (stream_of old) call (Refused fault.NoMemory) (stream_of new)
 starved old new call [] several asks begun starves refuses =
     subst (λ (engine : EngineView). Answers (stream_of old) call (Refused fault.NoMemory) (stream_of engine)) (sym (starves.none refl)) (unmoved old call (several_reads call several) begun (λ room. absurd (cc (no_room call several))))

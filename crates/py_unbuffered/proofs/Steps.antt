@@ -16,11 +16,11 @@ use Rattle.py_unbuffered.specs.Engine.{EngineView, IsEngine, KeepsEngine, Waits,
 
 -- Lists.
 
--- the front of a list behind another
+-- the front of a list after another
 pub more_taken : (n m : ℕ) (front rest : List ℕ) → length front ≡ n → take (n + m) (front ++ rest) ≡ front ++ take m rest
 more_taken n m front rest long = ap (λ (k : ℕ). take (k + m) (front ++ rest)) (sym long) ∙ take-append-add front rest m
 
--- what came next, and what came next behind it
+-- what came next, and what came next after it
 pub next_behind : (bytes front rest : List ℕ) (place n m : ℕ) → length front ≡ n → take n (left_at bytes place) ≡ front → take m (left_at bytes (place + n)) ≡ take m rest → take (n + m) (left_at bytes place) ≡ front ++ take m rest
 next_behind bytes front rest place n m long next behind =
     let left : List ℕ = left_at bytes place in
@@ -29,7 +29,7 @@ next_behind bytes front rest place n m long next behind =
     ∙ (ap (λ (xs : List ℕ). front ++ take m xs) (drop-drop n place bytes)
     ∙ ap (λ (xs : List ℕ). front ++ xs) behind))
 
--- what came next, and all behind it
+-- what came next, and all after it
 pub next_parts : (bytes part : List ℕ) (place : ℕ) → take (length part) (left_at bytes place) ≡ part → left_at bytes place ≡ part ++ left_at bytes (place + length part)
 next_parts bytes part place next =
     sym (take-append-drop (length part) (left_at bytes place))
@@ -101,11 +101,11 @@ answers_none old new same = λ tells. omega (arith, ap (λ (raw : Raw). raw.writ
 pub answers_then : (old mid new : EngineView) (first second : ℕ) → KeepsEngine old mid → AnswersFor first old.raw mid.raw → AnswersFor second mid.raw new.raw → AnswersFor (first + second) old.raw new.raw
 answers_then old mid new first second kept before behind = λ tells. omega (arith, before tells, behind (kept.raw.tells_transfers ∙ tells))
 
--- nothing was answered for before or behind
+-- nothing was answered for before or after
 pub answers_none_then : (old mid new : EngineView) (count : ℕ) → KeepsEngine old mid → AnswersFor 0 old.raw mid.raw → AnswersFor count mid.raw new.raw → AnswersFor count old.raw new.raw
 answers_none_then old mid new count kept before behind = λ tells. omega (arith, before tells, behind (kept.raw.tells_transfers ∙ tells))
 
--- nothing was behind
+-- nothing was after
 pub answers_then_none : (old mid new : EngineView) (count : ℕ) → KeepsEngine old mid → AnswersFor count old.raw mid.raw → AnswersFor 0 mid.raw new.raw → AnswersFor count old.raw new.raw
 answers_then_none old mid new count kept before behind = λ tells. omega (arith, before tells, behind (kept.raw.tells_transfers ∙ tells))
 
@@ -129,11 +129,11 @@ module _ (old now : EngineView) (part : List ℕ) (took : Took old part now) whe
   still_tells : IsTrue (tells old.raw) → IsTrue (tells now.raw)
   still_tells told = tells_still old.raw now.raw took.kept.raw ∙ told
 
-  -- the bytes stay behind a step that leaves them
+  -- the bytes are left a step that leaves them
   bytes_then : (new : EngineView) → KeepsBytes now.raw new.raw → KeepsBytes old.raw new.raw
   bytes_then new same = λ tells. same (took.kept.raw.tells_bytes ∙ tells) ∙ took.bytes tells
 
-  -- what a transfer brings comes behind what was taken
+  -- what a transfer brings comes after what was taken
   brings_next : (before : List ℕ) (count : ℕ) (after : List ℕ) (new : EngineView) → Brings now before count after new → WhereTold old.raw (take (length (part ++ take count after)) (left_at old.raw.bytes old.place) ≡ part ++ take count after)
   brings_next before count after new brings = λ tells.
       let long : length (part ++ take count after) ≡ length part + count = length-append part (take count after) ∙ ap (λ (n : ℕ). length part + n) (length-take-le count after brings.fits) in
@@ -191,7 +191,7 @@ module _ (old now : EngineView) (part : List ℕ) (took : Took old part now) whe
         omega (arith, brings.end refl asked told, ap length (brings.bytes (tells_its_bytes now.raw told)), brings.place),
   )
 
-  -- the raw asked to wait
+  -- the raw would have blocked
   pub stops_waiting : (new : EngineView) → Waits now new → StopOutcome old part (Ok stop.Waits) new
   stops_waiting new waits = (
     record {
@@ -220,7 +220,7 @@ module _ (old now : EngineView) (part : List ℕ) (took : Took old part now) whe
     told = took.told;
   }
 
-  -- memory was wanting, which fails the stream where bytes had moved
+  -- memory ran out, which fails the stream where bytes had moved
   pub starves_after : (moved : Bool) (new : EngineView) → (moved ≡ true → part ≢ []) → (moved ≡ false → part ≡ []) → StarvesWith moved now new → StarvesAfter old part new
   starves_after true new some none starves = record {
     between = now;
@@ -273,7 +273,7 @@ widened before resized held more size ok is long as_long says =
       whole = ap length same ∙ (length-append before (replicate (held + more - size) 0) ∙ omega (arith, length-replicate {A = ℕ} (held + more - size) 0));
     }
 
--- and room is left behind it
+-- and room is left after it
 pub room_left : (held more : ℕ) (resized : List ℕ) → length resized ≡ held + more → length (take (length resized - held) (drop held resized)) ≡ more
 room_left held more resized whole = length-take-le (length resized - held) (drop held resized) (omega (arith, length-drop held resized)) ∙ omega arith
 
@@ -286,7 +286,7 @@ pub rest_ends : (old now : EngineView) (part before : List ℕ) (count : ℕ) (a
 rest_ends old now part before count after bytes new took is none brings asked =
     subst (λ (xs : List ℕ). RestOutcome old (Ok stop.End) xs new) (sym is) (stops_at_end old now part took before after new (subst (λ (n : ℕ). Brings now before n after new) none brings) asked)
 
--- or the raw asked to wait, likewise
+-- or the raw would have blocked, likewise
 pub rest_waits : (old now : EngineView) (part bytes : List ℕ) (new : EngineView) → Took old part now → bytes ≡ part → Waits now new → RestOutcome old (Ok stop.Waits) bytes new
 rest_waits old now part bytes new took is waits = subst (λ (xs : List ℕ). RestOutcome old (Ok stop.Waits) xs new) (sym is) (stops_waiting old now part took new waits)
 

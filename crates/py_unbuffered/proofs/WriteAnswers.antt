@@ -152,7 +152,7 @@ not_closed : (current : Life) → (current ≡ life.Live) ⊎ (current ≡ life.
 not_closed current (inl live) = ap is_closed live
 not_closed current (inr failed) = ap is_closed failed
 
--- a raw that stands at a place that the call moved stands behind the one before
+-- a raw that stands at a place that the call moved stands after the one before
 raw_moved : (old now : EngineView) → KeepsEngine (begun old) now → WherePlace now.raw (now.raw.place ≡ now.place) → old.place < now.place → WherePlace old.raw (old.place < now.raw.place)
 raw_moved old now kept stands moved tells = omega (arith, stands (kept.raw.tells_place ∙ tells), moved)
 
@@ -288,7 +288,7 @@ puts_answer old now bytes count may puts =
       }));
     }) (λ wants. absurd (cc))
 
--- the raw asked to wait
+-- the raw would have blocked
 waits_answer : (old now : EngineView) (bytes : List ℕ) → MayWrite old (Write bytes) → Waits (begun old) now → Answers (stream_of old) (Write bytes) NotReady (stream_of (record now { short = true }))
 waits_answer old now bytes may waits =
     let call : FileCall = Write bytes in
@@ -341,7 +341,7 @@ fails_answer old now bytes may fails =
       told = λ tell. let laid = fails.told tell in raw_faulted refl refl (reaches old call (is_write bytes) may, (laid.0, laid.2, file_fails old now (lay old.raw.bytes old.place (take laid.0 bytes)) fails.kept fails.failed laid.3));
     }) (λ wants. absurd (cc))
 
--- memory was wanting
+-- memory ran out
 starves_answer : (old : EngineView) (bytes : List ℕ) → MayWrite old (Write bytes) → IsTrue old.raw.takes_memory → Answers (stream_of old) (Write bytes) (Refused fault.NoMemory) (stream_of (begun old))
 starves_answer old bytes may takes =
     let call : FileCall = Write bytes in
@@ -393,11 +393,11 @@ may_write old started call stands begins reads fits = record {
   fits = subst (λ (engine : EngineView). engine.place + length (payload call) ≤ greatest_place) begins.1 fits;
 }
 
--- the transfer failed, or memory was wanting
+-- the transfer failed, or memory ran out
 pub write_fails : (old started now : EngineView) (bytes : List ℕ) (why : IoFault) → MayWrite old (Write bytes) → BeginOutcome old (Ok tt) started → PutOutcome started false bytes (Err why) now → Answers (stream_of old) (Write bytes) (Refused why) (stream_of now)
 write_fails old started now bytes why may begins puts = put_fails old now bytes why may (subst (λ (engine : EngineView). PutOutcome engine false bytes (Err why) now) begins.1 puts)
 
--- the raw took some, or asked to wait
+-- the raw took some, or would have blocked
 pub write_answers : (old started now : EngineView) (bytes : List ℕ) (result : Option ℕ) (waits : Bool) → MayWrite old (Write bytes) → BeginOutcome old (Ok tt) started → PutOutcome started false bytes (Ok result) now → is_some result ≡ not waits → Answers (stream_of old) (Write bytes) (taken_reply (Ok result)) (stream_of (record now { short = waits }))
 write_answers old started now bytes result waits may begins puts is = put_answers old now bytes result waits may (subst (λ (engine : EngineView). PutOutcome engine false bytes (Ok result) now) begins.1 puts) is
 
@@ -436,7 +436,7 @@ wrote_answer old now lines may wrote calm =
           )));
     }) (λ wants. absurd (cc))
 
--- the raw asked to wait before it took all
+-- the raw would have blocked before it took all
 stays_answer : (old now : EngineView) (lines : List (List ℕ)) (stays : Stays (begun old) (joined lines) now) → MayWrite old (WriteLines lines) → Answers (stream_of old) (WriteLines lines) (Refused (fault.WouldBlock stays.taken)) (stream_of (record now { short = true }))
 stays_answer old now lines stays may =
     let call : FileCall = WriteLines lines in
@@ -498,7 +498,7 @@ lines_fail old now lines may fails =
       told = λ tell. let laid = fails.told tell in raw_faulted refl refl (reaches old call (is_writelines lines) may, (laid.0, laid.2, file_fails old now (lay old.raw.bytes old.place (take laid.0 (joined lines))) fails.kept fails.failed laid.3));
     }) (λ wants. absurd (cc))
 
--- memory was wanting before the raw took any
+-- memory ran out before the raw took any
 lines_want : (old : EngineView) (lines : List (List ℕ)) → MayWrite old (WriteLines lines) → IsTrue old.raw.takes_memory → Answers (stream_of old) (WriteLines lines) (Refused fault.NoMemory) (stream_of (begun old))
 lines_want old lines may takes =
     let call : FileCall = WriteLines lines in
@@ -524,7 +524,7 @@ lines_want old lines may takes =
       told = λ tell. out_of_memory refl (reaches old call (is_writelines lines) may, inl refl);
     }) (λ wants failed. absurd (let live = may.live in cc))
 
--- and behind some: the stream fails
+-- and after some: the stream fails
 lines_starve : (old between : EngineView) (lines : List (List ℕ)) (taken : ℕ) → MayWrite old (WriteLines lines) → IsTrue old.raw.takes_memory → Wrote (begun old) (joined lines) taken between → NoWait old.raw between.raw → 0 < taken → Answers (stream_of old) (WriteLines lines) (Refused fault.NoMemory) (stream_of (record between { life = life.Failed; short = false }))
 lines_starve old between lines taken may takes wrote calm some =
     let call : FileCall = WriteLines lines in
@@ -589,7 +589,7 @@ too_far_answers old started call write stands begins reads past =
     ∙ ap (λ (far : Bool). refused_if far fault.TooFar) (lt-ltb greatest_place (old.place + length (payload call)) behind) in
     refused_with old started call fault.TooFar stands refuses (write.asks (file_of (stream_of old))) refl (write.closes (stream_of old)) begins.1
 
--- the raw failed, or memory was wanting
+-- the raw failed, or memory ran out
 pub lines_refused : (old started now : EngineView) (lines : List (List ℕ)) (start : ℕ) (why : IoFault) → MayWrite old (WriteLines lines) → BeginOutcome old (Ok tt) started → start ≡ started.place → WriteOutcome started (joined lines) start (Err why) now → Answers (stream_of old) (WriteLines lines) (Refused why) (stream_of now)
 lines_refused old started now lines start why may begins at outcome = by_fault why (subst (λ (engine : EngineView). WriteOutcome engine (joined lines) start (Err why) now) begins.1 outcome) where
   by_fault : (why : IoFault) → WriteOutcome (begun old) (joined lines) start (Err why) now → Answers (stream_of old) (WriteLines lines) (Refused why) (stream_of now)
@@ -603,7 +603,7 @@ lines_written old started now lines start may begins outcome =
     let wrote = subst (λ (engine : EngineView). WriteOutcome engine (joined lines) start (Ok true) now) begins.1 outcome in
     not_short old now (WriteLines lines) Done wrote.0.kept.short (wrote_answer old now lines may wrote.0 wrote.1)
 
--- the raw asked to wait
+-- the raw would have blocked
 pub lines_wait : (old started now : EngineView) (lines : List (List ℕ)) (start taken : ℕ) → MayWrite old (WriteLines lines) → BeginOutcome old (Ok tt) started → start ≡ started.place → WriteOutcome started (joined lines) start (Ok false) now → taken ≡ now.place - start → Answers (stream_of old) (WriteLines lines) (Refused (fault.WouldBlock taken)) (stream_of (record now { short = true }))
 lines_wait old started now lines start taken may begins at outcome is =
     let stays = subst (λ (engine : EngineView). WriteOutcome engine (joined lines) start (Ok false) now) begins.1 outcome in

@@ -61,7 +61,7 @@ BeginOutcome old (Err why) new = (life_fault old.life ≡ Some why) × (new ≡ 
 
 -- What the steps over the raw come to.
 
--- the raw asked to wait: but for its counts all is as it was
+-- the raw would have blocked: but for its counts all is as it was
 pub record Waits (old new : EngineView) : Type 0 where
   pub kept : KeepsEngine old new
   pub cause : Rose old.raw.waits new.raw.waits
@@ -84,14 +84,14 @@ pub record Fails (old new : EngineView) : Type 0 where
   pub bytes : KeepsBytes old.raw new.raw
   pub transfers : WhereTransfers old.raw (new.raw.transfers ≤ old.raw.transfers + 1)
 
--- memory was wanting: the stream fails where bytes had moved in this call
+-- memory ran out: the stream fails where bytes had moved in this call
 abbrev pub StarvesWith : Bool → EngineView → EngineView → Type 0
 StarvesWith true old new = new ≡ record old { life = life.Failed }
 StarvesWith false old new = new ≡ old
 
 -- Reading.
 
--- so many bytes came into the front of a buffer; told, the next ones, and none into one that isn't empty only at the end
+-- n bytes came into the front of a buffer; told, the next ones, and none into one that isn't empty only at the end
 pub record Brings (old : EngineView) (before : List ℕ) (count : ℕ) (after : List ℕ) (new : EngineView) : Type 0 where
   pub kept : KeepsEngine old new
   pub counts : LeavesCounts old.raw new.raw
@@ -125,7 +125,7 @@ pub record Took (old : EngineView) (part : List ℕ) (now : EngineView) : Type 0
   pub bytes : KeepsBytes old.raw now.raw
   pub told : WhereTold old.raw (take (length part) (left_at old.raw.bytes old.place) ≡ part)
 
--- it gives these bytes, and why it stopped: nothing comes behind; or the raw asked to wait
+-- it gives these bytes, and why it stopped: nothing comes after; or the raw would have blocked
 pub record Gives (old : EngineView) (part : List ℕ) (new : EngineView) : Type 0 where
   pub kept : KeepsEngine old new
   pub no_fault : NoFault old.raw new.raw
@@ -135,7 +135,7 @@ pub record Gives (old : EngineView) (part : List ℕ) (new : EngineView) : Type 
   pub bytes : KeepsBytes old.raw new.raw
   pub told : WhereTold old.raw (take (length part) (left_at old.raw.bytes old.place) ≡ part)
 
--- the raw failed behind a part that was taken
+-- the raw failed after a part that was taken
 pub record FailsAfter (old : EngineView) (part : List ℕ) (new : EngineView) : Type 0 where
   pub kept : KeepsEngine old new
   pub cause : Rose old.raw.faults new.raw.faults
@@ -146,14 +146,14 @@ pub record FailsAfter (old : EngineView) (part : List ℕ) (new : EngineView) : 
   pub bytes : KeepsBytes old.raw new.raw
   pub told : WhereTold old.raw (take (length part) (left_at old.raw.bytes old.place) ≡ part)
 
--- memory was wanting behind a part that was taken: where it isn't empty the stream fails
+-- memory ran out after a part that was taken: where it isn't empty the stream fails
 pub record StarvesAfter (old : EngineView) (part : List ℕ) (new : EngineView) : Type 0 where
   pub between : EngineView
   pub took : Took old part between
   pub none : part ≡ [] → new ≡ old
   pub some : part ≢ [] → new ≡ record between { life = life.Failed }
 
--- told: nothing is left behind the place
+-- told: nothing is left after the place
 abbrev pub AtEnd : EngineView → Type 0
 AtEnd engine = WhereTold engine.raw (length engine.raw.bytes ≤ engine.place)
 
@@ -199,7 +199,7 @@ abbrev pub is_wait : Stop → Bool
 is_wait stop.Waits = true
 is_wait other = false
 
--- whether there is an answer: none where the raw asked to wait before anything came
+-- whether there is an answer: none where the raw would have blocked before anything came
 abbrev pub has_answer : Stop → Bool → Bool
 has_answer where_stopped empty = not (is_wait where_stopped && empty)
 
@@ -209,7 +209,7 @@ answered_at where_stopped engine = record engine { short = is_wait where_stopped
 
 -- Writing.
 
--- the raw took the first so many of the bytes; told, they were laid on at the place
+-- the raw took the first n of the bytes; told, they were laid on at the place
 pub record Puts (old : EngineView) (bytes : List ℕ) (count : ℕ) (new : EngineView) : Type 0 where
   pub kept : KeepsEngine old new
   pub counts : LeavesCounts old.raw new.raw
@@ -221,7 +221,7 @@ pub record Puts (old : EngineView) (bytes : List ℕ) (count : ℕ) (new : Engin
   pub told : WhereTold old.raw (new.raw.bytes ≡ lay old.raw.bytes old.place (take count bytes))
   pub transfers : WhereTransfers old.raw (new.raw.transfers ≤ old.raw.transfers + 1)
 
--- some front of the bytes, at least so many of them, is laid on
+-- some front of the bytes, at least n of them, is laid on
 abbrev pub LaysSome : EngineView → ℕ → List ℕ → EngineView → Type 0
 LaysSome old least bytes new = (count : ℕ) × (least ≤ count) × (count ≤ length bytes) × (new.raw.bytes ≡ lay old.raw.bytes old.place (take count bytes))
 
@@ -244,7 +244,7 @@ PutOutcome old moved bytes (Err fault.RawFault) new = FailsPutting old bytes new
 PutOutcome old moved bytes (Err fault.NoMemory) new = IsTrue old.raw.takes_memory × StarvesWith moved old new
 PutOutcome old moved bytes (Err other) new = ⊥
 
--- the raw took so many of some bytes by several transfers
+-- the raw took n of some bytes by several transfers
 pub record Wrote (old : EngineView) (bytes : List ℕ) (taken : ℕ) (now : EngineView) : Type 0 where
   pub kept : KeepsEngine old now
   pub no_fault : NoFault old.raw now.raw
@@ -254,7 +254,7 @@ pub record Wrote (old : EngineView) (bytes : List ℕ) (taken : ℕ) (now : Engi
   pub place : now.place ≡ old.place + taken
   pub told : WhereTold old.raw (now.raw.bytes ≡ lay old.raw.bytes old.place (take taken bytes))
 
--- the raw asked to wait before all was taken
+-- the raw would have blocked before all was taken
 pub record Stays (old : EngineView) (bytes : List ℕ) (new : EngineView) : Type 0 where
   pub taken : ℕ
   pub less : taken < length bytes
@@ -262,7 +262,7 @@ pub record Stays (old : EngineView) (bytes : List ℕ) (new : EngineView) : Type
   pub cause : Rose old.raw.waits new.raw.waits
   pub once : WaitsOnce old.raw new.raw
 
--- the raw failed behind those that it took
+-- the raw failed after those that it took
 pub record FailsWriting (old : EngineView) (bytes : List ℕ) (new : EngineView) : Type 0 where
   pub taken : ℕ
   pub fits : taken ≤ length bytes
@@ -274,7 +274,7 @@ pub record FailsWriting (old : EngineView) (bytes : List ℕ) (new : EngineView)
   pub place : new.place ≡ old.place + taken
   pub told : WhereTold old.raw (LaysSome old taken bytes new)
 
--- memory was wanting behind those that the raw took: it fails the stream where the call, which began at a place, moved that
+-- memory ran out after those that the raw took: it fails the stream where the call, which began at a place, moved that
 pub record StarvesWriting (old : EngineView) (bytes : List ℕ) (start : ℕ) (new : EngineView) : Type 0 where
   pub taken : ℕ
   pub between : EngineView
@@ -285,7 +285,7 @@ pub record StarvesWriting (old : EngineView) (bytes : List ℕ) (start : ℕ) (n
   pub unmoved : between.place ≤ start → new ≡ between
   pub moved : start < between.place → new ≡ record between { life = life.Failed }
 
--- all of the bytes, for a call that began at a place, and nothing changes for none; false where the raw asked to wait before
+-- all of the bytes, for a call that began at a place, and nothing changes for none; false where the raw would have blocked before
 abbrev pub WriteOutcome : EngineView → List ℕ → ℕ → Result Bool IoFault → EngineView → Type 0
 WriteOutcome old bytes start (Ok true) new = Wrote old bytes (length bytes) new × NoWait old.raw new.raw × (bytes ≡ [] → new ≡ old)
 WriteOutcome old bytes start (Ok false) new = Stays old bytes new
@@ -315,7 +315,7 @@ EndOutcome old (Err other) new = ⊥
 abbrev pub TargetFrom : ℕ → ℤ → EngineView → Result ℕ IoFault → EngineView → Type 0
 TargetFrom base offset old result new = MovedBy base offset result × (new ≡ old)
 
--- and from the end: some end was answered, or the asking failed
+-- where a seek from the end goes: some end was answered, or the asking failed
 abbrev pub TargetFromEnd : ℤ → EngineView → Result ℕ IoFault → EngineView → Type 0
 TargetFromEnd offset old (Err fault.RawFault) new = Fails old new
 TargetFromEnd offset old (Err fault.NoMemory) new = IsTrue old.raw.takes_memory × (new ≡ old)

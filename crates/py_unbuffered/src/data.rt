@@ -21,7 +21,7 @@ pub(crate) enum Stop {
     Enough,
     /// Nothing comes any more.
     End,
-    /// The raw asked to wait.
+    /// The raw would have blocked.
     Waits,
 }
 
@@ -152,7 +152,7 @@ impl<R: RawStream> UnbufferedData<R> {
         }
     }
 
-    /// Whether there is an answer: none where the raw asked to wait before anything came. A wait is remembered.
+    /// Whether there is an answer: none where the raw would have blocked before anything came. A wait is remembered.
     fn answers(&mut self, stop: Stop, empty: bool) -> bool
         ensures answer { result ≡ has_answer stop empty }
         ensures stream { self.new ≡ answered_at stop self.old }

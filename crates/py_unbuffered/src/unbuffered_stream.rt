@@ -21,12 +21,12 @@ use std::marker::Model;
 /// answer was short. Sizes, limits and hints are bytes; places are bytes from the start of the stream, from 0 to
 /// 9223372036854775807.
 ///
-/// Each call first answers by the life, with all as it was: `Failed` after a fault, or want of memory that failed it, and
-/// `Closed` after a `close` (which may be called again). Then it is `Unsupported` where the stream isn't opened for it. Else,
-/// where the raw failed in the call, it is `RawFault`: the stream is failed from then on (after `close` closed). A `read` of a
-/// size, a `readinto` and a `write` make one transfer of the raw, which may move fewer bytes than asked. Where the raw asked to
-/// wait, a call answers what came by then, never nothing, or `None` where nothing had, with all as it was; `short` is true
-/// then. `NoMemory` is want of memory; what stands then, each call says. What waits and faults leave is this project's choice
+/// Each call first answers by the life, with all as it was: `Failed` after a fault, or running out of memory that failed it, and
+/// `Closed` after a `close` (which may be called again). Then it is `Unsupported` where the stream isn't opened for it. Else, where
+/// the raw failed in the call, it is `RawFault`: the stream is failed from then on (after `close` closed). A `read` of a size, a
+/// `readinto` and a `write` make one transfer of the raw, which may move fewer bytes than asked. Where the raw would have blocked,
+/// a call answers what came by then, never nothing, or `None` where nothing had, with all as it was; `short` is true then.
+/// `NoMemory` means out of memory; what stands then, each call says. What waits and faults leave is this project's choice
 /// (docs/DECISIONS.md), all else the rule of Python's `io.RawIOBase` and `io.FileIO`.
 #[derive(Debug, Drop)]
 pub struct UnbufferedStream<R: RawStream> {
@@ -89,7 +89,7 @@ impl<R: RawStream> UnbufferedStream<R> {
     }
 
     /// Reads some of the next bytes into the front of `buffer`, by one transfer, and answers how many: none only where
-    /// `buffer` is empty or nothing is left. What `buffer` has behind them may have changed.
+    /// `buffer` is empty or nothing is left. What `buffer` has after them may have changed.
     ///
     /// Every error but `RawFault` and `NoMemory` leaves `buffer` as it was. It takes no memory: `NoMemory` comes only of a raw that
     /// takes some, and leaves the stream as it was.
@@ -131,7 +131,7 @@ impl<R: RawStream> UnbufferedStream<R> {
     }
 
     /// Writes some front of `bytes` at the place, by one transfer, and answers how many bytes of it: none only of no bytes.
-    /// `None`: the raw asked to wait, and took nothing.
+    /// `None`: the raw would have blocked, and took nothing.
     ///
     /// `TooFar` where they would end past 9223372036854775807: all is as it was. After `RawFault` the raw may have a front of
     /// `bytes`. It takes no memory: `NoMemory` comes only of a raw that takes some, and leaves the stream as it was.
@@ -143,10 +143,10 @@ impl<R: RawStream> UnbufferedStream<R> {
 
     /// Writes all lines as they are, by as many transfers as it takes.
     ///
-    /// `TooFar` where they would end past 9223372036854775807: all is as it was. `WouldBlock { taken }` where the raw asked to
-    /// wait: it has the first `taken` bytes of the lines joined; go on behind them. After `RawFault` the place tells how many
-    /// it answered for. It takes no memory: `NoMemory` comes only of a raw that takes some; the stream is failed where the raw
-    /// has bytes of the lines already.
+    /// `TooFar` where they would end past 9223372036854775807: all is as it was. `WouldBlock { taken }` where the raw would have
+    /// blocked: it has the first `taken` bytes of the lines joined; go on after them. After `RawFault` the place tells how many it
+    /// answered for. It takes no memory: `NoMemory` comes only of a raw that takes some; the stream is failed where the raw has
+    /// bytes of the lines already.
     pub fn writelines(&mut self, lines: &Lines) -> Result<(), IoFault>
         ensures { Answers self.old (WriteLines lines.now) (done_reply result) self.new }
     {

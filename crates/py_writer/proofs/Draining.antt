@@ -36,7 +36,7 @@ passes_waiting old now new so drained = (took_on old now new [] so.took drained.
 pub passes_all : (old now : WriterView) → PassesSoFar old now → now.pending.bytes ≡ [] → FlushOutcome old (Ok passing.All) now
 passes_all old now so none = (so.took, so.no_wait, none)
 
--- want of memory in between
+-- running out of memory in between
 lacks_so_far : (old now new : WriterView) → PassesSoFar old now → IsTrue now.raw.takes_memory → new ≡ now → Lacks old [] new × NoWait old.raw new.raw
 lacks_so_far old now new so takes same = subst (λ (view : WriterView). Lacks old [] view × NoWait old.raw view.raw) (sym same) (record { takes = subst IsTrue so.took.kept.raw.takes_memory takes; took = so.took }, so.no_wait)
 
@@ -69,7 +69,7 @@ faults_writing old new piece result is outcome =
     let fails : FailsWriting old piece new = subst (λ (r : Result (Option ℕ) RawError). WriteOutcome old piece r new) is outcome in
     record { cause = fails.cause; no_wait = fails.no_wait; written = fails.written; told = fails.told }
 
--- the writer fails then, and lets go of nothing
+-- the writer fails then, and drops nothing
 fails_giving : (old : WriterView) (raw : Raw) (bytes : List ℕ) → IsWriter old.raw old.pending old.life → old.life ≡ life.Live → (0 < length old.pending.bytes → bytes ≡ []) → Keeps old.raw raw → StaysOpen old.raw raw → FaultsWriting old.raw (old.pending.bytes ++ bytes) raw → FailsTaking old bytes (record old { raw = raw; life = life.Failed })
 fails_giving old raw bytes is live alone keeps stays faults = record {
   kept = record {

@@ -20,7 +20,7 @@ use Rattle.py_writer.specs.Engine.{WriterView, stream_of, IsWriter, KeepsWriter,
 
 -- Where a writer and its raw stand.
 
--- a live writer's raw stands no further behind its place than the buffer is long
+-- a live writer's raw stands no further after its place than the buffer is long
 pub is_near : (writer : WriterView) → IsWriter writer.raw writer.pending writer.life → writer.life ≡ life.Live → IsNear (stream_of writer)
 is_near writer is live = record { ahead = omega arith; behind = omega (arith, is.pending_is.held); stands = λ tells. is.stands tells live }
 
@@ -31,13 +31,13 @@ is_placed writer is = record { far = is.pending_is.far; near = is_near writer is
 pub took_ends : (old new : WriterView) (bytes : List ℕ) → Took old bytes new → end_of new.pending ≡ end_of old.pending + length bytes
 took_ends old new bytes took = omega (arith, took.within, took.place, ap length took.owed, length-drop took.passed (old.pending.bytes ++ bytes), length-append old.pending.bytes bytes)
 
--- and once the first so many were, and the raw failed
+-- and once the first n were, and the raw failed
 pub fails_ends : (old new : WriterView) (bytes : List ℕ) (fails : FailsTaking old bytes new) → end_of new.pending ≡ end_of old.pending + fails.taken
 fails_ends old new bytes fails =
     let front : List ℕ = take fails.taken bytes in
     omega (arith, fails.within, fails.place, ap length fails.owed, length-drop fails.passed (old.pending.bytes ++ front), length-append old.pending.bytes front, length-take-le fails.taken bytes fails.fits)
 
--- Over plain lists: a raw's bytes, those that it is owed, and a call's own behind them.
+-- Over plain lists: a raw's bytes, those that it is owed, and a call's own after them.
 
 -- a front of all was laid on, and the rest is owed
 flat_laid : (raw : List ℕ) (place : ℕ) (owed own : List ℕ) (kept laid : ℕ) → kept ≤ laid → laid ≤ length owed + length own → lay (lay raw place (take laid (owed ++ own))) (place + kept) (drop kept (owed ++ own)) ≡ lay (lay raw place owed) (place + length owed) own
@@ -69,14 +69,14 @@ take_front owed own taken count fits within =
     ∙ ap (take count) (sym (append_assoc owed (take taken own) (drop taken own)))
     ∙ take-append-le count (owed ++ take taken own) (drop taken own) (omega (arith, length-append owed (take taken own), length-take-le taken own fits))
 
--- some of a call's own bytes are laid on, in a flat file: at least so many
+-- some of a call's own bytes are laid on, in a flat file: at least n
 pub record LaysOwn (before : List ℕ) (place least : ℕ) (own after : List ℕ) : Type 0 where
   pub count : ℕ
   pub least_is : least ≤ count
   pub fits : count ≤ length own
   pub bytes : after ≡ lay before place (take count own)
 
--- the raw has some front of all, and what is still owed of those that were taken is laid on behind
+-- the raw has some front of all, and what is still owed of those that were taken is laid on after
 failed_flat : (raw : List ℕ) (place : ℕ) (owed own : List ℕ) (taken kept laid : ℕ) → taken ≤ length own → kept ≤ length owed + taken → kept ≤ laid → laid ≤ length owed + length own → (kept < length owed + taken → laid ≤ length owed + taken) → LaysOwn (lay raw place owed) (place + length owed) taken own (lay (lay raw place (take laid (owed ++ own))) (place + kept) (drop kept (owed ++ take taken own)))
 failed_flat raw place owed own taken kept laid fits within least most owes =
     let front : List ℕ = take taken own in
@@ -108,7 +108,7 @@ same_abilities old new kept = rw (kept.appending, kept.raw.seekable) refl
 abbrev pub flat_of : WriterView → List ℕ
 flat_of writer = lay writer.raw.bytes writer.pending.place writer.pending.bytes
 
--- told: the flat file has the bytes that were taken, behind the place
+-- told: the flat file has the bytes that were taken, after the place
 pub took_bytes : (old new : WriterView) (bytes : List ℕ) → Took old bytes new → WhereTold old.raw (flat_of new ≡ lay (flat_of old) (end_of old.pending) bytes)
 took_bytes old new bytes took tells = rw (took.told tells, took.place, took.owed) (flat_laid old.raw.bytes old.pending.place old.pending.bytes bytes took.passed took.passed (omega arith) took.within)
 
@@ -149,7 +149,7 @@ took_lays old new bytes took tells = record {
 
 -- Where the raw failed.
 
--- told: the flat file has some of the call's bytes, behind the place, and at least those that were taken
+-- told: the flat file has some of the call's bytes, after the place, and at least those that were taken
 pub fails_bytes : (old new : WriterView) (bytes : List ℕ) (fails : FailsTaking old bytes new) → WhereTold old.raw (LaysOwn (flat_of old) (end_of old.pending) fails.taken bytes (flat_of new))
 fails_bytes old new bytes fails tells =
     let owed : List ℕ = old.pending.bytes in

@@ -11,7 +11,7 @@ from_start items start end ordered =
     let sum : end ≡ start + (end - start) = omega arith in
     ap (λ (n : ℕ). drop start (take n items)) sum ∙ drop-take start (end - start) items
 
--- bytes laid behind the end
+-- bytes laid after the end
 pub laid_behind : (items bytes rest : List ℕ) (start end : ℕ) → start ≤ end → end ≤ length items → take (end + length bytes - start) (drop start (take end items ++ (bytes ++ rest))) ≡ take (end - start) (drop start items) ++ bytes
 laid_behind items bytes rest start end ordered within =
     let held : List ℕ = take (end - start) (drop start items) in
@@ -22,7 +22,7 @@ laid_behind items bytes rest start end ordered within =
     ∙ (take-append-add held (bytes ++ rest) (length bytes)
     ∙ ap (λ (xs : List ℕ). held ++ xs) (take_at bytes rest (length bytes) (λ k. length bytes))))
 
--- without the first so many
+-- without the first n
 pub without_front : (items : List ℕ) (start end count : ℕ) → start + count ≤ end → take (end - (start + count)) (drop (start + count) items) ≡ drop count (take (end - start) (drop start items))
 without_front items start end count within =
     let sum : end - start ≡ count + (end - (start + count)) = omega arith in

@@ -36,7 +36,7 @@ Stands writer = IsWriter writer.raw writer.pending writer.life
 
 -- Kinds of calls.
 
--- what such a call isn't, and what a wait and want of memory mean for it
+-- what such a call isn't, and what a wait and running out of memory mean for it
 pub record TakesNone (call : FileCall) : Type 0 where
   pub writing : is_writing call ≡ false
   pub reading : is_reading call ≡ false
@@ -154,7 +154,7 @@ works_answers old call reply after none works = record {
 
 -- Passing on what is owed.
 
--- the first so many of the bytes that were owed are passed on; told, these were laid on, and maybe more of them
+-- the first n of the bytes that were owed are passed on; told, these were laid on, and maybe more of them
 pub record PassesSome (old new : WriterView) : Type 0 where
   pub kept : KeepsWriter old new
   pub passed : ℕ
@@ -253,7 +253,7 @@ stays_open old new live stays alive closed = stays ∙ closed ∙ ap is_closed l
 pub rested : (old : WriterView) (after : Raw) → old.life ≡ life.Live → old.life ≢ life.Live → after ≡ old.raw
 rested old after live dead = absurd (dead live)
 
--- the raw asked to wait
+-- the raw would have blocked
 pub waiting_works : (old new : WriterView) (call : FileCall) → Accepts old call → Took old [] (record new { short = old.short }) → new.short ≡ true → Rose old.raw.waits new.raw.waits → WaitsOnce old.raw new.raw → Works old call (Refused (fault.WouldBlock 0)) (stream_of new)
 waiting_works old new call accepts took short rose once =
     let asked : Asked old call = accepts.asked in
@@ -290,7 +290,7 @@ waiting_works old new call accepts took short rose once =
       near = is_near new took.kept.is;
     }
 
--- memory was wanting
+-- memory ran out
 pub lacking_works : (old new : WriterView) (call : FileCall) → Asked old call → old.short ≡ false → Lacks old [] new → NoWait old.raw new.raw → Works old call (Refused fault.NoMemory) (stream_of new)
 lacking_works old new call asked whole lacks no_wait =
     let passes : PassesSome old new = took_passes old new lacks.took in
@@ -364,7 +364,7 @@ failing_works old failed call left asked leaves whole fails no_wait alive =
 
 -- Which calls these are.
 
--- want of memory leaves the place of such a call, whatever became of the stream
+-- running out of memory leaves the place of such a call, whatever became of the stream
 starved_there : (current : Life) (place : ℕ) → PlaceStarves current None place place
 starved_there life.Live place = refl
 starved_there current place = omega arith

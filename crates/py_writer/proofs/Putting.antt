@@ -23,7 +23,7 @@ made raw pending appending current short = record { raw = raw; pending = pending
 
 -- Where the stream stands then.
 
--- by so many further as it took
+-- by n further as it took
 pub took_end : (old new : WriterView) (bytes : List ℕ) → Took old bytes new → end_of new.pending ≡ end_of old.pending + length bytes
 took_end old new bytes took = omega (arith, took.place, took.within, ap length took.owed, length-drop took.passed (old.pending.bytes ++ bytes), length-append old.pending.bytes bytes)
 
@@ -75,9 +75,9 @@ took_pushing old raw pending now appending current short bytes same is live move
     subst (λ (view : PendingView). Took old bytes (made raw view appending current short)) (sym moved)
     (subst (λ (writer : WriterView). Took writer bytes (made raw (pushed bytes pending) appending current short)) same (took_pushed before bytes is lives room fits))
 
--- Want of memory.
+-- Out of memory.
 
--- how a writer is left then: the raw has none of the call's own bytes, and these are let go of; or it has some, and the writer
+-- how a writer is left then: the raw has none of the call's own bytes, and these are dropped; or it has some, and the writer
 -- fails
 pub starves_either : (start : ℕ) (between new : WriterView) → new ≡ starved_from start between → ((between.pending.place ≤ start) × (new ≡ record between { pending = cut_at start between.pending })) ⊎ ((start < between.pending.place) × (new ≡ record between { life = life.Failed }))
 starves_either start between new same =
@@ -114,14 +114,14 @@ owes_then old mid new first owes =
       moved = λ elsewhere. owes.moved (λ same. elsewhere (same ∙ passing_keeps_place old mid passes));
     }
 
--- and where it left the stream live, want of memory leaves the same of a stream that it fails
+-- and where it left the stream live, running out of memory leaves the same of a stream that it fails
 owes_starved : (old mid new : WriterView) (start : ℕ) → mid.life ≡ life.Live → OwesOld old mid → new ≡ starved_from start mid → new.life ≡ life.Failed → OwesOld old new
 owes_starved old mid new start live owes starved failed = ⊎_elim
     (λ before. absurd (let wrong : life.Live ≡ life.Failed = sym live ∙ (sym (ap (λ (writer : WriterView). writer.life) before.1) ∙ failed) in cc))
     (λ past. subst (OwesOld old) (sym past.1) (record { passed = owes.passed; owed = owes.owed; place = owes.place; moved = owes.moved }))
     (starves_either start mid new starved)
 
--- One step behind others.
+-- One step after others.
 
 -- an answer of a front of the bytes, but that all of it was taken, is one of all of them
 pub put_more : (old new : WriterView) (bytes more : List ℕ) (start : ℕ) (result : Result Bool IoFault) → PutsOutcome old bytes start result new → (result ≡ Ok true → more ≡ []) → PutsOutcome old (bytes ++ more) start result new
@@ -221,7 +221,7 @@ all_of bytes taken = take-append-drop taken bytes
 pub left_within : (old now : WriterView) (bytes : List ℕ) (taken : ℕ) → taken ≤ length bytes → Took old (take taken bytes) now → end_of old.pending + length bytes ≤ greatest_place → end_of now.pending + length (drop taken bytes) ≤ greatest_place
 left_within old now bytes taken fits took within = omega (arith, within, took_end old now (take taken bytes) took, length-take-le taken bytes fits, length-drop taken bytes)
 
--- the raw asked to wait
+-- the raw would have blocked
 pub waits_passing : (old now mid : WriterView) (bytes : List ℕ) (taken : ℕ) → Took old (take taken bytes) now → PassOutcome now (drop taken bytes) (Ok None) mid → Took old (take taken bytes) mid × Rose old.raw.waits mid.raw.waits
 waits_passing old now mid bytes taken first pass = (took_on old now mid (take taken bytes) first pass.0, waited_then old now mid first.kept pass.2)
 

@@ -13,15 +13,15 @@ use Rattle.py_writer.specs.Engine.{WriterView, IsWriter, KeepsWriter, Took, Lays
 
 -- Lists.
 
--- a front of one list behind another
+-- a front of one list after another
 pub take_behind : (front more : List ℕ) (count : ℕ) → take (length front + count) (front ++ more) ≡ front ++ take count more
 take_behind front more count = take-append-add front more count
 
--- what is left of bytes after a first count of them, with more behind, and a second count of these
+-- what is left of bytes after a first count of them, with more after, and a second count of these
 pub drop_twice : (bytes more : List ℕ) (first second : ℕ) → first ≤ length bytes → drop second (drop first bytes ++ more) ≡ drop (first + second) (bytes ++ more)
 drop_twice bytes more first second within = ap (drop second) (sym (drop-append-le first bytes more within)) ∙ drop-drop second first (bytes ++ more)
 
--- the first count of bytes laid, and then the next ones, right behind
+-- the first count of bytes laid, and then the next ones, right after
 pub lay_twice : (raw : List ℕ) (place : ℕ) (bytes more : List ℕ) (first second : ℕ) → first ≤ length bytes → lay (lay raw place (take first bytes)) (place + first) (take second (drop first bytes ++ more)) ≡ lay raw place (take (first + second) (bytes ++ more))
 lay_twice raw place bytes more first second within =
     let all : List ℕ = bytes ++ more in
@@ -63,7 +63,7 @@ no_fault_then old mid new kept first second exact = second (kept.raw.counts_exac
 pub no_wait_then : (old mid new : WriterView) → KeepsWriter old mid → NoWait old.raw mid.raw → NoWait mid.raw new.raw → NoWait old.raw new.raw
 no_wait_then old mid new kept first second exact = second (kept.raw.counts_exactly ∙ exact) ∙ first exact
 
--- a step that waits once behind one that doesn't wait
+-- a step that waits once after one that doesn't wait
 pub waits_once_then : (old mid new : WriterView) → KeepsWriter old mid → NoWait old.raw mid.raw → WaitsOnce mid.raw new.raw → WaitsOnce old.raw new.raw
 waits_once_then old mid new kept first second exact = second (kept.raw.counts_exactly ∙ exact) ∙ ap (λ (waits : ℕ). counted waits 1) (first exact)
 
@@ -146,7 +146,7 @@ took_on old mid new bytes first second = subst (λ (xs : List ℕ). Took old xs 
 
 -- Failing.
 
--- what a failing lays behind what a step laid
+-- what a failing lays after what a step laid
 lays_then : (raw after new : List ℕ) (place between : ℕ) (owed mid front more : List ℕ) (first least taken : ℕ) → first ≤ length owed + length front → mid ≡ drop first (owed ++ front) → between ≡ place + first → after ≡ lay raw place (take first (owed ++ front)) → LaysFurther after between least (mid ++ more) (mid ++ take taken more) new → LaysFurther raw place (first + least) (owed ++ (front ++ more)) (owed ++ take (length front + taken) (front ++ more)) new
 lays_then raw after new place between owed mid front more first least taken within one moved laid lays =
     let kept : List ℕ = take taken more in
@@ -160,7 +160,7 @@ lays_then raw after new place between owed mid front more first least taken with
       bytes = told_then raw after new place between owed mid front more first lays.laid within one moved laid lays.bytes;
     }
 
--- a failing behind a step
+-- a failing after a step
 pub fails_then : (old mid new : WriterView) (front more : List ℕ) → Took old front mid → FailsTaking mid more new → FailsTaking old (front ++ more) new
 fails_then old mid new front more first second = record {
   kept = keeps_then old mid new first.kept second.kept;
@@ -177,7 +177,7 @@ fails_then old mid new front more first second = record {
   told = λ tells. lays_then old.raw.bytes mid.raw.bytes new.raw.bytes old.pending.place mid.pending.place old.pending.bytes mid.pending.bytes front more first.passed second.passed second.taken first.within first.owed first.place (first.told tells) (second.told (tells_still old.raw mid.raw first.kept.raw ∙ tells));
 }
 
--- a failing with more bytes behind, that were never reached
+-- a failing with more bytes after, that were never reached
 pub fails_more : (old new : WriterView) (bytes more : List ℕ) → FailsTaking old bytes new → FailsTaking old (bytes ++ more) new
 fails_more old new bytes more fails =
     let same : take fails.taken (bytes ++ more) ≡ take fails.taken bytes = take-append-le fails.taken bytes more fails.fits in
@@ -203,7 +203,7 @@ fails_more old new bytes more fails =
           };
     }
 
--- Want of memory, and a buffer that is full.
+-- Running out of memory, and a buffer that is full.
 
 pub lacks_then : (old mid new : WriterView) (front more : List ℕ) → Took old front mid → Lacks mid more new → Lacks old (front ++ more) new
 lacks_then old mid new front more first second = record {
@@ -220,7 +220,7 @@ starves_then old mid new front more start first second = record {
   starved = second.starved;
 }
 
--- with more bytes behind, that were never reached
+-- with more bytes after, that were never reached
 pub starves_more : (old new : WriterView) (bytes more : List ℕ) (start : ℕ) → StarvesTaking old bytes start new → StarvesTaking old (bytes ++ more) start new
 starves_more old new bytes more start starves = record {
   taken = starves.taken;
@@ -239,7 +239,7 @@ fills_then old mid new front more first second = record {
   waited = waited_then old mid new first.kept second.waited;
 }
 
--- with more bytes behind, that were never reached
+-- with more bytes after, that were never reached
 pub fills_more : (old new : WriterView) (bytes more : List ℕ) → FillsUp old bytes new → FillsUp old (bytes ++ more) new
 fills_more old new bytes more fills = record {
   taken = fills.taken;
@@ -249,7 +249,7 @@ fills_more old new bytes more fills = record {
   waited = fills.waited;
 }
 
--- Behind a step: a failing, or want of memory, of a step that takes nothing.
+-- After a step: a failing, or running out of memory, of a step that takes nothing.
 
 pub fails_on : (old mid new : WriterView) (bytes : List ℕ) → Took old bytes mid → FailsTaking mid [] new → FailsTaking old bytes new
 fails_on old mid new bytes first second = subst (λ (xs : List ℕ). FailsTaking old xs new) (append-nil bytes) (fails_then old mid new bytes [] first second)

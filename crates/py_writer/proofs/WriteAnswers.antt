@@ -27,7 +27,7 @@ use Rattle.py_writer.proofs.WritingCalls.{MayWrite, answers_coming, accepted, wo
 
 -- What was taken of a call's own bytes.
 
--- the first so many were
+-- the first n were
 takes_front : (old new : WriterView) (own : List ℕ) (taken : ℕ) (short : Bool) → taken ≤ length own → Took old (take taken own) new → Takes (stream_of old) own (stream_of (record new { short = short }))
 takes_front old new own taken short fits took = record {
   taken = taken;
@@ -122,7 +122,7 @@ owes_old old new short owes = record {
   moved = owes.moved;
 }
 
--- of one `write` no byte is owed then, nor where want of memory fails the stream
+-- of one `write` no byte is owed then, nor where running out of memory fails the stream
 pub one_write : (old new : WriterView) (bytes : List ℕ) (start : ℕ) (why : IoFault) → PutOutcome old bytes start (Err why) new → OwesNoneOfIts (stream_of old) (Write bytes) (Refused why) (stream_of (record new { short = false }))
 one_write old new bytes start fault.RawFault put = owes_old old new false put.1
 one_write old new bytes start fault.NoMemory put = λ failed. owes_old old new false (put.1 failed)
@@ -181,7 +181,7 @@ faults old new call may fails straight =
 took_stands : (old new : WriterView) (bytes : List ℕ) → Took old bytes new → WherePlace old.raw (new.raw.place ≡ new.pending.place)
 took_stands old new bytes took tells = took.kept.is.stands (took.kept.raw.tells_place ∙ tells) took.live
 
--- and where it stands behind the place of a call it took some of that call's own bytes
+-- and where it stands after the place of a call it took some of that call's own bytes
 took_own : (old new : WriterView) (bytes : List ℕ) → Took old bytes new → end_of old.pending < new.pending.place → TookOwn (stream_of old) (stream_of (record new { life = life.Failed; short = false }))
 took_own old new bytes took past = record {
   further = past;

@@ -263,7 +263,7 @@ starved_within : (current : Life) (most before after : ℕ) → (current ≡ lif
 starved_within life.Live most before after stays forth within = stays refl
 starved_within current most before after stays forth within = (forth, within)
 
--- memory was wanting
+-- memory ran out
 pub record IsStarved (old : WriterView) (call : FileCall) : Type 0 where
   pub shorts : IsShort call (Refused fault.NoMemory) false
   pub life_is : (before after : Life) → (after ≡ before) ⊎ (after ≡ life.Failed) → LifeMoves (Some old.pending.size) call (Refused fault.NoMemory) before after

@@ -69,7 +69,7 @@ pub record Begins (raw : Raw) (pending : PendingView) : Type 0 where
 
 -- Taking bytes, and passing them on.
 
--- the stream took these bytes behind those that it owed, and the raw took the first of them all; told, they were laid on
+-- the stream took these bytes after those that it owed, and the raw took the first of them all; told, they were laid on
 -- where the raw stood
 pub record Took (old : WriterView) (bytes : List ℕ) (new : WriterView) : Type 0 where
   pub kept : KeepsWriter old new
@@ -82,7 +82,7 @@ pub record Took (old : WriterView) (bytes : List ℕ) (new : WriterView) : Type 
   pub owed : new.pending.bytes ≡ drop passed (old.pending.bytes ++ bytes)
   pub told : WhereTold old.raw (new.raw.bytes ≡ lay old.raw.bytes old.pending.place (take passed (old.pending.bytes ++ bytes)))
 
--- so many bytes of a list were laid on, at least some front; and no more than what is still owed of it, where some is
+-- n bytes of a list were laid on, at least some front; and no more than what is still owed of it, where some is
 pub record LaysFurther (before : List ℕ) (place least : ℕ) (all owing : List ℕ) (after : List ℕ) : Type 0 where
   pub laid : ℕ
   pub least_is : least ≤ laid
@@ -90,7 +90,7 @@ pub record LaysFurther (before : List ℕ) (place least : ℕ) (all owing : List
   pub owes : least < length owing → laid ≤ length owing
   pub bytes : after ≡ lay before place (take laid all)
 
--- the raw failed while it was given these bytes behind those that it was owed: the first so many of them were taken by the
+-- the raw failed while it was given these bytes after those that it was owed: the first n of them were taken by the
 -- stream, and the first of these are known to have gone to the raw. Told, the raw has those, and may have more of them
 pub record FailsTaking (old : WriterView) (bytes : List ℕ) (new : WriterView) : Type 0 where
   pub kept : KeepsWriter old new
@@ -105,14 +105,14 @@ pub record FailsTaking (old : WriterView) (bytes : List ℕ) (new : WriterView) 
   pub owed : new.pending.bytes ≡ drop passed (old.pending.bytes ++ take taken bytes)
   pub told : WhereTold old.raw (LaysFurther old.raw.bytes old.pending.place passed (old.pending.bytes ++ bytes) (old.pending.bytes ++ take taken bytes) new.raw.bytes)
 
--- memory was wanting, of a raw that takes some
+-- memory ran out, of a raw that takes some
 pub record Lacks (old : WriterView) (bytes : List ℕ) (new : WriterView) : Type 0 where
   pub takes : IsTrue old.raw.takes_memory
   pub took : Took old bytes new
 
 -- Passing on what is owed.
 
--- one transfer: some went; or the raw asked to wait
+-- one transfer: some went; or the raw would have blocked
 abbrev pub DrainOutcome : WriterView → Result Passed IoFault → WriterView → Type 0
 DrainOutcome old (Ok passing.All) new = Took old [] new × NoWait old.raw new.raw × (length new.pending.bytes < length old.pending.bytes)
 DrainOutcome old (Ok passing.Waits) new = Took old [] new × (new.pending ≡ old.pending) × Rose old.raw.waits new.raw.waits × WaitsOnce old.raw new.raw
@@ -120,7 +120,7 @@ DrainOutcome old (Err fault.RawFault) new = FailsTaking old [] new × NoWait old
 DrainOutcome old (Err fault.NoMemory) new = IsTrue old.raw.takes_memory × (new ≡ old)
 DrainOutcome old (Err other) new = ⊥
 
--- all of it: nothing is owed then; or the raw asked to wait before
+-- all of it: nothing is owed then; or the raw would have blocked before
 abbrev pub FlushOutcome : WriterView → Result Passed IoFault → WriterView → Type 0
 FlushOutcome old (Ok passing.All) new = Took old [] new × NoWait old.raw new.raw × (new.pending.bytes ≡ [])
 FlushOutcome old (Ok passing.Waits) new = Took old [] new × Rose old.raw.waits new.raw.waits × WaitsOnce old.raw new.raw
@@ -139,7 +139,7 @@ PassOutcome old bytes (Err other) new = ⊥
 
 -- A call that writes, from a place on.
 
--- memory was wanting: where the raw has bytes of the call's own the stream fails, else these are let go of again
+-- memory ran out: where the raw has bytes of the call's own the stream fails, else these are dropped again
 abbrev pub starved_from : ℕ → WriterView → WriterView
 starved_from start writer = if nat_le writer.pending.place start then record writer { pending = cut_at start writer.pending } else record writer { life = life.Failed }
 
@@ -159,7 +159,7 @@ pub record FillsUp (old : WriterView) (bytes : List ℕ) (new : WriterView) : Ty
   pub full : length new.pending.bytes ≡ new.pending.size
   pub waited : Rose old.raw.waits new.raw.waits
 
--- several pieces, one behind the other
+-- several pieces, one after the other
 abbrev pub PutsOutcome : WriterView → List ℕ → ℕ → Result Bool IoFault → WriterView → Type 0
 PutsOutcome old bytes start (Ok true) new = Took old bytes new
 PutsOutcome old bytes start (Ok false) new = FillsUp old bytes new
@@ -175,7 +175,7 @@ pub record OwesOld (old new : WriterView) : Type 0 where
   pub place : new.pending.bytes ≢ [] → new.pending.place ≡ old.pending.place + passed
   pub moved : end_of new.pending ≢ end_of old.pending → new.pending.bytes ≡ []
 
--- one piece: where the raw fails, or want of memory fails the stream, none of it is owed
+-- one piece: where the raw fails, or running out of memory fails the stream, none of it is owed
 abbrev pub PutOutcome : WriterView → List ℕ → ℕ → Result Bool IoFault → WriterView → Type 0
 PutOutcome old bytes start (Err fault.RawFault) new = FailsTaking old bytes new × OwesOld old new
 PutOutcome old bytes start (Err fault.NoMemory) new = StarvesTaking old bytes start new × (new.life ≡ life.Failed → OwesOld old new)
@@ -227,7 +227,7 @@ EndOutcome old (Err other) new = ⊥
 abbrev pub TargetFrom : ℕ → ℤ → WriterView → Result ℕ IoFault → WriterView → Type 0
 TargetFrom base offset old result new = MovedBy base offset result × (new ≡ old)
 
--- and from the end: some end was answered, or the asking failed
+-- where a seek from the end goes: some end was answered, or the asking failed
 abbrev pub TargetFromEnd : ℤ → WriterView → Result ℕ IoFault → WriterView → Type 0
 TargetFromEnd offset old (Err fault.RawFault) new = FailsMoving old new
 TargetFromEnd offset old (Err fault.NoMemory) new = IsTrue old.raw.takes_memory × (new ≡ old)

@@ -8,7 +8,7 @@ pub record PendingView : Type 0 where
   pub place : ℕ
   pub bytes : List ℕ
 
--- the place behind them
+-- the place after them
 abbrev pub end_of : PendingView → ℕ
 end_of pending = pending.place + length pending.bytes
 
@@ -18,18 +18,18 @@ pub record IsPending (pending : PendingView) : Type 0 where
   pub held : length pending.bytes ≤ pending.size
   pub far : end_of pending ≤ greatest_place
 
--- more behind them
+-- more after them
 abbrev pub pushed : List ℕ → PendingView → PendingView
 pushed bytes pending = record pending { bytes = pending.bytes ++ bytes }
 
--- without the first so many
+-- without the first n
 abbrev pub passed : ℕ → PendingView → PendingView
 passed count pending = record pending { place = pending.place + count; bytes = drop count pending.bytes }
 
--- up to a place alone
+-- the pending bytes up to a place
 abbrev pub cut_at : ℕ → PendingView → PendingView
 cut_at place pending = record pending { bytes = take (place - pending.place) pending.bytes }
 
--- none, at a place
+-- no pending bytes, at a place
 abbrev pub none_at : ℕ → PendingView → PendingView
 none_at place pending = record { size = pending.size; place = place; bytes = [] }

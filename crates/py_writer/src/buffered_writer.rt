@@ -23,12 +23,12 @@ use std::marker::Model;
 /// bytes from the start of the stream, from 0 to 9223372036854775807. But for `new` and `append` no call takes memory of its
 /// own: `NoMemory` comes only of a raw that takes some.
 ///
-/// Each call first answers by the life, with all as it was: `Failed` after a fault, or want of memory that failed it (a `detach`
+/// Each call first answers by the life, with all as it was: `Failed` after a fault, or running out of memory that failed it (a `detach`
 /// still works), `Closed` after a `close` (which may be called again), `Detached` after a `detach`. Else, where the raw failed in the call, it is
-/// `RawFault`: the writer is failed from then on (after `close` closed). Where the raw asked to wait, and there is no room
+/// `RawFault`: the writer is failed from then on (after `close` closed). Where the raw would have blocked, and there is no room
 /// for what is left, it is `WouldBlock`, which says how many bytes were taken. Whatever comes, no byte that was taken is
 /// lost: the raw has it, or it is still owed, and `detach` or `into_parts` hand it back (but what a large write gave the raw
-/// straight away is never owed: the place tells how far it came). A writer that is let go while it lives loses what it owes:
+/// straight away is never owed: the place tells how far it came). A writer that is dropped while it lives loses what it owes:
 /// close, flush or detach it before. What waits and faults leave is this project's choice
 /// (docs/DECISIONS.md), all else the rule of Python's `io` module.
 #[derive(Debug, Drop)]
@@ -128,11 +128,10 @@ impl<R: RawStream> BufferedWriter<R> {
     /// Takes `bytes`, to be written at the place, and answers how many: all. What the buffer has no room for is passed on to the
     /// raw; once nothing is owed, more than the buffer holds go there straight.
     ///
-    /// `TooFar` where they would end past 9223372036854775807: all is as it was. `WouldBlock { taken }` where the raw asked to
-    /// wait and the rest has no room: the first `taken` bytes were taken, and the buffer is full; go on behind them.
-    /// `RawFault`: the writer is failed, and owes none of `bytes`: those that went straight to the raw are told by the place.
-    /// `NoMemory`, of a raw that takes some, takes nothing, unless the raw has some of `bytes` already: then the writer is failed,
-    /// as by a fault.
+    /// `TooFar` where they would end past 9223372036854775807: all is as it was. `WouldBlock { taken }` where the raw would have
+    /// blocked and the rest has no room: the first `taken` bytes were taken, and the buffer is full; go on after them. `RawFault`:
+    /// the writer is failed, and owes none of `bytes`: those that went straight to the raw are told by the place. `NoMemory`, of a
+    /// raw that takes some, takes nothing, unless the raw has some of `bytes` already: then the writer is failed, as by a fault.
     pub fn write(&mut self, bytes: &[u8]) -> Result<usize, IoFault>
         ensures { Answers self.old (Write bytes.now) (count_reply result) self.new }
     {

@@ -43,7 +43,7 @@ impl fmt::Debug for Pending {
 }
 
 impl Pending {
-    /// None, at a place, with this buffer.
+    /// No pending bytes, at a place, with this buffer.
     pub fn new(buffer: Vec<u8>, place: u64) -> Self
         requires some { 0 < vec_len buffer }
         requires within { place ≤ greatest_place }
@@ -82,7 +82,7 @@ impl Pending {
         self.place
     }
 
-    /// The place behind the last.
+    /// The place after the last.
     pub fn end_place(&self) -> u64
         ensures place { result ≡ end_of self.now }
         ensures within { result ≤ greatest_place }
@@ -107,7 +107,7 @@ impl Pending {
         &self.buffer[self.start..self.end]
     }
 
-    /// Puts bytes behind, for which there is room.
+    /// Puts bytes after, for which there is room.
     pub fn push(&mut self, bytes: &[u8])
         requires room { length bytes.now ≤ self.old.size - length self.old.bytes }
         requires within { end_of self.old + length bytes.now ≤ greatest_place }
@@ -122,7 +122,7 @@ impl Pending {
         self.end += bytes.len();
     }
 
-    /// Lets go of the first so many.
+    /// Lets go of the first n.
     pub fn pass(&mut self, count: usize)
         requires { count ≤ length self.old.bytes }
         ensures { self.new ≡ passed count self.old }
@@ -131,7 +131,7 @@ impl Pending {
         self.place += count as u64;
     }
 
-    /// Lets go of all behind a place.
+    /// Lets go of all after a place.
     pub fn cut_at(&mut self, place: u64)
         requires behind { self.old.place ≤ place }
         requires within { place ≤ end_of self.old }

@@ -16,7 +16,7 @@ use std::marker::Model;
 pub(crate) enum Passed {
     /// All that was to be passed on was.
     All,
-    /// The raw asked to wait.
+    /// The raw would have blocked.
     Waits,
 }
 
@@ -116,7 +116,7 @@ impl<R: RawStream> WriterData<R> {
         }
     }
 
-    /// Passes on all that is owed, unless the raw asks to wait.
+    /// Passes on all that is owed, unless the raw would block.
     fn flush_pending(&mut self) -> Result<Passed, IoFault>
         requires live { self.old.life ≡ Life.Live }
         ensures { FlushOutcome self.old result self.new }

@@ -10,7 +10,7 @@ use py_raw::RawError;
 use std::io;
 use std::io::{ErrorKind, Read, Write};
 
-/// Whether an error of a transfer asks to wait and try again.
+/// Whether an error of a transfer says that the call is to be made again later.
 fn asks_to_wait(kind: ErrorKind) -> bool
     ensures { result ≡ asks_to_wait kind }
 {

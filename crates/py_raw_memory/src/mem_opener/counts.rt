@@ -18,7 +18,7 @@ impl MemOpener {
         self.raw_faults
     }
 
-    /// How many times the streams asked to wait that `done` took back; the count stops at 18446744073709551615.
+    /// How many times the streams would have blocked that `done` took back; the count stops at 18446744073709551615.
     pub fn raw_wait_count(&self) -> u64
         ensures { result ≡ (shown_opener self.now).raw_waits }
     {

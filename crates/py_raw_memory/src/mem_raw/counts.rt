@@ -11,7 +11,7 @@ impl MemRaw {
         self.faults
     }
 
-    /// How many times it asked to wait; the count stops at 18446744073709551615.
+    /// How many times it would have blocked; the count stops at 18446744073709551615.
     pub fn wait_count(&self) -> u64
         ensures { result ≡ (shown self.now).waits }
     {

@@ -100,7 +100,7 @@ impl MemRaw {
         self.plan.get(self.transfers as usize).copied()
     }
 
-    /// What the next call makes of a read of so many bytes, which are there.
+    /// What the next call makes of a read of n bytes, which are there.
     pub(super) fn read_turn(&self, asked: usize) -> Turn
         ensures { result ≡ read_turn (view_of self.now) asked }
     {
@@ -110,7 +110,7 @@ impl MemRaw {
         read_by(self.next_cut(), asked)
     }
 
-    /// What the next call makes of a write of so many bytes.
+    /// What the next call makes of a write of n bytes.
     pub(super) fn write_turn(&self, asked: usize) -> Turn
         ensures { result ≡ write_turn (view_of self.now) asked }
     {
@@ -135,7 +135,7 @@ impl MemRaw {
         self.faults = self.faults.saturating_add(1);
     }
 
-    /// Counts a transfer that asks to wait.
+    /// Counts a transfer that would block.
     pub(super) fn count_wait(&mut self)
         ensures { view_of self.new ≡ waited (view_of self.old) }
     {
@@ -153,7 +153,7 @@ impl MemRaw {
         self.faults = self.faults.saturating_add(1);
     }
 
-    /// Counts a read of so many bytes, and moves the place behind them.
+    /// Counts a read of n bytes, and moves the place after them.
     pub(super) fn advance(&mut self, count: usize)
         requires { self.old.place + count ≤ greatest_place }
         ensures { view_of self.new ≡ moved (view_of self.old) count }
@@ -163,7 +163,7 @@ impl MemRaw {
         self.place += count as u64;
     }
 
-    /// Counts a write that answers for so many bytes, and moves the place behind them.
+    /// Counts a write that answers for n bytes, and moves the place after them.
     pub(super) fn count_written(&mut self, count: usize)
         requires { self.old.place + count ≤ greatest_place }
         ensures { view_of self.new ≡ wrote (view_of self.old) count }
@@ -172,7 +172,7 @@ impl MemRaw {
         self.written = self.written.saturating_add(count as u64);
     }
 
-    /// Lays a part of a piece on at the place, or lacks memory and leaves all as it was.
+    /// Lays a part of a piece on at the place, or runs out of memory and leaves all as it was.
     pub(super) fn lay(&mut self, part: &[u8]) -> Result<(), RawError>
         requires { self.old.place + length part.now ≤ greatest_place }
         ensures ok { OnOk result (view_of self.new ≡ laid (view_of self.old) part.now) }
@@ -183,7 +183,7 @@ impl MemRaw {
             Err(_) => Err(RawError::Memory),
         }
     }
-    /// Cuts the bytes to a size or lengthens them by zeros, or lacks memory and leaves all as it was.
+    /// Cuts the bytes to a size or lengthens them by zeros, or runs out of memory and leaves all as it was.
     pub(super) fn resize(&mut self, size: usize) -> Result<(), RawError>
         ensures ok { OnOk result (view_of self.new ≡ cut_to (view_of self.old) size) }
         ensures err { IfErr result (λ error. (error ≡ RawError.Memory) × (view_of self.new ≡ view_of self.old)) }

@@ -14,7 +14,7 @@ use py_raw::{IoFault, Lines, RawStream};
 use std::alloc::Global;
 
 impl<R: RawStream> BufferedData<R> {
-    /// Reads a line with its end, at most so many bytes of it.
+    /// Reads a line with its end, at most n bytes of it.
     pub fn readline(
         &mut self,
         alloc: Global,

@@ -23,14 +23,14 @@ struct Progress {
 /// What one transfer for a reading into a buffer came to.
 #[derive(Clone, Copy)]
 enum Step {
-    /// So many bytes, and more are wanted.
+    /// This many bytes, and more are wanted.
     On(usize),
-    /// So many bytes, the last.
+    /// This many bytes, the last.
     Stopped { count: usize, stop: Stop },
 }
 
 impl<R: RawStream> BufferedData<R> {
-    /// Reads so many bytes, or all that are left.
+    /// Reads n bytes, or all that are left.
     pub fn read(&mut self, alloc: Global, size: Option<usize>) -> Result<Option<Vec<u8>>, IoFault>
         ensures { Answers (stream_of self.old) (Read size) (bytes_reply result) (stream_of self.new) }
     {
@@ -59,7 +59,7 @@ impl<R: RawStream> BufferedData<R> {
         }
     }
 
-    /// Reads so many bytes into a vector, whose space is taken first.
+    /// Reads n bytes into a vector, whose space is taken first.
     fn read_size(&mut self, alloc: Global, size: usize) -> Result<Option<Vec<u8>>, IoFault>
         requires live { self.old.life ≡ Live }
         requires whole { self.old.short ≡ false }
@@ -95,7 +95,7 @@ impl<R: RawStream> BufferedData<R> {
         }
     }
 
-    /// Reads all that is left behind what a vector has. What `read_more` is asked for grows with what came, and is more
+    /// Reads all that is left after what a vector has. What `read_more` is asked for grows with what came, and is more
     /// than the window holds at first, so that bytes leave the raw before space is wanted again.
     fn read_all(&mut self, bytes: &mut Vec<u8>) -> Result<Stop, IoFault>
         requires live { self.old.life ≡ Live }
@@ -115,7 +115,7 @@ impl<R: RawStream> BufferedData<R> {
         }
     }
 
-    /// Reads so many bytes more behind what a vector has, whose space is taken first. `moved` tells whether bytes had moved
+    /// Reads n bytes more after what a vector has, whose space is taken first. `moved` tells whether bytes had moved
     /// in this call.
     fn read_more(&mut self, bytes: &mut Vec<u8>, more: usize, moved: bool) -> Result<Stop, IoFault>
         requires live { self.old.life ≡ Live }
@@ -131,7 +131,7 @@ impl<R: RawStream> BufferedData<R> {
         Ok(progress.stop)
     }
 
-    /// Reads into a buffer behind so many bytes of it.
+    /// Reads into a buffer after n bytes of it.
     fn read_behind(
         &mut self,
         buffer: &mut [u8],
@@ -193,7 +193,7 @@ impl<R: RawStream> BufferedData<R> {
         count
     }
 
-    /// One transfer for what is left of a buffer, behind the bytes held, which were all taken: by way of the window where
+    /// One transfer for what is left of a buffer, after the bytes held, which were all taken: by way of the window where
     /// that is larger, else straight into the buffer. `moved` tells whether bytes had moved in this call.
     fn read_on(&mut self, rest: &mut [u8], moved: bool) -> Result<Step, IoFault>
         requires live { self.old.life ≡ Live }

@@ -14,7 +14,7 @@ use py_raw::{IoFault, RawStream};
 use std::alloc::Global;
 
 impl<R: RawStream> BufferedData<R> {
-    /// Reads at most so many bytes, or a buffer's size.
+    /// Reads at most n bytes, or a buffer's size.
     pub fn read1(&mut self, alloc: Global, size: Option<usize>) -> Result<Option<Vec<u8>>, IoFault>
         ensures { Answers (stream_of self.old) (Read1 size) (bytes_reply result) (stream_of self.new) }
     {
@@ -53,7 +53,7 @@ impl<R: RawStream> BufferedData<R> {
         Ok(Some(count))
     }
 
-    /// Whether the bytes held show some of what comes next, or that nothing does; else the raw asked to wait.
+    /// Whether the bytes held show some of what comes next, or that nothing does; else the raw would have blocked.
     pub fn look(&mut self) -> Result<bool, IoFault>
         ensures { Answers (stream_of self.old) Peek (look_reply result (ahead_of self.new.window)) (stream_of self.new) }
     {
@@ -78,7 +78,7 @@ impl<R: RawStream> BufferedData<R> {
         }
     }
 
-    /// Gives of what is held, at most so many bytes.
+    /// Gives of what is held, at most n bytes.
     fn give(&mut self, alloc: Global, size: usize) -> Result<Vec<u8>, IoFault>
         requires live { self.old.life ≡ Live }
         ensures { GivesHeld self.old size result self.new }

@@ -1,4 +1,4 @@
-//! Readings of lines, byte by byte, as nothing may be held behind them.
+//! Readings of lines, byte by byte, as nothing may be held after them.
 ghost use Rattle.std.specs.Prelude.{◌≡◌, ◌≢◌, ℕ, List, [], false};
 ghost use Rattle.py_flat.specs.declared.life.Life.TheVariants.{Live};
 ghost use Rattle.py_flat.specs.Calls.{ReadLine, ReadLines};
@@ -13,7 +13,7 @@ use py_raw::{IoFault, Lines, RawStream};
 use std::alloc::Global;
 
 impl<R: RawStream> UnbufferedData<R> {
-    /// Reads a line with its end, at most so many bytes of it.
+    /// Reads a line with its end, at most n bytes of it.
     pub fn readline(
         &mut self,
         alloc: Global,

@@ -11,7 +11,7 @@ use super::{Stop, UnbufferedData};
 use py_raw::{IoFault, RawStream};
 use std::alloc::Global;
 
-/// How many bytes the next transfer of a reading up to the end asks for, after so many: 8192, and then as many as came,
+/// How many bytes the next transfer of a reading up to the end asks for, after n: 8192, and then as many as came,
 /// so that the room doubles.
 fn next_chunk(came: usize) -> usize
     ensures { result ≡ max came 8192 }
@@ -20,7 +20,7 @@ fn next_chunk(came: usize) -> usize
 }
 
 impl<R: RawStream> UnbufferedData<R> {
-    /// Reads at most so many bytes, or all that are left.
+    /// Reads at most n bytes, or all that are left.
     pub fn read(&mut self, alloc: Global, size: Option<usize>) -> Result<Option<Vec<u8>>, IoFault>
         ensures { Answers (stream_of self.old) (Read size) (bytes_reply result) (stream_of self.new) }
     {

@@ -53,7 +53,7 @@ impl<R: RawStream> UnbufferedData<R> {
         })
     }
 
-    /// Hands each line to the raw, for a call that began at a place; false where the raw asked to wait.
+    /// Hands each line to the raw, for a call that began at a place; false where the raw would have blocked.
     fn write_lines(&mut self, lines: &Lines, start: u64) -> Result<bool, IoFault>
         requires live { self.old.life ≡ Live }
         requires writes { self.old.access ≢ access.Read }
@@ -70,7 +70,7 @@ impl<R: RawStream> UnbufferedData<R> {
         Ok(true)
     }
 
-    /// Hands all of a line to the raw, for a call that began at a place; false where the raw asked to wait.
+    /// Hands all of a line to the raw, for a call that began at a place; false where the raw would have blocked.
     fn write_line(&mut self, line: &[u8], start: u64) -> Result<bool, IoFault>
         requires live { self.old.life ≡ Live }
         requires writes { self.old.access ≢ access.Read }

@@ -153,8 +153,8 @@ impl<R: RawStream> WriterData<R> {
         }
     }
 
-    /// What a refusal by the raw leaves of a call that began at a place: after want of memory the stream fails where the raw
-    /// has bytes of the call's own; else it lets go of those again.
+    /// What a refusal by the raw leaves of a call that began at a place: after running out of memory the stream fails where the raw
+    /// has bytes of the call's own; else it drops those again.
     fn stop(&mut self, fault: IoFault, start: u64) -> IoFault
         requires start { start ≤ end_of self.old.pending }
         ensures fault { result ≡ fault }

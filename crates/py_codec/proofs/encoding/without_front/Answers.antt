@@ -2,7 +2,7 @@ use Rattle.std.proofs.Common.{◌≡◌, ℕ, ◌+◌, ◌≤◌, List, ◌∷�
 use Rattle.std.proofs.lemmas.List.{drop-drop, length-drop}
 use Rattle.py_codec.proofs.encoding.without_front.Goals as goal
 
--- what is left behind one character more
+-- what is left after one character more
 drop-next : (cs left behind : List ℕ) (n c : ℕ) → left ≡ drop n cs → left ≡ c ∷ behind → (behind ≡ drop (n + 1) cs) × (n + 1 ≤ length cs)
 drop-next cs left behind n c is split =
     (ap (λ xs. drop 1 xs) (sym split ∙ is) ∙ drop-drop 1 n cs, omega (arith, ap length (sym split ∙ is), length-drop n cs))

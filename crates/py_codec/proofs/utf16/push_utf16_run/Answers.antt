@@ -4,7 +4,7 @@ use Rattle.py_codec.specs.Appending.{IsRun, utf16}
 use Rattle.py_codec.proofs.Blocks.{IsRun-sliced}
 use Rattle.py_codec.proofs.utf16.push_utf16_run.Goals as goal
 
--- blocks behind a run, and units behind the blocks
+-- blocks after a run, and units after the blocks
 further : (encoding : Encoding) (bytes before now between after : List ℕ) (place blocks few : ℕ) → IsRun encoding bytes before now place → IsRun encoding (take (length bytes - place) (drop place bytes)) now between blocks → IsRun encoding (take (length bytes - (place + blocks)) (drop (place + blocks) bytes)) between after few → IsRun encoding bytes before after (place + (blocks + few))
 further encoding bytes before now between after place blocks few run more most =
     let same : place + blocks + few ≡ place + (blocks + few) = omega arith in

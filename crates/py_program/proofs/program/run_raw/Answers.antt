@@ -13,7 +13,7 @@ use Rattle.py_program.proofs.Planned.{run_by, refused_raw}
 use Rattle.py_program.proofs.OverRaw.{replies_printed, refused_printed}
 use Rattle.py_program.proofs.program.run_raw.Goals as goal
 
--- the calls with a Close behind them, which fitted
+-- the calls with a Close after them, which fitted
 calls_closed : (calls pushed lent : List Call) (fits : Bool) → fits ≡ true → pushed ≡ (if fits then calls ++ Close ∷ [] else calls) → lent ≡ pushed → lent ≡ closed_calls calls
 calls_closed calls pushed lent fits is made same = same ∙ made ∙ ap (λ (yes : Bool). if yes then calls ++ Close ∷ [] else calls) is
 
