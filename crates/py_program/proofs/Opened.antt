@@ -8,6 +8,7 @@ use Rattle.py_source_sink.specs.Sink.{SinkView}
 use Rattle.py_raw.specs.Opener.{OpenerView, OpenKeeps, Opens, DoneKeeps, DoneOutcome, PutsAway}
 use Rattle.py_program.specs.declared.status.Status.{Status}
 use Rattle.py_program.specs.declared.status.Status.TheVariants as status
+use Rattle.py_open.specs.Session.{raw_of}
 use Rattle.py_open.proofs.Runs.{run_keeps_raw, run_in_step, opened_in_step}
 use Rattle.py_open.proofs.Resting.{run_rests}
 use Rattle.py_open.proofs.Ending.{step_passes}
