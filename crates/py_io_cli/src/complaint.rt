@@ -43,14 +43,14 @@ fn words_complaint(alloc: Global, words: &[String]) -> Result<String, AllocError
     if words.len() < 3 {
         return String::from_str(
             alloc,
-            "the words are no form: run PATH MODE [OPTION ..], or --help",
+            "the words are malformed: run PATH MODE [OPTION ..], or --help",
         );
     }
     for count in 3..=words.len() {
         let front = words.get(..count).unwrap_or(words);
         if let (None, Some(word)) = (parse_words(alloc, front)?, front.last()) {
             let word = if count == 3 { &words[0] } else { word };
-            return format!(in alloc; "the word {word} is out of form: try --help");
+            return format!(in alloc; "the word {word} is malformed: try --help");
         }
     }
     String::from_str(alloc, "a word is not UTF-8")
@@ -62,7 +62,7 @@ fn script_complaint(alloc: Global, script: &[u8]) -> Result<String, AllocError> 
         let is_skipped = line.is_empty() || line.starts_with(b"#");
         if !is_skipped && parse_line(alloc, line)?.is_none() {
             let number = index.saturating_add(1);
-            return format!(in alloc; "line {number} of the script is out of form");
+            return format!(in alloc; "line {number} of the script is malformed");
         }
     }
     String::from_str(alloc, "the script has more than 1048576 bytes")
