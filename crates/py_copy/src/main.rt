@@ -12,7 +12,7 @@ use std::process::ExitCode;
 const PIECE: usize = 1 << 16;
 
 /// Copies what a reader has left to a writer, a piece at a time, and passes all on. `WouldBlock` where the reader's raw would
-/// block, which standard input doesn't unless it was told to.
+/// block: where a read was interrupted, or standard input was told not to block.
 fn copy<R: RawStream, W: RawStream>(
     reader: &mut BufferedReader<R>,
     writer: &mut BufferedWriter<W>,
