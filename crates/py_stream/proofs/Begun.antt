@@ -8,7 +8,7 @@ use Rattle.py_flat.specs.BinaryStep.{payload}
 use Rattle.py_raw.specs.RawStream.{WhereTold}
 use Rattle.py_stream.specs.Stream.{Stream}
 use Rattle.py_stream.specs.Kinds.{is_writing, has_room}
-use Rattle.py_stream.specs.Writing.{OwesUpTo, Takes, PassesFront, LaysInOrder, PassedOn, PassesOn, OwesOld, OwesNoneOfIts, Writes}
+use Rattle.py_stream.specs.Writing.{OwesUpTo, Takes, PassesFront, LaysInOrder, OwesBoth, PassedOn, PassesOn, OwesOld, OwesNoneOfIts, Writes}
 use Rattle.py_stream.specs.Answers.{Answers, AnswersWith, Leaves, SeeksTo, SeeksFromEnd, EndMoves, SeeksByEnd, closes_again}
 
 -- a stream whose last answer was short, or wasn't
@@ -33,6 +33,7 @@ module _ (short : Bool) where
   from_end before after offset reply sought = record {
     end = sought.end;
     within = sought.within;
+    told = sought.told;
     target = seeks_to before after (moved_by sought.end offset) (target_refusal (moved_by sought.end offset)) reply sought.target;
   }
 
@@ -53,12 +54,15 @@ module _ (short : Bool) where
   taken : (before after : Stream) (call : FileCall) → (IsTrue (is_writing call) → OwesUpTo before.owed before.place → Takes (seen short before) (payload call) after) → IsTrue (is_writing call) → OwesUpTo before.owed before.place → Takes before (payload call) after
   taken before after call takes writing up_to = let is = takes writing up_to in record { taken = is.taken; within = is.within; place = is.place; passed = is.passed; most = is.most; answered = is.answered; owed = is.owed; up_to = is.up_to; told = is.told }
 
+  owed_both : (before after : Stream) (bytes : List ℕ) → OwesBoth (seen short before) bytes after → OwesBoth before bytes after
+  owed_both before after bytes is = record { taken = is.taken; within = is.within; place = is.place; from = is.from; to = is.to; new = is.new; old = is.old; behind = is.behind }
+
   front_passed : (before after : Stream) → PassesFront (seen short before) after → PassesFront before after
   front_passed before after is = record { passed = is.passed; most = is.most; answered = is.answered; bytes = is.bytes; place = is.place }
 
   lays_whole : (before : Stream) (call : FileCall) (bytes : List ℕ) → LaysInOrder (seen short before) call bytes → LaysInOrder before call bytes
-  lays_whole before (Truncate size) bytes is = tt
-  lays_whole before call bytes is = record { owed = is.owed; more = is.more; order = is.order; bytes = is.bytes }
+  lays_whole before (Truncate size) bytes is = record { between = is.between; lays = record { count = is.lays.count; bytes = is.lays.bytes }; cuts = is.cuts }
+  lays_whole before call bytes is = record { count = is.count; bytes = is.bytes }
 
   laid : (before : Stream) (call : FileCall) (bytes : List ℕ) → WhereTold before.raw (LaysInOrder (seen short before) call bytes) → WhereTold before.raw (LaysInOrder before call bytes)
   laid before call bytes is tells = lays_whole before call bytes (is tells)
@@ -70,6 +74,8 @@ module _ (short : Bool) where
   passed before after Flush Done is = (passed_on before after is.0, is.1)
   passed before after Close Done is = λ live. passed_on before after (is live)
   passed before after Detach (Unwritten bytes place) is = λ live. (passed_on before after (is live).0, (is live).1, (is live).2)
+  passed before after (Truncate size) (Place place) is = record { none = is.none; holds = is.holds }
+  passed before after (Truncate size) reply is = is
   passed before after (Seek offset whence) (Place place) is = is
   passed before after (Seek offset whence) reply is = is
   passed before after call reply is = is
@@ -85,12 +91,13 @@ module _ (short : Bool) where
 
   writes_seen : (before after : Stream) (call : FileCall) (reply : FileReply) → Writes (seen short before) call reply after → Writes before call reply after
   writes_seen before after call reply written = record {
+    owes = λ writing. owed_both before after (payload call) (written.owes writing);
     takes = taken before after call written.takes;
     leaves = λ spares. front_passed before after (written.leaves spares);
     lays = laid before call after.raw.bytes written.lays;
     passes = passed before after call reply written.passes;
     full = written.full;
-    starves = λ wants failed. let took = written.starves wants failed in record { further = took.further; stands = took.stands; answered = took.answered };
+    starves = λ wants writing failed. let took = written.starves wants writing failed in record { further = took.further; stands = took.stands; answered = took.answered };
     straight = straight_whole before after call reply written.straight;
     settles = written.settles;
     unclosed = written.unclosed;
@@ -115,8 +122,9 @@ module _ (short : Bool) where
     nothing = λ asks. let none = answers.nothing asks in record { raw = none.raw; fault = none.fault };
     idle = λ keeps. let still = answers.idle keeps in record { raw = still.raw; fault = still.fault; memory = still.memory };
     single = answers.single;
-    held = λ reads apart one. let none = answers.held reads apart one in record { raw = none.raw; fault = none.fault };
-    spares = λ reads none. let spared = answers.spares reads none in record { bytes = spared.bytes; owed = spared.owed };
+    in_hand = λ has. let none = answers.in_hand (record { lives = has.lives; buffered = has.buffered; of = has.of }) in record { raw = none.raw; fault = none.fault };
+    needs = λ reads none. let asks = answers.needs reads none in record { enough = λ whole within buffered. let idle = asks.enough whole within buffered in record { raw = idle.raw; fault = idle.fault }; whole = asks.whole; last = asks.last };
+    spares = λ reads none. let spared = answers.spares reads none in record { bytes = spared.bytes; written = spared.written; owed = spared.owed };
     writes = λ can. writes_seen before after call reply (answers.writes can);
     answer = answers.answer;
     at_once = answers.at_once;
@@ -156,7 +164,8 @@ answers_with room less before after call reply fewer answers = record {
   nothing = answers.nothing;
   idle = answers.idle;
   single = answers.single;
-  held = answers.held;
+  in_hand = answers.in_hand;
+  needs = answers.needs;
   spares = answers.spares;
   writes = answers.writes;
   answer = answers.answer;

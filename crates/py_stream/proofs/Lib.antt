@@ -1,3 +1,5 @@
+pub mod Owing
+pub mod Fronts
 pub mod Refused
 pub mod Refusing
 pub mod Completing

@@ -1,5 +1,5 @@
 -- A stream whose raw was handed back, and what a call leaves that is refused.
-use Rattle.std.proofs.Common.{◌≡◌, ℕ, suc, zero, pos, Bool, true, false, Option, Some, None, unwrap_or, if◌then◌else◌, refl, sym, ap, ◌∙◌, arith}
+use Rattle.std.proofs.Common.{◌≡◌, ℕ, suc, zero, pos, inl, Bool, true, false, Option, Some, None, unwrap_or, if◌then◌else◌, refl, sym, ap, ◌∙◌, arith}
 use Rattle.std.proofs.lemmas.List.{append-nil}
 use Rattle.py_flat.specs.declared.fault.IoFault.{IoFault}
 use Rattle.py_flat.specs.declared.fault.IoFault.TheVariants as fault
@@ -8,8 +8,9 @@ use Rattle.py_flat.specs.declared.life.Life.TheVariants as life
 use Rattle.py_flat.specs.Calls.{FileCall, Read1, Write, WriteLines, Truncate, Seek, Flush, Close, Detach, Refused}
 use Rattle.py_flat.specs.FlatFile.{Abilities}
 use Rattle.py_flat.specs.Refusals.{is_getter, is_other_getter, or_else, refused_if, refusal}
-use Rattle.py_flat.specs.BinaryStep.{asks_end}
+use Rattle.py_flat.specs.BinaryStep.{asks_end, payload}
 use Rattle.py_raw.proofs.Telling.{keeps_same}
+use Rattle.py_stream.proofs.Owing.{owes_as_before}
 use Rattle.py_stream.specs.Stream.{Stream, file_of, no_raw, detached_stream}
 use Rattle.py_stream.specs.Kinds.{says_no_memory}
 use Rattle.py_stream.specs.Writing.{LaysInOrder, PassesOn, BlocksFull, OwesNoneOfIts, Writes}
@@ -25,14 +26,15 @@ is_own (fault.WouldBlock taken) = false
 is_own why = true
 
 nothing_laid : (before : Stream) (call : FileCall) → LaysInOrder before call before.raw.bytes
-nothing_laid before (Truncate size) = tt
-nothing_laid before call = record { owed = 0; more = 0; order = λ some. absurd (some refl); bytes = refl }
+nothing_laid before (Truncate size) = record { between = before.raw.bytes; lays = record { count = 0; bytes = refl }; cuts = inl refl }
+nothing_laid before call = record { count = 0; bytes = refl }
 
 nothing_passed : (before after : Stream) (call : FileCall) (why : IoFault) → PassesOn before call (Refused why) after
 nothing_passed before after Flush why = tt
 nothing_passed before after Close why = tt
 nothing_passed before after Detach why = tt
 nothing_passed before after (Seek offset whence) why = tt
+nothing_passed before after (Truncate size) why = tt
 nothing_passed before after call why = tt
 
 nothing_blocked : (after : Stream) (call : FileCall) (why : IoFault) → is_own why ≡ true → BlocksFull call (Refused why) after
@@ -54,6 +56,7 @@ wants_none why own = refl
 -- what a refused call does with the bytes of a stream that writes
 pub leaves_all : (before : Stream) (call : FileCall) (why : IoFault) → is_own why ≡ true → before.short ≡ false → Writes before call (Refused why) before
 leaves_all before call why own whole = record {
+  owes = λ writing. owes_as_before before before (payload call) refl refl;
   takes = λ writing up_to. record { taken = 0; within = omega arith; place = omega arith; passed = 0; most = omega arith; answered = λ tells. refl; owed = sym (append-nil before.owed.bytes); up_to = up_to; told = λ tells. (0, omega arith, omega arith, refl) };
   leaves = λ _. record { passed = 0; most = omega arith; answered = λ tells. refl; bytes = refl; place = λ _. omega arith };
   lays = λ tells. nothing_laid before call;
@@ -114,7 +117,7 @@ detached_answers can buffer call asks known =
       keeps = record { buffer = refl; can = refl; raw = keeps_same no_raw; bare = λ _ _. refl };
       refused = λ why refused. record { says = let same : Some fault.Detached ≡ Some why = sym by ∙ refused in cc; same = refl };
       again = λ closes. absurd (let never : closes_again stream call ≡ false = never_closes can buffer call in cc);
-      shut = λ none shut. shut;
+      shut = λ _ none shut. shut;
       causes = record { waits = λ short. absurd (cc); faults = λ faults. absurd (cc) };
       counted = λ exact. absurd (cc);
       shorts = is_whole call;
@@ -125,9 +128,10 @@ detached_answers can buffer call asks known =
       first = λ wants. absurd (cc);
       nothing = λ _. record { raw = refl; fault = refl };
       idle = λ _. record { raw = refl; fault = refl; memory = refl };
-      single = λ _ tells. absurd (cc);
-      held = λ _ _ _. record { raw = refl; fault = refl };
-      spares = λ _ _. record { bytes = λ _. refl; owed = refl };
+      single = λ _ _ tells. absurd (cc);
+      in_hand = λ _. record { raw = refl; fault = refl };
+      needs = λ _ _. record { enough = λ _ _ _. record { raw = refl; fault = refl }; whole = λ _ tells. absurd (cc); last = λ tells. absurd (cc) };
+      spares = λ _ _. record { bytes = λ _. refl; written = λ tells. refl; owed = refl };
       writes = λ _. leaves_all stream call fault.Detached refl refl;
       answer = λ accepted. absurd (let wrong : Some fault.Detached ≡ None = sym by ∙ accepted in cc);
       at_once = λ failed. absurd (cc);

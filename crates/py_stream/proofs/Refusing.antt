@@ -77,7 +77,7 @@ refused_with before after call why is refuses alone own first same =
       keeps = record { buffer = refl; can = refl; raw = keeps_same before.raw; bare = λ _ none. none };
       refused = λ other refused. record { says = let same_why : Some why ≡ Some other = sym by ∙ refused in cc; same = refl };
       again = λ closes. absurd (cc);
-      shut = λ none closed. closed;
+      shut = λ _ none closed. closed;
       causes = record { waits = λ short. absurd (cc); faults = λ faulted. absurd (cc (no_fault why own)) };
       counted = λ exact. record { faults = λ sound. refl; waits = λ short writes. refl; once = λ short. absurd (cc) };
       shorts = never_short call why own;
@@ -93,16 +93,17 @@ refused_with before after call why is refuses alone own first same =
       first = λ wanting takes none. absurd (cc (no_want why own));
       nothing = λ asks. record { raw = refl; fault = no_fault why own };
       idle = λ keeps. record { raw = refl; fault = no_fault why own; memory = no_want why own };
-      single = λ single tells. omega arith;
-      held = λ _ _ _. record { raw = refl; fault = no_fault why own };
-      spares = λ reads none. record { bytes = λ tells. refl; owed = none };
+      single = λ single none tells. omega arith;
+      in_hand = λ _. record { raw = refl; fault = no_fault why own };
+      needs = λ _ _. record { enough = λ _ _ _. record { raw = refl; fault = no_fault why own }; whole = λ _ tells. omega arith; last = λ tells. omega arith };
+      spares = λ reads none. record { bytes = λ tells. refl; written = λ tells. refl; owed = none };
       writes = λ can. writes_whole before left call (Refused why) writes;
       answer = λ accepted. absurd (let wrong : Some why ≡ None = sym by ∙ accepted in cc);
       at_once = λ failed is accepted. absurd (let wrong : Some why ≡ None = sym by ∙ accepted in cc);
       complete = λ accepted calm sound. absurd (let wrong : Some why ≡ None = sym by ∙ accepted in cc);
       told = λ tells. settled (subst (λ (refused : Option IoFault). SettledBy (file_of before) call refused (Refused why) (file_of left)) (sym refuses) (refl, refl));
       reach = λ reads tells. omega arith;
-      near = λ live. let near = is.near live in record { ahead = near.ahead; behind = near.behind; stands = near.stands };
+      near = λ live. let near = is.near live in record { after_first = near.after_first; before_end = near.before_end; fits = near.fits; ahead = near.ahead; behind = near.behind; stands = near.stands };
       hides = λ short. absurd (cc);
     } in
     subst (λ (now : Stream). Answers before call (Refused why) now) (sym same) answers

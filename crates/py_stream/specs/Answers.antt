@@ -1,18 +1,19 @@
 -- The one clause of all calls of a binary stream: what a call may answer and leave, over any raw.
-use Rattle.std.specs.Prelude.{◌≡◌, ◌≢◌, ℕ, ◌+◌, ◌<◌, ◌≤◌, ◌⊎◌, ℤ, pos, suc, zero, Bool, true, false, ◌&&◌, not, IsTrue, List, [], length, max, Option, Some, None, if◌then◌else◌}
+use Rattle.std.specs.Prelude.{◌≡◌, ◌≢◌, ℕ, ◌+◌, ◌-◌, ◌<◌, ◌≤◌, ◌⊎◌, ℤ, pos, suc, zero, Bool, true, false, ◌&&◌, not, IsTrue, List, [], ◌++◌, length, max, Option, Some, None, IsSome, is_some, if◌then◌else◌}
 use Rattle.py_flat.specs.declared.fault.IoFault.{IoFault}
 use Rattle.py_flat.specs.declared.fault.IoFault.TheVariants as fault
 use Rattle.py_flat.specs.declared.life.Life.{Life}
 use Rattle.py_flat.specs.declared.life.Life.TheVariants as life
 use Rattle.py_flat.specs.Limits.{greatest_place}
+use Rattle.py_flat.specs.Bytes.{first_of}
 use Rattle.py_flat.specs.Lines.{Lf, first_line, lines_within, joined}
 use Rattle.py_flat.specs.Causes.{Rose, rose, counted}
 use Rattle.py_flat.specs.Calls.{FileCall, Read, Read1, ReadLine, ReadLines, Peek, ReadInto, ReadInto1, Write, WriteLines, Seek, Tell, Truncate, Flush, Close, Detach, FileReply, Bytes, Lines, Count, Place, Done, NotReady, Unwritten, Refused}
 use Rattle.py_flat.specs.Refusals.{is_getter, is_other_getter, lets_through, lacks, refusal, moved_by, target_refusal}
 use Rattle.py_flat.specs.ExactStep.{is_closed}
 use Rattle.py_flat.specs.BinaryStep.{asks_end, BinaryStep}
-use Rattle.py_raw.specs.RawStream.{Raw, Keeps, WhereTold, WherePlace, WhereTransfers, KeepsBytes}
-use Rattle.py_stream.specs.Stream.{Stream, size_of, buffering_of, file_of, nothing_owed}
+use Rattle.py_raw.specs.RawStream.{Raw, Keeps, WhereTold, WhereBytes, WherePlace, WhereTransfers, KeepsBytes, AnswersFor}
+use Rattle.py_stream.specs.Stream.{Span, Stream, size_of, buffering_of, file_of, nothing_owed}
 use Rattle.py_stream.specs.Kinds.{is_reading, reads_on, goes_on, makes_one, has_room, takes_space_first, asks_none, calls_none, waits_unready, outlasts, says_wait, says_fault, says_no_memory}
 use Rattle.py_stream.specs.Writing.{Writes}
 
@@ -30,6 +31,12 @@ pub record KeepsStream (before after : Stream) : Type 0 where
 pub record Leaves (before : Stream) (expected reply : FileReply) (after : Stream) : Type 0 where
   pub says : reply ≡ expected
   pub same : after ≡ record before { short = false }
+
+-- a stream with a buffer that reads and writes moves its raw back to the place before it closes it: where that fails, it is closed,
+-- and its raw isn't asked to close
+abbrev pub parts_at_close : Stream → FileCall → FileReply → Bool
+parts_at_close stream Close (Refused fault.RawFault) = is_some stream.buffer && (stream.can.readable && stream.can.writable)
+parts_at_close stream call reply = false
 
 -- a raw is closed where its stream is, and only there
 abbrev pub ClosedWith : Life → Raw → Type 0
@@ -199,10 +206,11 @@ SeeksTo before (Some target) None reply after = reply ≡ Place target
 SeeksTo before target (Some why) reply after = Leaves before (Refused why) reply (record after { raw = before.raw })
 SeeksTo before None None reply after = ⊥
 
--- some end that the raw answered; where the raw tells, the step of the model says that it is the true one
+-- some end that the raw answered; told its bytes, the end of the flat file
 pub record SeeksFromEnd (before : Stream) (offset : ℤ) (reply : FileReply) (after : Stream) : Type 0 where
   pub end : ℕ
   pub within : end ≤ greatest_place
+  pub told : WhereBytes before.raw (end ≡ length (file_of before).bytes)
   pub target : SeeksTo before (moved_by end offset) (target_refusal (moved_by end offset)) reply after
 
 abbrev pub EndMoves : Stream → ℤ → FileReply → Stream → Type 0
@@ -222,10 +230,10 @@ SeeksByEnd before call reply after = Unit {0}
 abbrev pub WantsMemory : Bool → FileReply → Raw → Type 0
 WantsMemory room reply raw = IsTrue (says_no_memory reply) → IsTrue room → IsTrue raw.takes_memory
 
--- running out of memory leaves a reading that goes on as it was, its raw too, or fails it; that only where bytes left the raw in
--- this call
+-- running out of memory leaves a reading that goes on as it was, its raw too where nothing was owed, or fails it; that only where
+-- bytes left the raw in this call
 pub record Starves (before after : Stream) : Type 0 where
-  pub unmoved : after.life ≡ life.Live → after ≡ record before { short = false }
+  pub unmoved : after.life ≡ life.Live → before.owed.bytes ≡ [] → after ≡ record before { short = false }
   pub moved : after.life ≡ life.Failed → before.raw_place < after.raw_place
   pub stands : after.life ≡ life.Failed → WherePlace before.raw (before.raw.place < after.raw.place)
 
@@ -250,17 +258,71 @@ pub record AsksNothing (before : Stream) (reply : FileReply) (after : Stream) : 
 abbrev pub AtMostOne : Stream → Stream → Type 0
 AtMostOne before after = WhereTransfers before.raw (after.raw.transfers ≤ before.raw.transfers + 1)
 
+-- how many of the bytes held lie from the place on
+abbrev pub ahead : Stream → ℕ
+ahead stream = stream.held.to - stream.place
+
+-- a target of a seek lies among the bytes held, or right after them
+abbrev pub Covers : Span → Option ℕ → Type 0
+Covers held (Some target) = (held.from ≤ target) × (target ≤ held.to)
+Covers held None = ⊥
+
+-- the bytes held answer a call by themselves: one of n bytes, or of at most n of a line, where n are held from the place on; one of a
+-- single transfer where some are; and a seek of a stream that reads, from the start or from the place, to a target among them
+abbrev pub InHandOf : Stream → FileCall → Type 0
+InHandOf stream (Read (Some size)) = size ≤ ahead stream
+InHandOf stream (ReadInto size) = size ≤ ahead stream
+InHandOf stream (ReadLine (Some limit)) = limit ≤ ahead stream
+InHandOf stream (Read1 size) = 0 < ahead stream
+InHandOf stream (ReadInto1 size) = 0 < ahead stream
+InHandOf stream Peek = 0 < ahead stream
+InHandOf stream (Seek offset (pos zero)) = (stream.can.readable ≡ true) × Covers stream.held (moved_by 0 offset)
+InHandOf stream (Seek offset (pos (suc zero))) = (stream.can.readable ≡ true) × Covers stream.held (moved_by stream.place offset)
+InHandOf stream call = ⊥
+
+-- of a live stream with a buffer
+pub record InHand (stream : Stream) (call : FileCall) : Type 0 where
+  pub lives : stream.life ≡ life.Live
+  pub buffered : IsSome stream.buffer
+  pub of : InHandOf stream call
+
+-- an answer is all that is asked for, whatever comes after it: as many bytes, a line with its end or of the greatest length, lines
+-- that are above the hint
+abbrev pub IsWhole : FileCall → FileReply → Type 0
+IsWhole (Read size) (Bytes part) = (more : List ℕ) → first_of size (part ++ more) ≡ part
+IsWhole (ReadInto size) (Bytes part) = (more : List ℕ) → first_of (Some size) (part ++ more) ≡ part
+IsWhole (ReadLine limit) (Bytes part) = (more : List ℕ) → first_line Lf limit (part ++ more) ≡ part
+IsWhole (ReadLines hint) (Lines lines) = (more : List ℕ) → lines_within hint (joined lines ++ more) ≡ lines
+IsWhole call reply = ⊥
+
+-- how far the raw came in a call, as the stream counts
+abbrev pub came : Stream → Stream → ℕ
+came before after = after.raw_place - before.raw_place
+
+-- A reading that goes on, of a stream that owed nothing, asks its raw for no more than it answers with: an answer that is whole
+-- asked for nothing where it lay among the bytes held; over a raw that tells its transfers each brought some byte, but for one that
+-- met the end, a wait or a fault; and no such one was made for an answer that is whole
+pub record AsksNoMore (before : Stream) (call : FileCall) (reply : FileReply) (after : Stream) : Type 0 where
+  pub enough : IsWhole call reply → after.place ≤ before.held.to → IsSome before.buffer → AsksNothing before reply after
+  pub whole : IsWhole call reply → WhereTransfers before.raw (after.raw.transfers ≤ before.raw.transfers + came before after)
+  pub last : WhereTransfers before.raw (after.raw.transfers ≤ before.raw.transfers + came before after + 1)
+
 -- The raw's place and bytes, where the raw tells them.
 
--- a live stream's place and its raw's differ by at most the size of the buffer; the raw stands where the stream counts
+-- a live stream's place and its raw's differ by at most the size of the buffer, which the bytes held fit; the place is among these, or
+-- right after them; the raw stands where the stream counts
 pub record IsNear (stream : Stream) : Type 0 where
+  pub after_first : stream.held.from ≤ stream.place
+  pub before_end : stream.place ≤ stream.held.to
+  pub fits : stream.held.to ≤ stream.held.from + size_of stream
   pub ahead : stream.raw_place ≤ stream.place + size_of stream
   pub behind : stream.place ≤ stream.raw_place + size_of stream
   pub stands : WherePlace stream.raw (stream.raw.place ≡ stream.raw_place)
 
--- the raw's bytes are as they were, and nothing is owed, at the place
+-- the raw's bytes are as they were, its writes answered for none, and nothing is owed, at the place
 pub record SparesBytes (before after : Stream) : Type 0 where
   pub bytes : KeepsBytes before.raw after.raw
+  pub written : AnswersFor 0 before.raw after.raw
   pub owed : after.owed ≡ nothing_owed after.place
 
 -- One call of a stream over any raw; `room` says which calls have their room, so that they need no memory of their own.
@@ -271,8 +333,8 @@ pub record AnswersWith (room : FileCall → Bool) (before : Stream) (call : File
   pub refused : (why : IoFault) → refused_by before call ≡ Some why → Leaves before (Refused why) reply after
   -- a close of a closed stream is done, and leaves all as it was
   pub again : closes_again before call ≡ true → Leaves before Done reply after
-  -- the raw is closed exactly where the stream is, once nothing is owed
-  pub shut : after.owed.bytes ≡ [] → ClosedWith before.life before.raw → ClosedWith after.life after.raw
+  -- the raw is closed exactly where the stream is, once nothing is owed, but where it failed to move back
+  pub shut : parts_at_close before call reply ≡ false → after.owed.bytes ≡ [] → ClosedWith before.life before.raw → ClosedWith after.life after.raw
   -- a short answer comes only where the raw's waits rose in this call, RawFault only where its faults did
   pub causes : HasCauses before.raw reply after.raw after.short
   -- no fault and no wait of a raw that counts exactly goes unanswered
@@ -293,10 +355,12 @@ pub record AnswersWith (room : FileCall → Bool) (before : Stream) (call : File
   pub nothing : IsTrue (asks_none before.buffer call) → AsksNothing before reply after
   -- calls that call no raw at all: neither it nor running out of memory refuses them
   pub idle : IsTrue (calls_none before.buffer before.can.writable call) → IsIdle before reply after
-  -- calls that make at most one transfer
-  pub single : IsTrue (makes_one before.buffer call) → AtMostOne before after
-  -- a call of one transfer makes none where bytes are held, as the raw stands elsewhere than the stream
-  pub held : before.can.writable ≡ false → before.raw_place ≢ before.place → IsTrue (makes_one before.buffer call) → AsksNothing before reply after
+  -- calls that make at most one transfer, where nothing was owed
+  pub single : IsTrue (makes_one before.buffer call) → before.owed.bytes ≡ [] → AtMostOne before after
+  -- what the bytes held answer by themselves asks the raw for nothing
+  pub in_hand : InHand before call → AsksNothing before reply after
+  -- a reading that goes on asks for no more than it answers with
+  pub needs : IsTrue (reads_on call && goes_on before.buffer call) → before.owed.bytes ≡ [] → AsksNoMore before call reply after
   -- a stream that doesn't write leaves the raw's bytes, and owes nothing
   pub spares : before.can.writable ≡ false → before.owed ≡ nothing_owed before.place → SparesBytes before after
   -- what a stream that writes does with the bytes that it took
@@ -309,8 +373,8 @@ pub record AnswersWith (room : FileCall → Bool) (before : Stream) (call : File
   pub complete : refused_by before call ≡ None → rose before.raw.waits after.raw.waits ≡ false → rose before.raw.faults after.raw.faults ≡ false → IsAnswerTo call reply × (after.short ≡ false)
   -- where the raw tells, the call is the step of the model from flat file to flat file
   pub told : WhereTold before.raw (BinaryStep (file_of before) call reply after.short (says_fault reply) (file_of after))
-  -- no reading moves the place past the end of the raw's bytes
-  pub reach : IsTrue (is_reading call) → WhereTold before.raw (after.place ≤ max before.place (length before.raw.bytes))
+  -- no reading moves the place past the end of the flat bytes
+  pub reach : IsTrue (is_reading call) → WhereTold before.raw (after.place ≤ max before.place (length (file_of before).bytes))
   -- how near a live stream's raw stands to its place
   pub near : after.life ≡ life.Live → IsNear after
   -- a wait hides nothing: the raw then stands at the place

@@ -1,5 +1,5 @@
 -- What the answers of the calls say, in the model's words.
-use Rattle.std.specs.Prelude.{◌≡◌, ◌≢◌, ℕ, ◌≤◌, length, Bool, true, false, List, take, drop, Option, Some, None, Result, Ok, Err, Vec}
+use Rattle.std.specs.Prelude.{◌≡◌, ℕ, ◌≤◌, length, Bool, true, false, List, take, drop, Option, Some, None, Result, Ok, Err, Vec}
 use denote.Bor.{Bor}
 use Rattle.std.specs.declared.alloc.Global.{Global}
 use Rattle.py_flat.specs.declared.fault.IoFault.{IoFault}

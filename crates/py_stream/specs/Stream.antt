@@ -7,9 +7,15 @@ use Rattle.py_flat.specs.FlatFile.{Abilities, Buffering, Unbuffered, Buffered, F
 use Rattle.py_flat.specs.Owed.{Owed}
 use Rattle.py_raw.specs.RawStream.{Raw, untold}
 
+-- the places between which a buffer holds bytes: of the first, and after the last
+pub record Span : Type 0 where
+  pub from : ℕ
+  pub to : ℕ
+
 -- what the raw under it shows; its own place; where the raw stands, as the stream itself counts while it lives; what it can
 -- do; its life; the size of its buffer in bytes, none of a stream that has no buffer; whether a wait of the raw cut the last
--- answer short; and the bytes that it has taken from callers and not passed on
+-- answer short; the bytes that it has taken from callers and not passed on; and where the bytes lie that its buffer holds, read ahead
+-- and owed ones alike: while it lives its place is among them, or right after them, so that without a buffer both ends are the place
 pub record Stream : Type 0 where
   pub raw : Raw
   pub place : ℕ
@@ -19,6 +25,7 @@ pub record Stream : Type 0 where
   pub buffer : Option ℕ
   pub short : Bool
   pub owed : Owed
+  pub held : Span
 
 -- how many bytes its buffer holds: without one, none
 abbrev pub size_of : Stream → ℕ
@@ -50,6 +57,10 @@ writer_can appending seekable = record { readable = false; writable = true; seek
 abbrev pub nothing_owed : ℕ → Owed
 nothing_owed place = record { bytes = []; place = place }
 
+-- no byte is held, at a place
+abbrev pub nothing_held : ℕ → Span
+nothing_held place = record { from = place; to = place }
+
 -- a detached stream has no raw left to show anything of
 abbrev pub no_raw : Raw
 no_raw = record (untold 0 0 false false false false) { counts_exactly = false }
@@ -65,4 +76,5 @@ detached_stream can buffer = record {
   buffer = buffer;
   short = false;
   owed = nothing_owed 0;
+  held = nothing_held 0;
 }

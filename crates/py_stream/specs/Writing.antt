@@ -1,8 +1,8 @@
 -- What a stream that writes does with the bytes that it took from its callers, over any raw.
-use Rattle.std.specs.Prelude.{◌≡◌, ◌≢◌, ℕ, ◌+◌, ◌<◌, ◌≤◌, ◌⊎◌, false, IsTrue, List, [], ◌++◌, length, take, drop}
+use Rattle.std.specs.Prelude.{◌≡◌, ◌≢◌, ℕ, ◌+◌, ◌-◌, ◌<◌, ◌≤◌, ◌⊎◌, zero, suc, min, max, false, IsTrue, List, [], ◌∷◌, ◌++◌, length, take, drop, Option, unwrap_or}
 use Rattle.py_flat.specs.declared.fault.IoFault.TheVariants as fault
 use Rattle.py_flat.specs.declared.life.Life.TheVariants as life
-use Rattle.py_flat.specs.Bytes.{lay}
+use Rattle.py_flat.specs.Bytes.{left_at, lay, resized}
 use Rattle.py_flat.specs.Causes.{counted}
 use Rattle.py_flat.specs.Owed.{Owed}
 use Rattle.py_flat.specs.Calls.{FileCall, Write, WriteLines, Seek, Truncate, Flush, Close, Detach, FileReply, Place, Done, Unwritten, Refused}
@@ -47,23 +47,69 @@ pub record PassesFront (before after : Stream) : Type 0 where
   pub bytes : after.owed.bytes ≡ drop passed before.owed.bytes
   pub place : after.owed.bytes ≢ [] → after.owed.place ≡ before.owed.place + passed
 
--- the raw's bytes after a call: those before it, with a front of what was owed laid on, and once all of that is, a front of
--- the call's own, each at its place
-pub record LaidInOrder (before : Stream) (own after : List ℕ) : Type 0 where
-  pub owed : ℕ
-  pub more : ℕ
-  pub order : more ≢ 0 → length before.owed.bytes ≤ owed
-  pub bytes : after ≡ lay (lay before.raw.bytes before.owed.place (take owed before.owed.bytes)) before.place (take more own)
+-- of the bytes that were owed and of those that a write gives at a place, the place of the first: that place where none were owed
+abbrev pub first_of_both : (owed : List ℕ) (start place : ℕ) → ℕ
+first_of_both [] start place = place
+first_of_both (byte ∷ more) start place = min start place
 
--- of every call but one that cuts the file
+abbrev pub first_place : Owed → ℕ → ℕ
+first_place owed place = first_of_both owed.bytes owed.place place
+
+-- and the place after the last, of a write of n bytes: where what was owed ends for a write of none
+abbrev pub end_of_both : (owed : List ℕ) (start place count : ℕ) → ℕ
+end_of_both owed start place zero = start + length owed
+end_of_both [] start place (suc count) = place + suc count
+end_of_both owed start place (suc count) = max (start + length owed) (place + suc count)
+
+abbrev pub last_place : Owed → ℕ → ℕ → ℕ
+last_place owed place count = end_of_both owed.bytes owed.place place count
+
+-- a list has some bytes at a place, as far as these reach into it: it begins at the first of two places, and they at the second
+abbrev pub HasAt : (whole : List ℕ) (begins : ℕ) (part : List ℕ) (place : ℕ) → Type 0
+HasAt whole begins part place = take (length part - (begins - place)) (drop (place - begins) whole) ≡ drop (begins - place) part
+
+-- what is owed after a write that took n bytes, wherever its place lay: it begins no earlier than what was owed and what is new, and
+-- ends where both end; it has the new bytes at their place, and before and after them what was owed. So it covers all of both that
+-- isn't passed on
+pub record OwesBoth (before : Stream) (bytes : List ℕ) (after : Stream) : Type 0 where
+  pub taken : ℕ
+  pub within : taken ≤ length bytes
+  pub place : after.place ≡ before.place + taken
+  pub from : after.owed.bytes ≢ [] → first_place before.owed before.place ≤ after.owed.place
+  pub to : after.owed.bytes ≢ [] → after.owed.place + length after.owed.bytes ≡ last_place before.owed before.place taken
+  pub new : after.owed.bytes ≢ [] → HasAt after.owed.bytes after.owed.place (take taken bytes) before.place
+  pub old : after.owed.bytes ≢ [] → HasAt after.owed.bytes after.owed.place (take (before.place - before.owed.place) before.owed.bytes) before.owed.place
+  pub behind : after.owed.bytes ≢ [] → HasAt after.owed.bytes after.owed.place (drop (before.place + taken - before.owed.place) before.owed.bytes) (max before.owed.place (before.place + taken))
+
+-- the raw's bytes after a call: those before it, with a front laid on of what is owed and what the call gives, in their order in the
+-- flat file: from the first of them on, the flat bytes with the call's own laid on
+pub record LaysFront (before : Stream) (own after : List ℕ) : Type 0 where
+  pub count : ℕ
+  pub bytes : after ≡ lay before.raw.bytes (first_place before.owed before.place) (take count (left_at (lay (file_of before).bytes before.place own) (first_place before.owed before.place)))
+
+-- the size that a truncation asks for: without one the place
+abbrev pub size_asked : Stream → Option ℕ → ℕ
+size_asked before size = unwrap_or size before.place
+
+-- a call that cuts the file lays on a front of what is owed, and then may give the bytes their size
+pub record LaysThenCuts (before : Stream) (size : ℕ) (after : List ℕ) : Type 0 where
+  pub between : List ℕ
+  pub lays : LaysFront before [] between
+  pub cuts : (after ≡ between) ⊎ (after ≡ resized between size)
+
 abbrev pub LaysInOrder : Stream → FileCall → List ℕ → Type 0
-LaysInOrder before (Truncate size) after = Unit {0}
-LaysInOrder before call after = LaidInOrder before (payload call) after
+LaysInOrder before (Truncate size) after = LaysThenCuts before (size_asked before size) after
+LaysInOrder before call after = LaysFront before (payload call) after
 
 -- nothing is owed any more; told, the raw holds the flat bytes
 pub record PassedOn (before after : Stream) : Type 0 where
   pub none : after.owed.bytes ≡ []
   pub holds : WhereTold before.raw (after.raw.bytes ≡ (file_of before).bytes)
+
+-- nothing is owed any more; told, the raw holds the flat bytes, cut or lengthened to a size
+pub record CutTo (before : Stream) (size : ℕ) (after : Stream) : Type 0 where
+  pub none : after.owed.bytes ≡ []
+  pub holds : WhereTold before.raw (after.raw.bytes ≡ resized (file_of before).bytes size)
 
 -- what is done of a live stream leaves nothing owed; after a `flush` the raw stands at the place, and so it does after a
 -- `detach`, which has nothing unwritten. A stream that doesn't read owes nothing after a `seek` either
@@ -71,6 +117,7 @@ abbrev pub PassesOn : Stream → FileCall → FileReply → Stream → Type 0
 PassesOn before Flush Done after = PassedOn before after × (after.raw_place ≡ after.place)
 PassesOn before Close Done after = before.life ≡ life.Live → PassedOn before after
 PassesOn before Detach (Unwritten bytes place) after = before.life ≡ life.Live → PassedOn before after × (bytes ≡ []) × WherePlace before.raw (after.raw.place ≡ after.place)
+PassesOn before (Truncate size) (Place place) after = CutTo before (size_asked before size) after
 PassesOn before (Seek offset whence) (Place place) after = before.can.readable ≡ false → after.owed.bytes ≡ []
 PassesOn before call reply after = Unit {0}
 
@@ -81,10 +128,11 @@ BlocksFull (WriteLines lines) (Refused (fault.WouldBlock taken)) after = length 
 BlocksFull call (Refused (fault.WouldBlock taken)) after = taken ≡ 0
 BlocksFull call reply after = Unit {0}
 
--- what is owed is left of what was owed. Once the place moved nothing is, and the place is where the raw had come to
+-- what is owed is left of what was owed. Once the place moved nothing is; and where what was owed ended at the place, the place is
+-- where the raw had come to
 pub record OwesOld (before after : Stream) : Type 0 where
   pub rest : OwesRest before.owed after.owed
-  pub stands : after.owed.bytes ≡ [] → after.raw_place ≡ after.place
+  pub stands : OwesUpTo before.owed before.place → after.owed.bytes ≡ [] → after.raw_place ≡ after.place
   pub moved : after.place ≢ before.place → after.owed.bytes ≡ []
 
 -- a `write` that failed the stream owes none of its own bytes: those that went straight to the raw aren't kept
@@ -93,24 +141,34 @@ OwesNoneOfIts before (Write bytes) (Refused fault.RawFault) after = OwesOld befo
 OwesNoneOfIts before (Write bytes) (Refused fault.NoMemory) after = after.life ≡ life.Failed → OwesOld before after
 OwesNoneOfIts before call reply after = Unit {0}
 
--- the raw took some bytes of a call's own: it stands further on than the call began, and answered for more than was owed
+-- the raw took some bytes of a call's own: it stands further on than the call began, and answered for more than was owed, where that
+-- ended at the place
 pub record TookOwn (before after : Stream) : Type 0 where
   pub further : before.place < after.raw_place
   pub stands : WherePlace before.raw (before.place < after.raw.place)
-  pub answered : WhereTransfers before.raw (counted before.raw.written (length before.owed.bytes + 1) ≤ counted after.raw.written 0)
+  pub answered : OwesUpTo before.owed before.place → WhereTransfers before.raw (counted before.raw.written (length before.owed.bytes + 1) ≤ counted after.raw.written 0)
 
--- A call of a stream that writes: what it took, what it owes then, and what the raw's bytes are; what is passed on; where it had to
--- wait; that running out of memory fails a write only once the raw took some of its own bytes; that what went straight to the raw
--- isn't owed; where nothing is owed; that a raw is closed only where nothing is owed; and that a stream that isn't live calls no
--- raw
+-- One call of a stream that writes.
 pub record Writes (before : Stream) (call : FileCall) (reply : FileReply) (after : Stream) : Type 0 where
+  -- what is owed after a write, wherever it was made
+  pub owes : IsTrue (is_writing call) → OwesBoth before (payload call) after
+  -- and where what was owed ended at the place: how much was passed on, too
   pub takes : IsTrue (is_writing call) → OwesUpTo before.owed before.place → Takes before (payload call) after
+  -- every other call owes what is left of what was owed, where that stood
   pub leaves : is_writing call ≡ false → PassesFront before after
+  -- what the raw's bytes are
   pub lays : WhereTold before.raw (LaysInOrder before call after.raw.bytes)
+  -- what is passed on of a live stream
   pub passes : PassesOn before call reply after
+  -- where it had to wait
   pub full : BlocksFull call reply after
-  pub starves : IsTrue (says_no_memory reply) → after.life ≡ life.Failed → TookOwn before after
+  -- running out of memory fails a write only once the raw took some of its own bytes
+  pub starves : IsTrue (says_no_memory reply) → IsTrue (is_writing call) → after.life ≡ life.Failed → TookOwn before after
+  -- what went straight to the raw isn't owed
   pub straight : OwesNoneOfIts before call reply after
+  -- where nothing is owed, that is said of the place
   pub settles : NoneAtPlace before → NoneAtPlace after
+  -- a raw is closed only where nothing is owed
   pub unclosed : after.owed.bytes ≢ [] → after.raw.closed ≡ before.raw.closed
+  -- a stream that isn't live calls no raw
   pub rests : before.life ≢ life.Live → after.raw ≡ before.raw

@@ -1,0 +1,154 @@
+-- What is owed after a write, wherever it was made.
+use Rattle.std.proofs.Common.{◌≡◌, ◌≢◌, ℕ, zero, suc, ◌+◌, ◌-◌, ◌<◌, ◌≤◌, ◌⊎◌, inl, inr, ⊎_elim, max, List, [], ◌∷◌, ◌++◌, length, take, drop, refl, sym, ap, ◌∙◌, subst, arith, length-append, length-drop, length-take}
+use Rattle.std.proofs.Math.Seq.{take-nil, drop-nil, drop-append-add}
+use Rattle.std.proofs.lemmas.Bool.{cases_lt}
+use Rattle.std.proofs.lemmas.List.{append-nil, take_all, take_min, drop_all, drop-append-le, take_at, length-take-le}
+use Rattle.py_flat.specs.Owed.{Owed}
+use Rattle.py_stream.specs.Stream.{Stream}
+use Rattle.py_stream.specs.Writing.{OwesUpTo, HasAt, first_of_both, end_of_both, Takes, OwesBoth}
+
+-- Parts of a list.
+
+has_none : (whole : List ℕ) (begins place : ℕ) → HasAt whole begins [] place
+has_none whole begins place = let none : 0 - (begins - place) ≡ 0 = omega arith in rw none (sym (drop-nil (begins - place)))
+
+-- a list that begins with what is left of a part, in or behind its beginning
+has_front : (part more : List ℕ) (begins place : ℕ) → place ≤ begins → HasAt (drop (begins - place) part ++ more) begins part place
+has_front part more begins place before =
+    let none : place - begins ≡ 0 = omega arith in
+    rw none (take_at (drop (begins - place) part) more (length part - (begins - place)) (length-drop (begins - place) part))
+
+-- and one that has a part further on
+has_behind : (front part : List ℕ) (begins place : ℕ) → place ≡ begins + length front → HasAt (front ++ part) begins part place
+has_behind front part begins place is =
+    let far : place - begins ≡ length front = omega (arith, is) in
+    let none : begins - place ≡ 0 = omega (arith, is) in
+    let all : drop (length front + 0) (front ++ part) ≡ drop 0 part = drop-append-add front part 0 in
+    let zero_more : length front + 0 ≡ length front = omega arith in
+    rw (far, none) (ap (take (length part - 0)) (rw zero_more at all) ∙ take_all (length part - 0) part (omega arith))
+
+-- and one that begins behind a part
+has_past : (whole : List ℕ) (begins : ℕ) (part : List ℕ) (place : ℕ) → place + length part ≤ begins → HasAt whole begins part place
+has_past whole begins part place past =
+    let none : length part - (begins - place) ≡ 0 = omega (arith, past) in
+    rw none (sym (drop_all (begins - place) part (omega (arith, past))))
+
+-- Where what is owed ends at the place.
+
+module _ (old taken : List ℕ) (start place passed at : ℕ) (new : List ℕ) (up_to : (old ≡ []) ⊎ (start + length old ≡ place)) (is : new ≡ drop passed (old ++ taken)) (ends : at + length new ≡ place + length taken) (some : 0 < length new) where
+  many : length new ≡ length old + length taken - passed
+  many = ap length is ∙ length-drop passed (old ++ taken) ∙ ap (λ (n : ℕ). n - passed) (length-append old taken)
+
+  -- what is left begins in what was owed
+  in_old : passed ≤ length old → (new ≡ drop passed old ++ taken) × (place ≡ at + length (drop passed old))
+  in_old early = (is ∙ drop-append-le passed old taken early, omega (arith, many, ends, length-drop passed old))
+
+  -- or behind it
+  in_taken : length old ≤ passed → (new ≡ drop (passed - length old) taken) × (at ≡ place + (passed - length old))
+  in_taken late =
+      let split : length old + (passed - length old) ≡ passed = omega (arith, late) in
+      (is ∙ ap (λ (n : ℕ). drop n (old ++ taken)) (sym split) ∙ drop-append-add old taken (passed - length old), omega (arith, many, ends, some, late))
+
+  has_new : HasAt new at taken place
+  has_new = ⊎_elim
+      (λ (early : passed < length old). let here = in_old (omega (arith, early)) in subst (λ (whole : List ℕ). HasAt whole at taken place) (sym here.0) (has_behind (drop passed old) taken at place here.1))
+      (λ (late : length old ≤ passed). let here = in_taken late in
+      let front : new ≡ drop (at - place) taken = here.0 ∙ ap (λ (n : ℕ). drop n taken) (omega (arith, here.1)) in
+      subst (λ (whole : List ℕ). HasAt whole at taken place) (sym (front ∙ sym (append-nil (drop (at - place) taken)))) (has_front taken [] at place (omega (arith, here.1))))
+      (cases_lt passed (length old))
+
+  has_old : start + length old ≡ place → HasAt new at old start
+  has_old whole = ⊎_elim
+      (λ (early : passed < length old). let here = in_old (omega (arith, early)) in
+      let front : new ≡ drop (at - start) old ++ taken = here.0 ∙ ap (λ (n : ℕ). drop n old ++ taken) (omega (arith, here.1, whole, length-drop passed old, early)) in
+      subst (λ (whole : List ℕ). HasAt whole at old start) (sym front) (has_front old taken at start (omega (arith, here.1, whole, length-drop passed old, early))))
+      (λ (late : length old ≤ passed). let here = in_taken late in has_past new at old start (omega (arith, here.1, whole)))
+      (cases_lt passed (length old))
+
+-- the place of the first of both
+begins_by : (old : List ℕ) (start place at : ℕ) → (old ≡ []) ⊎ (start + length old ≡ place) → place ≤ at + length old → first_of_both old start place ≤ at
+begins_by [] start place at up_to reach = omega (arith, reach)
+begins_by (byte ∷ more) start place at (inl none) reach = absurd (cc)
+begins_by (byte ∷ more) start place at (inr ends) reach = omega (arith, reach, ends)
+
+-- and the place after the last
+ends_by : (old : List ℕ) (start place count : ℕ) → (old ≡ []) ⊎ (start + length old ≡ place) → 0 < length old + count → end_of_both old start place count ≡ place + count
+ends_by [] start place zero up_to some = absurd (omega (arith, some))
+ends_by [] start place (suc count) up_to some = refl
+ends_by (byte ∷ more) start place count (inl none) some = absurd (cc)
+ends_by (byte ∷ more) start place zero (inr ends) some = omega (arith, ends)
+ends_by (byte ∷ more) start place (suc count) (inr ends) some = omega (arith, ends)
+
+-- what was owed up to the place
+up_to_place : (old : List ℕ) (start place : ℕ) → (old ≡ []) ⊎ (start + length old ≡ place) → take (place - start) old ≡ old
+up_to_place [] start place up_to = take-nil (place - start)
+up_to_place (byte ∷ more) start place (inl none) = absurd (cc)
+up_to_place (byte ∷ more) start place (inr ends) = take_all (place - start) (byte ∷ more) (omega (arith, ends))
+
+none_behind : (old : List ℕ) (start place count : ℕ) → (old ≡ []) ⊎ (start + length old ≡ place) → drop (place + count - start) old ≡ []
+none_behind [] start place count up_to = drop-nil (place + count - start)
+none_behind (byte ∷ more) start place count (inl none) = absurd (cc)
+none_behind (byte ∷ more) start place count (inr ends) = drop_all (place + count - start) (byte ∷ more) (omega (arith, ends))
+
+counts_some : (bytes : List ℕ) → bytes ≢ [] → 0 < length bytes
+counts_some [] some = absurd (some refl)
+counts_some (byte ∷ more) some = omega arith
+
+old_at : (old taken : List ℕ) (start place passed at : ℕ) (new : List ℕ) → (old ≡ []) ⊎ (start + length old ≡ place) → new ≡ drop passed (old ++ taken) → at + length new ≡ place + length taken → 0 < length new → HasAt new at old start
+old_at [] taken start place passed at new up_to is ends some = has_none new at start
+old_at (byte ∷ more) taken start place passed at new (inl none) is ends some = absurd (cc)
+old_at (byte ∷ more) taken start place passed at new (inr whole) is ends some = has_old (byte ∷ more) taken start place passed at new (inr whole) is ends some whole
+
+ends_at : (owed : Owed) (place : ℕ) → owed.bytes ≢ [] → OwesUpTo owed place → owed.place + length owed.bytes ≡ place
+ends_at owed place some (inl none) = absurd (some none)
+ends_at owed place some (inr ends) = ends
+
+-- a write that was made where what was owed ended
+pub owes_both : (before : Stream) (bytes : List ℕ) (after : Stream) → OwesUpTo before.owed before.place → Takes before bytes after → OwesBoth before bytes after
+owes_both before bytes after up_to takes =
+    let old : List ℕ = before.owed.bytes in
+    let start : ℕ = before.owed.place in
+    let taken : List ℕ = take takes.taken bytes in
+    let as_many : length taken ≡ takes.taken = length-take-le takes.taken bytes takes.within in
+    let ends : after.owed.bytes ≢ [] → after.owed.place + length after.owed.bytes ≡ before.place + length taken = λ (some : after.owed.bytes ≢ []). ends_at after.owed after.place some takes.up_to ∙ takes.place ∙ ap (λ (n : ℕ). before.place + n) (sym as_many) in
+    let left : length after.owed.bytes ≡ length old + length taken - takes.passed = ap length takes.owed ∙ length-drop takes.passed (old ++ taken) ∙ ap (λ (n : ℕ). n - takes.passed) (length-append old taken) in
+    record {
+      taken = takes.taken;
+      within = takes.within;
+      place = takes.place;
+      from = λ some. begins_by old start before.place after.owed.place up_to (omega (arith, ends some, left));
+      to = λ some. ends some ∙ ap (λ (n : ℕ). before.place + n) as_many ∙ sym (ends_by old start before.place takes.taken up_to (omega (arith, counts_some after.owed.bytes some, left, as_many)));
+      new = λ some. has_new old taken start before.place takes.passed after.owed.place after.owed.bytes up_to takes.owed (ends some) (counts_some after.owed.bytes some);
+      old = λ some. rw (up_to_place old start before.place up_to) (old_at old taken start before.place takes.passed after.owed.place after.owed.bytes up_to takes.owed (ends some) (counts_some after.owed.bytes some));
+      behind = λ some. rw (none_behind old start before.place takes.taken up_to) (has_none after.owed.bytes after.owed.place (max start (before.place + takes.taken)));
+    }
+
+-- A call that took nothing, and left what was owed.
+
+first_owed : (bytes : List ℕ) (start place : ℕ) → bytes ≢ [] → first_of_both bytes start place ≤ start
+first_owed [] start place some = absurd (some refl)
+first_owed (byte ∷ more) start place some = omega arith
+
+-- a part that stands in a list
+has_part : (whole : List ℕ) (begins : ℕ) (part : List ℕ) (place : ℕ) → begins ≤ place → take (length part) (drop (place - begins) whole) ≡ part → HasAt whole begins part place
+has_part whole begins part place behind is =
+    let none : begins - place ≡ 0 = omega (arith, behind) in
+    let all : length part - 0 ≡ length part = omega arith in
+    rw (none, all) is
+
+front_of_all : (count : ℕ) (whole : List ℕ) → take (length (take count whole)) whole ≡ take count whole
+front_of_all count whole = ap (λ (n : ℕ). take n whole) (length-take count whole) ∙ take_min count whole
+
+pub owes_as_before : (before after : Stream) (bytes : List ℕ) → after.place ≡ before.place → after.owed ≡ before.owed → OwesBoth before bytes after
+owes_as_before before after bytes place same =
+    let owed : Owed = before.owed in
+    subst (λ (left : Owed). OwesBoth before bytes (record after { owed = left })) (sym same) (record {
+      taken = 0;
+      within = omega arith;
+      place = omega (arith, place);
+      from = λ some. first_owed owed.bytes owed.place before.place some;
+      to = λ some. refl;
+      new = λ some. has_none owed.bytes owed.place before.place;
+      old = λ some. let none : owed.place - owed.place ≡ 0 = omega arith in has_part owed.bytes owed.place (take (before.place - owed.place) owed.bytes) owed.place (omega arith) (rw none (front_of_all (before.place - owed.place) owed.bytes));
+      behind = λ some. let far : max owed.place (before.place + 0) - owed.place ≡ before.place + 0 - owed.place = omega arith in has_part owed.bytes owed.place (drop (before.place + 0 - owed.place) owed.bytes) (max owed.place (before.place + 0)) (omega arith) (rw far (take_all (length (drop (before.place + 0 - owed.place) owed.bytes)) (drop (before.place + 0 - owed.place) owed.bytes) (omega arith)));
+    })
