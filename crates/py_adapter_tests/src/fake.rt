@@ -69,3 +69,42 @@ impl OpenFile for Fake {
         Ok(())
     }
 }
+
+/// A writer with a buffer of its own, which takes all that it is given. Its first flushes come to these errors; each further one
+/// passes on what it holds.
+#[derive(Drop)]
+pub(crate) struct Holding<'a> {
+    pub(crate) errors: &'a [ErrorKind],
+    pub(crate) flushes: usize,
+    pub(crate) held: usize,
+    pub(crate) passed: usize,
+}
+
+impl<'a> Holding<'a> {
+    pub(crate) fn new(errors: &'a [ErrorKind]) -> Self {
+        Holding {
+            errors,
+            flushes: 0,
+            held: 0,
+            passed: 0,
+        }
+    }
+}
+
+impl Write for Holding<'_> {
+    fn write(&mut self, buf: &[u8]) -> io::Result<usize> {
+        self.held = self.held.saturating_add(buf.len());
+        Ok(buf.len())
+    }
+
+    fn flush(&mut self) -> io::Result<()> {
+        let answer = self.errors.get(self.flushes).copied();
+        self.flushes = self.flushes.saturating_add(1);
+        if let Some(kind) = answer {
+            return Err(Error::from(kind));
+        }
+        self.passed = self.passed.saturating_add(self.held);
+        self.held = 0;
+        Ok(())
+    }
+}

@@ -1,27 +1,9 @@
 //! Raw streams over readers and writers.
-use crate::fake::{Fake, Step};
+use crate::fake::{Fake, Holding, Step};
 use py_raw::{RawError, RawStream};
 use py_raw_files::{Counts, ReadRaw, WriteRaw};
-use std::io;
-use std::io::{Error, ErrorKind, Write};
-
-/// A writer with a buffer of its own, which takes all and then fails or waits as it passes that on.
-#[derive(Drop)]
-struct Holding {
-    held: usize,
-    flush: ErrorKind,
-}
-
-impl Write for Holding {
-    fn write(&mut self, buf: &[u8]) -> io::Result<usize> {
-        self.held = self.held.saturating_add(buf.len());
-        Ok(buf.len())
-    }
-
-    fn flush(&mut self) -> io::Result<()> {
-        Err(Error::from(self.flush))
-    }
-}
+use std::io::ErrorKind;
+use std::process::Abort;
 
 #[test]
 fn a_reader_waits_and_fails_as_a_file_does(rt: HostRuntime) {
@@ -100,23 +82,90 @@ fn a_closed_stream_has_no_reader_left(rt: HostRuntime) {
 }
 
 #[test]
+fn the_last_error_of_a_reader_is_what_the_system_said(rt: HostRuntime) {
+    let kind = ErrorKind::BrokenPipe;
+    let step = Step::Fails(kind);
+    let mut raw = ReadRaw::new(Fake { step, stands: 0 });
+    assert_eq!(rt; raw.last_error(), None);
+    assert_eq!(rt; raw.readinto(&mut [0; 3]), Err(RawError::Fault));
+    assert_eq!(rt; raw.last_error(), Some(kind));
+    assert_eq!(rt; raw.seek(0), Err(RawError::Fault)); // the system saw no fault in this one
+    assert_eq!(rt; raw.last_error(), None);
+}
+
+/// Transfers, bytes that writes answered for, faults and waits of a stream over a writer.
+fn assert_counts(rt: &impl Abort, raw: &WriteRaw<Holding<'_>>, want: (u64, u64, u64, u64)) {
+    let counts = raw.counts();
+    assert_eq!(rt;
+        (
+            counts.transfers,
+            counts.written,
+            counts.faults,
+            counts.waits
+        ),
+        want
+    );
+}
+
+#[test]
 fn what_a_writer_can_t_pass_on_is_a_fault(rt: HostRuntime) {
     let full = ErrorKind::StorageFull;
-    let mut raw = WriteRaw::new(Holding {
-        held: 0,
-        flush: full,
-    });
+    let errors = [full, full];
+    let mut raw = WriteRaw::new(Holding::new(&errors));
     assert_eq!(rt; raw.write(b"abc"), Err(RawError::Fault));
-    assert_eq!(rt; (raw.last_error(), raw.counts().written), (Some(full), 0));
+    assert_counts(&rt, &raw, (1, 0, 1, 0));
+    assert_eq!(rt; raw.last_error(), Some(full));
     assert_eq!(rt; raw.close(), Err(RawError::Fault));
     assert!(rt; raw.closed());
+    assert_counts(&rt, &raw, (1, 0, 2, 0));
+}
 
-    let mut raw = WriteRaw::new(Holding {
-        held: 0,
-        flush: ErrorKind::WouldBlock,
-    });
-    assert_eq!(rt; raw.write(b"abc"), Ok(Some(3))); // the writer has them until the next write
-    assert_eq!(rt; (raw.counts().written, raw.counts().waits), (3, 0));
-    assert_eq!(rt; raw.close(), Err(RawError::Fault)); // they can't be passed on any more
-    assert_eq!(rt; raw.counts().faults, 1);
+#[test]
+fn what_a_writer_holds_goes_before_the_next_write(rt: HostRuntime) {
+    let blocks = ErrorKind::WouldBlock;
+    let again = ErrorKind::Interrupted;
+    let errors = [blocks, blocks, again, again];
+    let mut raw = WriteRaw::new(Holding::new(&errors));
+    assert_eq!(rt; raw.write(b"abc"), Ok(Some(3))); // the writer took them, and holds them
+    assert_counts(&rt, &raw, (1, 3, 0, 0));
+    assert_eq!(rt; raw.write(b"de"), Ok(None));
+    assert_counts(&rt, &raw, (2, 3, 0, 1));
+    assert_eq!(rt; raw.write(b"de"), Ok(Some(2))); // flushed twice more at once, as that was interrupted
+    assert_counts(&rt, &raw, (3, 5, 0, 1));
+    assert_eq!(rt; raw.write(b"f"), Ok(Some(1))); // nothing is held: flushed after it alone
+    assert_counts(&rt, &raw, (4, 6, 0, 1));
+    assert!(rt;
+        raw.into_inner().is_some_and(|writer| (writer.flushes, writer.passed, writer.held)
+            == (7, 6, 0))
+    );
+}
+
+#[test]
+fn what_a_writer_holds_and_can_t_pass_on_is_a_fault(rt: HostRuntime) {
+    let blocks = ErrorKind::WouldBlock;
+    let full = ErrorKind::StorageFull;
+    let errors = [blocks, full];
+    let mut raw = WriteRaw::new(Holding::new(&errors));
+    assert_eq!(rt; raw.write(b"abc"), Ok(Some(3)));
+    assert_eq!(rt; raw.write(b"de"), Err(RawError::Fault));
+    assert_counts(&rt, &raw, (2, 3, 1, 0));
+    assert_eq!(rt; raw.last_error(), Some(full));
+}
+
+#[test]
+fn closing_passes_on_what_a_writer_holds(rt: HostRuntime) {
+    let blocks = ErrorKind::WouldBlock;
+    let table: [(&[ErrorKind], Result<(), RawError>, u64); 4] = [
+        (&[], Ok(()), 0),
+        (&[blocks], Ok(()), 0),
+        (&[blocks, ErrorKind::Interrupted], Ok(()), 0),
+        (&[blocks, blocks], Err(RawError::Fault), 1), // nothing comes after it
+    ];
+    for (errors, answer, faults) in table {
+        let mut raw = WriteRaw::new(Holding::new(errors));
+        assert_eq!(rt; raw.write(b"abc"), Ok(Some(3)));
+        assert_eq!(rt; raw.close(), answer);
+        assert!(rt; raw.closed());
+        assert_counts(&rt, &raw, (1, 3, faults, 0));
+    }
 }

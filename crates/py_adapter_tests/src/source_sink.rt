@@ -1,4 +1,5 @@
 //! Sources over readers and sinks over writers, as standard input and output.
+use crate::fake::Holding;
 use py_source_sink::{Failed, ReadSource, Sink, Source, WriteSink};
 use std::alloc::AllocError;
 use std::io;
@@ -80,4 +81,18 @@ fn writes_all_and_fails_where_the_writer_fails(rt: HostRuntime) -> Result<(), Al
     assert_eq!(rt; narrow.write(b"c"), Err(Failed));
     assert_eq!(rt; narrow.write(b"d"), Err(Failed));
     Ok(())
+}
+
+#[test]
+fn a_flush_that_was_interrupted_is_made_again_and_one_that_would_block_fails(rt: HostRuntime) {
+    let again = ErrorKind::Interrupted;
+    let errors = [again, again];
+    let mut writer = Holding::new(&errors);
+    let mut sink = WriteSink::new(&mut writer);
+    assert_eq!(rt; sink.write(b"abc"), Ok(()));
+    assert_eq!(rt; (sink.write(b"de"), sink.write(b"f")), (Ok(()), Ok(())));
+    assert_eq!(rt; (writer.flushes, writer.passed), (5, 6));
+    let errors = [ErrorKind::WouldBlock];
+    let mut sink = WriteSink::new(Holding::new(&errors));
+    assert_eq!(rt; sink.write(b"abc"), Err(Failed));
 }

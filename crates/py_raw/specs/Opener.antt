@@ -3,7 +3,7 @@ use Rattle.std.specs.Prelude.{◌≡◌, ◌≢◌, ℕ, ◌≤◌, Bool, true, 
 use Rattle.py_flat.specs.Causes.{Rose, RoseBy}
 use Rattle.py_raw.specs.declared.opener.OpenError.{OpenError}
 use Rattle.py_raw.specs.declared.opener.OpenError.TheVariants.{Fault, Memory}
-use Rattle.py_raw.specs.RawStream.{Raw, WherePlace, tells}
+use Rattle.py_raw.specs.RawStream.{Raw, WherePlace, WhereTransfers, tells}
 use Rattle.py_raw.specs.RawMode.{letter_r, letter_w, letter_x, file_letter, mode_reads, mode_writes}
 
 -- what each path holds means something only where the opener tells it; a path is the bytes of its text. An opener that counts
@@ -54,6 +54,8 @@ pub record IsOpened (mode : List ℕ) (raw : Raw) : Type 0 where
   pub faults : raw.faults ≡ 0
   pub waits : raw.waits ≡ 0
   pub start : IsFalse raw.seekable → WherePlace raw (raw.place ≡ 0)
+  pub transfers : WhereTransfers raw (raw.transfers ≡ 0)
+  pub written : WhereTransfers raw (raw.written ≡ 0)
 
 -- told: the raw can seek and stands at the start of the path's bytes
 pub record OpensTold (old : OpenerView) (path mode : List ℕ) (raw : Raw) (new : OpenerView) : Type 0 where

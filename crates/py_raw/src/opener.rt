@@ -29,9 +29,9 @@ pub trait Opener {
     /// Opens a path by one of the modes `rb`, `rb+`, `wb`, `wb+`, `xb`, `xb+`, `ab`, `ab+`: `r` an existing path as it
     /// is, `w` an empty one, `x` a new one, `a` an existing or a new one; `+` both to read and to write.
     ///
-    /// The raw is open, its counts are 0, and where it can't seek it stands at place 0. Refused, all paths hold what
-    /// they held. An opener that tells answers `Fault` exactly where `x` finds the path or `r` misses it, and one that counts
-    /// exactly counts no fault in an opening that succeeds.
+    /// The raw is open, its counts are 0, those of its transfers too where it tells them, and where it can't seek it stands at
+    /// place 0. Refused, all paths hold what they held. An opener that tells answers `Fault` exactly where `x` finds the path
+    /// or `r` misses it, and one that counts exactly counts no fault in an opening that succeeds.
     fn open_raw(&mut self, alloc: Global, path: &str, mode: &str) -> Result<Self::Raw, OpenError>
         requires { IsRawMode mode.now }
         ensures keeps { OpenKeeps (shows self.old) (shows self.new) }

@@ -4,6 +4,7 @@ ghost use Rattle.py_flat.specs.Limits.{greatest_count};
 mod calls;
 
 use crate::Counts;
+pub(crate) use calls::asks_to_wait;
 use std::io::ErrorKind;
 
 /// What a raw stream of the system stands on: a file, a reader or a writer, until it is closed, with what it can do and what was

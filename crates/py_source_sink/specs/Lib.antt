@@ -1,3 +1,4 @@
+pub mod Again
 pub mod Source
 pub mod Sink
 pub mod MemSource

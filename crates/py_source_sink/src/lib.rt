@@ -5,6 +5,7 @@
 //! and one over any reader or writer, as standard input and output, which tells none.
 #![tactic(auto)]
 
+mod again;
 mod mem_sink;
 mod mem_source;
 mod read_source;
@@ -12,6 +13,7 @@ mod sink;
 mod source;
 mod write_sink;
 
+pub use again::flush_again;
 pub use mem_sink::MemSink;
 pub use mem_source::MemSource;
 pub use read_source::ReadSource;

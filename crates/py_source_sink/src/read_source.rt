@@ -1,15 +1,24 @@
-ghost use Rattle.std.specs.Io.{ReadsAtMost};
 ghost use Rattle.std.specs.Io.KnownBytes.{ReadConsumes};
 
+use crate::again::read_again;
 use crate::{Failed, Source};
-use std::io;
-use std::io::{ErrorKind, Read};
+use std::fmt;
+use std::io::Read;
 
 /// A source over any reader, as standard input. It tells nothing of what is left.
 #[derive(Drop)]
 pub struct ReadSource<R> {
     reader: R,
     failed: u64,
+}
+
+// Only the count, since few readers can be shown.
+impl<R> fmt::Debug for ReadSource<R> {
+    fn fmt<W: fmt::Write>(&self, f: &mut fmt::Formatter<W>) -> fmt::Result {
+        f.debug_struct("ReadSource")
+            .field("faults", &self.failed)
+            .finish_non_exhaustive()
+    }
 }
 
 impl<R: Read> ReadSource<R> {
@@ -23,20 +32,6 @@ impl<R: Read> ReadSource<R> {
     {
         ReadSource { reader, failed: 0 }
     }
-}
-
-/// Reads once, and again where that was interrupted, as std's `write_all` writes.
-fn read_again<R: Read>(reader: &mut R, buf: &mut [u8]) -> io::Result<usize>
-    ensures bound { ReadsAtMost result buf.old }
-    ensures bytes { ReadConsumes (R.remaining reader.old) (R.remaining reader.new) result buf.new }
-{
-    'tries: for _ in 0..u64::MAX {
-        match reader.read(buf) {
-            Err(error) if error.kind() == ErrorKind::Interrupted => {}
-            answer => return answer,
-        }
-    }
-    Err(io::Error::from(ErrorKind::Interrupted))
 }
 
 impl<R: Read> Source for ReadSource<R> {

@@ -1,15 +1,25 @@
 ghost use Rattle.std.specs.Prelude.{OnOk};
 ghost use Rattle.std.specs.Io.KnownBytes.{Appends};
 
+use crate::again::flush_again;
 use crate::{Failed, Sink};
-use std::io;
 use std::io::Write;
+use std::{fmt, io};
 
 /// A sink over any writer, as standard output. It tells nothing of what was written.
 #[derive(Drop)]
 pub struct WriteSink<W> {
     writer: W,
     failed: u64,
+}
+
+// Only the count, since few writers can be shown.
+impl<W> fmt::Debug for WriteSink<W> {
+    fn fmt<T: fmt::Write>(&self, f: &mut fmt::Formatter<T>) -> fmt::Result {
+        f.debug_struct("WriteSink")
+            .field("faults", &self.failed)
+            .finish_non_exhaustive()
+    }
 }
 
 impl<W: Write> WriteSink<W> {
@@ -30,7 +40,7 @@ fn write_through<W: Write>(writer: &mut W, piece: &[u8]) -> io::Result<()>
     ensures { OnOk result (Appends (W.contents writer.old) (W.contents writer.new) piece.now) }
 {
     writer.write_all(piece)?;
-    writer.flush()
+    flush_again(writer)
 }
 
 impl<W: Write> Sink for WriteSink<W> {
@@ -41,7 +51,7 @@ impl<W: Write> Sink for WriteSink<W> {
 
     ghost shows = { shown_write_sink };
 
-    /// Writes all of a piece and flushes; an interrupted write is tried again, and any other error is a fault. The
+    /// Writes all of a piece and flushes; what was interrupted of either is made again, and any other error is a fault. The
     /// count of faults stops at 18446744073709551615. Where the writer's bytes are known, they grew by the piece.
     fn write(&mut self, piece: &[u8]) -> Result<(), Failed>
         ensures keeps { SinkKeeps (shown_write_sink self.old) (shown_write_sink self.new) }

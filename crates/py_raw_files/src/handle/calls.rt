@@ -1,8 +1,7 @@
 ghost use Rattle.std.specs.Prelude.{◌≡◌, ◌≤◌, true, false, length, Some};
-ghost use Rattle.std.specs.Io.{WritesAtMost};
 ghost use Rattle.py_flat.specs.Limits.{greatest_count};
 ghost use Rattle.py_raw.specs.RawStream.{Keeps, StaysOpen, FailsWithout, ReadOutcome, WriteOutcome, WriteFits, CloseOutcome};
-ghost use Rattle.py_raw_files.specs.Handle.{shown_handle, opened, asks_to_wait, transfer_reply, call_reply, one_fault, after_call, after_transfer, after_write, shut, ForInner, TakesFrom, PutsIn, PassesThrough, PutsThrough};
+ghost use Rattle.py_raw_files.specs.Handle.{shown_handle, opened, asks_to_wait, transfer_reply, call_reply, one_fault, after_call, after_transfer, after_write, shut, ForInner, TakesFrom, PutsIn};
 
 use super::Handle;
 use crate::Counts;
@@ -11,7 +10,7 @@ use std::io;
 use std::io::{ErrorKind, Read, Write};
 
 /// Whether an error of a transfer says that the call is to be made again later.
-fn asks_to_wait(kind: ErrorKind) -> bool
+pub(crate) fn asks_to_wait(kind: ErrorKind) -> bool
     ensures { result ≡ asks_to_wait kind }
 {
     matches!(kind, ErrorKind::WouldBlock | ErrorKind::Interrupted)
@@ -105,7 +104,7 @@ impl<T> Handle<T> {
 
     /// Takes the system's answer to a write, which is counted with the bytes that it took: none of a piece that isn't empty is a
     /// fault.
-    fn take_write(
+    pub(crate) fn take_write(
         &mut self,
         size: usize,
         answer: io::Result<usize>,
@@ -183,19 +182,6 @@ impl<T: Read> Handle<T> {
     }
 }
 
-/// Writes once, and passes on what a writer with a buffer of its own holds then, so that an error shows at the write that caused
-/// it. Where that would block the writer holds it until the next write, or until it is closed.
-fn write_through<W: Write>(writer: &mut W, piece: &[u8]) -> io::Result<usize>
-    ensures bound { WritesAtMost result piece.now }
-    ensures bytes { PassesThrough (W.contents writer.old) (W.contents writer.new) result piece.now }
-{
-    let count = writer.write(piece)?;
-    match writer.flush() {
-        Err(error) if !asks_to_wait(error.kind()) => Err(error),
-        _ => Ok(count),
-    }
-}
-
 impl<T: Write> Handle<T> {
     /// Writes a front of a piece, once.
     pub(crate) fn write(&mut self, piece: &[u8]) -> Result<Option<usize>, RawError>
@@ -212,32 +198,5 @@ impl<T: Write> Handle<T> {
         };
         let answer = inner.write(piece);
         self.take_write(piece.len(), answer)
-    }
-
-    /// Writes a front of a piece, once, and passes it on.
-    pub(crate) fn write_through(&mut self, piece: &[u8]) -> Result<Option<usize>, RawError>
-        requires open { (shown_handle self.old).closed ≡ false }
-        requires fits { WriteFits (shown_handle self.old) piece.now }
-        ensures keeps { Keeps (shown_handle self.old) (shown_handle self.new) }
-        ensures open { StaysOpen (shown_handle self.old) (shown_handle self.new) }
-        ensures outcome { WriteOutcome (shown_handle self.old) piece.now result (shown_handle self.new) }
-        ensures inner { ForInner self.old.inner self.new.inner (λ old new. PutsThrough (T.contents old) (T.contents new) result piece.now) }
-        ensures counts { shown_handle self.new ≡ after_write (shown_handle self.old) (length piece.now) result }
-    {
-        let Some(inner) = &mut self.inner else {
-            unreachable!()
-        };
-        let answer = write_through(inner, piece);
-        self.take_write(piece.len(), answer)
-    }
-
-    /// Passes on what a writer with a buffer of its own holds.
-    pub(crate) fn flush(&mut self) -> io::Result<()>
-        ensures { shown_handle self.new ≡ shown_handle self.old }
-    {
-        match &mut self.inner {
-            Some(inner) => inner.flush(),
-            None => Ok(()),
-        }
     }
 }

@@ -1,6 +1,6 @@
 -- nothing was taken from the reader so far
 use Rattle.std.specs.Io.KnownBytes.{Keeps}
-use Rattle.py_source_sink.proofs.read_source.read_again.Given as goal
+use Rattle.py_source_sink.proofs.again.read_again.Given as goal
 
 abbrev pub invariant-tries : goal.invariant-tries
 invariant-tries g l = record {
