@@ -1,12 +1,12 @@
 -- Moving a stream, whatever is below it: where a seek goes, what refuses it, and what an answer of it comes to.
-use Rattle.std.proofs.Common.{◌≡◌, ◌≢◌, ℕ, ◌+◌, ◌≤◌, suc, zero, ◌⊎◌, inl, inr, ℤ, pos, Bool, true, false, not, ◌&&◌, ◌||◌, IsTrue, List, [], length, Option, Some, None, Result, Ok, Err, nat_lt, is_none, unwrap_or, option_and_then, le-leb, le-ltb, zero-le, if◌then◌else◌, refl, sym, ap, ◌∙◌, subst, subst₂, arith}
+use Rattle.std.proofs.Common.{◌≡◌, ◌≢◌, ℕ, ◌≤◌, suc, zero, ◌⊎◌, inl, inr, ℤ, pos, Bool, true, false, not, ◌&&◌, ◌||◌, IsTrue, List, [], length, Option, Some, None, Result, Ok, Err, nat_lt, is_none, unwrap_or, option_and_then, le-ltb, zero-le, if◌then◌else◌, refl, sym, ap, ◌∙◌, subst, subst₂, arith}
 use Rattle.py_flat.specs.declared.fault.IoFault.{IoFault}
 use Rattle.py_flat.specs.declared.fault.IoFault.TheVariants as fault
 use Rattle.py_flat.specs.declared.life.Life.{Life}
 use Rattle.py_flat.specs.declared.life.Life.TheVariants as life
 use Rattle.py_flat.specs.Limits.{greatest_place}
 use Rattle.py_flat.specs.Bytes.{lay}
-use Rattle.py_flat.specs.Causes.{Rose, rose, counted}
+use Rattle.py_flat.specs.Causes.{Rose}
 use Rattle.py_flat.specs.Calls.{FileCall, Seek, FileReply, Place, Refused}
 use Rattle.py_flat.specs.FlatFile.{FlatFile}
 use Rattle.py_flat.specs.Owed.{Owed}
@@ -16,16 +16,16 @@ use Rattle.py_flat.specs.AllowedStep.{settled, raw_faulted, out_of_memory}
 use Rattle.py_flat.specs.BinaryStep.{is_live, asks_end, does_work, reaches_raw, SettledBy, BinaryStep}
 use Rattle.py_raw.specs.RawStream.{Raw, Keeps, StaysOpen, WhereTold, WhereBytes, WherePlace, KeepsBytes, NoWait, LeavesCounts, AnswersFor, tells}
 use Rattle.py_raw.proofs.Telling.{keeps_same, tells_its_bytes}
-use Rattle.py_stream.specs.Stream.{Stream, buffering_of, size_of, file_of, nothing_owed}
+use Rattle.py_stream.specs.Stream.{Stream, buffering_of, file_of, nothing_owed}
 use Rattle.py_stream.specs.Moving.{MovedBy}
 use Rattle.py_stream.specs.Kinds.{goes_on, asks_none, calls_none, makes_one, says_fault, says_no_memory}
 use Rattle.py_stream.specs.Writing.{NoneAtPlace, PassesOn, BlocksFull, Writes}
-use Rattle.py_stream.specs.Answers.{KeepsStream, Leaves, HasCauses, IsCounted, IsShort, LifeMoves, SeekGoes, StarvesTo, PlaceFails, PlaceStarves, PlaceMoves, GivesWithin, Moves, refused_by, SeeksTo, SeeksFromEnd, SeeksByEnd, WantsMemory, AsksNothing, InHand, SparesBytes, IsNear, IsAnswerTo, IsReplyTo, Answers}
+use Rattle.py_stream.specs.Answers.{KeepsStream, Leaves, HasCauses, IsCounted, IsShort, LifeMoves, SeekGoes, StarvesTo, PlaceFails, PlaceStarves, PlaceMoves, Moves, refused_by, SeeksTo, SeeksFromEnd, SeeksByEnd, WantsMemory, AsksNothing, InHand, SparesBytes, IsNear, IsReplyTo, Answers}
 use Rattle.py_stream.proofs.Refused.{is_own}
 use Rattle.py_stream.proofs.Completing.{completes}
 use Rattle.py_stream.proofs.Refusing.{IsPlaced, refused_with, refused_alone}
 
-or_true : (first : Bool) → first || true ≡ true
+pub or_true : (first : Bool) → first || true ≡ true
 or_true true = refl
 or_true false = refl
 
@@ -377,12 +377,19 @@ seek_faults before offset whence new may asks hand raw cause =
       spares = λ _ bare. spared before new life.Failed raw bare;
       writes = λ _. passes_none before after offset whence (Refused fault.RawFault) may.live (same_owed before new life.Failed) raw tt tt;
       answer = tt;
-      told = λ tell. raw_faulted refl refl (asks.reaches, (0, zero-le, record {
-        life_is = refl;
-        bytes_are = ap (λ (bytes : List ℕ). lay bytes before.owed.place before.owed.bytes) (raw.bytes (tells_its_bytes before.raw tell));
-        can = refl;
-        buffering = refl;
-      }));
+      told = λ tell. raw_faulted refl refl (
+        asks.reaches,
+        (
+          0,
+          zero-le,
+          record {
+            life_is = refl;
+            bytes_are = ap (λ (bytes : List ℕ). lay bytes before.owed.place before.owed.bytes) (raw.bytes (tells_its_bytes before.raw tell));
+            can = refl;
+            buffering = refl;
+          },
+        ),
+      );
       near = λ live. absurd (cc);
     })
 
@@ -434,7 +441,7 @@ NoTarget before offset (pos (suc (suc zero))) fault.NoMemory after = IsTrue befo
 NoTarget before offset (pos (suc (suc zero))) why after = (end : ℕ) × AnswersEnd before end × MovedBy end offset (Err why) × (after ≡ record before { raw = after.raw }) × RawStays before.raw after.raw × LeavesCounts before.raw after.raw × WherePlace before.raw (after.raw.place ≡ before.raw.place)
 NoTarget before offset whence why after = (why ≡ fault.BadWhence) × (after ≡ before)
 
-itself : (old : Raw) → old.closed ≡ false → RawStays old old
+pub itself : (old : Raw) → old.closed ≡ false → RawStays old old
 itself old is_open = record { keeps = keeps_same old; is_open = is_open; stays = refl; no_wait = λ _. refl; answered = λ _. refl; bytes = λ _. refl }
 
 from_end_refuses : (before : Stream) (offset : ℤ) (why : IoFault) (after : Stream) → before.raw.closed ≡ false → MaySeek before → NoTarget before offset (pos 2) why after → Answers before (Seek offset (pos 2)) (Refused why) after

@@ -1,5 +1,5 @@
 -- The engine with which a call begins, and what a stream without a buffer refuses by itself.
-use Rattle.std.proofs.Common.{◌≡◌, true, false, Some, Err, Ok, refl, sym, ap, subst, arith}
+use Rattle.std.proofs.Common.{◌≡◌, true, false, Some, Err, Ok, refl, sym, ap, subst, arith, ℕ, None, IsSome, Option}
 use Rattle.std.proofs.Math.Bool.{and-false}
 use Rattle.py_flat.specs.declared.fault.IoFault.{IoFault}
 use Rattle.py_flat.specs.declared.fault.IoFault.TheVariants as fault
@@ -22,7 +22,7 @@ Stands engine = IsEngine engine.raw engine.place engine.access engine.life
 
 -- a live stream's raw stands at its place
 pub is_near : (engine : EngineView) → Stands engine → engine.life ≡ life.Live → IsNear (stream_of engine)
-is_near engine stands live = record { ahead = omega arith; behind = omega arith; stands = λ tells. stands.stands tells live }
+is_near engine stands live = record { after_first = omega arith; before_end = omega arith; fits = omega arith; ahead = omega arith; behind = omega arith; stands = λ tells. stands.stands tells live }
 
 -- where a stream is, and its raw
 pub is_placed : (engine : EngineView) → Stands engine → IsPlaced (stream_of engine)
@@ -73,6 +73,11 @@ closes_in_vain old new why stands unclosed began = refused_by_life old new Close
 -- A call of a live stream that lacks what the call needs.
 pub refused_by_ability : (old new : EngineView) (call : FileCall) → Stands old → is_getter call ≡ false → is_other_getter call ≡ false → old.life ≡ life.Live → lacks (file_of (stream_of old)) call ≡ true → new ≡ begun old → Answers (stream_of old) call (Refused fault.Unsupported) (stream_of new)
 refused_by_ability old new call stands works own live wants same = ability_refuses (stream_of old) (stream_of new) call (is_placed old stands) works own live wants (ap stream_of same)
+
+-- it has no buffer
+pub bufferless : (buffer : Option ℕ) → buffer ≡ None → IsSome buffer → ⊥
+bufferless (Some size) none some = cc
+bufferless None none some = cc
 
 -- what is known of an engine with which a call begins that its life lets through
 pub record Begun (engine : EngineView) : Type 0 where

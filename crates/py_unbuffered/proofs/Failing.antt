@@ -1,5 +1,5 @@
 -- The answers of readings that the raw, or running out of memory, refused.
-use Rattle.std.proofs.Common.{◌≡◌, ◌≢◌, ℕ, ◌+◌, ◌<◌, ◌≤◌, inl, inr, Bool, true, false, IsTrue, List, [], ◌∷◌, length, Option, Some, None, refl, sym, ap, ◌∙◌, subst, arith}
+use Rattle.std.proofs.Common.{◌≡◌, ◌≢◌, ℕ, ◌+◌, ◌<◌, ◌≤◌, inl, inr, Bool, true, false, IsTrue, List, [], ◌∷◌, length, Option, Some, None, refl, sym, ap, ◌∙◌, subst, arith, ◌-◌}
 use Rattle.py_flat.specs.declared.fault.IoFault.TheVariants as fault
 use Rattle.py_flat.specs.declared.life.Life.{Life}
 use Rattle.py_flat.specs.declared.life.Life.TheVariants as life
@@ -10,13 +10,13 @@ use Rattle.py_flat.specs.FlatFile.{FlatFile}
 use Rattle.py_flat.specs.ExactStep.{is_closed, rest}
 use Rattle.py_flat.specs.AllowedStep.{raw_faulted, out_of_memory}
 use Rattle.py_flat.specs.BinaryStep.{Fails, FaultedBy, StarvedBy}
-use Rattle.py_raw.specs.RawStream.{WhereTold, WhereTransfers, KeepsBytes, NoWait}
+use Rattle.py_raw.specs.RawStream.{WhereTold, WhereTransfers, KeepsBytes, NoWait, AnswersFor}
 use Rattle.py_stream.specs.Stream.{Stream, file_of}
 use Rattle.py_stream.specs.Kinds.{reads_on, goes_on, makes_one, has_room, takes_space_first, asks_none}
 use Rattle.py_stream.specs.Answers.{Answers, IsReplyTo, IsShort, LifeMoves, PlaceMoves, PlaceFails, PlaceStarves, MovesForth, moves_most, StarvesTo, GivesWithin}
 use Rattle.py_unbuffered.specs.Engine.{EngineView, stream_of, KeepsEngine, Took}
 use Rattle.py_unbuffered.proofs.Steps.{keeps_self, keeps_failed, keeps_then}
-use Rattle.py_unbuffered.proofs.Reading.{reads_several, several_reads, several_makes, works, reaches, Reads, Reaches, answers_coming, file_fails, wanted_by, next_reaches}
+use Rattle.py_unbuffered.proofs.Reading.{reads_several, several_reads, several_makes, works, reaches, Reads, Reaches, answers_coming, file_fails, wanted_by, next_reaches, refused_not_whole}
 
 -- Where the raw failed.
 
@@ -73,6 +73,8 @@ pub record FailsIn (old : EngineView) (call : FileCall) (new : EngineView) : Typ
   pub bytes : KeepsBytes old.raw new.raw
   pub reach : Reaches old new
   pub one : IsTrue (makes_one None call) → WhereTransfers old.raw (new.raw.transfers ≤ old.raw.transfers + 1)
+  pub last : IsTrue (goes_on None call) → WhereTransfers old.raw (new.raw.transfers ≤ old.raw.transfers + (new.place - old.place) + 1)
+  pub answered : AnswersFor 0 old.raw new.raw
 
 -- its answer
 pub answers_faulted : (old new : EngineView) (call : FileCall) → reads_on call ≡ true → asks_none None call ≡ false → Reads old → FailsIn old call new → Answers (stream_of old) call (Refused fault.RawFault) (stream_of new)
@@ -83,6 +85,7 @@ answers_faulted old new call reads asks begun fails =
       kept = fails.kept;
       is_open = ap is_closed fails.failed;
       bytes = fails.bytes;
+      answered = fails.answered;
       causes = record { waits = λ shortened. absurd (cc); faults = λ faulted. fails.cause };
       counted = λ exactly. record { faults = λ sound. absurd (cc); waits = λ unshortened writes. fails.no_wait exactly; once = λ shortened. absurd (cc) };
       shorts = subst (IsShort call (Refused fault.RawFault)) (sym short) (fault_short call);
@@ -94,6 +97,7 @@ answers_faulted old new call reads asks begun fails =
       first = λ wanting takes none. absurd (cc);
       nothing = λ none. absurd (cc);
       one = fails.one;
+      needs = λ on. record { enough = λ whole. absurd (refused_not_whole call fault.RawFault whole); whole = λ whole. absurd (refused_not_whole call fault.RawFault whole); last = fails.last on };
       answers = fault_answers call reads;
       told = λ tells. raw_faulted refl refl (reaches file call (works old call reads begun.reader begun.live), faulted_by file call (file_of (stream_of new)) reads (file_fails old new fails.kept fails.failed fails.bytes tells));
       reach = fails.reach;
@@ -160,6 +164,7 @@ unmoved old call reads begun takes =
       kept = keeps_self old begun.stands;
       is_open = ap is_closed begun.live;
       bytes = λ tells. refl;
+      answered = λ tells. refl;
       causes = record { waits = λ shortened. absurd (let short : old.short ≡ false = begun.whole in cc); faults = λ faulted. absurd (cc) };
       counted = λ exactly. record { faults = λ sound. refl; waits = λ unshortened writes. refl; once = λ shortened. absurd (let short : old.short ≡ false = begun.whole in cc) };
       shorts = subst (IsShort call (Refused fault.NoMemory)) (sym begun.whole) (want_short call);
@@ -168,13 +173,14 @@ unmoved old call reads begun takes =
       within = want_within 0 call;
       wants = λ wanting room. takes room;
       starves = λ wanting. record {
-        unmoved = λ living. stays;
+        unmoved = λ living none. stays;
         moved = λ failed. absurd (let both : life.Failed ≡ life.Live = sym failed ∙ begun.live in cc);
         stands = λ failed. absurd (let both : life.Failed ≡ life.Live = sym failed ∙ begun.live in cc);
       };
       first = λ wanting takes none. stays;
       nothing = λ asks. record { raw = refl; fault = refl };
       one = λ single tells. omega arith;
+      needs = λ on. record { enough = λ whole. absurd (refused_not_whole call fault.NoMemory whole); whole = λ whole. absurd (refused_not_whole call fault.NoMemory whole); last = λ tells. omega arith };
       answers = want_answers call reads;
       told = λ tells. out_of_memory refl (reaches file call (works old call reads begun.reader begun.live), starved_by_none file call reads);
       reach = λ tells. omega arith;
@@ -226,6 +232,7 @@ answers_failing old between call part several asks begun took some forth wanted 
       kept = kept;
       is_open = refl;
       bytes = took.bytes;
+      answered = took.answered;
       causes = record { waits = λ shortened. absurd (cc); faults = λ faulted. absurd (cc) };
       counted = λ exactly. record { faults = λ sound. took.counts.no_fault exactly; waits = λ unshortened writes. took.counts.no_wait exactly; once = λ shortened. absurd (cc) };
       shorts = subst (IsShort call (Refused fault.NoMemory)) (sym short) (want_short call);
@@ -241,6 +248,7 @@ answers_failing old between call part several asks begun took some forth wanted 
       first = λ wanting takes none. absurd (cc (no_space_first call several));
       nothing = λ none. absurd (cc);
       one = λ single. absurd (cc (several_makes call several));
+      needs = λ on. record { enough = λ whole. absurd (refused_not_whole call fault.NoMemory whole); whole = λ whole. absurd (refused_not_whole call fault.NoMemory whole); last = λ tells. omega (arith, took.transfers tells, took.place) };
       answers = want_answers call reads;
       told = λ tells. out_of_memory refl (reaches file call (works old call reads begun.reader begun.live), starved_by_failing file call (file_of (stream_of new)) several (wanted tells) (file_fails old new kept refl took.bytes tells));
       reach = next_reaches old between part took.place took.told;

@@ -14,7 +14,7 @@ use Rattle.py_stream.specs.Answers.{Answers, refused_by}
 use Rattle.py_stream.specs.Replies.{done_reply}
 use Rattle.py_raw.proofs.Telling.{keeps_same}
 use Rattle.py_unbuffered.specs.Engine.{EngineView, stream_of, BeginOutcome}
-use Rattle.py_unbuffered.proofs.Begun.{Stands, begun, is_near, begins_in_vain}
+use Rattle.py_unbuffered.proofs.Begun.{bufferless, Stands, begun, is_near, begins_in_vain}
 
 flush_passes : (old : EngineView) → old.life ≡ life.Live → refusal (file_of (stream_of old)) Flush ≡ None
 flush_passes old live = ap (λ (current : Life). or_else (if lets_through current Unbuffered Flush then None else life_fault current) None) live
@@ -22,9 +22,10 @@ flush_passes old live = ap (λ (current : Life). or_else (if lets_through curren
 -- nothing is owed
 passes_nothing : (old : EngineView) → Writes (stream_of old) Flush Done (stream_of (begun old))
 passes_nothing old = record {
+  owes = λ writing. absurd (cc);
   takes = λ writing. absurd (cc);
   leaves = λ _. record { passed = 0; most = omega arith; answered = λ tells. refl; bytes = refl; place = λ _. omega arith };
-  lays = λ tells. record { owed = 0; more = 0; order = λ some. absurd (some refl); bytes = refl };
+  lays = λ tells. record { count = 0; bytes = refl };
   passes = (record { none = refl; holds = λ tells. refl }, refl);
   full = tt;
   starves = λ wants. absurd (cc);
@@ -41,7 +42,7 @@ flush_is_done old stands live =
       keeps = record { buffer = refl; can = refl; raw = keeps_same old.raw; bare = λ _ _. refl };
       refused = λ why refused. absurd (let wrong : None ≡ Some why = sym none ∙ refused in cc);
       again = λ again. absurd (cc);
-      shut = λ none shut. shut;
+      shut = λ _ none shut. shut;
       causes = record { waits = λ short. absurd (cc); faults = λ faults. absurd (cc) };
       counted = λ _. record { faults = λ _. refl; waits = λ _ _. refl; once = λ short. absurd (cc) };
       shorts = refl;
@@ -53,8 +54,9 @@ flush_is_done old stands live =
       nothing = λ asks. absurd (cc);
       idle = λ _. record { raw = refl; fault = refl; memory = refl };
       single = λ single. absurd (cc);
-      held = λ reads apart one. absurd (apart refl);
-      spares = λ _ _. record { bytes = λ _. refl; owed = refl };
+      in_hand = λ has. absurd (bufferless None refl has.buffered);
+      needs = λ reads. absurd (cc);
+      spares = λ _ _. record { bytes = λ _. refl; written = λ _. refl; owed = refl };
       writes = λ _. passes_nothing old;
       answer = λ _. tt;
       at_once = λ failed is. absurd (cc);

@@ -12,7 +12,7 @@ use Rattle.py_raw.proofs.Telling.{tells_its_bytes, tells_still}
 use Rattle.py_lines.specs.Collecting.{HasEnough, WantsMore}
 use Rattle.py_lines.proofs.Asking.{some_length}
 use Rattle.py_unbuffered.specs.declared.data.Stop.TheVariants as stop
-use Rattle.py_unbuffered.specs.Engine.{EngineView, IsEngine, Waits, StarvesWith, Brings, TransferOutcome, Took, FailsAfter, GathersUpTo, GatherOutcome}
+use Rattle.py_unbuffered.specs.Engine.{EngineView, IsEngine, Waits, StarvesWith, Brings, TransferOutcome, Took, FailsAfter, GathersUpTo, WantsOn, GatherOutcome}
 use Rattle.py_unbuffered.proofs.Steps.{next_parts, took_none, took_on, gives_taken, stops_at_end, stops_waiting, fails_after, starves_after}
 
 -- what was taken was collected, and all of it is wanted, with some of whatever comes after it; nothing was taken where no byte was moved
@@ -20,7 +20,7 @@ pub record GatheredTo (wanted : List ℕ → List ℕ) (old : EngineView) (part 
   pub took : Took old part now
   pub alone : wanted part ≡ part
   pub goes_on : (more : List ℕ) → IsFrontOf part (wanted (part ++ more))
-  pub asks : (more : List ℕ) → more ≢ [] → length part < length (wanted (part ++ more))
+  pub asks : WantsOn wanted part
   pub some : moved ≡ true → part ≢ []
   pub none : moved ≡ false → part ≡ []
 
@@ -45,23 +45,29 @@ module _ (wanted : List ℕ → List ℕ) (old now : EngineView) (part : List �
   gather_ends before count after new none brings asked =
       let last : Brings now before 0 after new = subst (λ (n : ℕ). Brings now before n after new) none brings in (
         stops_at_end old now part gathered.took before after new last asked,
-        record {
-          alone = gathered.alone;
-          exact = λ tells.
-              let told = tells_still old.raw now.raw gathered.took.kept.raw ∙ tells in
-              let behind : left_at old.raw.bytes (old.place + length part) ≡ [] = drop_of_length-le old.raw.bytes (omega (arith, last.end refl asked told, ap length (gathered.took.bytes (tells_its_bytes old.raw tells)), gathered.took.place)) in
-              ap wanted (left_is tells ∙ (ap (λ (xs : List ℕ). part ++ xs) behind ∙ append-nil part)) ∙ gathered.alone;
-        },
+        (
+          record {
+            alone = gathered.alone;
+            exact = λ tells.
+                let told = tells_still old.raw now.raw gathered.took.kept.raw ∙ tells in
+                let behind : left_at old.raw.bytes (old.place + length part) ≡ [] = drop_of_length-le old.raw.bytes (omega (arith, last.end refl asked told, ap length (gathered.took.bytes (tells_its_bytes old.raw tells)), gathered.took.place)) in
+                ap wanted (left_is tells ∙ (ap (λ (xs : List ℕ). part ++ xs) behind ∙ append-nil part)) ∙ gathered.alone;
+          },
+          gathered.asks,
+        ),
       )
 
   -- the raw would have blocked
   pub gather_waits : (new : EngineView) → Waits now new → GatherOutcome wanted old (Ok stop.Waits) part new
   gather_waits new waits = (
     stops_waiting old now part gathered.took new waits,
-    record {
-      alone = gathered.alone;
-      front = λ tells. subst (λ (whole : List ℕ). IsFrontOf part (wanted whole)) (sym (left_is tells)) (gathered.goes_on (left_at old.raw.bytes (old.place + length part)));
-    },
+    (
+      record {
+        alone = gathered.alone;
+        front = λ tells. subst (λ (whole : List ℕ). IsFrontOf part (wanted whole)) (sym (left_is tells)) (gathered.goes_on (left_at old.raw.bytes (old.place + length part)));
+      },
+      gathered.asks,
+    ),
   )
 
   -- what was collected is no more than may be wanted, and where there is some, some is

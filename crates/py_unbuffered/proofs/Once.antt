@@ -106,7 +106,9 @@ answers_once old new call before after count once long same_long begun brings =
       starves = λ wanting. absurd (cc);
       first = λ wanting takes none. absurd (cc);
       nothing = λ asks. absurd (cc (once_asks call once));
+      answered = brings.answered;
       one = λ single. brings.transfers;
+      needs = λ on. absurd (cc (once_goes call once));
       answers = once_answers call part once;
       told = λ tells. settled (subst (λ (refused : Option IoFault). SettledBy file call refused (Bytes part) (file_of (stream_of new))) (sym (accepted old call (once_reads call once) begun.reader begun.live))
           (once_carried file call part (file_of (stream_of new)) once refl (record {
@@ -144,7 +146,9 @@ unready_once old new call once begun waits =
       starves = λ wanting. absurd (cc);
       first = λ wanting takes none. absurd (cc);
       nothing = λ asks. absurd (cc (once_asks call once));
+      answered = waits.answered;
       one = λ single. waits.transfers;
+      needs = λ on. absurd (cc (once_goes call once));
       answers = unready_answers call reads;
       told = λ tells. waited_for refl (works old call reads begun.reader begun.live, unready_waited file call (file_of (stream_of new)) once (file_same old new waits.kept same waits.place waits.bytes tells));
       reach = λ tells. omega (arith, waits.place);
@@ -163,7 +167,9 @@ refused_once old new call before after fault.RawFault once begun fails =
       place = fails_there call old.place new.place (once_goes call once) fails.place;
       bytes = fails.bytes;
       reach = λ tells. omega (arith, fails.place);
+      answered = fails.answered;
       one = λ single. fails.transfers;
+      last = λ on. absurd (cc (once_goes call once));
     })
 refused_once old new call before after fault.NoMemory once begun wants =
     subst (λ (engine : EngineView). Answers (stream_of old) call (Refused fault.NoMemory) (stream_of engine)) (sym wants.1) (unmoved old call (once_reads call once) begun (λ room. wants.0))

@@ -7,24 +7,24 @@ use Rattle.py_flat.specs.declared.life.Life.{Life}
 use Rattle.py_flat.specs.declared.life.Life.TheVariants as life
 use Rattle.py_flat.specs.Bytes.{left_at, first_of}
 use Rattle.py_flat.specs.Lines.{Lf, first_line, lines_of, lines_within, joined}
-use Rattle.py_flat.specs.Calls.{FileCall, Read, Read1, ReadLine, ReadLines, ReadInto, Seek, Tell, Flush, Close, Detach, FileReply, Bytes, Lines, NotReady}
+use Rattle.py_flat.specs.Calls.{FileCall, Read, Read1, ReadLine, ReadLines, ReadInto, Seek, Tell, Flush, Close, Detach, FileReply, Bytes, Lines, NotReady, Refused}
 use Rattle.py_flat.specs.FlatFile.{FlatFile, Unbuffered}
 use Rattle.py_flat.specs.Refusals.{refusal, is_getter, lets_through, life_fault, or_else, refused_if}
 use Rattle.py_flat.specs.ExactStep.{is_closed, after_read}
 use Rattle.py_flat.specs.BinaryStep.{BinaryStep, asks_end, reaches_raw, is_live, is_tell, does_work, Fails}
 use Rattle.py_flat.proofs.Cutting.{joined_lines}
-use Rattle.py_raw.specs.RawStream.{WhereTold, WhereTransfers, KeepsBytes}
+use Rattle.py_raw.specs.RawStream.{WhereTold, WhereTransfers, KeepsBytes, AnswersFor}
 use Rattle.py_raw.proofs.Telling.{tells_its_bytes}
 use Rattle.py_stream.specs.Stream.{Stream, file_of}
 use Rattle.py_stream.specs.Kinds.{is_reading, reads_on, goes_on, makes_one, has_room, asks_none, calls_none, says_fault, says_no_memory}
-use Rattle.py_stream.specs.Answers.{Answers, IsReplyTo, IsShort, LifeMoves, PlaceMoves, GivesWithin, WantsMemory, Starves, SeeksByEnd, HasCauses, IsCounted, StarvesFirst, AsksNothing, refused_by, closes_again}
+use Rattle.py_stream.specs.Answers.{Answers, IsReplyTo, IsShort, LifeMoves, PlaceMoves, GivesWithin, WantsMemory, Starves, SeeksByEnd, HasCauses, IsCounted, StarvesFirst, AsksNothing, refused_by, closes_again, IsWhole, AsksNoMore}
 use Rattle.py_stream.proofs.Completing.{completes}
 use Rattle.py_stream.proofs.Refusing.{refused_alone}
 use Rattle.py_unbuffered.specs.declared.access.Access.{Access}
 use Rattle.py_unbuffered.specs.declared.access.Access.TheVariants as access
 use Rattle.py_unbuffered.specs.Unbuffered.{can_of}
 use Rattle.py_unbuffered.specs.Engine.{EngineView, stream_of, BeginOutcome, KeepsEngine}
-use Rattle.py_unbuffered.proofs.Begun.{Stands, is_near, begun_live}
+use Rattle.py_unbuffered.proofs.Begun.{bufferless, Stands, is_near, begun_live}
 
 -- The calls.
 
@@ -179,6 +179,7 @@ pub record Comes (old : EngineView) (call : FileCall) (reply : FileReply) (short
   pub kept : KeepsEngine old new
   pub is_open : is_closed new.life ≡ false
   pub bytes : KeepsBytes old.raw new.raw
+  pub answered : AnswersFor 0 old.raw new.raw
   pub causes : HasCauses old.raw reply new.raw short
   pub counted : IsTrue old.raw.counts_exactly → IsCounted None old.raw call reply new.raw short
   pub shorts : IsShort call reply short
@@ -190,6 +191,7 @@ pub record Comes (old : EngineView) (call : FileCall) (reply : FileReply) (short
   pub first : StarvesFirst (stream_of old) call reply (stream_of (record new { short = short }))
   pub nothing : IsTrue (asks_none None call) → AsksNothing (stream_of old) reply (stream_of (record new { short = short }))
   pub one : IsTrue (makes_one None call) → WhereTransfers old.raw (new.raw.transfers ≤ old.raw.transfers + 1)
+  pub needs : IsTrue (goes_on None call) → AsksNoMore (stream_of old) call reply (stream_of (record new { short = short }))
   pub answers : IsReplyTo None false call reply
   pub told : WhereTold old.raw (BinaryStep (file_of (stream_of old)) call reply short (says_fault reply) (file_of (stream_of new)))
   pub reach : Reaches old new
@@ -197,6 +199,10 @@ pub record Comes (old : EngineView) (call : FileCall) (reply : FileReply) (short
 -- what a stream can do stays
 can_stays : (old new : EngineView) → KeepsEngine old new → can_of new.access new.raw.seekable ≡ can_of old.access old.raw.seekable
 can_stays old new kept = ap (λ (opened : Access). can_of opened new.raw.seekable) kept.access ∙ ap (can_of old.access) kept.raw.seekable
+
+and_right : (first second : Bool) → IsTrue (first && second) → IsTrue second
+and_right true second both = both
+and_right false second both = absurd (cc)
 
 -- it answers the call
 pub answers_coming : (old new : EngineView) (call : FileCall) (reply : FileReply) (short : Bool) → reads_on call ≡ true → Reads old → Comes old call reply short new → Answers (stream_of old) call reply (stream_of (record new { short = short }))
@@ -208,7 +214,7 @@ answers_coming old new call reply short reads begun comes =
       keeps = record { buffer = refl; can = can_stays old new comes.kept; raw = comes.kept.raw; bare = λ _ _. refl };
       refused = λ why refuses. absurd (let wrong : None ≡ Some why = sym unrefused ∙ refuses in cc);
       again = λ closes. absurd (cc (not_closing (stream_of old) call reads));
-      shut = λ none closed. comes.kept.stays ∙ closed ∙ ap is_closed begun.live ∙ sym comes.is_open;
+      shut = λ _ none closed. comes.kept.stays ∙ closed ∙ ap is_closed begun.live ∙ sym comes.is_open;
       causes = comes.causes;
       counted = comes.counted;
       shorts = comes.shorts;
@@ -219,9 +225,10 @@ answers_coming old new call reply short reads begun comes =
       first = comes.first;
       nothing = comes.nothing;
       idle = λ keeps. absurd (cc (uses_raw (can_of old.access old.raw.seekable).writable call reads));
-      single = comes.one;
-      held = λ reads apart one. absurd (apart refl);
-      spares = λ writes none. record { bytes = comes.bytes; owed = refl };
+      single = λ one none. comes.one one;
+      in_hand = λ has. absurd (bufferless None refl has.buffered);
+      needs = λ on none. comes.needs (and_right (reads_on call) (goes_on None call) on);
+      spares = λ writes none. record { bytes = comes.bytes; written = comes.answered; owed = refl };
       writes = λ can. absurd (let both : true ≡ false = sym can ∙ never in cc);
       answer = λ accepts. subst (λ (writes : Bool). IsReplyTo None writes call reply) (sym never) comes.answers;
       at_once = λ failed. absurd (cc (begun.live));
@@ -309,6 +316,31 @@ part_answers call part reads = absurd (cc)
 -- told, the bytes that came next move the place no further than the end
 pub next_reaches : (old new : EngineView) (part : List ℕ) → new.place ≡ old.place + length part → WhereTold old.raw (take (length part) (left_at old.raw.bytes old.place) ≡ part) → Reaches old new
 next_reaches old new part place next tells = omega (arith, place, ap length (next tells), length-take (length part) (left_at old.raw.bytes old.place), length-drop old.place old.raw.bytes)
+
+-- How often a reading asks its raw.
+
+-- n bytes came, by no more transfers than these and one more, which none made for an answer that is whole
+pub asks_no_more : (old new : EngineView) (call : FileCall) (reply : FileReply) (short : Bool) (count : ℕ) → new.place ≡ old.place + count → (IsWhole call reply → WhereTransfers old.raw (new.raw.transfers ≤ old.raw.transfers + count)) → WhereTransfers old.raw (new.raw.transfers ≤ old.raw.transfers + count + 1) → AsksNoMore (stream_of old) call reply (stream_of (record new { short = short }))
+asks_no_more old new call reply short count place whole last = record {
+  enough = λ _ _ buffered. absurd (bufferless None refl buffered);
+  whole = λ is tells. omega (arith, place, whole is tells);
+  last = λ tells. omega (arith, place, last tells);
+}
+
+-- no answer is whole that has no bytes
+pub unready_not_whole : (call : FileCall) → IsWhole call NotReady → ⊥
+unready_not_whole (Read size) whole = whole
+unready_not_whole (ReadInto size) whole = whole
+unready_not_whole (ReadLine limit) whole = whole
+unready_not_whole (ReadLines hint) whole = whole
+unready_not_whole call whole = whole
+
+pub refused_not_whole : (call : FileCall) (why : IoFault) → IsWhole call (Refused why) → ⊥
+refused_not_whole (Read size) why whole = whole
+refused_not_whole (ReadInto size) why whole = whole
+refused_not_whole (ReadLine limit) why whole = whole
+refused_not_whole (ReadLines hint) why whole = whole
+refused_not_whole call why whole = whole
 
 -- Where the raw made it wait before anything came.
 

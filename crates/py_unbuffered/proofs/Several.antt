@@ -1,6 +1,6 @@
 -- The answers of readings by several transfers: of all that is left, of a line, of lines.
-use Rattle.std.proofs.Common.{◌≡◌, ◌≢◌, ℕ, zero, suc, ◌+◌, ◌-◌, ◌<◌, ◌≤◌, inl, inr, Bool, true, false, IsTrue, List, [], ◌∷◌, length, take, Option, Some, None, Result, Ok, Err, refl, sym, ap, ◌∙◌, subst, arith}
-use Rattle.std.proofs.lemmas.List.{nil_from_length, length-take, length-drop, take_all}
+use Rattle.std.proofs.Common.{◌≡◌, ◌≢◌, ℕ, zero, suc, ◌+◌, ◌-◌, ◌<◌, ◌≤◌, inl, inr, Bool, true, false, IsTrue, List, [], ◌∷◌, ◌++◌, length, take, Option, Some, None, Result, Ok, Err, refl, sym, ap, ◌∙◌, subst, arith}
+use Rattle.std.proofs.lemmas.List.{nil_from_length, length-append, length-take, length-drop, take_all}
 use Rattle.std.proofs.lemmas.Bool.{eqb-true}
 use Rattle.std.specs.Bool.{◌==◌}
 use Rattle.std.specs.Option.{option_eq}
@@ -17,16 +17,16 @@ use Rattle.py_flat.specs.BinaryStep.{Accepted, SettledBy, GivesPart, WaitedBy}
 use Rattle.py_flat.proofs.Cutting.{joined_lines}
 use Rattle.py_lines.specs.Collecting.{LineView, line_wanted, LinesView, LinesAreOpen, lines_wanted}
 use Rattle.py_lines.proofs.Lines.{lines_left}
-use Rattle.py_lines.proofs.Asking.{lines_ask}
-use Rattle.py_raw.specs.RawStream.{WhereTold, NoWait, WaitsOnce}
+use Rattle.py_lines.proofs.Asking.{lines_ask, some_length}
+use Rattle.py_raw.specs.RawStream.{WhereTold, WhereTransfers, NoWait, WaitsOnce}
 use Rattle.py_raw.proofs.Telling.{tells_its_bytes, tells_still}
 use Rattle.py_stream.specs.Stream.{file_of}
 use Rattle.py_stream.specs.Kinds.{asks_none}
-use Rattle.py_stream.specs.Answers.{Answers, IsShort, MovesForth, moves_most, GivesWithin}
+use Rattle.py_stream.specs.Answers.{Answers, IsWhole, IsShort, MovesForth, moves_most, GivesWithin}
 use Rattle.py_unbuffered.specs.declared.data.Stop.{Stop}
 use Rattle.py_unbuffered.specs.declared.data.Stop.TheVariants as stops
-use Rattle.py_unbuffered.specs.Engine.{EngineView, stream_of, Gives, FailsAfter, StarvesAfter, StopOutcome, RestOutcome, GathersEnough, GathersFront, GathersUpTo, Gathers, GatherOutcome, has_answer, answered_at}
-use Rattle.py_unbuffered.proofs.Reading.{reads_several, several_reads, several_goes, several_makes, accepted, works, Reads, answers_coming, file_after, file_same, wanted_by, reply_by, said, gave_bytes, part_keeps_life, part_moves, part_answers, next_reaches, unready_keeps_life, unready_short, unready_stays, unready_within, unready_answers}
+use Rattle.py_unbuffered.specs.Engine.{EngineView, stream_of, Gives, FailsAfter, StarvesAfter, StopOutcome, RestOutcome, GathersEnough, WantsOn, GathersFront, GathersUpTo, Gathers, GatherOutcome, has_answer, answered_at}
+use Rattle.py_unbuffered.proofs.Reading.{asks_no_more, unready_not_whole, reads_several, several_reads, several_goes, several_makes, accepted, works, Reads, answers_coming, file_after, file_same, wanted_by, reply_by, said, gave_bytes, part_keeps_life, part_moves, part_answers, next_reaches, unready_keeps_life, unready_short, unready_stays, unready_within, unready_answers}
 use Rattle.py_unbuffered.proofs.Failing.{fails_further, answers_faulted, unmoved, no_room, answers_failing}
 use Rattle.py_unbuffered.proofs.Once.{comes_front}
 
@@ -49,6 +49,17 @@ carried file call part after several exact is = absurd (cc)
 -- bytes that are some have lines
 some_lines : (part : List ℕ) → part ≢ [] → lines_of part ≢ []
 some_lines part some none = some (sym (joined_lines part) ∙ ap joined none)
+
+-- an answer that is whole wants none of what comes after it
+whole_is : (call : FileCall) (part : List ℕ) → reads_several call ≡ true → IsWhole call (reply_by call part) → (more : List ℕ) → wanted_by call (part ++ more) ≡ part
+whole_is (Read None) part several whole more = whole more
+whole_is (ReadLine limit) part several whole more = whole more
+whole_is (ReadLines hint) part several whole more = ap (λ (bytes : List ℕ). joined (lines_within hint (bytes ++ more))) (sym (joined_lines part)) ∙ ap joined (whole more) ∙ joined_lines part
+whole_is call part several whole more = absurd (cc)
+
+-- so none is whole that wants some
+never_whole : (call : FileCall) (part : List ℕ) → reads_several call ≡ true → WantsOn (wanted_by call) part → IsWhole call (reply_by call part) → ⊥
+never_whole call part several on whole = omega (arith, on (0 ∷ []) (λ none. cc), ap length (whole_is call part several whole (0 ∷ [])))
 
 -- a short answer is never none
 short_part : (call : FileCall) (part : List ℕ) (short : Bool) → reads_several call ≡ true → (IsTrue short → part ≢ []) → IsShort call (reply_by call part) short
@@ -79,8 +90,8 @@ unready_waited file (ReadLines hint) after several same = inl (refl, same)
 unready_waited file call after several same = absurd (cc)
 
 -- a reading that had enough, or all that was left
-answers_all : (old new : EngineView) (call : FileCall) (part : List ℕ) → reads_several call ≡ true → asks_none None call ≡ false → Reads old → Gives old part new → NoWait old.raw new.raw → GathersEnough (wanted_by call) old part → Answers (stream_of old) call (reply_by call part) (stream_of (record new { short = false }))
-answers_all old new call part several asks begun given no_wait gathered =
+answers_all : (old new : EngineView) (call : FileCall) (part : List ℕ) → reads_several call ≡ true → asks_none None call ≡ false → Reads old → Gives old part new → NoWait old.raw new.raw → GathersEnough (wanted_by call) old part → (IsWhole call (reply_by call part) → WhereTransfers old.raw (new.raw.transfers ≤ old.raw.transfers + length part)) → Answers (stream_of old) call (reply_by call part) (stream_of (record new { short = false }))
+answers_all old new call part several asks begun given no_wait gathered whole =
     let file : FlatFile = file_of (stream_of old) in
     let reads = several_reads call several in
     let same : new.life ≡ old.life = given.live ∙ sym begun.live in
@@ -88,6 +99,7 @@ answers_all old new call part several asks begun given no_wait gathered =
       kept = given.kept;
       is_open = ap is_closed given.live;
       bytes = given.bytes;
+      answered = given.answered;
       causes = record { waits = λ short. absurd (cc); faults = λ faulted. absurd (cc (said call part)) };
       counted = λ exactly. record { faults = λ sound. given.no_fault exactly; waits = λ whole writes. no_wait exactly; once = λ short. absurd (cc) };
       shorts = short_part call part false several (λ short. absurd (cc));
@@ -99,6 +111,7 @@ answers_all old new call part several asks begun given no_wait gathered =
       first = λ wanting takes none. absurd (cc (gave_bytes call part));
       nothing = λ none. absurd (cc);
       one = λ single. absurd (cc (several_makes call several));
+      needs = λ _. asks_no_more old new call (reply_by call part) false (length part) given.place whole given.transfers;
       answers = part_answers call part reads;
       told = λ tells. settled (subst (λ (refused : Option IoFault). SettledBy file call refused (reply_by call part) (file_of (stream_of new))) (sym (accepted old call reads begun.reader begun.live))
           (carried file call part (file_of (stream_of new)) several (gathered.exact tells) (file_after old new (length part) given.kept same given.place given.bytes tells)));
@@ -106,8 +119,8 @@ answers_all old new call part several asks begun given no_wait gathered =
     })
 
 -- one that a wait of the raw cut short
-answers_part : (old new : EngineView) (call : FileCall) (part : List ℕ) → reads_several call ≡ true → asks_none None call ≡ false → Reads old → Gives old part new → Rose old.raw.waits new.raw.waits → WaitsOnce old.raw new.raw → part ≢ [] → GathersFront (wanted_by call) old part → Answers (stream_of old) call (reply_by call part) (stream_of (record new { short = true }))
-answers_part old new call part several asks begun given waits once some gathered =
+answers_part : (old new : EngineView) (call : FileCall) (part : List ℕ) → reads_several call ≡ true → asks_none None call ≡ false → Reads old → Gives old part new → Rose old.raw.waits new.raw.waits → WaitsOnce old.raw new.raw → part ≢ [] → GathersFront (wanted_by call) old part → WantsOn (wanted_by call) part → Answers (stream_of old) call (reply_by call part) (stream_of (record new { short = true }))
+answers_part old new call part several asks begun given waits once some gathered on =
     let file : FlatFile = file_of (stream_of old) in
     let reads = several_reads call several in
     let same : new.life ≡ old.life = given.live ∙ sym begun.live in
@@ -115,6 +128,7 @@ answers_part old new call part several asks begun given waits once some gathered
       kept = given.kept;
       is_open = ap is_closed given.live;
       bytes = given.bytes;
+      answered = given.answered;
       causes = record { waits = λ short. waits; faults = λ faulted. absurd (cc (said call part)) };
       counted = λ exactly. record { faults = λ sound. given.no_fault exactly; waits = λ whole writes. absurd (cc); once = λ short writes. once exactly };
       shorts = short_part call part true several (λ short. some);
@@ -126,6 +140,7 @@ answers_part old new call part several asks begun given waits once some gathered
       first = λ wanting takes none. absurd (cc (gave_bytes call part));
       nothing = λ none. absurd (cc);
       one = λ single. absurd (cc (several_makes call several));
+      needs = λ _. asks_no_more old new call (reply_by call part) true (length part) given.place (λ is_whole. absurd (never_whole call part several on is_whole)) given.transfers;
       answers = part_answers call part reads;
       told = λ tells. waited_for refl (
         works old call reads begun.reader begun.live,
@@ -149,6 +164,7 @@ answers_unready old new call several asks begun given waits once =
       kept = given.kept;
       is_open = ap is_closed given.live;
       bytes = given.bytes;
+      answered = given.answered;
       causes = record { waits = λ short. waits; faults = λ faulted. absurd (cc) };
       counted = λ exactly. record { faults = λ sound. given.no_fault exactly; waits = λ whole writes. absurd (cc); once = λ short writes. once exactly };
       shorts = unready_short call;
@@ -160,6 +176,7 @@ answers_unready old new call several asks begun given waits once =
       first = λ wanting takes none. absurd (cc);
       nothing = λ none. absurd (cc);
       one = λ single. absurd (cc (several_makes call several));
+      needs = λ _. asks_no_more old new call NotReady true 0 given.place (λ is_whole. absurd (unready_not_whole call is_whole)) given.transfers;
       answers = unready_answers call reads;
       told = λ tells. waited_for refl (works old call reads begun.reader begun.live, unready_waited file call (file_of (stream_of new)) several (file_same old new given.kept same stays given.bytes tells));
       reach = next_reaches old new [] given.place given.told;
@@ -170,12 +187,12 @@ answers_unready old new call several asks begun given waits once =
 -- a reading with an answer
 pub answers_stopped : (old mid new : EngineView) (call : FileCall) (part : List ℕ) (stop : Stop) (empty : Bool) → reads_several call ≡ true → asks_none None call ≡ false → Reads old → StopOutcome old part (Ok stop) mid → Gathers (wanted_by call) old part (Ok stop) mid → (empty ≡ false → part ≢ []) → has_answer stop empty ≡ true → new ≡ answered_at stop mid → Answers (stream_of old) call (reply_by call part) (stream_of new)
 answers_stopped old mid new call part stops.Enough empty several asks begun outcome gathered some answered is =
-    subst (λ (engine : EngineView). Answers (stream_of old) call (reply_by call part) (stream_of engine)) (sym is) (answers_all old mid call part several asks begun outcome.0 outcome.1 gathered)
+    subst (λ (engine : EngineView). Answers (stream_of old) call (reply_by call part) (stream_of engine)) (sym is) (answers_all old mid call part several asks begun outcome.0 outcome.1 gathered (λ _. outcome.2))
 answers_stopped old mid new call part stops.End empty several asks begun outcome gathered some answered is =
-    subst (λ (engine : EngineView). Answers (stream_of old) call (reply_by call part) (stream_of engine)) (sym is) (answers_all old mid call part several asks begun outcome.0 outcome.1 gathered)
+    subst (λ (engine : EngineView). Answers (stream_of old) call (reply_by call part) (stream_of engine)) (sym is) (answers_all old mid call part several asks begun outcome.0 outcome.1 gathered.0 (λ is_whole. absurd (never_whole call part several gathered.1 is_whole)))
 answers_stopped old mid new call part stops.Waits true several asks begun outcome gathered some answered is = absurd (cc)
 answers_stopped old mid new call part stops.Waits false several asks begun outcome gathered some answered is =
-    subst (λ (engine : EngineView). Answers (stream_of old) call (reply_by call part) (stream_of engine)) (sym is) (answers_part old mid call part several asks begun outcome.0 outcome.1 outcome.2 (some refl) gathered)
+    subst (λ (engine : EngineView). Answers (stream_of old) call (reply_by call part) (stream_of engine)) (sym is) (answers_part old mid call part several asks begun outcome.0 outcome.1 outcome.2 (some refl) gathered.0 gathered.1)
 
 -- and one without
 pub unready_stopped : (old mid new : EngineView) (call : FileCall) (part : List ℕ) (stop : Stop) (empty : Bool) → reads_several call ≡ true → asks_none None call ≡ false → Reads old → StopOutcome old part (Ok stop) mid → (empty ≡ true → part ≡ []) → has_answer stop empty ≡ false → new ≡ answered_at stop mid → Answers (stream_of old) call NotReady (stream_of new)
@@ -222,8 +239,10 @@ refused_stop old new call part fault.RawFault several asks begun outcome refuses
       failed = fails.failed;
       place = fails_further call old.place new.place (several_goes call several) (forth_by (moves_most call) old.place new.place (omega (arith, fails.place)) refuses.within);
       bytes = fails.bytes;
+      answered = fails.answered;
       reach = next_reaches old new outcome.0 fails.place fails.told;
       one = λ single. absurd (cc (several_makes call several));
+      last = λ _ tells. omega (arith, fails.transfers tells, fails.place);
     })
 refused_stop old new call part fault.NoMemory several asks begun outcome refuses = starved old new call outcome.0 several asks begun outcome.1 refuses
 refused_stop old new call part why several asks begun outcome refuses = absurd outcome
@@ -249,17 +268,24 @@ refused_rest old new part why begun outcome = refused_stop old new (Read None) p
 comes_all : (left part : List ℕ) → take (length part) left ≡ part → length left ≤ length part → left ≡ part
 comes_all left part next within = sym (take_all (length part) left within) ∙ next
 
+-- all of whatever comes is wanted
+all_wanted : (part : List ℕ) → WantsOn (wanted_by (Read None)) part
+all_wanted part more some = omega (arith, length-append part more, some_length more some)
+
 -- what came by where it stopped is all that is left, or a front of it
 pub rest_gathers : (old new : EngineView) (part : List ℕ) (stop : Stop) → RestOutcome old (Ok stop) part new → StopOutcome old part (Ok stop) new × Gathers (wanted_by (Read None)) old part (Ok stop) new
 rest_gathers old new part stops.Enough outcome = absurd outcome
 rest_gathers old new part stops.End outcome = (
   outcome,
-  record {
-    alone = refl;
-    exact = λ tells. comes_all (left_at old.raw.bytes old.place) part (outcome.0.told tells) (let place = outcome.0.place in omega (arith, place, length-drop old.place old.raw.bytes, ap length (outcome.0.bytes (tells_its_bytes old.raw tells)), outcome.2 (tells_still old.raw new.raw outcome.0.kept.raw ∙ tells)));
-  },
+  (
+    record {
+      alone = refl;
+      exact = λ tells. comes_all (left_at old.raw.bytes old.place) part (outcome.0.told tells) (let place = outcome.0.place in omega (arith, place, length-drop old.place old.raw.bytes, ap length (outcome.0.bytes (tells_its_bytes old.raw tells)), outcome.2 (tells_still old.raw new.raw outcome.0.kept.raw ∙ tells)));
+    },
+    all_wanted part,
+  ),
 )
-rest_gathers old new part stops.Waits outcome = (outcome, record { alone = refl; front = λ tells. comes_front (left_at old.raw.bytes old.place) part (outcome.0.told tells) })
+rest_gathers old new part stops.Waits outcome = (outcome, (record { alone = refl; front = λ tells. comes_front (left_at old.raw.bytes old.place) part (outcome.0.told tells) }, all_wanted part))
 
 -- Of lines.
 

@@ -12,7 +12,7 @@ use Rattle.py_raw.proofs.Telling.{tells_its_bytes, tells_still, keeps_same}
 use Rattle.py_raw.proofs.ReadingOn.{Keeps-then}
 use Rattle.py_unbuffered.specs.declared.data.Stop.{Stop}
 use Rattle.py_unbuffered.specs.declared.data.Stop.TheVariants as stop
-use Rattle.py_unbuffered.specs.Engine.{EngineView, IsEngine, KeepsEngine, Waits, Fails, StarvesWith, Brings, TransferOutcome, Took, Gives, FailsAfter, StarvesAfter, StopOutcome, RestOutcome}
+use Rattle.py_unbuffered.specs.Engine.{EngineView, IsEngine, KeepsEngine, Waits, Fails, StarvesWith, Brings, TransferOutcome, Took, FailsAfter, StarvesAfter, StopOutcome, RestOutcome}
 
 -- Lists.
 
@@ -122,6 +122,7 @@ took_none old is live = record {
   none = λ nothing. refl;
   bytes = λ tells. refl;
   told = λ tells. refl;
+  transfers = λ tells. omega arith;
 }
 
 module _ (old now : EngineView) (part : List ℕ) (took : Took old part now) where
@@ -156,10 +157,11 @@ module _ (old now : EngineView) (part : List ℕ) (took : Took old part now) whe
         none = λ nothing. absurd (omega (arith, ap length nothing, long, some));
         bytes = bytes_then new brings.bytes;
         told = brings_next before count after new brings;
+        transfers = λ tells. omega (arith, took.transfers tells, brings.transfers (took.kept.raw.tells_transfers ∙ tells), long, some);
       }
 
   -- what was taken is given
-  pub gives_taken : Gives old part now × NoWait old.raw now.raw
+  pub gives_taken : StopOutcome old part (Ok stop.Enough) now
   gives_taken = (
     record {
       kept = took.kept;
@@ -169,8 +171,10 @@ module _ (old now : EngineView) (part : List ℕ) (took : Took old part now) whe
       place = took.place;
       bytes = took.bytes;
       told = took.told;
+      transfers = λ tells. omega (arith, took.transfers tells);
     },
     took.counts.no_wait,
+    took.transfers,
   )
 
   -- nothing came any more
@@ -184,6 +188,7 @@ module _ (old now : EngineView) (part : List ℕ) (took : Took old part now) whe
       place = omega (arith, took.place, brings.place);
       bytes = bytes_then new brings.bytes;
       told = took.told;
+      transfers = λ tells. omega (arith, took.transfers tells, brings.transfers (took.kept.raw.tells_transfers ∙ tells));
     },
     no_wait_then old now new took.kept took.counts.no_wait brings.counts.no_wait,
     λ tells.
@@ -202,6 +207,7 @@ module _ (old now : EngineView) (part : List ℕ) (took : Took old part now) whe
       place = waits.place ∙ took.place;
       bytes = bytes_then new waits.bytes;
       told = took.told;
+      transfers = λ tells. omega (arith, took.transfers tells, waits.transfers (took.kept.raw.tells_transfers ∙ tells));
     },
     omega (arith, took.kept.raw.waits, waits.cause),
     λ exact. omega (arith, took.counts.no_wait exact, waits.once (took.kept.raw.counts_exactly ∙ exact)),
@@ -218,6 +224,7 @@ module _ (old now : EngineView) (part : List ℕ) (took : Took old part now) whe
     place = fails.place ∙ took.place;
     bytes = bytes_then new fails.bytes;
     told = took.told;
+    transfers = λ tells. omega (arith, took.transfers tells, fails.transfers (took.kept.raw.tells_transfers ∙ tells));
   }
 
   -- memory ran out, which fails the stream where bytes had moved

@@ -21,15 +21,17 @@ use Rattle.py_raw.proofs.Telling.{tells_its_bytes}
 use Rattle.py_stream.specs.Stream.{Stream, file_of}
 use Rattle.py_stream.specs.Moving.{EndsWithin}
 use Rattle.py_stream.specs.Kinds.{is_reading, reads_on, takes_space_first, is_writing, asks_none, calls_none, makes_one, says_fault, says_no_memory}
-use Rattle.py_stream.specs.Writing.{LaidInOrder, LaysInOrder, PassesOn, BlocksFull, OwesOld, OwesNoneOfIts, Writes}
+use Rattle.py_stream.specs.Writing.{LaysFront, LaysInOrder, Takes, PassesOn, BlocksFull, OwesOld, OwesNoneOfIts, Writes}
 use Rattle.py_stream.specs.Answers.{refused_by, HasCauses, IsCounted, IsShort, LifeMoves, PlaceStarves, PlaceMoves, GivesWithin, SeeksByEnd, WantsMemory, IsReplyTo, closes_again, Answers}
 use Rattle.py_stream.specs.Replies.{taken_reply}
+use Rattle.py_stream.proofs.Owing.{owes_both}
+use Rattle.py_stream.proofs.Fronts.{lays_front}
 use Rattle.py_stream.proofs.Completing.{completes}
 use Rattle.py_unbuffered.specs.declared.access.Access.{Access}
 use Rattle.py_unbuffered.specs.declared.access.Access.TheVariants as access
 use Rattle.py_unbuffered.specs.Unbuffered.{can_of}
 use Rattle.py_unbuffered.specs.Engine.{EngineView, stream_of, KeepsEngine, BeginOutcome, Waits, LaysSome, Puts, FailsPutting, PutOutcome, Wrote, Stays, FailsWriting, StarvesWriting, WriteOutcome}
-use Rattle.py_unbuffered.proofs.Begun.{Stands, begun, is_near, refused_with}
+use Rattle.py_unbuffered.proofs.Begun.{bufferless, Stands, begun, is_near, refused_with}
 use Rattle.py_unbuffered.proofs.Steps.{keeps_self, keeps_then, keeps_failed, answers_none}
 use Rattle.py_unbuffered.proofs.Seeking.{can_stays}
 
@@ -44,7 +46,7 @@ pub record IsWrite (call : FileCall) : Type 0 where
   pub ends : (before : Stream) (reply : FileReply) (after : Stream) → SeeksByEnd before call reply after
   pub within : (reply : FileReply) → GivesWithin 0 call reply
   pub on : (before : Stream) (reply : FileReply) (after : Stream) → PassesOn before call reply after
-  pub lays : (before : Stream) (after : List ℕ) → LaidInOrder before (payload call) after → LaysInOrder before call after
+  pub lays : (before : Stream) (after : List ℕ) → LaysFront before (payload call) after → LaysInOrder before call after
   pub reads : is_reading call ≡ false
   pub goes : reads_on call ≡ false
   pub first : takes_space_first call ≡ false
@@ -160,28 +162,33 @@ raw_moved old now kept stands moved tells = omega (arith, stands (kept.raw.tells
 answers_some : (old now : EngineView) (taken : ℕ) → AnswersFor taken old.raw now.raw → now.place ≡ old.place + taken → old.place < now.place → WhereTransfers old.raw (counted old.raw.written 1 ≤ counted now.raw.written 0)
 answers_some old now taken answered place moved tells = omega (arith, answered tells, place, moved)
 
+-- what such a call took is owed no more
+takes_all : (old now : EngineView) (call : FileCall) (reply : FileReply) (short : Bool) → WriteTells old call reply short now → Takes (stream_of old) (payload call) (stream_of (record now { short = short }))
+takes_all old now call reply short tells = record {
+  taken = tells.taken;
+  within = tells.fits;
+  place = tells.moved;
+  passed = tells.taken;
+  most = omega arith;
+  answered = tells.answered;
+  owed = sym (drop_all tells.taken (take tells.taken (payload call)) (omega (arith, length-take-le tells.taken (payload call) tells.fits)));
+  up_to = inl refl;
+  told = tells.laid;
+}
+
 -- a call that writes, whatever it answers, leaves nothing owed
 owes_nothing : (old now : EngineView) (call : FileCall) (reply : FileReply) (short : Bool) → IsWrite call → MayWrite old call → WriteTells old call reply short now → (IsTrue (says_no_memory reply) → now.life ≡ life.Failed → WherePlace now.raw (now.raw.place ≡ now.place)) → Writes (stream_of old) call reply (stream_of (record now { short = short }))
 owes_nothing old now call reply short write may tells stands = record {
-  takes = λ _ _. record {
-    taken = tells.taken;
-    within = tells.fits;
-    place = tells.moved;
-    passed = tells.taken;
-    most = omega arith;
-    answered = tells.answered;
-    owed = sym (drop_all tells.taken (take tells.taken (payload call)) (omega (arith, length-take-le tells.taken (payload call) tells.fits)));
-    up_to = inl refl;
-    told = tells.laid;
-  };
+  owes = λ _. owes_both (stream_of old) (payload call) (stream_of (record now { short = short })) (inl refl) (takes_all old now call reply short tells);
+  takes = λ _ _. takes_all old now call reply short tells;
   leaves = λ other. absurd (let writing = write.writing in cc);
-  lays = λ tell. let laid = tells.laid tell in write.lays (stream_of old) now.raw.bytes (record { owed = 0; more = laid.0; order = λ _. omega arith; bytes = laid.3 });
+  lays = λ tell. let laid = tells.laid tell in write.lays (stream_of old) now.raw.bytes (lays_front (stream_of old) (payload call) now.raw.bytes (inl refl) (record { owed = 0; more = laid.0; order = λ _. omega arith; bytes = laid.3 }));
   passes = write.on (stream_of old) reply (stream_of (record now { short = short }));
   full = tells.full;
-  starves = λ wants failed. record {
+  starves = λ wants _ failed. record {
     further = tells.starves wants failed;
     stands = raw_moved old now tells.kept (stands wants failed) (tells.starves wants failed);
-    answered = answers_some old now tells.taken tells.answered tells.moved (tells.starves wants failed);
+    answered = λ _. answers_some old now tells.taken tells.answered tells.moved (tells.starves wants failed);
   };
   straight = tells.straight;
   settles = λ _ _. refl;
@@ -197,7 +204,7 @@ write_tells old now call reply short write may tells stands =
       keeps = record { buffer = refl; can = can_stays old now tells.kept; raw = tells.kept.raw; bare = λ _ _. refl };
       refused = λ why refused. absurd (let wrong : None ≡ Some why = sym none ∙ refused in cc);
       again = λ again. absurd (let open_still = write.closes (stream_of old) in cc);
-      shut = λ none shut. tells.kept.stays ∙ may.is.is_open may.live ∙ sym (not_closed now.life tells.goes);
+      shut = λ _ none shut. tells.kept.stays ∙ may.is.is_open may.live ∙ sym (not_closed now.life tells.goes);
       causes = tells.causes;
       counted = tells.counted;
       shorts = tells.shorts;
@@ -208,8 +215,9 @@ write_tells old now call reply short write may tells stands =
       first = λ _ takes. absurd (let none = write.first in cc);
       nothing = λ asks. absurd (let none = write.none in cc);
       idle = λ keeps. absurd (let none = write.idle (can_of old.access old.raw.seekable).writable in cc);
-      single = tells.one;
-      held = λ reads apart one. absurd (apart refl);
+      single = λ one none. tells.one one;
+      in_hand = λ has. absurd (bufferless None refl has.buffered);
+      needs = λ reads. absurd (cc (write.goes));
       spares = λ reads. absurd (let can = may.can in cc);
       writes = λ _. owes_nothing old now call reply short write may tells stands;
       answer = λ _. answer;
@@ -217,13 +225,13 @@ write_tells old now call reply short write may tells stands =
       complete = λ _ calm sound. completes old.raw now.raw None (can_of old.access old.raw.seekable).writable call reply short tells.causes tells.shorts answer calm sound;
       told = tells.told;
       reach = λ reads. absurd (let none = write.reads in cc);
-      near = λ live. let near = is_near now tells.kept.is live in record { ahead = near.ahead; behind = near.behind; stands = near.stands };
+      near = λ live. let near = is_near now tells.kept.is live in record { after_first = near.after_first; before_end = near.before_end; fits = near.fits; ahead = near.ahead; behind = near.behind; stands = near.stands };
       hides = λ _ reads. absurd (let none = write.reads in cc);
     }
 
 -- nothing was owed, and nothing is
 owes_old : (old now : EngineView) (short : Bool) → OwesOld (stream_of old) (stream_of (record now { short = short }))
-owes_old old now short = record { rest = record { passed = 0; bytes = refl; place = λ some. absurd (some refl) }; stands = λ _. refl; moved = λ _. refl }
+owes_old old now short = record { rest = record { passed = 0; bytes = refl; place = λ some. absurd (some refl) }; stands = λ _ _. refl; moved = λ _. refl }
 
 -- The flat file, from step to step.
 

@@ -1,5 +1,5 @@
 -- The engine of the streams without a buffer: what it is seen as, and what its steps do.
-use Rattle.std.specs.Prelude.{◌≡◌, ◌≢◌, ℕ, ◌+◌, ◌<◌, ◌≤◌, Bool, true, false, ◌&&◌, not, IsTrue, List, [], length, take, ℤ, pos, suc, zero, Option, Some, None, Result, Ok, Err}
+use Rattle.std.specs.Prelude.{◌≡◌, ◌≢◌, ℕ, ◌+◌, ◌<◌, ◌≤◌, Bool, true, false, ◌&&◌, not, IsTrue, List, [], ◌++◌, length, take, ℤ, pos, suc, zero, Option, Some, None, Result, Ok, Err}
 use Rattle.py_flat.specs.declared.fault.IoFault.{IoFault}
 use Rattle.py_flat.specs.declared.fault.IoFault.TheVariants as fault
 use Rattle.py_flat.specs.declared.life.Life.{Life}
@@ -10,7 +10,7 @@ use Rattle.py_flat.specs.Causes.{Rose}
 use Rattle.py_flat.specs.BinaryStep.{IsFrontOf}
 use Rattle.py_flat.specs.Refusals.{life_fault}
 use Rattle.py_raw.specs.RawStream.{Raw, Keeps, StaysOpen, WhereTold, WhereBytes, WherePlace, WhereTransfers, KeepsBytes, NoFault, NoWait, WaitsOnce, LeavesCounts, AnswersFor}
-use Rattle.py_stream.specs.Stream.{Stream, nothing_owed}
+use Rattle.py_stream.specs.Stream.{Stream, nothing_owed, nothing_held}
 use Rattle.py_stream.specs.Moving.{MovedBy}
 use Rattle.py_unbuffered.specs.declared.access.Access.{Access}
 use Rattle.py_unbuffered.specs.declared.data.Stop.{Stop}
@@ -36,6 +36,7 @@ stream_of engine = record {
   buffer = None;
   short = engine.short;
   owed = nothing_owed engine.place;
+  held = nothing_held engine.place;
 }
 
 -- what holds of every engine
@@ -114,7 +115,7 @@ TransferOutcome old moved before (Err other) after new = ⊥
 
 -- A reading that goes on.
 
--- it has taken these bytes: told, the next ones
+-- it has taken these bytes, at least one by each transfer: told, the next ones
 pub record Took (old : EngineView) (part : List ℕ) (now : EngineView) : Type 0 where
   pub kept : KeepsEngine old now
   pub counts : LeavesCounts old.raw now.raw
@@ -124,8 +125,10 @@ pub record Took (old : EngineView) (part : List ℕ) (now : EngineView) : Type 0
   pub none : part ≡ [] → now ≡ old
   pub bytes : KeepsBytes old.raw now.raw
   pub told : WhereTold old.raw (take (length part) (left_at old.raw.bytes old.place) ≡ part)
+  pub transfers : WhereTransfers old.raw (now.raw.transfers ≤ old.raw.transfers + length part)
 
--- it gives these bytes, and why it stopped: nothing comes after; or the raw would have blocked
+-- it gives these bytes, by at most one transfer more than they are, and why it stopped: nothing comes after; or the raw would have
+-- blocked
 pub record Gives (old : EngineView) (part : List ℕ) (new : EngineView) : Type 0 where
   pub kept : KeepsEngine old new
   pub no_fault : NoFault old.raw new.raw
@@ -134,6 +137,7 @@ pub record Gives (old : EngineView) (part : List ℕ) (new : EngineView) : Type 
   pub place : new.place ≡ old.place + length part
   pub bytes : KeepsBytes old.raw new.raw
   pub told : WhereTold old.raw (take (length part) (left_at old.raw.bytes old.place) ≡ part)
+  pub transfers : WhereTransfers old.raw (new.raw.transfers ≤ old.raw.transfers + length part + 1)
 
 -- the raw failed after a part that was taken
 pub record FailsAfter (old : EngineView) (part : List ℕ) (new : EngineView) : Type 0 where
@@ -145,6 +149,7 @@ pub record FailsAfter (old : EngineView) (part : List ℕ) (new : EngineView) : 
   pub place : new.place ≡ old.place + length part
   pub bytes : KeepsBytes old.raw new.raw
   pub told : WhereTold old.raw (take (length part) (left_at old.raw.bytes old.place) ≡ part)
+  pub transfers : WhereTransfers old.raw (new.raw.transfers ≤ old.raw.transfers + length part + 1)
 
 -- memory ran out after a part that was taken: where it isn't empty the stream fails
 pub record StarvesAfter (old : EngineView) (part : List ℕ) (new : EngineView) : Type 0 where
@@ -159,7 +164,7 @@ AtEnd engine = WhereTold engine.raw (length engine.raw.bytes ≤ engine.place)
 
 -- the part that was taken by the time that it stopped
 abbrev pub StopOutcome : EngineView → List ℕ → Result Stop IoFault → EngineView → Type 0
-StopOutcome old part (Ok stop.Enough) new = Gives old part new × NoWait old.raw new.raw
+StopOutcome old part (Ok stop.Enough) new = Gives old part new × NoWait old.raw new.raw × WhereTransfers old.raw (new.raw.transfers ≤ old.raw.transfers + length part)
 StopOutcome old part (Ok stop.End) new = Gives old part new × NoWait old.raw new.raw × AtEnd new
 StopOutcome old part (Ok stop.Waits) new = Gives old part new × Rose old.raw.waits new.raw.waits × WaitsOnce old.raw new.raw
 StopOutcome old part (Err fault.RawFault) new = (taken : List ℕ) × FailsAfter old taken new
@@ -170,6 +175,10 @@ StopOutcome old part (Err other) new = ⊥
 abbrev pub RestOutcome : EngineView → Result Stop IoFault → List ℕ → EngineView → Type 0
 RestOutcome old (Ok stop.Enough) bytes new = ⊥
 RestOutcome old result bytes new = StopOutcome old bytes result new
+
+-- some of whatever comes after a part is wanted
+abbrev pub WantsOn : (List ℕ → List ℕ) → List ℕ → Type 0
+WantsOn wanted part = (more : List ℕ) → more ≢ [] → length part < length (wanted (part ++ more))
 
 -- what was collected by the time that it stopped: all that is wanted of what is left; or a front of that
 pub record GathersEnough (wanted : List ℕ → List ℕ) (old : EngineView) (part : List ℕ) : Type 0 where
@@ -187,8 +196,8 @@ pub record GathersUpTo (wanted : List ℕ → List ℕ) (old new : EngineView) :
 
 abbrev pub Gathers : (List ℕ → List ℕ) → EngineView → List ℕ → Result Stop IoFault → EngineView → Type 0
 Gathers wanted old part (Ok stop.Enough) new = GathersEnough wanted old part
-Gathers wanted old part (Ok stop.End) new = GathersEnough wanted old part
-Gathers wanted old part (Ok stop.Waits) new = GathersFront wanted old part
+Gathers wanted old part (Ok stop.End) new = GathersEnough wanted old part × WantsOn wanted part
+Gathers wanted old part (Ok stop.Waits) new = GathersFront wanted old part × WantsOn wanted part
 Gathers wanted old part (Err refused) new = GathersUpTo wanted old new
 
 abbrev pub GatherOutcome : (List ℕ → List ℕ) → EngineView → Result Stop IoFault → List ℕ → EngineView → Type 0

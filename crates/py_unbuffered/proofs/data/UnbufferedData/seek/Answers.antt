@@ -4,7 +4,7 @@ use Rattle.std.proofs.lemmas.Result.{err_from_is_err_and}
 use Rattle.py_flat.specs.Calls.{Seek}
 use Rattle.py_unbuffered.specs.Engine.{EngineView, TargetOutcome}
 use Rattle.py_unbuffered.proofs.Begun.{Stands, begins_in_vain, refused_by_ability}
-use Rattle.py_unbuffered.proofs.Seeking.{cannot_seek, begun_cannot, may_seek, seek_finds_nothing, seek_finds, going_fails, going_answers, not_seekable, never_moved, can_seek}
+use Rattle.py_unbuffered.proofs.Seeking.{cannot_seek, begun_cannot, seek_begins, seek_finds_nothing, seek_finds, going_fails, going_answers, not_seekable, never_moved, can_seek}
 use Rattle.py_unbuffered.proofs.data.UnbufferedData.seek.Goals as goal
 use Rattle.py_unbuffered.proofs.data.UnbufferedData.seek.Goals.{then-not-seekable-via-then-not-seekable, then-not-seekable-via-else-not-seekable+then-matches, in-Append, in_default}
 
@@ -39,7 +39,8 @@ returns-in_err-target g c =
       | in_default w ↦ can_seek c.begin.new.self.access c.begin.new.self.raw.seekable seen (λ appends. w.in_default.not-Append (opened ∙ appends))
     ] in
     let found = subst₂ (λ (offset : ℤ) (whence : ℤ). TargetOutcome c.begin.new.self offset whence (Err c.in_err-target.field-0.0) c.target.new.self) (to_z-of_z c.ranges.offset) (to_z-of_z c.ranges.whence) c.in_err-target.ensures in
-    rw (left.1, left.2) (seek_finds_nothing c.args.self.now c.begin.new.self c.target.new.self c.args.offset c.args.whence c.in_err-target.field-0.0 stands c.in_ok-begin.ensures can found)
+    let begins = seek_begins c.args.self.now c.begin.new.self stands c.in_ok-begin.ensures can in
+    rw (left.1, left.2) (seek_finds_nothing c.args.self.now c.begin.new.self c.target.new.self c.args.offset c.args.whence c.in_err-target.field-0.0 begins c.in_ok-begin.ensures found)
 
 pub returns-in_err-go_to : goal.returns-in_err-go_to
 returns-in_err-go_to g c =
@@ -52,9 +53,9 @@ returns-in_err-go_to g c =
       | in_default w ↦ can_seek c.begin.new.self.access c.begin.new.self.raw.seekable seen (λ appends. w.in_default.not-Append (opened ∙ appends))
     ] in
     let found = subst₂ (λ (offset : ℤ) (whence : ℤ). TargetOutcome c.begin.new.self offset whence (Ok c.in_ok-target.target) c.target.new.self) (to_z-of_z c.ranges.offset) (to_z-of_z c.ranges.whence) c.in_ok-target.ensures in
-    let may = may_seek c.args.self.now c.begin.new.self stands c.in_ok-begin.ensures can in
-    let finds = seek_finds c.args.self.now c.begin.new.self c.target.new.self c.args.offset c.args.whence c.in_ok-target.target stands c.in_ok-begin.ensures can found in
-    rw (left.1, left.2) (going_fails c.args.self.now c.target.new.self c.go_to.new.self c.args.offset c.args.whence c.in_ok-target.target c.in_err-go_to.field-0.0 may finds c.in_err-go_to.ensures)
+    let begins = seek_begins c.args.self.now c.begin.new.self stands c.in_ok-begin.ensures can in
+    let finds = seek_finds c.args.self.now c.begin.new.self c.target.new.self c.args.offset c.args.whence c.in_ok-target.target begins c.in_ok-begin.ensures found in
+    rw (left.1, left.2) (going_fails c.args.self.now c.target.new.self c.go_to.new.self c.args.offset c.args.whence c.in_ok-target.target c.in_err-go_to.field-0.0 begins finds c.in_err-go_to.ensures)
 
 pub returns : goal.returns
 returns g c =
@@ -66,6 +67,6 @@ returns g c =
       | in_default w ↦ can_seek c.begin.new.self.access c.begin.new.self.raw.seekable seen (λ appends. w.in_default.not-Append (opened ∙ appends))
     ] in
     let found = subst₂ (λ (offset : ℤ) (whence : ℤ). TargetOutcome c.begin.new.self offset whence (Ok c.in_ok-target.target) c.target.new.self) (to_z-of_z c.ranges.offset) (to_z-of_z c.ranges.whence) c.in_ok-target.ensures in
-    let may = may_seek c.args.self.now c.begin.new.self stands c.in_ok-begin.ensures can in
-    let finds = seek_finds c.args.self.now c.begin.new.self c.target.new.self c.args.offset c.args.whence c.in_ok-target.target stands c.in_ok-begin.ensures can found in
-    going_answers c.args.self.now c.target.new.self c.go_to.new.self c.args.offset c.args.whence c.in_ok-target.target may finds c.in_ok-go_to.ensures
+    let begins = seek_begins c.args.self.now c.begin.new.self stands c.in_ok-begin.ensures can in
+    let finds = seek_finds c.args.self.now c.begin.new.self c.target.new.self c.args.offset c.args.whence c.in_ok-target.target begins c.in_ok-begin.ensures found in
+    going_answers c.args.self.now c.target.new.self c.go_to.new.self c.args.offset c.args.whence c.in_ok-target.target begins finds c.in_ok-go_to.ensures

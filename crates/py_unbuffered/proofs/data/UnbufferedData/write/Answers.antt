@@ -1,4 +1,4 @@
-use Rattle.std.proofs.Common.{◌≡◌, ◌+◌, ◌≤◌, length, false, Ok, refl, sym, ap, ◌∙◌, subst, arith}
+use Rattle.std.proofs.Common.{◌≡◌, ◌+◌, ◌<◌, ◌≤◌, length, false, Ok, refl, sym, ap, ◌∙◌, subst, arith}
 use Rattle.std.proofs.lemmas.Result.{err_from_is_err_and}
 use Rattle.py_flat.specs.Limits.{greatest_place}
 use Rattle.py_flat.specs.Calls.{Write}
@@ -7,7 +7,7 @@ use Rattle.py_stream.specs.Replies.{taken_reply}
 use Rattle.py_unbuffered.specs.Unbuffered.{can_of}
 use Rattle.py_unbuffered.specs.Engine.{EngineView, stream_of}
 use Rattle.py_unbuffered.proofs.Begun.{Stands, begins_in_vain}
-use Rattle.py_unbuffered.proofs.WriteAnswers.{may_write, write_fails, write_answers}
+use Rattle.py_unbuffered.proofs.WriteAnswers.{is_write, too_far_answers, may_write, write_fails, write_answers}
 use Rattle.py_unbuffered.proofs.data.UnbufferedData.write.Goals as goal
 
 pub returns-in_err-begin : goal.returns-in_err-begin
@@ -15,6 +15,13 @@ returns-in_err-begin g c =
     let left = err_from_is_err_and c.from_residual.result c.from_residual.ensures.1 in
     let stands = subst Stands c.self.view_is c.self.invariant in
     rw (left.1, left.2) (begins_in_vain c.args.self.now c.begin.new.self (Write c.args.bytes.now) c.in_err-begin.field-0.0 stands refl refl refl c.in_err-begin.ensures)
+
+pub returns-then-bytes-self : goal.returns-then-bytes-self
+returns-then-bytes-self g c =
+    let stands = subst Stands c.self.view_is c.self.invariant in
+    let reads : (can_of c.begin.new.self.access c.begin.new.self.raw.seekable).readable ≡ false = sym c.reads.ensures ∙ c.if-reads.false in
+    let past : greatest_place < c.begin.new.self.place + length c.args.bytes.now = omega (arith, ap (λ (engine : EngineView). engine.place) c.self-2.view_is, c.self-2.invariant.far, c.if-bytes-self.true) in
+    too_far_answers c.args.self.now c.begin.new.self (Write c.args.bytes.now) (is_write c.args.bytes.now) stands c.in_ok-begin.ensures reads past
 
 pub returns-in_err-count : goal.returns-in_err-count
 returns-in_err-count g c =
