@@ -14,16 +14,17 @@ use Rattle.py_flat.specs.ExactStep.{is_closed, seek_target}
 use Rattle.py_flat.specs.AllowedStep.{settled}
 use Rattle.py_flat.specs.BinaryStep.{is_live, asks_end, does_work, reaches_raw, SettledBy}
 use Rattle.py_flat.proofs.Laying.{length-lay}
-use Rattle.py_raw.specs.RawStream.{WhereTold, NoWait}
+use Rattle.py_raw.specs.RawStream.{WhereTold, WhereBytes, NoWait}
 use Rattle.py_raw.proofs.Telling.{tells_its_bytes}
 use Rattle.py_stream.specs.Stream.{Stream, writer_can, file_of}
 use Rattle.py_stream.specs.Kinds.{says_fault, says_no_memory}
-use Rattle.py_stream.specs.Writing.{LaidInOrder, BlocksFull}
+use Rattle.py_stream.specs.Writing.{BlocksFull}
 use Rattle.py_stream.specs.Moving.{MovedBy}
 use Rattle.py_stream.specs.Answers.{Leaves, IsShort, LifeMoves, SeekGoes, PlaceMoves, SeeksTo, SeeksFromEnd, SeeksByEnd, IsReplyTo, Answers}
 use Rattle.py_stream.proofs.Refused.{is_own}
 use Rattle.py_stream.proofs.Refusing.{refused_by_life, refused_with, refused_alone}
 use Rattle.py_stream.proofs.Begun.{answers_whole}
+use Rattle.py_stream.proofs.Fronts.{LaidInOrder}
 use Rattle.py_writer.specs.Pending.{PendingView, end_of}
 use Rattle.py_writer.specs.Engine.{WriterView, stream_of, BeginOutcome, Took, FailsTaking, AsksEnd, FailsMoving, TargetFrom, TargetFromEnd, TargetOutcome, GoesTo, GoOutcome, PassAllOutcome}
 use Rattle.py_writer.proofs.Taking.{keeps_then, no_fault_then, no_wait_then, waits_once_then, waited_then, faulted_then, answers_still, took_none, took_on, fails_on, lacks_on}
@@ -81,8 +82,8 @@ ends_at raw place (byte ∷ more) =
     let some : nat_eq (length bytes) 0 ≡ false = ne_eqb (length bytes) 0 (λ none. absurd (omega (arith, none))) in
     length-lay raw place bytes (omega arith) ∙ sym (ap (λ (none : Bool). if none then length raw else max (length raw) (place + length bytes)) some)
 
-end_is : (old new : WriterView) (end : ℕ) → AsksEnd old end new → WhereTold old.raw (end ≡ length (file_of (stream_of old)).bytes)
-end_is old new end asks tells = asks.told (tells_its_bytes old.raw tells) ∙ sym (ends_at old.raw.bytes old.pending.place old.pending.bytes)
+end_is : (old new : WriterView) (end : ℕ) → AsksEnd old end new → WhereBytes old.raw (end ≡ length (file_of (stream_of old)).bytes)
+end_is old new end asks tells = asks.told tells ∙ sym (ends_at old.raw.bytes old.pending.place old.pending.bytes)
 
 asking_took : (old new : WriterView) (end : ℕ) → old.life ≡ life.Live → AsksEnd old end new → Took old [] new
 asking_took old new end live asks =
@@ -197,6 +198,7 @@ end_refuses old new offset why end may asks refuses =
     let seeks : SeeksFromEnd (stream_of old) offset (Refused why) (stream_of new) = record {
       end = end;
       within = asks.within;
+      told = end_is old new end asks;
       target = subst (λ (refused : Option IoFault). SeeksTo (stream_of old) (moved_by end offset) refused (Refused why) (stream_of new)) (sym refuses) (seeks_nowhere (stream_of old) (moved_by end offset) why (stream_of new) left);
     } in
     works_answers old call (Refused why) (stream_of new) asked.none (record {
@@ -225,7 +227,7 @@ end_refuses old new offset why end may asks refuses =
       at_once = λ failed. absurd (cc (may.live));
       answer = at.answer old.pending.size;
       told = λ tells.
-          let by : refusal (file_of (stream_of old)) call ≡ Some why = seek_refusal_is old offset (pos 2) may ∙ ap (λ (base : ℕ). target_refusal (moved_by base offset)) (sym (end_is old new end asks tells)) ∙ refuses in
+          let by : refusal (file_of (stream_of old)) call ≡ Some why = seek_refusal_is old offset (pos 2) may ∙ ap (λ (base : ℕ). target_refusal (moved_by base offset)) (sym (end_is old new end asks (tells_its_bytes old.raw tells))) ∙ refuses in
           settled (subst (λ (refused : Option IoFault). SettledBy (file_of (stream_of old)) call refused (Refused why) (file_of (stream_of new))) (sym by) (refl, passing_file old new passes same tells));
       near = is_near new took.kept.is;
     })
@@ -273,7 +275,7 @@ target_is base offset target moved = ap (λ (place : Option ℕ). unwrap_or plac
 finds_from_end : (old found : WriterView) (offset : ℤ) (target end : ℕ) → MaySeek old → AsksEnd old end found → MovedBy end offset (Ok target) → Finds old offset (pos 2) target found
 finds_from_end old found offset target end may asks moved =
     let none : WhereTold old.raw (refusal (file_of (stream_of old)) (Seek offset (pos 2)) ≡ None) = λ tells.
-    seek_refusal_is old offset (pos 2) may ∙ ap (λ (base : ℕ). target_refusal (moved_by base offset)) (sym (end_is old found end asks tells)) ∙ lies_within end offset target moved in
+    seek_refusal_is old offset (pos 2) may ∙ ap (λ (base : ℕ). target_refusal (moved_by base offset)) (sym (end_is old found end asks (tells_its_bytes old.raw tells))) ∙ lies_within end offset target moved in
     record {
       took = asking_took old found end may.live asks;
       no_wait = asks.counts.no_wait;
@@ -284,11 +286,12 @@ finds_from_end old found offset target end may asks moved =
       ends = λ after _. record {
         end = end;
         within = asks.within;
+        told = end_is old found end asks;
         target = subst (λ (place : Option ℕ). SeeksTo (stream_of old) place (target_refusal place) (Place target) after) (sym moved.0)
             (subst (λ (refused : Option IoFault). SeeksTo (stream_of old) (Some target) refused (Place target) after) (sym (ap (λ (far : Bool). refused_if far fault.TooFar) (le-ltb greatest_place target moved.1))) refl);
       };
       goes = tt;
-      lies = λ tells. (ap (λ (base : ℕ). unwrap_or (moved_by base offset) 0) (sym (end_is old found end asks tells)) ∙ target_is end offset target moved, none tells);
+      lies = λ tells. (ap (λ (base : ℕ). unwrap_or (moved_by base offset) 0) (sym (end_is old found end asks (tells_its_bytes old.raw tells))) ∙ target_is end offset target moved, none tells);
     }
 
 finds_from_place : (old found : WriterView) (offset whence : ℤ) (base target : ℕ) → MaySeek old → asks_end (file_of (stream_of old)) (Seek offset whence) ≡ false → ((after : Stream) → SeeksByEnd (stream_of old) (Seek offset whence) (Place target) after) → SeekGoes (end_of old.pending) offset whence target → seek_base (file_of (stream_of old)) whence ≡ Some base → TargetFrom base offset old (Ok target) found → Finds old offset whence target found
