@@ -6,3 +6,4 @@ pub mod Completing
 pub mod Begun
 pub mod Returning
 pub mod Joined
+pub mod Seeking
