@@ -23,6 +23,7 @@ use Rattle.py_stream.specs.Answers.{Answers, KeepsStream, Leaves, ClosedWith, cl
 use Rattle.py_stream.proofs.Completing.{completes}
 use Rattle.py_stream.proofs.Fronts.{LaidInOrder, lays_front}
 use Rattle.py_stream.proofs.Refusing.{refused_alone}
+use Rattle.py_stream.proofs.Seeking.{fault_needs_no_end, want_needs_no_end, want_answers, not_refused}
 use Rattle.py_writer.specs.Pending.{end_of}
 use Rattle.py_writer.specs.Engine.{WriterView, stream_of, IsWriter, KeepsWriter, Took, FailsTaking, Lacks, PassAllOutcome}
 use Rattle.py_writer.proofs.Flat.{is_near, same_abilities}
@@ -105,9 +106,6 @@ pub record Works (old : WriterView) (call : FileCall) (reply : FileReply) (after
   pub answer : IsReplyTo (Some old.pending.size) true call reply
   pub told : WhereTold old.raw (BinaryStep (file_of (stream_of old)) call reply after.short (says_fault reply) (file_of after))
   pub near : after.life ≡ life.Live → IsNear after
-
-not_refused : (before : Stream) (call : FileCall) (expected reply : FileReply) (after : Stream) (why : IoFault) → refused_by before call ≡ None → refused_by before call ≡ Some why → Leaves before expected reply after
-not_refused before call expected reply after why none some = let wrong : None ≡ Some why = sym none ∙ some in absurd (cc)
 
 -- a call that isn't one `write`
 not_one_write : (before after : Stream) (call : FileCall) (reply : FileReply) → is_writing call ≡ false → OwesNoneOfIts before call reply after
@@ -373,21 +371,9 @@ starved_there : (current : Life) (place : ℕ) → PlaceStarves current None pla
 starved_there life.Live place = refl
 starved_there current place = omega arith
 
-want_answers : (size : ℕ) (offset whence : ℤ) → IsReplyTo (Some size) true (Seek offset whence) (Refused fault.NoMemory)
-want_answers size offset (pos (suc (suc zero))) = tt
-want_answers size offset whence = tt
-
-want_needs_no_end : (before : Stream) (offset whence : ℤ) (after : Stream) → SeeksByEnd before (Seek offset whence) (Refused fault.NoMemory) after
-want_needs_no_end before offset (pos (suc (suc zero))) after = λ _. tt
-want_needs_no_end before offset whence after = tt
-
 wait_needs_no_end : (before : Stream) (offset whence : ℤ) (after : Stream) → SeeksByEnd before (Seek offset whence) (Refused (fault.WouldBlock 0)) after
 wait_needs_no_end before offset (pos (suc (suc zero))) after = λ _. tt
 wait_needs_no_end before offset whence after = tt
-
-fault_needs_no_end : (before : Stream) (offset whence : ℤ) (after : Stream) → SeeksByEnd before (Seek offset whence) (Refused fault.RawFault) after
-fault_needs_no_end before offset (pos (suc (suc zero))) after = λ _. tt
-fault_needs_no_end before offset whence after = tt
 
 -- a writer, which doesn't read, has no place in hand
 seeks_unheld : (writer : WriterView) (offset whence : ℤ) → InHandOf (stream_of writer) (Seek offset whence) → ⊥
@@ -420,7 +406,7 @@ seek_takes_none offset whence = record {
   lack_place = λ size current place. starved_there current place;
   lack_full = λ after. tt;
   lack_ends = λ before after. want_needs_no_end before offset whence after;
-  lack_answer = λ size. want_answers size offset whence;
+  lack_answer = λ size. want_answers (Some size) true offset whence;
   lack_step = λ file. refl;
   fault_short = refl;
   fault_place = λ size current place. refl;
