@@ -182,11 +182,11 @@ goes before offset whence target may wrong = let never : Ok target ≡ Err fault
 
 -- What an answer of a seek comes to.
 
-fault_needs_no_end : (before : Stream) (offset whence : ℤ) (after : Stream) → SeeksByEnd before (Seek offset whence) (Refused fault.RawFault) after
+pub fault_needs_no_end : (before : Stream) (offset whence : ℤ) (after : Stream) → SeeksByEnd before (Seek offset whence) (Refused fault.RawFault) after
 fault_needs_no_end before offset (pos (suc (suc zero))) after = λ _. tt
 fault_needs_no_end before offset whence after = tt
 
-want_needs_no_end : (before : Stream) (offset whence : ℤ) (after : Stream) → SeeksByEnd before (Seek offset whence) (Refused fault.NoMemory) after
+pub want_needs_no_end : (before : Stream) (offset whence : ℤ) (after : Stream) → SeeksByEnd before (Seek offset whence) (Refused fault.NoMemory) after
 want_needs_no_end before offset (pos (suc (suc zero))) after = λ _. tt
 want_needs_no_end before offset whence after = tt
 
@@ -228,7 +228,7 @@ pub record SeekShows (before : Stream) (offset whence : ℤ) (reply : FileReply)
   pub near : after.life ≡ life.Live → IsNear after
 
 -- what is let through isn't refused
-not_refused : (before : Stream) (call : FileCall) (expected reply : FileReply) (after : Stream) (why : IoFault) → refused_by before call ≡ None → refused_by before call ≡ Some why → Leaves before expected reply after
+pub not_refused : (before : Stream) (call : FileCall) (expected reply : FileReply) (after : Stream) (why : IoFault) → refused_by before call ≡ None → refused_by before call ≡ Some why → Leaves before expected reply after
 not_refused before call expected reply after why none some = let wrong : None ≡ Some why = sym none ∙ some in absurd (cc)
 
 asks_some : (buffer : Option ℕ) (offset whence : ℤ) → asks_none buffer (Seek offset whence) ≡ false

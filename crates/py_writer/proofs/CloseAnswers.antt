@@ -10,14 +10,15 @@ use Rattle.py_flat.specs.FlatFile.{FlatFile, Buffered}
 use Rattle.py_flat.specs.ExactStep.{is_closed, in_life}
 use Rattle.py_flat.specs.AllowedStep.{settled, raw_faulted}
 use Rattle.py_flat.specs.BinaryStep.{SettledBy}
-use Rattle.py_raw.specs.RawStream.{Raw, Keeps, WhereTold, NoFault, NoWait}
+use Rattle.py_raw.specs.RawStream.{WhereTold, NoFault, NoWait}
 use Rattle.py_raw.proofs.Telling.{tells_its_bytes}
 use Rattle.py_raw.proofs.ReadingOn.{Keeps-then}
 use Rattle.py_stream.specs.Stream.{buffering_of, file_of, writer_can}
 use Rattle.py_stream.specs.Replies.{done_reply}
-use Rattle.py_stream.specs.Writing.{PassesFront, LaidInOrder}
+use Rattle.py_stream.specs.Writing.{PassesFront}
 use Rattle.py_stream.specs.Answers.{Answers, KeepsStream}
 use Rattle.py_stream.proofs.Begun.{answers_whole}
+use Rattle.py_stream.proofs.Fronts.{LaidInOrder}
 use Rattle.py_writer.specs.Pending.{PendingView, end_of}
 use Rattle.py_writer.specs.Engine.{WriterView, stream_of, BeginOutcome, Took, FailsTaking, PassAllOutcome, ClosingOutcome, ClosesRaw, CloseRawOutcome}
 use Rattle.py_writer.proofs.Taking.{no_wait_then, answers_still}

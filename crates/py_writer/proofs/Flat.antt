@@ -12,8 +12,8 @@ use Rattle.py_flat.specs.BinaryStep.{Fails}
 use Rattle.py_flat.proofs.Laying.{lay_behind, lay_resumes}
 use Rattle.py_raw.specs.RawStream.{WhereTold}
 use Rattle.py_stream.specs.Stream.{file_of, writer_can}
-use Rattle.py_stream.specs.Writing.{LaidInOrder}
 use Rattle.py_stream.specs.Answers.{IsNear}
+use Rattle.py_stream.proofs.Fronts.{LaidInOrder}
 use Rattle.py_stream.proofs.Refusing.{IsPlaced}
 use Rattle.py_writer.specs.Pending.{end_of}
 use Rattle.py_writer.specs.Engine.{WriterView, stream_of, IsWriter, KeepsWriter, Took, FailsTaking}
@@ -22,7 +22,7 @@ use Rattle.py_writer.specs.Engine.{WriterView, stream_of, IsWriter, KeepsWriter,
 
 -- a live writer's raw stands no further after its place than the buffer is long
 pub is_near : (writer : WriterView) → IsWriter writer.raw writer.pending writer.life → writer.life ≡ life.Live → IsNear (stream_of writer)
-is_near writer is live = record { ahead = omega arith; behind = omega (arith, is.pending_is.held); stands = λ tells. is.stands tells live }
+is_near writer is live = record { after_first = omega arith; before_end = omega arith; fits = omega (arith, is.pending_is.held); ahead = omega arith; behind = omega (arith, is.pending_is.held); stands = λ tells. is.stands tells live }
 
 pub is_placed : (writer : WriterView) → IsWriter writer.raw writer.pending writer.life → IsPlaced (stream_of writer)
 is_placed writer is = record { far = is.pending_is.far; near = is_near writer is }
@@ -137,15 +137,6 @@ took_none_file old new live took tells =
     let buffering : Buffered new.pending.size ≡ Buffered old.pending.size = ap Buffered took.kept.size in
     let same : new.life ≡ old.life = took.live ∙ sym live in
     cc
-
--- told: the raw has the bytes in order
-pub took_lays : (old new : WriterView) (bytes : List ℕ) → Took old bytes new → WhereTold old.raw (LaidInOrder (stream_of old) bytes new.raw.bytes)
-took_lays old new bytes took tells = record {
-  owed = took.passed;
-  more = took.passed - length old.pending.bytes;
-  order = λ some. omega (arith, some);
-  bytes = took.told tells ∙ laid_in_order old.raw.bytes old.pending.place old.pending.bytes bytes took.passed;
-}
 
 -- Where the raw failed.
 

@@ -1,5 +1,5 @@
 -- Calls that take no bytes, and pass on what is owed: `seek`, `flush`, `close` and `detach`.
-use Rattle.std.proofs.Common.{◌≡◌, ◌≢◌, ℕ, suc, zero, pos, ℤ, ◌+◌, ◌≤◌, Bool, true, false, ◌&&◌, ◌||◌, not, IsTrue, List, [], ◌++◌, length, take, drop, Option, Some, None, is_none, Err, if◌then◌else◌, refl, sym, ap, ◌∙◌, subst, arith, zero-le, length-drop}
+use Rattle.std.proofs.Common.{◌≡◌, ◌≢◌, ℕ, suc, zero, pos, ℤ, ◌+◌, ◌≤◌, inr, Bool, true, false, ◌&&◌, ◌||◌, not, IsTrue, List, [], ◌++◌, length, take, drop, Option, Some, None, is_none, Err, if◌then◌else◌, refl, sym, ap, ◌∙◌, subst, arith, zero-le, length-drop}
 use Rattle.std.proofs.lemmas.List.{append-nil}
 use Rattle.py_flat.specs.declared.fault.IoFault.{IoFault}
 use Rattle.py_flat.specs.declared.fault.IoFault.TheVariants as fault
@@ -18,10 +18,12 @@ use Rattle.py_flat.proofs.Laying.{lay_resumes}
 use Rattle.py_raw.specs.RawStream.{Raw, WhereTold, NoFault, NoWait, WaitsOnce, AnswersFor}
 use Rattle.py_stream.specs.Stream.{Stream, file_of, writer_can}
 use Rattle.py_stream.specs.Kinds.{is_reading, reads_on, is_single, takes_space_first, asks_nothing, is_writing, keeps_raw, says_fault, says_no_memory}
-use Rattle.py_stream.specs.Writing.{PassesFront, LaidInOrder, LaysInOrder, PassesOn, BlocksFull, OwesNoneOfIts}
-use Rattle.py_stream.specs.Answers.{Answers, KeepsStream, Leaves, ClosedWith, closes_again, IsReplyTo, HasCauses, IsShort, LifeMoves, PlaceStarves, PlaceMoves, GivesWithin, refused_by, SeeksByEnd, IsNear}
+use Rattle.py_stream.specs.Writing.{PassesFront, LaysFront, LaysInOrder, PassesOn, BlocksFull, OwesNoneOfIts}
+use Rattle.py_stream.specs.Answers.{Answers, KeepsStream, Leaves, ClosedWith, closes_again, IsReplyTo, HasCauses, InHandOf, IsShort, LifeMoves, PlaceStarves, PlaceMoves, GivesWithin, refused_by, SeeksByEnd, IsNear}
 use Rattle.py_stream.proofs.Completing.{completes}
+use Rattle.py_stream.proofs.Fronts.{LaidInOrder, lays_front}
 use Rattle.py_stream.proofs.Refusing.{refused_alone}
+use Rattle.py_stream.proofs.Seeking.{fault_needs_no_end, want_needs_no_end, want_answers, not_refused}
 use Rattle.py_writer.specs.Pending.{end_of}
 use Rattle.py_writer.specs.Engine.{WriterView, stream_of, IsWriter, KeepsWriter, Took, FailsTaking, Lacks, PassAllOutcome}
 use Rattle.py_writer.proofs.Flat.{is_near, same_abilities}
@@ -45,8 +47,9 @@ pub record TakesNone (call : FileCall) : Type 0 where
   pub nothing : asks_nothing call ≡ false
   pub keeps : keeps_raw true call ≡ false
   pub single : is_single call ≡ false
+  pub unheld : (writer : WriterView) → InHandOf (stream_of writer) call → ⊥
   pub within : (size : ℕ) (reply : FileReply) → GivesWithin size call reply
-  pub lays : (before : Stream) (after : List ℕ) → LaidInOrder before [] after → LaysInOrder before call after
+  pub lays : (before : Stream) (after : List ℕ) → LaysFront before [] after → LaysInOrder before call after
   pub stopped : (before after : Stream) (why : IoFault) → PassesOn before call (Refused why) after
   pub wait_short : IsShort call (Refused (fault.WouldBlock 0)) true
   pub wait_life : (size : ℕ) (current : Life) → LifeMoves (Some size) call (Refused (fault.WouldBlock 0)) current current
@@ -104,9 +107,6 @@ pub record Works (old : WriterView) (call : FileCall) (reply : FileReply) (after
   pub told : WhereTold old.raw (BinaryStep (file_of (stream_of old)) call reply after.short (says_fault reply) (file_of after))
   pub near : after.life ≡ life.Live → IsNear after
 
-not_refused : (before : Stream) (call : FileCall) (expected reply : FileReply) (after : Stream) (why : IoFault) → refused_by before call ≡ None → refused_by before call ≡ Some why → Leaves before expected reply after
-not_refused before call expected reply after why none some = let wrong : None ≡ Some why = sym none ∙ some in absurd (cc)
-
 -- a call that isn't one `write`
 not_one_write : (before after : Stream) (call : FileCall) (reply : FileReply) → is_writing call ≡ false → OwesNoneOfIts before call reply after
 not_one_write before after (Write bytes) reply other = absurd (cc)
@@ -117,7 +117,7 @@ works_answers old call reply after none works = record {
   keeps = works.keeps;
   refused = λ why refuses. not_refused (stream_of old) call (Refused why) reply after why works.passes refuses;
   again = works.again;
-  shut = works.shut;
+  shut = λ _. works.shut;
   causes = works.causes;
   counted = λ exact. record { faults = λ sound. works.no_fault sound exact; waits = λ whole other. works.no_wait whole exact; once = λ short other. works.once short exact };
   shorts = works.shorts;
@@ -129,15 +129,17 @@ works_answers old call reply after none works = record {
   nothing = λ asks. absurd (cc (none.nothing));
   idle = λ keeps. absurd (cc (none.keeps));
   single = λ single. absurd (cc (none.single));
-  held = λ reads. absurd (cc);
+  in_hand = λ has. absurd (none.unheld old has.of);
+  needs = λ reads. absurd (cc (none.going_on));
   spares = λ reads. absurd (cc);
   writes = λ can. record {
+    owes = λ writing. absurd (cc (none.writing));
     takes = λ writing. absurd (cc (none.writing));
     leaves = λ other. works.leaves;
-    lays = λ tells. none.lays (stream_of old) after.raw.bytes (works.lays tells);
+    lays = λ tells. none.lays (stream_of old) after.raw.bytes (lays_front (stream_of old) [] after.raw.bytes (inr refl) (works.lays tells));
     passes = works.does;
     full = works.full;
-    starves = λ wanting failed. let lives : after.life ≡ life.Live = works.lives wanting in absurd (cc);
+    starves = λ wanting writing. absurd (cc (none.writing));
     straight = not_one_write (stream_of old) after call reply none.writing;
     settles = λ at. works.settles;
     unclosed = works.unclosed;
@@ -369,21 +371,15 @@ starved_there : (current : Life) (place : ℕ) → PlaceStarves current None pla
 starved_there life.Live place = refl
 starved_there current place = omega arith
 
-want_answers : (size : ℕ) (offset whence : ℤ) → IsReplyTo (Some size) true (Seek offset whence) (Refused fault.NoMemory)
-want_answers size offset (pos (suc (suc zero))) = tt
-want_answers size offset whence = tt
-
-want_needs_no_end : (before : Stream) (offset whence : ℤ) (after : Stream) → SeeksByEnd before (Seek offset whence) (Refused fault.NoMemory) after
-want_needs_no_end before offset (pos (suc (suc zero))) after = λ _. tt
-want_needs_no_end before offset whence after = tt
-
 wait_needs_no_end : (before : Stream) (offset whence : ℤ) (after : Stream) → SeeksByEnd before (Seek offset whence) (Refused (fault.WouldBlock 0)) after
 wait_needs_no_end before offset (pos (suc (suc zero))) after = λ _. tt
 wait_needs_no_end before offset whence after = tt
 
-fault_needs_no_end : (before : Stream) (offset whence : ℤ) (after : Stream) → SeeksByEnd before (Seek offset whence) (Refused fault.RawFault) after
-fault_needs_no_end before offset (pos (suc (suc zero))) after = λ _. tt
-fault_needs_no_end before offset whence after = tt
+-- a writer, which doesn't read, has no place in hand
+seeks_unheld : (writer : WriterView) (offset whence : ℤ) → InHandOf (stream_of writer) (Seek offset whence) → ⊥
+seeks_unheld writer offset (pos zero) has = absurd (cc (has.0))
+seeks_unheld writer offset (pos (suc zero)) has = absurd (cc (has.0))
+seeks_unheld writer offset whence never = never
 
 pub seek_takes_none : (offset whence : ℤ) → TakesNone (Seek offset whence)
 seek_takes_none offset whence = record {
@@ -394,6 +390,7 @@ seek_takes_none offset whence = record {
   nothing = refl;
   keeps = refl;
   single = refl;
+  unheld = λ writer. seeks_unheld writer offset whence;
   within = λ size reply. tt;
   lays = λ before after is. is;
   stopped = λ before after why. tt;
@@ -409,7 +406,7 @@ seek_takes_none offset whence = record {
   lack_place = λ size current place. starved_there current place;
   lack_full = λ after. tt;
   lack_ends = λ before after. want_needs_no_end before offset whence after;
-  lack_answer = λ size. want_answers size offset whence;
+  lack_answer = λ size. want_answers (Some size) true offset whence;
   lack_step = λ file. refl;
   fault_short = refl;
   fault_place = λ size current place. refl;
@@ -427,6 +424,7 @@ flush_takes_none = record {
   nothing = refl;
   keeps = refl;
   single = refl;
+  unheld = λ writer never. never;
   within = λ size reply. tt;
   lays = λ before after is. is;
   stopped = λ before after why. tt;
@@ -460,6 +458,7 @@ close_takes_none = record {
   nothing = refl;
   keeps = refl;
   single = refl;
+  unheld = λ writer never. never;
   within = λ size reply. tt;
   lays = λ before after is. is;
   stopped = λ before after why. tt;
@@ -493,6 +492,7 @@ detach_takes_none = record {
   nothing = refl;
   keeps = refl;
   single = refl;
+  unheld = λ writer never. never;
   within = λ size reply. tt;
   lays = λ before after is. is;
   stopped = λ before after why. tt;

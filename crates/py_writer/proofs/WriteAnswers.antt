@@ -16,9 +16,10 @@ use Rattle.py_flat.specs.BinaryStep.{payload, SettledBy}
 use Rattle.py_raw.specs.RawStream.{WhereTold, WherePlace}
 use Rattle.py_stream.specs.Stream.{Stream, file_of}
 use Rattle.py_stream.specs.Kinds.{is_writing}
-use Rattle.py_stream.specs.Writing.{Takes, LaidInOrder, OwesOld, OwesNoneOfIts, TookOwn}
+use Rattle.py_stream.specs.Writing.{Takes, OwesOld, OwesNoneOfIts, TookOwn}
 use Rattle.py_stream.specs.Answers.{Answers}
 use Rattle.py_stream.proofs.Begun.{answers_whole}
+use Rattle.py_stream.proofs.Fronts.{LaidInOrder}
 use Rattle.py_writer.specs.Pending.{IsPending, end_of, cut_at}
 use Rattle.py_writer.specs.Engine.{WriterView, stream_of, IsWriter, BeginOutcome, Took, FailsTaking, FillsUp, StarvesTaking, PutOutcome, PutsOutcome, OwesOld as LeavesOld}
 use Rattle.py_writer.proofs.Putting.{starves_either}
@@ -42,8 +43,8 @@ takes_front old new own taken short fits took = record {
 }
 
 -- and the raw has a front of all
-lays_front : (old new : WriterView) (own : List ℕ) (taken : ℕ) → taken ≤ length own → Took old (take taken own) new → WhereTold old.raw (LaidInOrder (stream_of old) own new.raw.bytes)
-lays_front old new own taken fits took tells =
+lays_taken : (old new : WriterView) (own : List ℕ) (taken : ℕ) → taken ≤ length own → Took old (take taken own) new → WhereTold old.raw (LaidInOrder (stream_of old) own new.raw.bytes)
+lays_taken old new own taken fits took tells =
     let owed : List ℕ = old.pending.bytes in
     let more : ℕ = took.passed - length owed in
     record {
@@ -79,7 +80,7 @@ takes_all old new call may took =
       place = is.place new.life (end_of old.pending) (end_of new.pending) (took_ends old new own took);
       wants = λ wanting. absurd (cc (wants_none call));
       takes = takes_front old new own (length own) false (omega arith) all;
-      lays = lays_front old new own (length own) (omega arith) all;
+      lays = lays_taken old new own (length own) (omega arith) all;
       full = is.full (stream_of (record new { short = false }));
       straight = is.straight (stream_of (record new { short = false }));
       starves = λ wanting. absurd (cc (wants_none call));
@@ -104,7 +105,7 @@ fills_up old new call taken may less took full waited =
       place = is.place new.life (end_of old.pending) (end_of new.pending) less (omega (arith, took_ends old new (take taken own) took, length-take-le taken own fits));
       wants = λ wanting. absurd (cc);
       takes = takes_front old new own taken true fits took;
-      lays = lays_front old new own taken fits took;
+      lays = lays_taken old new own taken fits took;
       full = is.full (stream_of (record new { short = true })) full;
       straight = is.straight (stream_of (record new { short = true }));
       starves = λ wanting. absurd (cc);
@@ -118,7 +119,7 @@ fills_up old new call taken may less took full waited =
 owes_old : (old new : WriterView) (short : Bool) → LeavesOld old new → OwesOld (stream_of old) (stream_of (record new { short = short }))
 owes_old old new short owes = record {
   rest = record { passed = owes.passed; bytes = owes.owed; place = owes.place };
-  stands = λ none. omega (arith, ap length none);
+  stands = λ _ none. omega (arith, ap length none);
   moved = owes.moved;
 }
 
@@ -186,7 +187,7 @@ took_own : (old new : WriterView) (bytes : List ℕ) → Took old bytes new → 
 took_own old new bytes took past = record {
   further = past;
   stands = λ tells. omega (arith, past, took_stands old new bytes took tells);
-  answered = λ tells. omega (arith, past, took.place, took.answered tells);
+  answered = λ _ tells. omega (arith, past, took.place, took.answered tells);
 }
 
 -- up to where the call began all is as it was
@@ -247,7 +248,7 @@ starves_nothing old new call may takes took straight =
       place = is.place new.life (end_of old.pending) (end_of new.pending) (λ lives. ends) (omega (arith, ends)) (omega (arith, ends));
       wants = λ wanting. takes;
       takes = takes_front old new own 0 false (omega arith) took;
-      lays = lays_front old new own 0 (omega arith) took;
+      lays = lays_taken old new own 0 (omega arith) took;
       full = is.full (stream_of (record new { short = false }));
       straight = straight;
       starves = λ wanting failed. absurd (let wrong : life.Live ≡ life.Failed = sym took.live ∙ failed in cc);
@@ -296,7 +297,7 @@ starves_midway old between call taken may fits takes took past straight =
         up_to = inr refl;
         told = λ tells. (taken, omega arith, fits, took_bytes old between (take taken own) took tells);
       };
-      lays = lays_front old between own taken fits took;
+      lays = lays_taken old between own taken fits took;
       full = is.full (stream_of (record new { short = false }));
       straight = straight;
       starves = λ wanting failed. took_own old between (take taken own) took past;

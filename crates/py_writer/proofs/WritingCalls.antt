@@ -1,5 +1,5 @@
 -- A call that gives bytes to a writer: what it is, whichever of the two it is, and what makes its answer.
-use Rattle.std.proofs.Common.{◌≡◌, ℕ, ◌+◌, ◌<◌, ◌≤◌, ◌⊎◌, Bool, true, false, ◌&&◌, ◌||◌, not, IsTrue, List, length, Option, Some, None, Ok, Err, is_none, if◌then◌else◌, refl, sym, ap, ◌∙◌, subst, le-ltb, lt-ltb, arith}
+use Rattle.std.proofs.Common.{◌≡◌, ℕ, ◌+◌, ◌<◌, ◌≤◌, ◌⊎◌, inr, Bool, true, false, ◌&&◌, ◌||◌, not, IsTrue, List, length, Option, Some, None, Ok, Err, is_none, if◌then◌else◌, refl, sym, ap, ◌∙◌, subst, le-ltb, lt-ltb, arith}
 use Rattle.std.specs.Option.{is_some}
 use Rattle.py_flat.specs.declared.fault.IoFault.{IoFault}
 use Rattle.py_flat.specs.declared.fault.IoFault.TheVariants as fault
@@ -15,9 +15,11 @@ use Rattle.py_flat.specs.BinaryStep.{BinaryStep, payload, asks_end, reaches_raw,
 use Rattle.py_raw.specs.RawStream.{WhereTold, NoFault}
 use Rattle.py_stream.specs.Stream.{Stream, size_of, file_of}
 use Rattle.py_stream.specs.Kinds.{is_reading, reads_on, is_single, takes_space_first, asks_nothing, is_writing, keeps_raw, says_fault, says_no_memory}
-use Rattle.py_stream.specs.Writing.{Takes, LaidInOrder, LaysInOrder, PassesOn, BlocksFull, OwesNoneOfIts, TookOwn}
-use Rattle.py_stream.specs.Answers.{Answers, HasCauses, IsShort, LifeMoves, PlaceStarves, PlaceMoves, GivesWithin, SeeksByEnd, IsReplyTo, closes_again, refused_by}
+use Rattle.py_stream.specs.Writing.{Takes, LaysFront, LaysInOrder, PassesOn, BlocksFull, OwesNoneOfIts, TookOwn}
+use Rattle.py_stream.specs.Answers.{Answers, HasCauses, InHandOf, IsShort, LifeMoves, PlaceStarves, PlaceMoves, GivesWithin, SeeksByEnd, IsReplyTo, closes_again, refused_by}
 use Rattle.py_stream.proofs.Completing.{completes}
+use Rattle.py_stream.proofs.Fronts.{LaidInOrder, lays_front}
+use Rattle.py_stream.proofs.Owing.{owes_both}
 use Rattle.py_stream.proofs.Refusing.{refused_alone, refused_by_life, refused_with}
 use Rattle.py_writer.specs.Pending.{end_of}
 use Rattle.py_stream.specs.Moving.{EndsWithin}
@@ -150,18 +152,19 @@ record IsGiving (before : Stream) (call : FileCall) (reply : FileReply) (after :
   pub within : GivesWithin (size_of before) call reply
   pub ends : SeeksByEnd before call reply after
   pub passes : PassesOn before call reply after
-  pub lays : LaidInOrder before (payload call) after.raw.bytes → LaysInOrder before call after.raw.bytes
+  pub lays : LaysFront before (payload call) after.raw.bytes → LaysInOrder before call after.raw.bytes
   pub reads : is_reading call ≡ false
   pub goes_on : reads_on call ≡ false
   pub first : takes_space_first call ≡ false
   pub asks : asks_nothing call ≡ false
   pub calls : keeps_raw true call ≡ false
   pub many : is_single call ≡ false
+  pub unheld : InHandOf before call → ⊥
 
 is_giving : (before : Stream) (call : FileCall) (reply : FileReply) (after : Stream) → is_writing call ≡ true → IsGiving before call reply after
 is_giving before call reply after writing = of_both (λ (call : FileCall). IsGiving before call reply after)
-    (λ bytes. record { within = tt; ends = tt; passes = tt; lays = λ laid. laid; reads = refl; goes_on = refl; first = refl; asks = refl; calls = refl; many = refl })
-    (λ lines. record { within = tt; ends = tt; passes = tt; lays = λ laid. laid; reads = refl; goes_on = refl; first = refl; asks = refl; calls = refl; many = refl })
+    (λ bytes. record { within = tt; ends = tt; passes = tt; lays = λ laid. laid; reads = refl; goes_on = refl; first = refl; asks = refl; calls = refl; many = refl; unheld = λ never. never })
+    (λ lines. record { within = tt; ends = tt; passes = tt; lays = λ laid. laid; reads = refl; goes_on = refl; first = refl; asks = refl; calls = refl; many = refl; unheld = λ never. never })
     call writing
 
 pub answers_coming : (old new : WriterView) (call : FileCall) (reply : FileReply) (short : Bool) → MayWrite old call → Comes old call reply short new → Answers (stream_of old) call reply (stream_of (record new { short = short }))
@@ -174,7 +177,7 @@ answers_coming old new call reply short may comes =
       keeps = record { buffer = ap Some comes.kept.size; can = same_abilities old new comes.kept; raw = comes.kept.raw; bare = λ bare. absurd (cc) };
       refused = λ why refuses. absurd (let wrong : None ≡ Some why = sym unrefused ∙ refuses in cc);
       again = λ closes. absurd (cc (no_close before call may.writing));
-      shut = λ none closed. comes.kept.stays ∙ closed ∙ ap is_closed may.live ∙ sym comes.is_open;
+      shut = λ _ none closed. comes.kept.stays ∙ closed ∙ ap is_closed may.live ∙ sym comes.is_open;
       causes = comes.causes;
       counted = λ exact. record { faults = λ sound. comes.no_fault sound exact; waits = λ whole reads. absurd (cc (may.writing)); once = λ shortened reads. absurd (cc (may.writing)) };
       shorts = comes.shorts;
@@ -186,15 +189,17 @@ answers_coming old new call reply short may comes =
       nothing = λ asks. absurd (cc (giving.asks));
       idle = λ keeps. absurd (cc (giving.calls));
       single = λ single. absurd (cc (giving.many));
-      held = λ reads. absurd (cc);
+      in_hand = λ has. absurd (giving.unheld has.of);
+      needs = λ reads. absurd (cc (giving.goes_on));
       spares = λ reads. absurd (cc);
       writes = λ can. record {
+        owes = λ writing. owes_both before (payload call) (stream_of left) (inr refl) comes.takes;
         takes = λ writing up_to. comes.takes;
         leaves = λ reads. absurd (cc (may.writing));
-        lays = λ tells. giving.lays (comes.lays tells);
+        lays = λ tells. giving.lays (lays_front before (payload call) new.raw.bytes (inr refl) (comes.lays tells));
         passes = giving.passes;
         full = comes.full;
-        starves = comes.starves;
+        starves = λ wanting writing. comes.starves wanting;
         straight = comes.straight;
         settles = λ at none. omega (arith, ap length none);
         unclosed = λ owing. comes.kept.stays;

@@ -35,6 +35,7 @@ stream_of writer = record {
   buffer = Some writer.pending.size;
   short = writer.short;
   owed = record { bytes = writer.pending.bytes; place = writer.pending.place };
+  held = record { from = writer.pending.place; to = end_of writer.pending };
 }
 
 -- what holds of every writer's engine
