@@ -24,7 +24,7 @@ answers_whole buffer writes Tell reply short answers shorts whole sound = answer
 answers_whole buffer writes call reply short answers shorts whole sound = answers
 
 -- a test that what has its cause in a count that rose didn't come about
-uncaused : (old new : ℕ) (came : Bool) → (IsTrue came → Rose old new) → rose old new ≡ false → came ≡ false
+pub uncaused : (old new : ℕ) (came : Bool) → (IsTrue came → Rose old new) → rose old new ≡ false → came ≡ false
 uncaused old new true caused calm = absurd (let rises : rose old new ≡ true = le-leb (counted old 1) new (caused refl) in cc)
 uncaused old new false caused calm = refl
 

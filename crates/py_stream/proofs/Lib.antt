@@ -7,3 +7,4 @@ pub mod Begun
 pub mod Returning
 pub mod Joined
 pub mod Seeking
+pub mod Smooth

@@ -1,11 +1,18 @@
-//! A law of the definitions that the contracts cite: what two calls of any stream, one after the other, have to be.
+//! Laws of the definitions that the contracts cite: what two calls of any stream, one after the other, have to be; and, for each call
+//! that reads or writes, what it answers where nothing stands in its way, which is all that a caller needs of the clause of all calls
+//! then.
 //!
-//! The function here does nothing; what it ensures is the law.
-ghost use Rattle.std.specs.Prelude.{ℕ, pos};
-ghost use Rattle.py_flat.specs.Calls.{Seek, Tell, Place};
-ghost use Rattle.py_stream.specs.Stream.{Stream};
+//! No function here does anything; what each ensures is the law.
+ghost use Rattle.std.specs.Prelude.{◌≡◌, ◌+◌, ◌≤◌, ℕ, pos, true, List, length, Option, Some};
+ghost use Rattle.py_flat.specs.Limits.{greatest_place};
+ghost use Rattle.py_flat.specs.Bytes.{first_of};
+ghost use Rattle.py_flat.specs.Lines.{Lf, first_line, lines_within, joined};
+ghost use Rattle.py_flat.specs.Calls.{Read, Read1, ReadLine, ReadLines, Peek, ReadInto, ReadInto1, Write, WriteLines, Seek, Tell, FileReply, Count, Done, Place};
+ghost use Rattle.py_flat.specs.ExactStep.{rest, one_transfer, buffer_full};
+ghost use Rattle.py_flat.specs.BinaryStep.{Transfers};
+ghost use Rattle.py_stream.specs.Stream.{Stream, file_of};
 ghost use Rattle.py_stream.specs.Answers.{Answers};
-ghost use Rattle.py_stream.specs.Laws.{ComesBack};
+ghost use Rattle.py_stream.specs.Laws.{ComesBack, GoesSmoothly, GivesJust, GivesJustLines, TakesJust};
 
 /// A stream that told its place, and was then moved there from its start, stands where it stood. Over a raw that tells, its
 /// flat file is what it was, and so is what is left to read of it.
@@ -13,4 +20,33 @@ ghost use Rattle.py_stream.specs.Laws.{ComesBack};
 /// This says nothing where the stream refused a call, or answered otherwise: the raw may fail to move.
 pub fn a_seek_to_the_told_place_keeps_all()
     ensures { (before mid : Stream) (told back : ℕ) (after : Stream) → Answers before Tell (Place told) mid → Answers mid (Seek (pos told) (pos 0)) (Place back) after → ComesBack before told back after }
+{}
+
+/// `read` and `readinto` of a stream with a buffer give the next bytes, as many as were asked for or all that are left, and the place
+/// moves past them: where the stream lives and reads, its raw tells its bytes and its place, no count of it rose, and memory didn't run
+/// out. So of the laws below.
+pub fn a_smooth_read_gives_what_comes_next()
+    ensures read { (before : Stream) (size : Option ℕ) (reply : FileReply) (after : Stream) → Answers before (Read size) reply after → before.can.readable ≡ true → GoesSmoothly before reply after → GivesJust before (first_of size (rest (file_of before))) reply after }
+    ensures readinto { (before : Stream) (size : ℕ) (reply : FileReply) (after : Stream) → Answers before (ReadInto size) reply after → before.can.readable ≡ true → GoesSmoothly before reply after → GivesJust before (first_of (Some size) (rest (file_of before))) reply after }
+{}
+
+/// `readline` gives the first line of what is left, within its limit, and `readlines` the lines up to its hint.
+pub fn a_smooth_line_is_the_first_that_is_left()
+    ensures readline { (before : Stream) (limit : Option ℕ) (reply : FileReply) (after : Stream) → Answers before (ReadLine limit) reply after → before.can.readable ≡ true → GoesSmoothly before reply after → GivesJust before (first_line Lf limit (rest (file_of before))) reply after }
+    ensures readlines { (before : Stream) (hint : Option ℕ) (reply : FileReply) (after : Stream) → Answers before (ReadLines hint) reply after → before.can.readable ≡ true → GoesSmoothly before reply after → GivesJustLines before (lines_within hint (rest (file_of before))) reply after }
+{}
+
+/// `read1`, `readinto1` and `peek` give some front of what they ask for, by at most one transfer, and nothing only where nothing is
+/// asked for or left.
+pub fn a_smooth_single_transfer_gives_a_front()
+    ensures read1 { (before : Stream) (size : Option ℕ) (reply : FileReply) (after : Stream) → Answers before (Read1 size) reply after → before.can.readable ≡ true → GoesSmoothly before reply after → Transfers (file_of before) (Read1 size) (one_transfer (file_of before).buffering size (rest (file_of before))) reply (file_of after) }
+    ensures readinto1 { (before : Stream) (size : ℕ) (reply : FileReply) (after : Stream) → Answers before (ReadInto1 size) reply after → before.can.readable ≡ true → GoesSmoothly before reply after → Transfers (file_of before) (ReadInto1 size) (first_of (Some size) (rest (file_of before))) reply (file_of after) }
+    ensures peek { (before : Stream) (reply : FileReply) (after : Stream) → Answers before Peek reply after → before.can.readable ≡ true → GoesSmoothly before reply after → Transfers (file_of before) Peek (buffer_full (file_of before).buffering (rest (file_of before))) reply (file_of after) }
+{}
+
+/// `write` and `writelines` take all bytes, and lay them at the place, which moves past them. They have to end at a place that a stream
+/// can have, at most 9223372036854775807.
+pub fn a_smooth_write_takes_all()
+    ensures write { (before : Stream) (bytes : List ℕ) (reply : FileReply) (after : Stream) → Answers before (Write bytes) reply after → before.can.writable ≡ true → before.place + length bytes ≤ greatest_place → GoesSmoothly before reply after → TakesJust before (Count (length bytes)) bytes reply after }
+    ensures writelines { (before : Stream) (lines : List (List ℕ)) (reply : FileReply) (after : Stream) → Answers before (WriteLines lines) reply after → before.can.writable ≡ true → before.place + length (joined lines) ≤ greatest_place → GoesSmoothly before reply after → TakesJust before Done (joined lines) reply after }
 {}
