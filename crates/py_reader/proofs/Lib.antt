@@ -7,5 +7,4 @@ pub mod Answering
 pub mod ReadingOn
 pub mod Single
 pub mod Moving
-pub mod Lacking
 pub mod Outer

@@ -1,16 +1,16 @@
 -- A reader over its engine, and one whose raw was handed back.
-use Rattle.std.proofs.Common.{◌≡◌, ◌≢◌, ℕ, ◌≤◌, Bool, true, false, List, [], Option, Some, None, Ok, Err, if◌then◌else◌, refl, sym, ap, ◌∙◌, subst}
+use Rattle.std.proofs.Common.{◌≡◌, ◌≢◌, ℕ, ◌≤◌, Bool, true, false, List, [], Option, Some, None, Ok, Err, if◌then◌else◌, refl, sym, ap, ◌∙◌, subst, inr}
 use Rattle.py_flat.specs.declared.fault.IoFault.{IoFault}
 use Rattle.py_flat.specs.declared.fault.IoFault.TheVariants as fault
 use Rattle.py_flat.specs.declared.life.Life.{Life}
 use Rattle.py_flat.specs.declared.life.Life.TheVariants as life
 use Rattle.py_flat.specs.Limits.{greatest_place}
-use Rattle.py_flat.specs.Calls.{Peek, Detach, Unwritten, Refused}
+use Rattle.py_flat.specs.Calls.{Peek, Detach, Unwritten, Refused, FileCall, OtherKind}
 use Rattle.py_flat.specs.AllowedStep.{settled}
 use Rattle.py_flat.specs.BinaryStep.{StandAt}
 use Rattle.py_raw.specs.RawStream.{Raw}
 use Rattle.py_stream.specs.Stream.{detached_stream, reader_can, nothing_owed}
-use Rattle.py_stream.specs.Answers.{Answers}
+use Rattle.py_stream.specs.Answers.{Answers, KeepsStream, RefusesAlone}
 use Rattle.py_stream.specs.Handing.{handed_over, HandsOver}
 use Rattle.py_raw.proofs.Telling.{keeps_same}
 use Rattle.py_stream.proofs.Refused.{detached_answers}
@@ -124,3 +124,12 @@ begins_some (Some old) (Some new) begins none = absurd (cc)
 begins_some (Some old) None begins none = begins
 begins_some None (Some new) begins none = begins
 begins_some None None begins none = absurd (let wrong : Ok tt ≡ Err fault.Detached = begins in cc)
+
+-- What a refused call keeps.
+
+-- an engine that refused has what is kept beside it still as its own
+pub stays_reader : (old new : EngineView) (why : IoFault) (seekable : Bool) (size : ℕ) → ((call : FileCall) → RefusesAlone (stream_of old) call → Answers (stream_of old) call (Refused why) (stream_of new)) → IsReader (Some old) seekable size → IsReader (Some new) seekable size
+stays_reader old new why seekable size refuses is =
+    let keeps : KeepsStream (stream_of old) (stream_of new) = (refuses OtherKind (refl, refl, inr refl)).keeps in
+    let sizes : Some new.window.size ≡ Some old.window.size = keeps.buffer in
+    (keeps.raw.seekable ∙ is.0, (let same : new.window.size ≡ old.window.size = cc in same) ∙ is.1)

@@ -30,7 +30,7 @@ pub within_window : (window : WindowView) → IsWindow window → place_of windo
 within_window window is = omega arith
 
 -- where a stream is, and its raw
-placed : (engine : EngineView) → IsEngine engine.raw engine.window engine.life → IsPlaced (stream_of engine)
+pub placed : (engine : EngineView) → IsEngine engine.raw engine.window engine.life → IsPlaced (stream_of engine)
 placed engine is = record { far = within_window engine.window is.window_is; near = near engine is }
 
 -- A refusal of the stream's own leaves all as it was.

@@ -472,7 +472,6 @@ pub record Arrives (before : Stream) (target : ℕ) (after : Stream) : Type 0 wh
   pub place : after.place ≡ target
   pub owed : after.owed ≡ nothing_owed target
   pub far : target ≤ greatest_place
-  pub stands : after.raw_place ≡ target
   pub near : IsNear after
 
 arrived_file : (before : Stream) (target : ℕ) (after : Stream) → before.life ≡ life.Live → Arrives before target after → IsTrue (tells before.raw) → file_of after ≡ record (file_of before) { place = target }

@@ -1,5 +1,5 @@
 -- The engine with which a call begins, and what a stream without a buffer refuses by itself.
-use Rattle.std.proofs.Common.{◌≡◌, true, false, Some, Err, Ok, refl, sym, ap, subst, arith, ℕ, None, IsSome, Option}
+use Rattle.std.proofs.Common.{◌≡◌, true, false, Some, Err, Ok, refl, sym, ap, subst, arith, ℕ, None, IsSome, Option, Result}
 use Rattle.std.proofs.Math.Bool.{and-false}
 use Rattle.py_flat.specs.declared.fault.IoFault.{IoFault}
 use Rattle.py_flat.specs.declared.fault.IoFault.TheVariants as fault
@@ -13,6 +13,7 @@ use Rattle.py_stream.specs.Stream.{Stream, file_of}
 use Rattle.py_stream.specs.Answers.{Answers, IsNear, closes_again}
 use Rattle.py_stream.proofs.Begun.{answers_whole}
 use Rattle.py_stream.proofs.Refused.{is_own}
+use Rattle.py_stream.proofs.Lacking.{Begins, begins_in_vain as stream_begins_in_vain}
 use Rattle.py_stream.proofs.Refusing.{IsPlaced, refused_with as stream_refuses, refused_by_life as life_refuses, refused_by_ability as ability_refuses}
 use Rattle.py_unbuffered.specs.Engine.{EngineView, stream_of, IsEngine, BeginOutcome}
 
@@ -44,20 +45,18 @@ answers_from first now call reply after is answers = answers_begun first call re
 pub refused_with : (old new : EngineView) (call : FileCall) (why : IoFault) → Stands old → refusal (file_of (stream_of old)) call ≡ Some why → asks_end (file_of (stream_of old)) call ≡ false → is_own why ≡ true → closes_again (stream_of old) call ≡ false → new ≡ begun old → Answers (stream_of old) call (Refused why) (stream_of new)
 refused_with old new call why stands refuses alone own first same = stream_refuses (stream_of old) (stream_of new) call why (is_placed old stands) refuses alone own first (ap stream_of same)
 
--- a life that refuses anything lets nothing through but a close
-pub shut_by_life : (current : Life) (call : FileCall) (why : IoFault) → is_close call ≡ false → life_fault current ≡ Some why → lets_through current Unbuffered call ≡ false
-shut_by_life life.Live call why closes by = absurd (cc)
-shut_by_life life.Failed call why closes by = and-false (is_detach call)
-shut_by_life life.Closed call why closes by = closes
-shut_by_life life.Detached call why closes by = refl
-
 -- A call that the life doesn't let through.
 pub refused_by_life : (old new : EngineView) (call : FileCall) (why : IoFault) → Stands old → is_getter call ≡ false → is_other_getter call ≡ false → lets_through old.life Unbuffered call ≡ false → BeginOutcome old (Err why) new → Answers (stream_of old) call (Refused why) (stream_of new)
 refused_by_life old new call why stands works own stopped began = life_refuses (stream_of old) (stream_of new) call why (is_placed old stands) works own stopped began.0 (ap stream_of began.1)
 
--- and each but a close that `begin` refuses
-pub begins_in_vain : (old new : EngineView) (call : FileCall) (why : IoFault) → Stands old → is_getter call ≡ false → is_other_getter call ≡ false → is_close call ≡ false → BeginOutcome old (Err why) new → Answers (stream_of old) call (Refused why) (stream_of new)
-begins_in_vain old new call why stands works own closes began = refused_by_life old new call why stands works own (shut_by_life old.life call why closes began.0) began
+-- a call begins as that of a stream does
+pub begins : (old new : EngineView) (result : Result (Unit {0}) IoFault) → BeginOutcome old result new → Begins (stream_of old) result (stream_of new)
+begins old new (Ok done) began = (began.0, ap stream_of began.1)
+begins old new (Err why) began = (began.0, ap stream_of began.1)
+
+-- and each but a close and a detaching that `begin` refuses
+pub begins_in_vain : (old new : EngineView) (call : FileCall) (why : IoFault) → Stands old → is_getter call ≡ false → is_other_getter call ≡ false → is_close call ≡ false → is_detach call ≡ false → BeginOutcome old (Err why) new → Answers (stream_of old) call (Refused why) (stream_of new)
+begins_in_vain old new call why stands works own closes detaches began = stream_begins_in_vain (stream_of old) (stream_of new) call why (is_placed old stands) works own closes detaches (begins old new (Err why) began)
 
 -- one that refuses anything, but of a closed stream, lets no close through either
 unclosed_by_life : (current : Life) (why : IoFault) → (current ≡ life.Closed → ⊥) → life_fault current ≡ Some why → lets_through current Unbuffered Close ≡ false

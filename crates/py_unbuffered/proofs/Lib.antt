@@ -1,6 +1,5 @@
 pub mod Begun
 pub mod Steps
-pub mod Flushing
 pub mod Reading
 pub mod Failing
 pub mod Once
@@ -10,4 +9,3 @@ pub mod Putting
 pub mod Refused
 pub mod Seeking
 pub mod WriteAnswers
-pub mod Lacking

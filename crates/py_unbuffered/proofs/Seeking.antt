@@ -202,7 +202,6 @@ arrives old found new target begins asked gone =
       place = gone.place;
       owed = ap (λ (place : ℕ). (stream_of (record new { place = place })).owed) gone.place;
       far = omega (arith, gone.place, kept.is.far);
-      stands = gone.place;
       near = is_near new kept.is gone.live;
     }
 

@@ -1,7 +1,7 @@
 use Rattle.std.proofs.Common.{Some}
 use Rattle.py_stream.specs.Stream.{reader_can}
 use Rattle.py_stream.proofs.Refused.{detached_answers}
-use Rattle.py_reader.proofs.Lacking.{stays_reader}
+use Rattle.py_reader.proofs.Outer.{stays_reader}
 use Rattle.py_reader.proofs.buffered_reader.BufferedReader.refuse.Goals as goal
 use Rattle.py_reader.proofs.buffered_reader.BufferedReader.refuse.Goals.{in-Some, in-None}
 

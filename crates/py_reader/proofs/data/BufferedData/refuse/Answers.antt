@@ -1,10 +1,12 @@
-use Rattle.std.proofs.Common.{subst}
-use Rattle.py_reader.proofs.Moving.{Stands}
-use Rattle.py_reader.proofs.Lacking.{refuses_by_life, refuses_by_ability}
+use Rattle.std.proofs.Common.{Ok, Err, subst}
+use Rattle.py_stream.proofs.Lacking.{refuses_by_life, refuses_by_ability}
+use Rattle.py_reader.specs.Engine.{stream_of}
+use Rattle.py_reader.proofs.Refusing.{placed}
+use Rattle.py_reader.proofs.Moving.{Stands, begins}
 use Rattle.py_reader.proofs.data.BufferedData.refuse.Goals as goal
 
 pub returns-in-Err : goal.returns-in-Err
-returns-in-Err g c = λ call alone. refuses_by_life c.args.self.now c.begin.new.self call c.in-Err.fault (subst Stands c.self.view_is c.self.invariant) c.in-Err.ensures alone
+returns-in-Err g c = refuses_by_life (stream_of c.args.self.now) (stream_of c.begin.new.self) c.in-Err.fault (placed c.args.self.now (subst Stands c.self.view_is c.self.invariant)) (begins c.args.self.now c.begin.new.self (Err c.in-Err.fault) c.in-Err.ensures)
 
 pub returns-in-Ok : goal.returns-in-Ok
-returns-in-Ok g c = λ call alone. refuses_by_ability c.args.self.now c.begin.new.self call (subst Stands c.self.view_is c.self.invariant) c.in-Ok.ensures alone
+returns-in-Ok g c = refuses_by_ability (stream_of c.args.self.now) (stream_of c.begin.new.self) (placed c.args.self.now (subst Stands c.self.view_is c.self.invariant)) (begins c.args.self.now c.begin.new.self (Ok tt) c.in-Ok.ensures)

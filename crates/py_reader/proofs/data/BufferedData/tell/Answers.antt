@@ -1,10 +1,14 @@
-use Rattle.std.proofs.Common.{subst}
+use Rattle.std.proofs.Common.{Err, refl, subst}
 use Rattle.std.proofs.lemmas.Result.{err_from_is_err_and}
-use Rattle.py_reader.proofs.Moving.{Stands, tell_begins_in_vain}
+use Rattle.py_flat.specs.Calls.{Tell}
+use Rattle.py_stream.proofs.Lacking.{begins_in_vain}
+use Rattle.py_reader.specs.Engine.{stream_of}
+use Rattle.py_reader.proofs.Refusing.{placed}
+use Rattle.py_reader.proofs.Moving.{Stands, begins}
 use Rattle.py_reader.proofs.data.BufferedData.tell.Goals as goal
 
 pub returns-in_err-begin : goal.returns-in_err-begin
 returns-in_err-begin g c =
     let left = err_from_is_err_and c.from_residual.result c.from_residual.ensures.1 in
     let stands = subst Stands c.self.view_is c.self.invariant in
-    rw (left.1, left.2) (tell_begins_in_vain c.args.self.now c.begin.new.self c.in_err-begin.field-0.0 stands c.in_err-begin.ensures)
+    rw (left.1, left.2) (begins_in_vain (stream_of c.args.self.now) (stream_of c.begin.new.self) Tell c.in_err-begin.field-0.0 (placed c.args.self.now stands) refl refl refl refl (begins c.args.self.now c.begin.new.self (Err c.in_err-begin.field-0.0) c.in_err-begin.ensures))

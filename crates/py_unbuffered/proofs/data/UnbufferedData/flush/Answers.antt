@@ -1,7 +1,8 @@
-use Rattle.std.proofs.Common.{subst}
-use Rattle.py_unbuffered.proofs.Begun.{Stands}
-use Rattle.py_unbuffered.proofs.Flushing.{flush_answers}
+use Rattle.std.proofs.Common.{refl, subst}
+use Rattle.py_stream.proofs.Flushing.{flush_answers}
+use Rattle.py_unbuffered.specs.Engine.{stream_of}
+use Rattle.py_unbuffered.proofs.Begun.{Stands, is_placed, begins}
 use Rattle.py_unbuffered.proofs.data.UnbufferedData.flush.Goals as goal
 
 pub returns : goal.returns
-returns g c = flush_answers c.args.self.now c.begin.new.self c.begin.result (subst Stands c.self.view_is c.self.invariant) c.begin.ensures
+returns g c = flush_answers (stream_of c.args.self.now) (stream_of c.begin.new.self) c.begin.result (is_placed c.args.self.now (subst Stands c.self.view_is c.self.invariant)) refl (λ _. refl) (begins c.args.self.now c.begin.new.self c.begin.result c.begin.ensures)

@@ -11,7 +11,7 @@ pub returns-in_err-begin : goal.returns-in_err-begin
 returns-in_err-begin g c =
     let left = err_from_is_err_and c.from_residual.result c.from_residual.ensures.1 in
     let stands = subst Stands c.self.view_is c.self.invariant in
-    rw (left.1, left.2) (begins_in_vain c.args.self.now c.begin.new.self (Read c.args.size) c.in_err-begin.field-0.0 stands refl refl refl c.in_err-begin.ensures)
+    rw (left.1, left.2) (begins_in_vain c.args.self.now c.begin.new.self (Read c.args.size) c.in_err-begin.field-0.0 stands refl refl refl refl c.in_err-begin.ensures)
 
 pub returns-in-Some : goal.returns-in-Some
 returns-in-Some g c =

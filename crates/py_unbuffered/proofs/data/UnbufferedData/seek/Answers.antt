@@ -12,7 +12,7 @@ pub returns-in_err-begin : goal.returns-in_err-begin
 returns-in_err-begin g c =
     let left = err_from_is_err_and c.from_residual.result c.from_residual.ensures.1 in
     let stands = subst Stands c.self.view_is c.self.invariant in
-    rw (left.1, left.2) (begins_in_vain c.args.self.now c.begin.new.self (Seek c.args.offset c.args.whence) c.in_err-begin.field-0.0 stands refl refl refl c.in_err-begin.ensures)
+    rw (left.1, left.2) (begins_in_vain c.args.self.now c.begin.new.self (Seek c.args.offset c.args.whence) c.in_err-begin.field-0.0 stands refl refl refl refl c.in_err-begin.ensures)
 
 pub returns-then-not-seekable : goal.returns-then-not-seekable
 returns-then-not-seekable g c =

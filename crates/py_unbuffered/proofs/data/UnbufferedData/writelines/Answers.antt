@@ -15,7 +15,7 @@ pub returns-in_err-begin : goal.returns-in_err-begin
 returns-in_err-begin g c =
     let left = err_from_is_err_and c.from_residual.result c.from_residual.ensures.1 in
     let stands = subst Stands c.self.view_is c.self.invariant in
-    rw (left.1, left.2) (begins_in_vain c.args.self.now c.begin.new.self (WriteLines c.args.lines.now) c.in_err-begin.field-0.0 stands refl refl refl c.in_err-begin.ensures)
+    rw (left.1, left.2) (begins_in_vain c.args.self.now c.begin.new.self (WriteLines c.args.lines.now) c.in_err-begin.field-0.0 stands refl refl refl refl c.in_err-begin.ensures)
 
 pub returns-then-is_none : goal.returns-then-is_none
 returns-then-is_none g c =
