@@ -1,5 +1,5 @@
 -- The answers of readings that go on until they have all that they want.
-use Rattle.std.proofs.Common.{◌≡◌, ◌≢◌, ℕ, zero, suc, ◌+◌, ◌<◌, ◌≤◌, inl, inr, Bool, true, false, ◌&&◌, ◌||◌, not, IsTrue, List, [], length, take, Option, Some, None, is_none, Ok, Err, if◌then◌else◌, refl, sym, ap, ◌∙◌, subst, arith}
+use Rattle.std.proofs.Common.{◌≡◌, ◌≢◌, ℕ, zero, suc, ◌+◌, ◌<◌, ◌≤◌, inl, inr, Bool, true, false, ◌&&◌, ◌||◌, not, IsTrue, List, [], ◌++◌, length, take, Option, Some, None, is_none, Ok, Err, if◌then◌else◌, refl, sym, ap, ◌∙◌, subst, arith}
 use Rattle.std.proofs.lemmas.List.{length-take, length-drop}
 use Rattle.py_flat.specs.declared.fault.IoFault.{IoFault}
 use Rattle.py_flat.specs.declared.fault.IoFault.TheVariants as fault
@@ -20,10 +20,10 @@ use Rattle.py_reader.specs.declared.data.Stop.{Stop}
 use Rattle.py_reader.specs.declared.data.Stop.TheVariants as stops
 use Rattle.py_stream.specs.Stream.{Stream, file_of, reader_can}
 use Rattle.py_stream.specs.Kinds.{asks_nothing, takes_space_first, is_reading, is_writing, reads_on, has_room, is_single, says_fault, says_no_memory, keeps_raw}
-use Rattle.py_stream.specs.Answers.{Answers, IsReplyTo, IsShort, LifeMoves, PlaceMoves, PlaceFails, PlaceStarves, MovesForth, moves_most, StarvesTo, GivesWithin, WantsMemory, Starves, SeeksByEnd, HasCauses, IsCounted, StarvesFirst, AsksNothing, refused_by, closes_again}
+use Rattle.py_stream.specs.Answers.{Answers, IsReplyTo, IsShort, LifeMoves, PlaceMoves, PlaceFails, PlaceStarves, MovesForth, moves_most, StarvesTo, GivesWithin, WantsMemory, Starves, SeeksByEnd, HasCauses, IsCounted, StarvesFirst, AsksNothing, InHandOf, IsWhole, AsksNoMore, refused_by, closes_again}
 use Rattle.py_reader.specs.Window.{place_of, end_of}
-use Rattle.py_reader.specs.Engine.{EngineView, stream_of, IsEngine, BeginOutcome, KeepsEngine, Reaches, Gives, FailsInReading, FailsMoved, StarvesAt, StopOutcome, has_answer, answered_at}
-use Rattle.py_reader.specs.Reading.{Gathers, MovesWithin}
+use Rattle.py_reader.specs.Engine.{EngineView, stream_of, IsEngine, BeginOutcome, KeepsEngine, EachBrings, IsNeeded, Reaches, Gives, FailsInReading, FailsMoved, StarvesAt, StopOutcome, has_answer, answered_at}
+use Rattle.py_reader.specs.Reading.{Gathers, IsOpen, WantsHeld, MovesWithin}
 use Rattle.py_lines.proofs.Lines.{lines_left}
 use Rattle.py_stream.proofs.Completing.{completes}
 use Rattle.py_reader.proofs.Transfers.{keeps_told}
@@ -130,11 +130,16 @@ pub record Comes (old : EngineView) (call : FileCall) (reply : FileReply) (short
   pub first : StarvesFirst (stream_of old) call reply (stream_of (record new { short = short }))
   pub nothing : IsTrue (asks_nothing call) → AsksNothing (stream_of old) reply (stream_of (record new { short = short }))
   pub one : IsTrue (is_single call) → WhereTransfers old.raw (new.raw.transfers ≤ old.raw.transfers + 1)
-  pub held : end_of old.window ≢ place_of old.window → IsTrue (is_single call) → AsksNothing (stream_of old) reply (stream_of (record new { short = short }))
+  pub in_hand : InHandOf (stream_of old) call → AsksNothing (stream_of old) reply (stream_of (record new { short = short }))
+  pub needs : IsTrue (reads_on call) → AsksNoMore (stream_of old) call reply (stream_of (record new { short = short }))
   pub answers : IsReplyTo (Some old.window.size) false call reply
   pub told : WhereTold old.raw (BinaryStep (file_of (stream_of old)) call reply short (says_fault reply) (file_of (stream_of new)))
   pub reach : Reaches old new
   pub hides : IsTrue short → end_of new.window ≡ place_of new.window
+
+first_holds : (first second : Bool) → IsTrue (first && second) → IsTrue first
+first_holds true second both = refl
+first_holds false second both = absurd (cc)
 
 pub answers_coming : (old new : EngineView) (call : FileCall) (reply : FileReply) (short : Bool) → is_reading call ≡ true → old.life ≡ life.Live → Comes old call reply short new → Answers (stream_of old) call reply (stream_of (record new { short = short }))
 answers_coming old new call reply short reads live comes =
@@ -144,7 +149,7 @@ answers_coming old new call reply short reads live comes =
       keeps = record { buffer = ap Some comes.kept.size; can = ap reader_can comes.kept.raw.seekable; raw = comes.kept.raw; bare = λ bare. absurd (cc) };
       refused = λ why refuses. absurd (let wrong : None ≡ Some why = sym unrefused ∙ refuses in cc);
       again = λ closes. absurd (cc (not_closing (stream_of old) call reads));
-      shut = λ none closed. comes.kept.stays ∙ closed ∙ ap is_closed live ∙ sym comes.is_open;
+      shut = λ _ none closed. comes.kept.stays ∙ closed ∙ ap is_closed live ∙ sym comes.is_open;
       causes = comes.causes;
       counted = comes.counted;
       shorts = comes.shorts;
@@ -156,9 +161,10 @@ answers_coming old new call reply short reads live comes =
       nothing = comes.nothing;
       writes = λ can. absurd (cc);
       idle = λ keeps. absurd (cc (uses_raw call reads));
-      single = comes.one;
-      held = λ reads apart one. comes.held apart one;
-      spares = λ writes none. record { bytes = comes.kept.bytes; owed = refl };
+      single = λ one none. comes.one one;
+      in_hand = λ has. comes.in_hand has.of;
+      needs = λ on none. comes.needs (first_holds (reads_on call) (reads_on call || is_writing call) on);
+      spares = λ writes none. record { bytes = comes.kept.bytes; written = comes.kept.written; owed = refl };
       answer = λ accepts. comes.answers;
       at_once = λ failed. absurd (cc);
       complete = λ accepts calm sound. completes old.raw new.raw (Some old.window.size) false call reply short comes.causes comes.shorts comes.answers calm sound;
@@ -221,6 +227,20 @@ wants_nothing (ReadLine None) on asks left = absurd (cc)
 wants_nothing (ReadLine (Some zero)) on asks left = refl
 wants_nothing (ReadLine (Some (suc limit))) on asks left = absurd (cc)
 wants_nothing call on asks left = absurd (cc)
+
+-- nor does it want more than is held
+pub nothing_held : (old : EngineView) (call : FileCall) → reads_on call ≡ true → IsTrue (asks_nothing call) → WantsHeld (wanted_by call) old
+nothing_held old call on asks left = omega (arith, ap length (wants_nothing call on asks left))
+
+-- one that the bytes held answer by themselves wants no more than these
+pub in_hand_held : (old : EngineView) (call : FileCall) → reads_on call ≡ true → InHandOf (stream_of old) call → WantsHeld (wanted_by call) old
+in_hand_held old (Read (Some size)) on has left = omega (arith, has, length-take size left, length-drop old.window.cursor old.window.held)
+in_hand_held old (ReadInto size) on has left = omega (arith, has, length-take size left, length-drop old.window.cursor old.window.held)
+in_hand_held old (ReadLine (Some limit)) on has left = omega (arith, has, length-take limit (line_after Lf false left), length-drop old.window.cursor old.window.held)
+in_hand_held old (Read None) on has left = absurd has
+in_hand_held old (ReadLine None) on has left = absurd has
+in_hand_held old (ReadLines hint) on has left = absurd has
+in_hand_held old call on has left = absurd (cc)
 
 -- the exact answer
 carried : (file : FlatFile) (size : ℕ) (call : FileCall) (part : List ℕ) (after : FlatFile) → file.buffering ≡ Buffered size → reads_on call ≡ true → wanted_by call (rest file) ≡ part → after ≡ after_read file (length part) → Accepted file call (reply_by call part) after
@@ -330,14 +350,66 @@ unready_waited file (ReadLines hint) after on same = inl (refl, same)
 unready_waited file (ReadInto size) after on same = inl (refl, same)
 unready_waited file call after on same = absurd (cc)
 
+-- What a reading that goes on asks of the raw.
+
+-- an answer that is whole is all that is wanted, whatever comes after it
+whole_wanted : (call : FileCall) (part : List ℕ) → reads_on call ≡ true → IsWhole call (reply_by call part) → (more : List ℕ) → wanted_by call (part ++ more) ≡ part
+whole_wanted (Read size) part on whole = whole
+whole_wanted (ReadLine limit) part on whole = whole
+whole_wanted (ReadLines hint) part on whole = λ more. ap (λ (bytes : List ℕ). joined (lines_within hint (bytes ++ more))) (sym (joined_lines part)) ∙ (ap joined (whole more) ∙ joined_lines part)
+whole_wanted (ReadInto size) part on whole = whole
+whole_wanted call part on whole = absurd (cc)
+
+unready_not_whole : (call : FileCall) → IsWhole call NotReady → ⊥
+unready_not_whole (Read size) whole = whole
+unready_not_whole (ReadLine limit) whole = whole
+unready_not_whole (ReadLines hint) whole = whole
+unready_not_whole (ReadInto size) whole = whole
+unready_not_whole call whole = whole
+
+refused_not_whole : (call : FileCall) (why : IoFault) → IsWhole call (Refused why) → ⊥
+refused_not_whole (Read size) why whole = whole
+refused_not_whole (ReadLine limit) why whole = whole
+refused_not_whole (ReadLines hint) why whole = whole
+refused_not_whole (ReadInto size) why whole = whole
+refused_not_whole call why whole = whole
+
+-- what was asked for the bytes that were given, by whether more of whatever comes after them is wanted
+pub record Needs (wanted : List ℕ → List ℕ) (old : EngineView) (part : List ℕ) (new : EngineView) : Type 0 where
+  pub enough : ((more : List ℕ) → wanted (part ++ more) ≡ part) → IsNeeded old new
+  pub whole : ((more : List ℕ) → wanted (part ++ more) ≡ part) → EachBrings 0 old new
+  pub last : EachBrings 1 old new
+
+needs_enough : (wanted : List ℕ → List ℕ) (old : EngineView) (part : List ℕ) (new : EngineView) → EachBrings 0 old new → IsNeeded old new → Needs wanted old part new
+needs_enough wanted old part new each needed = record { enough = λ whole. needed; whole = λ whole. each; last = λ tells. omega (arith, each tells) }
+
+needs_open : (wanted : List ℕ → List ℕ) (old : EngineView) (part : List ℕ) (new : EngineView) → EachBrings 1 old new → IsOpen wanted part → Needs wanted old part new
+needs_open wanted old part new each goes_on = record { enough = λ whole. absurd (goes_on whole); whole = λ whole. absurd (goes_on whole); last = each }
+
+-- of a call that gave bytes
+asks_given : (old new : EngineView) (call : FileCall) (part : List ℕ) (short : Bool) → reads_on call ≡ true → Needs (wanted_by call) old part new → AsksNoMore (stream_of old) call (reply_by call part) (stream_of (record new { short = short }))
+asks_given old new call part short on needs = record {
+  enough = λ whole within buffered. record { raw = needs.enough (whole_wanted call part on whole) within; fault = said call part };
+  whole = λ whole tells. omega (arith, needs.whole (whole_wanted call part on whole) tells);
+  last = λ tells. omega (arith, needs.last tells);
+}
+
+-- and of one that gave none
+asks_ungiven : (old new : EngineView) (call : FileCall) (reply : FileReply) (short : Bool) → (IsWhole call reply → ⊥) → EachBrings 1 old new → AsksNoMore (stream_of old) call reply (stream_of (record new { short = short }))
+asks_ungiven old new call reply short never each = record {
+  enough = λ whole. absurd (never whole);
+  whole = λ whole. absurd (never whole);
+  last = λ tells. omega (arith, each tells);
+}
+
 -- told, the bytes that came next move the place no further than the end
 pub reaches_given : (old new : EngineView) (part : List ℕ) → Gives old part new → Reaches old new
 reaches_given old new part given tells =
     omega (arith, given.place, ap length (given.told tells), length-take (length part) (left_at old.raw.bytes (place_of old.window)), length-drop (place_of old.window) old.raw.bytes)
 
 -- A reading that had enough, or all that was left.
-pub answers_all : (old new : EngineView) (call : FileCall) (part : List ℕ) → reads_on call ≡ true → old.life ≡ life.Live → Gives old part new → NoWait old.raw new.raw → (IsTrue (asks_nothing call) → new.raw ≡ old.raw) → wanted_by call part ≡ part → WhereTold old.raw (wanted_by call (left_at old.raw.bytes (place_of old.window)) ≡ part) → Answers (stream_of old) call (reply_by call part) (stream_of (record new { short = false }))
-answers_all old new call part on live given no_wait idle alone exact =
+pub answers_all : (old new : EngineView) (call : FileCall) (part : List ℕ) → reads_on call ≡ true → old.life ≡ life.Live → Gives old part new → NoWait old.raw new.raw → (WantsHeld (wanted_by call) old → new.raw ≡ old.raw) → Needs (wanted_by call) old part new → wanted_by call part ≡ part → WhereTold old.raw (wanted_by call (left_at old.raw.bytes (place_of old.window)) ≡ part) → Answers (stream_of old) call (reply_by call part) (stream_of (record new { short = false }))
+answers_all old new call part on live given no_wait idle needs alone exact =
     let file : FlatFile = file_of (stream_of old) in
     let same : new.life ≡ old.life = given.live ∙ sym live in
     answers_coming old new call (reply_by call part) false (reading_on call on) live (record {
@@ -352,9 +424,10 @@ answers_all old new call part on live given no_wait idle alone exact =
       wants = λ wanting room. absurd (cc (gave_bytes call part));
       starves = λ wanting reads. absurd (cc (gave_bytes call part));
       first = λ wanting takes none. absurd (cc (gave_bytes call part));
-      nothing = λ asks. record { raw = idle asks; fault = said call part };
+      nothing = λ asks. record { raw = idle (nothing_held old call on asks); fault = said call part };
       one = λ single. absurd (cc (many call on));
-      held = λ apart single. absurd (cc (many call on));
+      in_hand = λ has. record { raw = idle (in_hand_held old call on has); fault = said call part };
+      needs = λ reads. asks_given old new call part false on needs;
       answers = part_answers old.window.size call part on;
       told = λ tells. settled (subst (λ (refused : Option IoFault). SettledBy file call refused (reply_by call part) (file_of (stream_of new))) (sym (accepted old call (reading_on call on) live))
           (carried file old.window.size call part (file_of (stream_of new)) refl on (exact tells) (file_after old new (length part) given.kept same given.place tells)));
@@ -363,8 +436,8 @@ answers_all old new call part on live given no_wait idle alone exact =
     })
 
 -- A reading that a wait of the raw cut short.
-pub answers_part : (old new : EngineView) (call : FileCall) (part : List ℕ) → reads_on call ≡ true → old.life ≡ life.Live → Gives old part new → Rose old.raw.waits new.raw.waits → end_of new.window ≡ place_of new.window → WaitsOnce old.raw new.raw → part ≢ [] → wanted_by call part ≡ part → WhereTold old.raw (IsFrontOf part (wanted_by call (left_at old.raw.bytes (place_of old.window)))) → Answers (stream_of old) call (reply_by call part) (stream_of (record new { short = true }))
-answers_part old new call part on live given waits hides once some alone front =
+pub answers_part : (old new : EngineView) (call : FileCall) (part : List ℕ) → reads_on call ≡ true → old.life ≡ life.Live → Gives old part new → Rose old.raw.waits new.raw.waits → end_of new.window ≡ place_of new.window → WaitsOnce old.raw new.raw → (WantsHeld (wanted_by call) old → new.raw ≡ old.raw) → Needs (wanted_by call) old part new → part ≢ [] → wanted_by call part ≡ part → WhereTold old.raw (IsFrontOf part (wanted_by call (left_at old.raw.bytes (place_of old.window)))) → Answers (stream_of old) call (reply_by call part) (stream_of (record new { short = true }))
+answers_part old new call part on live given waits hides once idle needs some alone front =
     let file : FlatFile = file_of (stream_of old) in
     let same : new.life ≡ old.life = given.live ∙ sym live in
     answers_coming old new call (reply_by call part) true (reading_on call on) live (record {
@@ -381,7 +454,8 @@ answers_part old new call part on live given waits hides once some alone front =
       first = λ wanting takes none. absurd (cc (gave_bytes call part));
       nothing = λ asks. absurd (some (sym alone ∙ wants_nothing call on asks part));
       one = λ single. absurd (cc (many call on));
-      held = λ apart single. absurd (cc (many call on));
+      in_hand = λ has. record { raw = idle (in_hand_held old call on has); fault = said call part };
+      needs = λ reads. asks_given old new call part true on needs;
       answers = part_answers old.window.size call part on;
       told = λ tells. waited_for refl (
         works old call (reading_on call on) live,
@@ -396,8 +470,8 @@ answers_part old new call part on live given waits hides once some alone front =
     })
 
 -- One that the raw made wait before anything came.
-pub answers_unready : (old new : EngineView) (call : FileCall) → reads_on call ≡ true → old.life ≡ life.Live → Gives old [] new → Rose old.raw.waits new.raw.waits → end_of new.window ≡ place_of new.window → WaitsOnce old.raw new.raw → (IsTrue (asks_nothing call) → new.raw ≡ old.raw) → Answers (stream_of old) call NotReady (stream_of (record new { short = true }))
-answers_unready old new call on live given waits hides once idle =
+pub answers_unready : (old new : EngineView) (call : FileCall) → reads_on call ≡ true → old.life ≡ life.Live → Gives old [] new → Rose old.raw.waits new.raw.waits → end_of new.window ≡ place_of new.window → WaitsOnce old.raw new.raw → (WantsHeld (wanted_by call) old → new.raw ≡ old.raw) → EachBrings 1 old new → Answers (stream_of old) call NotReady (stream_of (record new { short = true }))
+answers_unready old new call on live given waits hides once idle each =
     let file : FlatFile = file_of (stream_of old) in
     let same : new.life ≡ old.life = given.live ∙ sym live in
     answers_coming old new call NotReady true (reading_on call on) live (record {
@@ -412,9 +486,10 @@ answers_unready old new call on live given waits hides once idle =
       wants = λ wanting room. absurd (cc);
       starves = λ wanting reads. absurd (cc);
       first = λ wanting takes none. absurd (cc);
-      nothing = λ asks. record { raw = idle asks; fault = refl };
+      nothing = λ asks. record { raw = idle (nothing_held old call on asks); fault = refl };
       one = λ single. absurd (cc (many call on));
-      held = λ apart single. absurd (cc (many call on));
+      in_hand = λ has. record { raw = idle (in_hand_held old call on has); fault = refl };
+      needs = λ reads. asks_ungiven old new call NotReady true (unready_not_whole call) each;
       answers = reading_on call on;
       told = λ tells. waited_for refl (works old call (reading_on call on) live, unready_waited file call (file_of (stream_of new)) on (file_same old new given.kept same (omega (arith, given.place)) tells));
       reach = reaches_given old new [] given;
@@ -436,6 +511,7 @@ fails_within most old new fails within = record {
   failed = fails.failed;
   place = forth_within most (place_of old.window) (place_of new.window) fails.place within;
   reach = fails.reach;
+  each = fails.each;
 }
 
 -- and one that wanted memory
@@ -449,6 +525,7 @@ moved_within most old new fails within = record {
   forth = fails.forth;
   raw_forth = fails.raw_forth;
   some = fails.some;
+  each = fails.each;
 }
 
 -- or was left as it was
@@ -529,8 +606,8 @@ file_fails old new kept failed tells = record {
 }
 
 -- a call that the raw failed
-pub answers_faulted : (old new : EngineView) (call : FileCall) → is_reading call ≡ true → old.life ≡ life.Live → old.short ≡ false → FailsInReading (moves_most call) old new → PlaceFails (reads_on call || is_writing call) (moves_most call) (place_of old.window) (place_of new.window) → asks_nothing call ≡ false → (IsTrue (is_single call) → WhereTransfers old.raw (new.raw.transfers ≤ old.raw.transfers + 1)) → (IsTrue (is_single call) → end_of old.window ≡ place_of old.window) → Answers (stream_of old) call (Refused fault.RawFault) (stream_of new)
-answers_faulted old new call reads live whole fails goes asks_some one stands =
+pub answers_faulted : (old new : EngineView) (call : FileCall) → is_reading call ≡ true → old.life ≡ life.Live → old.short ≡ false → FailsInReading (moves_most call) old new → PlaceFails (reads_on call || is_writing call) (moves_most call) (place_of old.window) (place_of new.window) → asks_nothing call ≡ false → (IsTrue (is_single call) → WhereTransfers old.raw (new.raw.transfers ≤ old.raw.transfers + 1)) → (InHandOf (stream_of old) call → ⊥) → Answers (stream_of old) call (Refused fault.RawFault) (stream_of new)
+answers_faulted old new call reads live whole fails goes asks_some one apart =
     let short : new.short ≡ false = fails.kept.short ∙ whole in
     let file : FlatFile = file_of (stream_of old) in
     answers_coming old new call (Refused fault.RawFault) new.short reads live (record {
@@ -547,7 +624,8 @@ answers_faulted old new call reads live whole fails goes asks_some one stands =
       first = λ wanting takes none. absurd (cc);
       nothing = λ asks. absurd (cc);
       one = one;
-      held = λ apart single. absurd (apart (stands single));
+      in_hand = λ has. absurd (apart has);
+      needs = λ on. asks_ungiven old new call (Refused fault.RawFault) new.short (refused_not_whole call fault.RawFault) fails.each;
       answers = fault_answers old.window.size call reads;
       told = λ tells. raw_faulted refl refl (reaches file call (works old call reads live), faulted_by file call (file_of (stream_of new)) reads (file_fails old new fails.kept fails.failed tells));
       reach = fails.reach;
@@ -607,7 +685,7 @@ starved_by_none file (WriteLines lines) after reads same = absurd (cc)
 starved_by_none file call after reads same = same
 
 -- a call that wanted memory, and left the stream where it was
-pub answers_wanting : (old new : EngineView) (call : FileCall) → is_reading call ≡ true → old.life ≡ life.Live → old.short ≡ false → KeepsEngine old new → new.life ≡ life.Live → place_of new.window ≡ place_of old.window → LeavesCounts old.raw new.raw → (IsTrue (asks_nothing call) → new.raw ≡ old.raw) → (IsTrue (has_room call) → IsTrue old.raw.takes_memory) → (IsTrue (reads_on call) → new ≡ old) → (IsTrue (is_single call) → WhereTransfers old.raw (new.raw.transfers ≤ old.raw.transfers + 1)) → (IsTrue (is_single call) → end_of old.window ≢ place_of old.window → new.raw ≡ old.raw) → Answers (stream_of old) call (Refused fault.NoMemory) (stream_of new)
+pub answers_wanting : (old new : EngineView) (call : FileCall) → is_reading call ≡ true → old.life ≡ life.Live → old.short ≡ false → KeepsEngine old new → new.life ≡ life.Live → place_of new.window ≡ place_of old.window → LeavesCounts old.raw new.raw → (IsTrue (asks_nothing call) → new.raw ≡ old.raw) → (IsTrue (has_room call) → IsTrue old.raw.takes_memory) → (IsTrue (reads_on call) → new ≡ old) → (IsTrue (is_single call) → WhereTransfers old.raw (new.raw.transfers ≤ old.raw.transfers + 1)) → (InHandOf (stream_of old) call → new.raw ≡ old.raw) → Answers (stream_of old) call (Refused fault.NoMemory) (stream_of new)
 answers_wanting old new call reads live whole kept lives place counts idle wants unmoved one still =
     let short : new.short ≡ false = kept.short ∙ whole in
     let same : new.life ≡ old.life = lives ∙ sym live in
@@ -624,14 +702,15 @@ answers_wanting old new call reads live whole kept lives place counts idle wants
       within = want_within old.window.size call;
       wants = λ wanting room. wants room;
       starves = λ wanting on. record {
-        unmoved = λ living. stays on;
+        unmoved = λ living none. stays on;
         moved = λ failed. absurd (let both : life.Failed ≡ life.Live = sym failed ∙ lives in cc);
         stands = λ failed. absurd (let both : life.Failed ≡ life.Live = sym failed ∙ lives in cc);
       };
       first = λ wanting takes none. stays (space_first call takes);
       nothing = λ asks. record { raw = idle asks; fault = refl };
       one = one;
-      held = λ apart single. record { raw = still single apart; fault = refl };
+      in_hand = λ has. record { raw = still has; fault = refl };
+      needs = λ on. asks_ungiven old new call (Refused fault.NoMemory) new.short (refused_not_whole call fault.NoMemory) (λ tells. omega (arith, ap (λ (engine : EngineView). engine.raw.transfers) (unmoved on), ap (λ (engine : EngineView). end_of engine.window) (unmoved on)));
       answers = want_answers old.window.size call reads;
       told = λ tells. out_of_memory refl (reaches file call (works old call reads live), starved_by_none file call (file_of (stream_of new)) reads (file_same old new kept same place tells));
       reach = λ tells. omega (arith, place);
@@ -661,7 +740,8 @@ pub record FailsWanting (old : EngineView) (call : FileCall) (new : EngineView) 
   pub reach : Reaches old new
   pub forth : end_of old.window < end_of new.window
   pub raw_forth : WherePlace old.raw (old.raw.place < new.raw.place)
-  pub idle : IsTrue (asks_nothing call) → new.raw ≡ old.raw
+  pub each : EachBrings 0 old new
+  pub idle : WantsHeld (wanted_by call) old → new.raw ≡ old.raw
   pub some : WhereTold old.raw (wanted_by call (left_at old.raw.bytes (place_of old.window)) ≢ [])
 
 pub answers_failing : (old new : EngineView) (call : FileCall) → reads_on call ≡ true → old.life ≡ life.Live → old.short ≡ false → (IsTrue (has_room call) → IsTrue old.raw.takes_memory) → (IsTrue (takes_space_first call) → IsTrue old.raw.takes_memory) → FailsWanting old call new → Answers (stream_of old) call (Refused fault.NoMemory) (stream_of new)
@@ -684,9 +764,10 @@ answers_failing old new call on live whole wants first fails =
         stands = λ failed. fails.raw_forth;
       };
       first = λ wanting takes none. absurd (let takes_some : old.raw.takes_memory ≡ true = first takes in cc);
-      nothing = λ asks. record { raw = fails.idle asks; fault = refl };
+      nothing = λ asks. record { raw = fails.idle (nothing_held old call on asks); fault = refl };
       one = λ single. absurd (cc (many call on));
-      held = λ apart single. absurd (cc (many call on));
+      in_hand = λ has. record { raw = fails.idle (in_hand_held old call on has); fault = refl };
+      needs = λ reads. asks_ungiven old new call (Refused fault.NoMemory) new.short (refused_not_whole call fault.NoMemory) (λ tells. omega (arith, fails.each tells));
       answers = want_answers old.window.size call (reading_on call on);
       told = λ tells. out_of_memory refl (reaches file call (works old call (reading_on call on) live), starved_by_failing file call (file_of (stream_of new)) on (fails.some tells) (file_fails old new fails.kept fails.failed tells));
       reach = fails.reach;
@@ -696,19 +777,19 @@ answers_failing old new call on live whole wants first fails =
 -- By where the reading stopped.
 
 -- a reading with an answer
-pub answers_stopped : (old mid new : EngineView) (call : FileCall) (part : List ℕ) (stop : Stop) (empty : Bool) → reads_on call ≡ true → old.life ≡ life.Live → StopOutcome old part (Ok stop) mid → Gathers (wanted_by call) old part (Ok stop) → (IsTrue (asks_nothing call) → mid.raw ≡ old.raw) → (empty ≡ false → part ≢ []) → has_answer stop empty ≡ true → new ≡ answered_at stop mid → Answers (stream_of old) call (reply_by call part) (stream_of new)
+pub answers_stopped : (old mid new : EngineView) (call : FileCall) (part : List ℕ) (stop : Stop) (empty : Bool) → reads_on call ≡ true → old.life ≡ life.Live → StopOutcome old part (Ok stop) mid → Gathers (wanted_by call) old part (Ok stop) → (WantsHeld (wanted_by call) old → mid.raw ≡ old.raw) → (empty ≡ false → part ≢ []) → has_answer stop empty ≡ true → new ≡ answered_at stop mid → Answers (stream_of old) call (reply_by call part) (stream_of new)
 answers_stopped old mid new call part stops.Enough empty on live outcome gathered idle some answered is =
-    subst (λ (engine : EngineView). Answers (stream_of old) call (reply_by call part) (stream_of engine)) (sym is) (answers_all old mid call part on live outcome.0 outcome.1 idle gathered.alone gathered.exact)
+    subst (λ (engine : EngineView). Answers (stream_of old) call (reply_by call part) (stream_of engine)) (sym is) (answers_all old mid call part on live outcome.0 outcome.1 idle (needs_enough (wanted_by call) old part mid outcome.2 outcome.3) gathered.alone gathered.exact)
 answers_stopped old mid new call part stops.End empty on live outcome gathered idle some answered is =
-    subst (λ (engine : EngineView). Answers (stream_of old) call (reply_by call part) (stream_of engine)) (sym is) (answers_all old mid call part on live outcome.0 outcome.1 idle gathered.alone gathered.exact)
+    subst (λ (engine : EngineView). Answers (stream_of old) call (reply_by call part) (stream_of engine)) (sym is) (answers_all old mid call part on live outcome.0 outcome.1 idle (needs_open (wanted_by call) old part mid outcome.3 gathered.1) gathered.0.alone gathered.0.exact)
 answers_stopped old mid new call part stops.Waits true on live outcome gathered idle some answered is = absurd (cc)
 answers_stopped old mid new call part stops.Waits false on live outcome gathered idle some answered is =
-    subst (λ (engine : EngineView). Answers (stream_of old) call (reply_by call part) (stream_of engine)) (sym is) (answers_part old mid call part on live outcome.0 outcome.1 outcome.2 outcome.3 (some refl) gathered.alone gathered.front)
+    subst (λ (engine : EngineView). Answers (stream_of old) call (reply_by call part) (stream_of engine)) (sym is) (answers_part old mid call part on live outcome.0 outcome.1 outcome.2 outcome.3 idle (needs_open (wanted_by call) old part mid outcome.4 gathered.1) (some refl) gathered.0.alone gathered.0.front)
 
 -- and one without
-pub unready_stopped : (old mid new : EngineView) (call : FileCall) (part : List ℕ) (stop : Stop) (empty : Bool) → reads_on call ≡ true → old.life ≡ life.Live → StopOutcome old part (Ok stop) mid → (IsTrue (asks_nothing call) → mid.raw ≡ old.raw) → (empty ≡ true → part ≡ []) → has_answer stop empty ≡ false → new ≡ answered_at stop mid → Answers (stream_of old) call NotReady (stream_of new)
+pub unready_stopped : (old mid new : EngineView) (call : FileCall) (part : List ℕ) (stop : Stop) (empty : Bool) → reads_on call ≡ true → old.life ≡ life.Live → StopOutcome old part (Ok stop) mid → (WantsHeld (wanted_by call) old → mid.raw ≡ old.raw) → (empty ≡ true → part ≡ []) → has_answer stop empty ≡ false → new ≡ answered_at stop mid → Answers (stream_of old) call NotReady (stream_of new)
 unready_stopped old mid new call part stops.Enough empty on live outcome idle none unready is = absurd (cc)
 unready_stopped old mid new call part stops.End empty on live outcome idle none unready is = absurd (cc)
 unready_stopped old mid new call part stops.Waits false on live outcome idle none unready is = absurd (cc)
 unready_stopped old mid new call part stops.Waits true on live outcome idle none unready is =
-    subst (λ (engine : EngineView). Answers (stream_of old) call NotReady (stream_of engine)) (sym is) (answers_unready old mid call on live (subst (λ (bytes : List ℕ). Gives old bytes mid) (none refl) outcome.0) outcome.1 outcome.2 outcome.3 idle)
+    subst (λ (engine : EngineView). Answers (stream_of old) call NotReady (stream_of engine)) (sym is) (answers_unready old mid call on live (subst (λ (bytes : List ℕ). Gives old bytes mid) (none refl) outcome.0) outcome.1 outcome.2 outcome.3 idle outcome.4)

@@ -9,37 +9,38 @@ use Rattle.py_flat.specs.Bytes.{left_at}
 use Rattle.py_flat.specs.Causes.{Rose}
 use Rattle.py_flat.specs.BinaryStep.{IsFrontOf}
 use Rattle.py_raw.specs.RawStream.{WhereTold, WherePlace, NoWait, WaitsOnce}
-use Rattle.py_raw.proofs.Telling.{keeps_same}
 use Rattle.py_reader.specs.declared.data.Stop.TheVariants as stop
 use Rattle.py_reader.specs.Window.{place_of, end_of, ahead_of, advanced}
-use Rattle.py_reader.specs.Engine.{EngineView, IsEngine, KeepsEngine, UsesUp, IsLast, Fills, FillsOutcome, StarvesWith, ComesNext, Took, Gives}
-use Rattle.py_reader.specs.Reading.{GathersEnough, GatherOutcome}
+use Rattle.py_reader.specs.Engine.{EngineView, KeepsEngine, UsesUp, IsLast, Fills, FillsOutcome, StarvesWith, ComesNext, Took, Gives, EachBrings}
+use Rattle.py_reader.specs.Reading.{GathersEnough, IsOpen, WantsHeld, GatherOutcome}
 use Rattle.py_lines.specs.Collecting.{HasEnough, WantsMore}
-use Rattle.py_reader.proofs.Transfers.{more_taken, next_behind, within_end, held_next, keeps_then, still_tells, keeps_told, keeps_advanced, no_fault_then, no_wait_then, waits_once_then}
+use Rattle.py_reader.proofs.Transfers.{more_taken, next_behind, within_end, held_next, keeps_then, still_tells, keeps_told, keeps_advanced, no_fault_then, no_wait_then, waits_once_then, keeps_failed, each_then, each_but_last, each_but_failed}
 
--- these bytes were collected, up to the cursor; where no byte was moved yet, all is as it was
+-- these bytes were collected, up to the cursor; where no byte was moved yet, all is as it was, and else the window holds bytes that
+-- weren't held
 pub record GatheredTo (old : EngineView) (part : List ℕ) (moved : Bool) (now : EngineView) : Type 0 where
   pub given : Gives old part now
   pub no_wait : NoWait old.raw now.raw
+  pub each : EachBrings 0 old now
   pub unmoved : moved ≡ false → now ≡ old
+  pub further : moved ≡ true → end_of old.window ≤ place_of now.window
+  pub ahead : moved ≡ true → 0 < length (ahead_of now.window)
   pub forth : moved ≡ true → end_of old.window < end_of now.window
   pub raw_forth : moved ≡ true → WherePlace old.raw (old.raw.place < now.raw.place)
 
--- nothing is wanted, whatever is left
-abbrev pub WantsNothing : (List ℕ → List ℕ) → Type 0
-WantsNothing wanted = (left : List ℕ) → wanted left ≡ []
-
--- where bytes were moved, something is wanted, and all of what was collected; some were left, and some of them are wanted
+-- where bytes were moved, more is wanted than was held, and all of what was collected, and some of whatever comes after it; some were
+-- left, and some of them are wanted
 pub record MovedSome (wanted : List ℕ → List ℕ) (old : EngineView) (part : List ℕ) (moved : Bool) : Type 0 where
-  pub wants : moved ≡ true → WantsNothing wanted → ⊥
+  pub wants : moved ≡ true → WantsHeld wanted old → ⊥
   pub alone : moved ≡ true → wanted part ≡ part
+  pub asks : moved ≡ true → (more : List ℕ) → more ≢ [] → length part < length (wanted (part ++ more))
   pub left : moved ≡ true → WhereTold old.raw (left_at old.raw.bytes (place_of old.window) ≢ [])
   pub asked : moved ≡ true → WhereTold old.raw (wanted (left_at old.raw.bytes (place_of old.window)) ≢ [])
 
--- where nothing is wanted, no byte was moved
-unmoved_for_nothing : (old now : EngineView) (part : List ℕ) (moved : Bool) (wanted : List ℕ → List ℕ) → GatheredTo old part moved now → MovedSome wanted old part moved → WantsNothing wanted → now ≡ old
-unmoved_for_nothing old now part true wanted gathered some nothing = absurd (some.wants refl nothing)
-unmoved_for_nothing old now part false wanted gathered some nothing = gathered.unmoved refl
+-- where no more is wanted than was held, no byte was moved
+unmoved_for_held : (old now : EngineView) (part : List ℕ) (moved : Bool) (wanted : List ℕ → List ℕ) → GatheredTo old part moved now → MovedSome wanted old part moved → WantsHeld wanted old → now ≡ old
+unmoved_for_held old now part true wanted gathered some held = absurd (some.wants refl held)
+unmoved_for_held old now part false wanted gathered some held = gathered.unmoved refl
 
 -- what stands after some bytes is nothing where all is
 none_behind : (xs ys : List ℕ) → xs ++ ys ≡ [] → ys ≡ []
@@ -50,11 +51,19 @@ none_behind (x ∷ xs) ys none = absurd (cc)
 still_asks : (wanted : List ℕ → List ℕ) (before piece after behind : List ℕ) → WantsMore wanted before piece after → behind ≢ [] → wanted (after ++ behind) ≢ []
 still_asks wanted before piece after behind more some none = absurd (let longer : length after < length (wanted (after ++ behind)) = more.asks behind some in omega (arith, ap length none))
 
--- a collector that took all of a piece wants something
-wants_something : (wanted first : List ℕ → List ℕ) (before piece after : List ℕ) → ((rest : List ℕ) → wanted rest ≡ first rest) → WantsMore wanted before piece after → WantsNothing first → ⊥
-wants_something wanted first before piece after same more nothing =
+-- so what it has isn't all that is wanted
+open_behind : (wanted first : List ℕ → List ℕ) (before piece after : List ℕ) → ((rest : List ℕ) → wanted rest ≡ first rest) → WantsMore wanted before piece after → IsOpen first after
+open_behind wanted first before piece after same more whole =
     let longer : List ℕ = after ++ (0 ∷ []) in
-    still_asks wanted before piece after (0 ∷ []) more (λ none. absurd (cc)) (same longer ∙ nothing longer)
+    let asked : length after < length (wanted longer) = more.asks (0 ∷ []) (λ none. absurd (cc)) in
+    absurd (omega (arith, ap length (same longer ∙ whole (0 ∷ []))))
+
+-- and more is than it has
+wants_past : (old : EngineView) (wanted first : List ℕ → List ℕ) (before piece after : List ℕ) → ((rest : List ℕ) → wanted rest ≡ first rest) → WantsMore wanted before piece after → length (ahead_of old.window) ≤ length after → WantsHeld first old → ⊥
+wants_past old wanted first before piece after same more long held =
+    let longer : List ℕ = after ++ (0 ∷ []) in
+    let asked : length after < length (wanted longer) = more.asks (0 ∷ []) (λ none. absurd (cc)) in
+    absurd (omega (arith, ap length (same longer), held longer))
 
 -- What comes next.
 
@@ -110,16 +119,27 @@ module _ (old now : EngineView) (part : List ℕ) (moved : Bool) (gathered : Gat
             ∙ enough.exact behind);
       }
 
+  -- without a call of the raw where all of it was held
+  needed_enough : (is : Bool) → moved ≡ is → (wanted first : List ℕ → List ℕ) (used : ℕ) (after : List ℕ) → ((rest : List ℕ) → wanted rest ≡ first rest) → MovedSome first old part moved → HasEnough wanted part (ahead_of now.window) used after → place_of now.window + used ≤ end_of old.window → now.raw ≡ old.raw
+  needed_enough false e wanted first used after same some enough within = ap (λ (engine : EngineView). engine.raw) (gathered.unmoved e)
+  needed_enough true e wanted first used after same some enough within =
+      let rest : List ℕ = ahead_of now.window ++ [] in
+      let asked : length part < length (first (part ++ rest)) = some.asks e rest (λ none. absurd (omega (arith, gathered.ahead e, ap length none, length-append (ahead_of now.window) []))) in
+      let size : length after ≡ length part + used = ap length enough.takes ∙ (length-append part (take used (ahead_of now.window)) ∙ ap (λ (n : ℕ). length part + n) (length-take-le used (ahead_of now.window) enough.fits)) in
+      absurd (omega (arith, gathered.further e, ap length (sym (same (part ++ rest)) ∙ enough.exact [])))
+
   pub stops_enough : (new : EngineView) (wanted first : List ℕ → List ℕ) (used : ℕ) (after : List ℕ) → ((rest : List ℕ) → wanted rest ≡ first rest) → MovedSome first old part moved → record now { window = advanced used now.window } ≡ new → HasEnough wanted part (ahead_of now.window) used after → GatherOutcome first old (Ok stop.Enough) after new
   stops_enough new wanted first used after same some is enough =
       let raw : new.raw ≡ now.raw = sym (ap (λ (engine : EngineView). engine.raw) is) in (
         (
           subst (Gives old after) is (gives_some used after enough.fits enough.takes),
           subst (λ (engine : EngineView). NoWait old.raw engine.raw) is gathered.no_wait,
+          subst (EachBrings 0 old) is gathered.each,
+          λ within. raw ∙ needed_enough moved refl wanted first used after same some enough (omega (arith, within, ap (λ (engine : EngineView). place_of engine.window) is)),
         ),
         gathers_enough wanted first used after same enough,
         tt,
-        λ nothing. (raw ∙ ap (λ (engine : EngineView). engine.raw) (unmoved_for_nothing old now part moved first gathered some nothing), λ fails. absurd (cc)),
+        λ held. (raw ∙ ap (λ (engine : EngineView). engine.raw) (unmoved_for_held old now part moved first gathered some held), λ fails. absurd (cc)),
         tt,
       )
 
@@ -135,6 +155,7 @@ module _ (old now : EngineView) (part : List ℕ) (moved : Bool) (gathered : Gat
         end = omega (arith, gathered.given.place, held, ap length is, length-append part (ahead_of now.window));
         unmoved = gathered.unmoved;
         told = λ tells. subst (ComesNext old) (sym is) (comes_with_all tells);
+        each = gathered.each;
         forth = gathered.forth;
         raw_forth = gathered.raw_forth;
       }
@@ -147,6 +168,10 @@ module _ (old now : EngineView) (part : List ℕ) (moved : Bool) (took : Took ol
   not_back : (is : Bool) → moved ≡ is → WherePlace old.raw (old.raw.place ≤ now.raw.place)
   not_back true is = λ tells. omega (arith, took.raw_forth is tells)
   not_back false is = λ tells. omega (arith, ap (λ (e : EngineView). e.raw.place) (took.unmoved is))
+
+  -- all that was held was taken
+  all_held : length (ahead_of old.window) ≤ length part
+  all_held = omega (arith, took.end, end_not_back moved refl, length-drop old.window.cursor old.window.held)
 
   -- the window was filled anew
   filled_on : (new : EngineView) (count : ℕ) → Fills now count new → GatheredTo old part true new
@@ -161,7 +186,10 @@ module _ (old now : EngineView) (part : List ℕ) (moved : Bool) (took : Took ol
           told = took.told;
         };
         no_wait = no_wait_then old now new took.kept took.counts.no_wait fills.no_wait;
+        each = each_then old now new 0 took.kept took.each fills.each;
         unmoved = λ e. cc;
+        further = λ is. omega (arith, end_not_back moved refl, fills.holds.begin, fills.holds.cursor);
+        ahead = λ is. omega (arith, fills.some, fills.holds.as_many, fills.holds.cursor, length-drop new.window.cursor new.window.held);
         forth = λ is. omega (arith, end_not_back moved refl, fills.some, fills.holds.begin, fills.holds.as_many);
         raw_forth = λ is tells. omega (arith, not_back moved refl tells, fills.forth (took.kept.raw.tells_place ∙ tells));
       }
@@ -189,39 +217,47 @@ module _ (old now : EngineView) (part : List ℕ) (moved : Bool) (took : Took ol
       let same : length now.raw.bytes ≡ length old.raw.bytes = ap length (keeps_told old now took.kept tells) in
       omega (arith, used.place, last (still_tells old now took.kept tells), same)
 
-  ends_at_last : (new : EngineView) (first : List ℕ → List ℕ) → first part ≡ part → (WantsNothing first → ⊥) → UsesUp now new → IsLast now → NoWait now.raw new.raw → GatherOutcome first old (Ok stop.End) part new
-  ends_at_last new first alone wants used last no_wait = (
+  ends_at_last : (new : EngineView) (first : List ℕ → List ℕ) → first part ≡ part → IsOpen first part → (WantsHeld first old → ⊥) → UsesUp now new → IsLast now → NoWait now.raw new.raw → GatherOutcome first old (Ok stop.End) part new
+  ends_at_last new first alone more wants used last no_wait = (
     (
       gives_all new used,
       no_wait_then old now new took.kept took.counts.no_wait no_wait,
       last_of new used last,
+      each_then old now new 1 took.kept took.each (each_but_last now new used),
     ),
-    record {
-      alone = alone;
-      exact = λ tells.
-          let none : left_at old.raw.bytes (place_of old.window + length part) ≡ [] = drop_of_length-le old.raw.bytes (omega (arith, took.end, used.place, last_of new used last tells)) in
-          ap first (next_parts old.raw.bytes part (place_of old.window) (took.told tells) ∙ (ap (λ (t : List ℕ). part ++ t) none ∙ append-nil part))
-          ∙ alone;
-    },
+    (
+      record {
+        alone = alone;
+        exact = λ tells.
+            let none : left_at old.raw.bytes (place_of old.window + length part) ≡ [] = drop_of_length-le old.raw.bytes (omega (arith, took.end, used.place, last_of new used last tells)) in
+            ap first (next_parts old.raw.bytes part (place_of old.window) (took.told tells) ∙ (ap (λ (t : List ℕ). part ++ t) none ∙ append-nil part))
+            ∙ alone;
+      },
+      more,
+    ),
     tt,
-    λ nothing. absurd (wants nothing),
+    λ held. absurd (wants held),
     tt,
   )
 
-  waits_at : (new : EngineView) (first : List ℕ → List ℕ) → first part ≡ part → ((more : List ℕ) → IsFrontOf part (first (part ++ more))) → (WantsNothing first → ⊥) → UsesUp now new → Rose now.raw.waits new.raw.waits → WaitsOnce now.raw new.raw → GatherOutcome first old (Ok stop.Waits) part new
-  waits_at new first alone goes_on wants used waits once = (
+  waits_at : (new : EngineView) (first : List ℕ → List ℕ) → first part ≡ part → ((more : List ℕ) → IsFrontOf part (first (part ++ more))) → IsOpen first part → (WantsHeld first old → ⊥) → UsesUp now new → Rose now.raw.waits new.raw.waits → WaitsOnce now.raw new.raw → GatherOutcome first old (Ok stop.Waits) part new
+  waits_at new first alone goes_on more wants used waits once = (
     (
       gives_all new used,
       omega (arith, took.kept.raw.waits, waits),
       used.end ∙ sym used.place,
       waits_once_then old now new took.kept took.counts.no_wait once,
+      each_then old now new 1 took.kept took.each (each_but_last now new used),
     ),
-    record {
-      alone = alone;
-      front = λ tells. subst (λ (whole : List ℕ). IsFrontOf part (first whole)) (sym (next_parts old.raw.bytes part (place_of old.window) (took.told tells))) (goes_on (left_at old.raw.bytes (place_of old.window + length part)));
-    },
+    (
+      record {
+        alone = alone;
+        front = λ tells. subst (λ (whole : List ℕ). IsFrontOf part (first whole)) (sym (next_parts old.raw.bytes part (place_of old.window) (took.told tells))) (goes_on (left_at old.raw.bytes (place_of old.window + length part)));
+      },
+      more,
+    ),
     tt,
-    λ nothing. absurd (wants nothing),
+    λ held. absurd (wants held),
     tt,
   )
 
@@ -241,38 +277,23 @@ module _ (old now : EngineView) (part after piece : List ℕ) (moved : Bool) (ga
       let parts : WhereTold old.raw (left_at old.raw.bytes place ≡ after ++ behind) = λ tells. next_parts old.raw.bytes after place (took_piece.told tells) in
       let some : WhereTold old.raw (behind ≢ []) = some_behind old now after moved took_piece new count fills in
       record {
-        wants = λ is. wants_something wanted first part piece after same more;
+        wants = λ is. wants_past old wanted first part piece after same more (all_held old now after moved took_piece);
         alone = λ is. sym (same after) ∙ more.alone;
+        asks = λ is rest some. omega (arith, more.asks rest some, ap length (same (after ++ rest)));
         left = λ is tells none. some tells (none_behind after behind (sym (parts tells) ∙ none));
         asked = λ is tells none. still_asks wanted part piece after behind more (some tells) (ap wanted (sym (parts tells)) ∙ (same (left_at old.raw.bytes place) ∙ none));
       }
 
   pub stops_at_end : (first : List ℕ → List ℕ) → ((rest : List ℕ) → wanted rest ≡ first rest) → UsesUp now new → IsLast now → NoWait now.raw new.raw → GatherOutcome first old (Ok stop.End) after new
-  stops_at_end first same used last no_wait = ends_at_last old now after moved took_piece new first (sym (same after) ∙ more.alone)
-      (wants_something wanted first part piece after same more) used last no_wait
+  stops_at_end first same used last no_wait = ends_at_last old now after moved took_piece new first (sym (same after) ∙ more.alone) (open_behind wanted first part piece after same more)
+      (wants_past old wanted first part piece after same more (all_held old now after moved took_piece)) used last no_wait
 
   pub stops_waiting : (first : List ℕ → List ℕ) → ((rest : List ℕ) → wanted rest ≡ first rest) → UsesUp now new → Rose now.raw.waits new.raw.waits → WaitsOnce now.raw new.raw → GatherOutcome first old (Ok stop.Waits) after new
   stops_waiting first same used waits once = waits_at old now after moved took_piece new first (sym (same after) ∙ more.alone)
-      (λ rest. subst (IsFrontOf after) (same (after ++ rest)) (more.goes_on rest)) (wants_something wanted first part piece after same more) used waits once
+      (λ rest. subst (IsFrontOf after) (same (after ++ rest)) (more.goes_on rest)) (open_behind wanted first part piece after same more)
+      (wants_past old wanted first part piece after same more (all_held old now after moved took_piece)) used waits once
 
 -- Where it ends without enough.
-
--- an engine that failed
-keeps_failed : (engine : EngineView) → IsEngine engine.raw engine.window engine.life → KeepsEngine engine (record engine { life = life.Failed })
-keeps_failed engine is = record {
-  raw = keeps_same engine.raw;
-  stays = refl;
-  bytes = λ tells. refl;
-  size = refl;
-  short = refl;
-  is = record {
-    window_is = is.window_is;
-    is_open = λ live. absurd (cc);
-    attached = λ detached. cc;
-    stands = λ tells live. absurd (cc);
-    told = λ tells live. absurd (cc);
-  };
-}
 
 -- memory ran out
 pub starves_so_far : (old now new : EngineView) (part after : List ℕ) (moved : Bool) (first : List ℕ → List ℕ) → GatheredTo old part moved now → MovedSome first old part moved → StarvesWith moved now new → GatherOutcome first old (Err fault.NoMemory) after new
@@ -280,7 +301,7 @@ starves_so_far old now new part after false first gathered some starves = (
   inl (starves ∙ gathered.unmoved refl),
   tt,
   λ failed. absurd (let both : life.Failed ≡ life.Live = sym failed ∙ (ap (λ (engine : EngineView). engine.life) starves ∙ gathered.given.live) in cc),
-  λ nothing. (ap (λ (engine : EngineView). engine.raw) (starves ∙ gathered.unmoved refl), λ fails. absurd (cc)),
+  λ held. (ap (λ (engine : EngineView). engine.raw) (starves ∙ gathered.unmoved refl), λ fails. absurd (cc)),
   λ most bound. omega (arith, ap (λ (engine : EngineView). place_of engine.window) (starves ∙ gathered.unmoved refl)),
 )
 starves_so_far old now new part after true first gathered some starves =
@@ -294,10 +315,11 @@ starves_so_far old now new part after true first gathered some starves =
         forth = gathered.forth refl;
         raw_forth = gathered.raw_forth refl;
         some = some.left refl;
+        each = gathered.each;
       }),
       tt,
       λ failed. some.asked refl,
-      λ nothing. absurd (some.wants refl nothing),
+      λ held. absurd (some.wants refl held),
       λ most bound. omega (arith, gathered.given.place, bound part (some.alone refl)),
     )
 
@@ -312,10 +334,11 @@ fails_so_far old now new part after moved wanted first piece fault.RawFault gath
         failed = fails.failed;
         place = omega (arith, took.end, fails.place);
         reach = λ tells. omega (arith, took.end, fails.place, within_end old.raw.bytes after (place_of old.window) (length after) (took.told tells) refl);
+        each = each_then old now new 1 gathered.given.kept gathered.each (each_but_failed now new fails);
       },
       tt,
       tt,
-      λ nothing. absurd (wants_something wanted first part piece after same more nothing),
+      λ held. absurd (wants_past old wanted first part piece after same more (all_held old now after moved took) held),
       λ most bound. omega (arith, took.end, fails.place, bound after (sym (same after) ∙ more.alone)),
     )
 fails_so_far old now new part after moved wanted first piece fault.NoMemory gathered some lent same more fails = starves_so_far old now new part after moved first gathered some fails.1

@@ -1,5 +1,5 @@
 -- Telling the place of a stream, moving it, and flushing it: calls that leave its bytes alone.
-use Rattle.std.proofs.Common.{◌≡◌, ℕ, suc, zero, ◌⊎◌, inl, inr, ℤ, pos, Bool, true, false, not, ◌&&◌, ◌||◌, IsTrue, List, length, Option, Some, None, Result, Ok, Err, nat_lt, is_none, unwrap_or, option_and_then, le-leb, le-ltb, zero-le, if◌then◌else◌, refl, sym, ap, ◌∙◌, subst, arith}
+use Rattle.std.proofs.Common.{◌≡◌, ℕ, ◌≤◌, suc, zero, ◌⊎◌, inl, inr, ℤ, pos, Bool, true, false, not, ◌&&◌, ◌||◌, IsTrue, List, length, Option, Some, None, Result, Ok, Err, nat_lt, nat_le, is_none, unwrap_or, option_and_then, le-leb, le-ltb, zero-le, if◌then◌else◌, refl, sym, ap, ◌∙◌, subst, arith}
 use Rattle.py_flat.specs.declared.fault.IoFault.{IoFault}
 use Rattle.py_flat.specs.declared.fault.IoFault.TheVariants as fault
 use Rattle.py_flat.specs.declared.life.Life.{Life}
@@ -13,14 +13,14 @@ use Rattle.py_flat.specs.ExactStep.{is_closed, seek_target}
 use Rattle.py_flat.specs.AllowedStep.{settled, raw_faulted, out_of_memory}
 use Rattle.py_flat.specs.BinaryStep.{is_live, asks_end, does_work, reaches_raw, SettledBy, BinaryStep}
 use Rattle.py_raw.specs.RawStream.{Raw, WhereTold, NoWait, LeavesCounts}
-use Rattle.py_stream.specs.Stream.{Stream, reader_can, file_of}
-use Rattle.py_reader.specs.Window.{place_of}
+use Rattle.py_stream.specs.Stream.{Span, Stream, reader_can, file_of}
+use Rattle.py_reader.specs.Window.{WindowView, place_of, end_of, covers}
 use Rattle.py_reader.specs.Engine.{EngineView, IsEngine, KeepsEngine, BeginOutcome, stream_of}
 use Rattle.py_stream.specs.Replies.{done_reply}
 use Rattle.py_stream.specs.Moving.{MovedBy}
 use Rattle.py_reader.specs.Moving.{FailsMoving, AsksEnd, TargetFrom, TargetFromEnd, TargetOutcome, GoesTo, GoOutcome}
 use Rattle.py_stream.specs.Kinds.{says_fault}
-use Rattle.py_stream.specs.Answers.{refused_by, Leaves, IsShort, LifeMoves, SeekGoes, PlaceStarves, PlaceMoves, GivesWithin, SeeksTo, SeeksFromEnd, SeeksByEnd, WantsMemory, IsAnswerTo, IsReplyTo, Answers}
+use Rattle.py_stream.specs.Answers.{refused_by, Leaves, IsShort, LifeMoves, SeekGoes, PlaceStarves, PlaceMoves, GivesWithin, SeeksTo, SeeksFromEnd, SeeksByEnd, WantsMemory, AsksNothing, Covers, InHandOf, IsAnswerTo, IsReplyTo, Answers}
 use Rattle.py_reader.proofs.Transfers.{keeps_self, keeps_then, keeps_told, no_wait_then, uncounted, uncounted_then}
 use Rattle.py_reader.proofs.Refusing.{near, refused_with, refused_by_life}
 use Rattle.py_stream.proofs.Refused.{is_own}
@@ -59,7 +59,7 @@ flush_is_done old is live =
       keeps = record { buffer = refl; can = refl; raw = keeps_same old.raw; bare = λ bare. absurd (cc) };
       refused = λ why refused. not_refused (stream_of old) Flush (Refused why) Done (stream_of (begun old)) why none refused;
       again = λ again. absurd (cc);
-      shut = λ none shut. shut;
+      shut = λ _ none shut. shut;
       causes = record { waits = λ short. absurd (cc); faults = λ faults. absurd (cc) };
       counted = λ _. record { faults = λ _. refl; waits = λ _ _. refl; once = λ short. absurd (cc) };
       shorts = refl;
@@ -71,8 +71,9 @@ flush_is_done old is live =
       nothing = λ asks. absurd (cc);
       idle = λ _. record { raw = refl; fault = refl; memory = refl };
       single = λ single. absurd (cc);
-      held = λ reads apart single. absurd (cc);
-      spares = λ _ _. record { bytes = λ _. refl; owed = refl };
+      in_hand = λ has. absurd has.of;
+      needs = λ on. absurd (cc);
+      spares = λ _ _. record { bytes = λ _. refl; written = λ _. refl; owed = refl };
       writes = λ can. absurd (cc);
       answer = λ _. tt;
       at_once = λ failed is. absurd (cc);
@@ -120,6 +121,7 @@ pub record SeekTells (old : EngineView) (call : FileCall) (reply : FileReply) (n
   pub wants : WantsMemory true reply old.raw
   pub answer : IsReplyTo (Some old.window.size) false call reply
   pub complete : rose old.raw.faults new.raw.faults ≡ false → IsAnswerTo call reply
+  pub in_hand : InHandOf (stream_of old) call → AsksNothing (stream_of old) reply (stream_of new)
   pub told : WhereTold old.raw (BinaryStep (file_of (stream_of old)) call reply false (says_fault reply) (file_of (stream_of new)))
 
 -- a stream that is live or failed is not closed
@@ -132,7 +134,7 @@ seek_tells old new offset whence reply may kept goes tells = record {
   keeps = record { buffer = ap Some kept.size; can = ap reader_can kept.raw.seekable; raw = kept.raw; bare = λ bare. absurd (cc) };
   refused = λ why refused. not_refused (stream_of old) (Seek offset whence) (Refused why) reply (stream_of new) why tells.passes refused;
   again = λ again. absurd (cc);
-  shut = λ none shut. kept.stays ∙ may.is.is_open may.live ∙ sym (goes_on new.life goes);
+  shut = λ _ none shut. kept.stays ∙ may.is.is_open may.live ∙ sym (goes_on new.life goes);
   causes = record { waits = λ short. absurd (cc (sym short ∙ kept.short)); faults = tells.cause };
   counted = λ exact. record { faults = tells.no_fault exact; waits = λ _ _. tells.no_wait exact; once = λ short. absurd (cc (sym short ∙ kept.short)) };
   shorts = subst (IsShort (Seek offset whence) reply) (sym kept.short) tells.shorts;
@@ -144,8 +146,9 @@ seek_tells old new offset whence reply may kept goes tells = record {
   nothing = λ asks. absurd (cc);
   idle = λ keeps. absurd (cc);
   single = λ single. absurd (cc);
-  held = λ reads apart single. absurd (cc);
-  spares = λ _ _. record { bytes = kept.bytes; owed = refl };
+  in_hand = λ has. tells.in_hand has.of;
+  needs = λ on. absurd (cc);
+  spares = λ _ _. record { bytes = kept.bytes; written = kept.written; owed = refl };
   writes = λ can. absurd (cc);
   answer = λ _. tells.answer;
   at_once = λ failed is. absurd (cc);
@@ -194,8 +197,8 @@ want_answers offset whence = tt
 calm : (old new : ℕ) → Rose old new → rose old new ≡ false → ⊥
 calm old new risen none = let risen : rose old new ≡ true = le-leb (counted old 1) new risen in cc
 
-pub seek_faults : (old new : EngineView) (offset whence : ℤ) → MaySeek old → ReachesRaw old offset whence → FailsMoving (begun old) new → Answers (stream_of old) (Seek offset whence) (Refused fault.RawFault) (stream_of new)
-seek_faults old new offset whence may asks fails = seek_tells old new offset whence (Refused fault.RawFault) may fails.kept (inr fails.failed) (record {
+pub seek_faults : (old new : EngineView) (offset whence : ℤ) → MaySeek old → ReachesRaw old offset whence → (InHandOf (stream_of old) (Seek offset whence) → ⊥) → FailsMoving (begun old) new → Answers (stream_of old) (Seek offset whence) (Refused fault.RawFault) (stream_of new)
+seek_faults old new offset whence may asks apart fails = seek_tells old new offset whence (Refused fault.RawFault) may fails.kept (inr fails.failed) (record {
   passes = asks.passes;
   cause = λ _. fails.cause;
   no_fault = λ _ sound. absurd (cc);
@@ -208,6 +211,7 @@ seek_faults old new offset whence may asks fails = seek_tells old new offset whe
   wants = λ wants. absurd (cc);
   answer = tt;
   complete = λ sound. absurd (calm old.raw.faults new.raw.faults fails.cause sound);
+  in_hand = λ has. absurd (apart has);
   told = λ tell. raw_faulted refl refl (
     asks.reaches,
     (
@@ -233,8 +237,8 @@ same_file old new kept same tell =
     ∙ ap (λ (bytes : List ℕ). record (file_of (stream_of old)) { bytes = bytes; can = reader_can new.raw.seekable }) (keeps_told (begun old) new kept tell)
     ∙ ap (λ (seekable : Bool). record (file_of (stream_of old)) { can = reader_can seekable }) kept.raw.seekable
 
-pub seek_wants : (old new : EngineView) (offset whence : ℤ) → MaySeek old → ReachesRaw old offset whence → KeepsEngine (begun old) new → LeavesCounts old.raw new.raw → Same old new → IsTrue old.raw.takes_memory → Answers (stream_of old) (Seek offset whence) (Refused fault.NoMemory) (stream_of new)
-seek_wants old new offset whence may asks kept counts same takes =
+pub seek_wants : (old new : EngineView) (offset whence : ℤ) → MaySeek old → ReachesRaw old offset whence → KeepsEngine (begun old) new → LeavesCounts old.raw new.raw → (InHandOf (stream_of old) (Seek offset whence) → new.raw ≡ old.raw) → Same old new → IsTrue old.raw.takes_memory → Answers (stream_of old) (Seek offset whence) (Refused fault.NoMemory) (stream_of new)
+seek_wants old new offset whence may asks kept counts still same takes =
     let life_is : new.life ≡ old.life = ap (λ (engine : EngineView). engine.life) same in
     let place : place_of new.window ≡ place_of old.window = ap (λ (engine : EngineView). place_of engine.window) same in
     seek_tells old new offset whence (Refused fault.NoMemory) may kept (inl (life_is ∙ may.live)) (record {
@@ -250,6 +254,7 @@ seek_wants old new offset whence may asks kept counts same takes =
       wants = λ _ _. takes;
       answer = want_answers offset whence;
       complete = λ _. want_answers offset whence;
+      in_hand = λ has. record { raw = still has; fault = refl };
       told = λ tell. out_of_memory refl (asks.reaches, same_file old new kept same tell);
     })
 
@@ -297,6 +302,7 @@ end_refuses old new offset why end may asks refuses =
     let seeks : SeeksFromEnd (stream_of old) offset (Refused why) (stream_of new) = record {
       end = end;
       within = asks.within;
+      told = asks.told;
       target = subst (λ (refused : Option IoFault). SeeksTo (stream_of old) (moved_by end offset) refused (Refused why) (stream_of new)) (sym refuses) (seeks_nowhere (stream_of old) (moved_by end offset) why (stream_of new) left);
     } in
     seek_tells old new offset (pos 2) (Refused why) may asks.kept (inl (life_is ∙ may.live)) (record {
@@ -312,16 +318,17 @@ end_refuses old new offset why end may asks refuses =
       wants = at_bad_place (λ (fault : IoFault). WantsMemory true (Refused fault) old.raw) (λ wants. absurd (cc)) (λ wants. absurd (cc)) why at;
       answer = at_bad_place (λ (fault : IoFault). IsReplyTo (Some old.window.size) false call (Refused fault)) tt tt why at;
       complete = λ _. answers;
+      in_hand = λ has. absurd has;
       told = λ tell.
           let by : refusal (file_of (stream_of old)) call ≡ Some why = seek_refusal_is old offset (pos 2) may ∙ ap (λ (base : ℕ). target_refusal (moved_by base offset)) (sym (asks.told (tells_its_bytes old.raw tell))) ∙ refuses in
           settled (subst (λ (refused : Option IoFault). SettledBy (file_of (stream_of old)) call refused (Refused why) (file_of (stream_of new))) (sym by) (refl, same_file old new asks.kept asks.same tell));
     })
 
 from_end_refuses : (old new : EngineView) (offset : ℤ) (why : IoFault) → MaySeek old → TargetFromEnd offset (begun old) (Err why) new → Answers (stream_of old) (Seek offset (pos 2)) (Refused why) (stream_of new)
-from_end_refuses old new offset fault.RawFault may fails = seek_faults old new offset (pos 2) may (record { passes = end_passes old offset may; reaches = end_reaches old offset may }) fails
+from_end_refuses old new offset fault.RawFault may fails = seek_faults old new offset (pos 2) may (record { passes = end_passes old offset may; reaches = end_reaches old offset may }) (λ has. has) fails
 from_end_refuses old new offset fault.NoMemory may wants =
     subst (λ (after : EngineView). Answers (stream_of old) (Seek offset (pos 2)) (Refused fault.NoMemory) (stream_of after)) (sym wants.1)
-    (seek_wants old (begun old) offset (pos 2) may (record { passes = end_passes old offset may; reaches = end_reaches old offset may }) (keeps_self (begun old) may.is) (uncounted old.raw old.raw refl) refl wants.0)
+    (seek_wants old (begun old) offset (pos 2) may (record { passes = end_passes old offset may; reaches = end_reaches old offset may }) (keeps_self (begun old) may.is) (uncounted old.raw old.raw refl) (λ has. refl) refl wants.0)
 from_end_refuses old new offset why may asked = end_refuses old new offset why asked.0 may asked.1 asked.2
 
 argument_refuses : (old new : EngineView) (offset whence : ℤ) (base : ℕ) (why : IoFault) → MaySeek old → asks_end (file_of (stream_of old)) (Seek offset whence) ≡ false → seek_base (file_of (stream_of old)) whence ≡ Some base → TargetFrom base offset (begun old) (Err why) new → Answers (stream_of old) (Seek offset whence) (Refused why) (stream_of new)
@@ -345,6 +352,7 @@ pub record Finds (old : EngineView) (offset whence : ℤ) (target : ℕ) (found 
   pub kept : KeepsEngine (begun old) found
   pub counts : LeavesCounts old.raw found.raw
   pub same : Same old found
+  pub still : InHandOf (stream_of old) (Seek offset whence) → found.raw ≡ old.raw
   pub asks : ReachesRaw old offset whence
   pub ends : (after : Stream) → SeeksByEnd (stream_of old) (Seek offset whence) (Place target) after
   pub goes : SeekGoes (place_of old.window) offset whence target
@@ -362,10 +370,12 @@ finds_from_end old found offset target end may asks moved = record {
   kept = asks.kept;
   counts = asks.counts;
   same = asks.same;
+  still = λ has. absurd has;
   asks = record { passes = end_passes old offset may; reaches = end_reaches old offset may };
   ends = λ after _. record {
     end = end;
     within = asks.within;
+    told = asks.told;
     target = subst (λ (place : Option ℕ). SeeksTo (stream_of old) place (target_refusal place) (Place target) after) (sym moved.0)
         (subst (λ (refused : Option IoFault). SeeksTo (stream_of old) (Some target) refused (Place target) after) (sym (ap (λ (far : Bool). refused_if far fault.TooFar) (le-ltb greatest_place target moved.1))) refl);
   };
@@ -385,6 +395,7 @@ finds_from_place old found offset whence base target may unasked ends goes from 
       kept = subst (KeepsEngine (begun old)) (sym moved.1) (keeps_self (begun old) may.is);
       counts = uncounted old.raw found.raw (ap (λ (engine : EngineView). engine.raw) moved.1);
       same = moved.1 ∙ ap (λ (raw : Raw). record (begun old) { raw = raw }) (sym (ap (λ (engine : EngineView). engine.raw) moved.1));
+      still = λ has. ap (λ (engine : EngineView). engine.raw) moved.1;
       asks = record {
         passes = ap (λ (asks : Bool). if asks then None else refusal (file_of (stream_of old)) (Seek offset whence)) unasked ∙ none;
         reaches = work_reaches old offset whence may none;
@@ -400,8 +411,25 @@ finds old found offset (pos (suc zero)) target may moved = finds_from_place old 
 finds old found offset (pos (suc (suc zero))) target may asked = finds_from_end old found offset target asked.0 may asked.1 asked.2
 finds old found offset whence target may wrong = let never : Ok target ≡ Err fault.BadWhence = wrong.0 in absurd (cc)
 
-going_answers_fault : (old found new : EngineView) (offset whence : ℤ) (target : ℕ) → MaySeek old → Finds old offset whence target found → FailsMoving found new → Answers (stream_of old) (Seek offset whence) (Refused fault.RawFault) (stream_of new)
-going_answers_fault old found new offset whence target may finds fails = seek_faults old new offset whence may finds.asks (record {
+-- a target that the bytes held cover, by the place that it was found to be
+covered_at : (held : Span) (goes : Option ℕ) (target : ℕ) → goes ≡ Some target → Covers held goes → (held.from ≤ target) × (target ≤ held.to)
+covered_at held (Some place) target is has = let same : place ≡ target = cc in (omega (arith, has.0), omega (arith, has.1))
+covered_at held None target is has = absurd has
+
+covers_target : (old : EngineView) (offset whence : ℤ) (target : ℕ) → SeekGoes (place_of old.window) offset whence target → InHandOf (stream_of old) (Seek offset whence) → (old.window.begin ≤ target) × (target ≤ end_of old.window)
+covers_target old offset (pos zero) target goes has = covered_at (stream_of old).held (moved_by 0 offset) target goes has.1
+covers_target old offset (pos (suc zero)) target goes has = covered_at (stream_of old).held (moved_by (place_of old.window) offset) target goes has.1
+covers_target old offset whence target goes has = absurd has
+
+-- a seek that the bytes held answer by themselves goes to a place that the window covers
+in_hand_covers : (old found : EngineView) (offset whence : ℤ) (target : ℕ) → Finds old offset whence target found → InHandOf (stream_of old) (Seek offset whence) → covers found.window target ≡ true
+in_hand_covers old found offset whence target sought has =
+    let at : (old.window.begin ≤ target) × (target ≤ end_of old.window) = covers_target old offset whence target sought.goes has in
+    let window : found.window ≡ old.window = ap (λ (engine : EngineView). engine.window) sought.same in
+    ap (λ (view : WindowView). covers view target) window ∙ (ap (λ (after : Bool). after && nat_le target (end_of old.window)) (le-leb old.window.begin target at.0) ∙ le-leb target (end_of old.window) at.1)
+
+going_answers_fault : (old found new : EngineView) (offset whence : ℤ) (target : ℕ) → MaySeek old → Finds old offset whence target found → FailsMoving found new → covers found.window target ≡ false → Answers (stream_of old) (Seek offset whence) (Refused fault.RawFault) (stream_of new)
+going_answers_fault old found new offset whence target may finds fails beyond = seek_faults old new offset whence may finds.asks (λ has. let covered : covers found.window target ≡ true = in_hand_covers old found offset whence target finds has in absurd (cc)) (record {
   kept = keeps_then (begun old) found new finds.kept fails.kept;
   cause = omega (arith, finds.kept.raw.faults, fails.cause);
   no_wait = no_wait_then (begun old) found new finds.kept finds.counts.no_wait fails.no_wait;
@@ -411,10 +439,10 @@ going_answers_fault old found new offset whence target may finds fails = seek_fa
 
 -- a seek whose target was found, where the raw failed to move or wanted memory
 pub going_fails : (old found new : EngineView) (offset whence : ℤ) (target : ℕ) (why : IoFault) → MaySeek old → Finds old offset whence target found → GoOutcome found target (Err why) new → Answers (stream_of old) (Seek offset whence) (Refused why) (stream_of new)
-going_fails old found new offset whence target fault.RawFault may finds fails = going_answers_fault old found new offset whence target may finds fails
+going_fails old found new offset whence target fault.RawFault may finds fails = going_answers_fault old found new offset whence target may finds fails.0 fails.1
 going_fails old found new offset whence target fault.NoMemory may finds wants =
     subst (λ (after : EngineView). Answers (stream_of old) (Seek offset whence) (Refused fault.NoMemory) (stream_of after)) (sym wants.1)
-    (seek_wants old found offset whence may finds.asks finds.kept finds.counts finds.same (sym finds.kept.raw.takes_memory ∙ wants.0))
+    (seek_wants old found offset whence may finds.asks finds.kept finds.counts finds.still finds.same (sym finds.kept.raw.takes_memory ∙ wants.0))
 going_fails old found new offset whence target why may finds never = absurd never
 
 -- the stream stands where it was to go
@@ -435,6 +463,7 @@ going_answers old found new offset whence target may finds goes =
       wants = λ wants. absurd (cc);
       answer = tt;
       complete = λ _. tt;
+      in_hand = λ has. record { raw = goes.still (in_hand_covers old found offset whence target finds has) ∙ finds.still has; fault = refl };
       told = λ tell.
           let lies : (seek_target (file_of (stream_of old)) offset whence ≡ target) × (refusal (file_of (stream_of old)) (Seek offset whence) ≡ None) = finds.lies tell in
           let bytes : new.raw.bytes ≡ old.raw.bytes = keeps_told (begun old) new kept tell in

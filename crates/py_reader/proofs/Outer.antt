@@ -44,7 +44,7 @@ hands_back life.Live raw window short unclosed attached far = record {
   keeps = record { buffer = refl; can = refl; raw = keeps_same raw; bare = λ bare. absurd (cc) };
   refused = λ why refused. absurd (cc);
   again = λ closes. absurd (cc);
-  shut = λ none closed. closed;
+  shut = λ _ none closed. closed;
   causes = record { waits = λ short. absurd (cc); faults = λ faulted. absurd (cc) };
   counted = λ exact. record { faults = λ sound. refl; waits = λ short writes. refl; once = λ short. absurd (cc) };
   shorts = refl;
@@ -56,8 +56,9 @@ hands_back life.Live raw window short unclosed attached far = record {
   nothing = λ asks. absurd (cc);
   idle = λ keeps. record { raw = refl; fault = refl; memory = refl };
   single = λ single. absurd (cc);
-  held = λ reads apart single. absurd (cc);
-  spares = λ reads none. record { bytes = λ tells. refl; owed = refl };
+  in_hand = λ has. absurd has.of;
+  needs = λ on. absurd (cc);
+  spares = λ reads none. record { bytes = λ tells. refl; written = λ tells. refl; owed = refl };
   writes = λ can. absurd (cc);
   answer = λ accepted. tt;
   at_once = λ failed. absurd (cc);
@@ -71,7 +72,7 @@ hands_back life.Failed raw window short unclosed attached far = record {
   keeps = record { buffer = refl; can = refl; raw = keeps_same raw; bare = λ bare. absurd (cc) };
   refused = λ why refused. absurd (cc);
   again = λ closes. absurd (cc);
-  shut = λ none closed. closed;
+  shut = λ _ none closed. closed;
   causes = record { waits = λ short. absurd (cc); faults = λ faulted. absurd (cc) };
   counted = λ exact. record { faults = λ sound. refl; waits = λ short writes. refl; once = λ short. absurd (cc) };
   shorts = refl;
@@ -83,8 +84,9 @@ hands_back life.Failed raw window short unclosed attached far = record {
   nothing = λ asks. absurd (cc);
   idle = λ keeps. record { raw = refl; fault = refl; memory = refl };
   single = λ single. absurd (cc);
-  held = λ reads apart single. absurd (cc);
-  spares = λ reads none. record { bytes = λ tells. refl; owed = refl };
+  in_hand = λ has. absurd has.of;
+  needs = λ on. absurd (cc);
+  spares = λ reads none. record { bytes = λ tells. refl; written = λ tells. refl; owed = refl };
   writes = λ can. absurd (cc);
   answer = λ accepted. tt;
   at_once = λ failed is accepted. ([], handed raw.seekable (place_of window), refl);

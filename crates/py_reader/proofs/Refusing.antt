@@ -23,7 +23,7 @@ seen_is raw window current short engine seen is = subst (λ (view : EngineView).
 
 -- where a live stream's raw stands
 pub near : (engine : EngineView) → IsEngine engine.raw engine.window engine.life → engine.life ≡ life.Live → IsNear (stream_of engine)
-near engine is live = record { ahead = omega (arith, is.window_is); behind = omega (arith, is.window_is); stands = λ tells. is.stands tells live }
+near engine is live = record { after_first = omega arith; before_end = omega (arith, is.window_is); fits = omega (arith, is.window_is); ahead = omega (arith, is.window_is); behind = omega (arith, is.window_is); stands = λ tells. is.stands tells live }
 
 -- a stream's place lies within its window
 pub within_window : (window : WindowView) → IsWindow window → place_of window ≤ greatest_place

@@ -18,12 +18,12 @@ use Rattle.py_reader.specs.declared.data.Stop.{Stop}
 use Rattle.py_reader.specs.declared.data.Stop.TheVariants as stops
 use Rattle.py_stream.specs.Stream.{file_of}
 use Rattle.py_stream.specs.Kinds.{is_reading, reads_on, is_single, is_writing, has_room, asks_nothing}
-use Rattle.py_stream.specs.Answers.{Answers, IsReplyTo, IsShort, LifeMoves, PlaceFails, PlaceMoves, moves_most, GivesWithin}
+use Rattle.py_stream.specs.Answers.{Answers, IsReplyTo, IsShort, LifeMoves, PlaceFails, PlaceMoves, moves_most, GivesWithin, InHandOf}
 use Rattle.py_reader.specs.Window.{WindowView, IsWindow, place_of, end_of, ahead_of, advanced}
 use Rattle.py_reader.specs.Engine.{EngineView, stream_of, IsEngine, KeepsEngine, BeginOutcome, Transferred, has_answer, answered_at}
 use Rattle.py_reader.specs.Reading.{ReadyOutcome}
 use Rattle.py_stream.specs.Replies.{look_reply}
-use Rattle.py_reader.proofs.Transfers.{ahead_told, keeps_self, keeps_then, still_tells, keeps_told, keeps_advanced, uncounted}
+use Rattle.py_reader.proofs.Transfers.{ahead_told, keeps_self, keeps_then, still_tells, keeps_told, keeps_advanced, uncounted, each_but_failed}
 use Rattle.py_reader.proofs.Begun.{answers_begun}
 use Rattle.py_reader.proofs.Answering.{reading_refused, accepted, works, answers_coming, stays_forth, answers_faulted, answers_wanting, file_after, file_same}
 
@@ -63,6 +63,13 @@ not_on (Read1 size) single = refl
 not_on (ReadInto1 size) single = refl
 not_on Peek single = refl
 not_on call single = absurd (cc)
+
+-- one that the bytes held answer by themselves, where some are ahead
+once_ahead : (old : EngineView) (call : FileCall) → is_single call ≡ true → InHandOf (stream_of old) call → end_of old.window ≢ place_of old.window
+once_ahead old (Read1 size) single has = λ same. absurd (omega (arith, has, same))
+once_ahead old (ReadInto1 size) single has = λ same. absurd (omega (arith, has, same))
+once_ahead old Peek single has = λ same. absurd (omega (arith, has, same))
+once_ahead old call single has = absurd (cc)
 
 -- a call that asks for some byte
 pub asks_some : (size : ℕ) (call : FileCall) → is_single call ≡ true → asks_for size call ≢ 0 → asks_nothing call ≡ false
@@ -181,8 +188,9 @@ answers_once old new call part single live some gives =
       starves = λ wanting reads. absurd (cc);
       first = λ wanting takes none. absurd (cc);
       nothing = λ asks. record { raw = gives.idle asks; fault = refl };
-      one = λ single. gives.transfers;
-      held = λ apart single. record { raw = gives.still apart; fault = refl };
+      one = λ once. gives.transfers;
+      in_hand = λ has. record { raw = gives.still (once_ahead old call single has); fault = refl };
+      needs = λ on. absurd (cc (not_on call single));
       answers = once_answers old.window.size call part single;
       told = λ tells. settled (subst (λ (refused : Option IoFault). SettledBy file call refused (Bytes part) (file_of (stream_of new))) (sym (accepted old call (reading_once call single) live)) (once_carried old new call part single some same gives tells));
       reach = λ tells. front_reaches (take (asks_for old.window.size call) (left_at old.raw.bytes (place_of old.window))) part old.raw.bytes (place_of old.window) (place_of new.window) (omega (arith, length-take (asks_for old.window.size call) (left_at old.raw.bytes (place_of old.window)))) (gives.front tells) (omega (arith, gives.place, moves_within call (length part)));
@@ -284,8 +292,9 @@ unready_once old new call single asks live moved place none waits once stands =
       starves = λ wanting reads. absurd (cc);
       first = λ wanting takes none. absurd (cc);
       nothing = λ none. absurd (cc);
-      one = λ single. moved.transfers;
-      held = λ apart single. absurd (apart stands);
+      one = λ once. moved.transfers;
+      in_hand = λ has. absurd (once_ahead old call single has stands);
+      needs = λ on. absurd (cc (not_on call single));
       answers = reading_once call single;
       told = λ tells. waited_for refl (works old call (reading_once call single) live, unready_waited file call (file_of (stream_of new)) single (file_same old new moved.kept same place tells));
       reach = λ tells. omega (arith, place);
@@ -398,14 +407,14 @@ once_failed first begun new call fault.RawFault single asks is began fails =
     let live : begun.life ≡ life.Live = ap (λ (engine : EngineView). engine.life) began.1 ∙ began.0 in
     let short : begun.short ≡ false = ap (λ (engine : EngineView). engine.short) began.1 in
     answers_begun first begun call (Refused fault.RawFault) (stream_of new) began.1
-    (answers_faulted begun new call (reading_once call single) live short (record { kept = fails.0.kept; cause = fails.0.cause; no_wait = fails.0.no_wait; failed = fails.0.failed; place = stays_forth (moves_most call) (place_of begun.window) (place_of new.window) fails.1; reach = λ tells. omega (arith, fails.1) }) (stays_once call (place_of begun.window) (place_of new.window) single fails.1) asks (λ once. fails.0.transfers) (λ once. fails.2))
+    (answers_faulted begun new call (reading_once call single) live short (record { kept = fails.0.kept; cause = fails.0.cause; no_wait = fails.0.no_wait; failed = fails.0.failed; place = stays_forth (moves_most call) (place_of begun.window) (place_of new.window) fails.1; reach = λ tells. omega (arith, fails.1); each = each_but_failed begun new fails.0 }) (stays_once call (place_of begun.window) (place_of new.window) single fails.1) asks (λ once. fails.0.transfers) (λ has. once_ahead begun call single has fails.2))
 once_failed first begun new call fault.NoMemory single asks is began wants =
     let begun_engine : IsSeen begun = begun_is first begun is began.1 in
     let live : begun.life ≡ life.Live = ap (λ (engine : EngineView). engine.life) began.1 ∙ began.0 in
     let short : begun.short ≡ false = ap (λ (engine : EngineView). engine.short) began.1 in
     answers_begun first begun call (Refused fault.NoMemory) (stream_of new) began.1
     (subst (λ (engine : EngineView). Answers (stream_of begun) call (Refused fault.NoMemory) (stream_of engine)) (sym wants.1)
-    (answers_wanting begun begun call (reading_once call single) live short (keeps_self begun begun_engine) live refl (uncounted begun.raw begun.raw refl) (λ none. refl) (λ room. wants.0) (λ on. refl) (λ once tells. omega arith) (λ once apart. refl)))
+    (answers_wanting begun begun call (reading_once call single) live short (keeps_self begun begun_engine) live refl (uncounted begun.raw begun.raw refl) (λ none. refl) (λ room. wants.0) (λ on. refl) (λ once tells. omega arith) (λ has. refl)))
 once_failed first begun new call why single asks is began wants = absurd wants
 
 -- a call that wanted memory of its own, once bytes were held
@@ -418,7 +427,7 @@ once_wanting first begun mid answered new call stop single asks room began ready
     let left_is : new ≡ mid = new_is ∙ (answered_is ∙ (whole_answer stop mid answers ∙ sym same)) in
     answers_begun first begun call (Refused fault.NoMemory) (stream_of new) began.1
     (subst (λ (engine : EngineView). Answers (stream_of begun) call (Refused fault.NoMemory) (stream_of engine)) (sym left_is)
-    (answers_wanting begun mid call (reading_once call single) live short moved.0.kept moved.0.live moved.1 (ready_counts begun mid stop ready answers) (λ none. absurd (cc)) (λ has. absurd (cc)) (λ on. absurd (cc (not_on call single))) (λ once. moved.0.transfers) (λ once. ready_still begun mid stop ready)))
+    (answers_wanting begun mid call (reading_once call single) live short moved.0.kept moved.0.live moved.1 (ready_counts begun mid stop ready answers) (λ none. absurd (cc)) (λ has. absurd (cc)) (λ on. absurd (cc (not_on call single))) (λ once. moved.0.transfers) (λ has. ready_still begun mid stop ready (once_ahead begun call single has))))
 
 -- the bytes held are shown, or the raw made the call wait
 pub once_look : (first begun mid new : EngineView) (stop : Stop) (shown : Bool) → IsSeen first → BeginOutcome first (Ok tt) begun → ReadyOutcome begun (Ok stop) mid → shown ≡ has_answer stop true → new ≡ answered_at stop mid → Answers (stream_of first) Peek (look_reply (Ok shown) (ahead_of new.window)) (stream_of new)

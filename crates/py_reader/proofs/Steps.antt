@@ -1,8 +1,10 @@
 -- How a reading that goes on comes from one transfer to the next.
-use Rattle.std.proofs.Common.{◌≡◌, ◌≢◌, ℕ, ◌+◌, ◌-◌, ◌^◌, ◌<◌, ◌≤◌, ◌⊎◌, replicate, inl, inr, ⊎_elim, Bool, true, false, List, [], ◌++◌, length, take, drop, min, Ok, refl, sym, ap, ◌∙◌, subst, arith}
+use Rattle.std.proofs.Common.{◌≡◌, ◌≢◌, ℕ, ◌+◌, ◌-◌, ◌^◌, ◌<◌, ◌≤◌, ◌⊎◌, replicate, inl, inr, ⊎_elim, Bool, true, false, List, [], ◌++◌, length, take, drop, min, max, Some, None, Ok, Err, refl, sym, ap, ◌∙◌, subst, arith}
 use Rattle.std.proofs.lemmas.Bool.{true≢false}
-use Rattle.std.proofs.lemmas.List.{append-nil, take-take, take-append-le, take-append-drop, take_all, length-replicate, length-take-le, length-append, drop_all, length-drop, take_at}
+use Rattle.std.proofs.lemmas.List.{append-nil, take-take, take-append-le, take-append-drop, take_all, length-replicate, length-take, length-take-le, length-append, drop_all, length-drop, take_at}
 use borrow.Rule.Slice.PartMut.{put_mid}
+use Rattle.py_flat.specs.declared.fault.IoFault.{IoFault}
+use Rattle.py_flat.specs.declared.fault.IoFault.TheVariants as fault
 use Rattle.py_flat.specs.declared.life.Life.TheVariants as life
 use Rattle.py_flat.specs.Bytes.{left_at}
 use Rattle.py_raw.specs.RawStream.{WhereTold, WherePlace, NoFault, NoWait, LeavesCounts}
@@ -10,9 +12,10 @@ use Rattle.py_reader.specs.declared.data.Stop.{Stop}
 use Rattle.py_reader.specs.declared.data.Stop.TheVariants as stop
 use Rattle.py_reader.specs.declared.data.reading.Step.TheVariants as step
 use Rattle.py_reader.specs.Window.{place_of, end_of, ahead_of, advanced}
-use Rattle.py_reader.specs.Engine.{EngineView, IsEngine, KeepsEngine, UsesUp, Gives}
-use Rattle.py_reader.specs.Reading.{StepsOn, StepOutcome, ReadsInto, ReadsMore, ReadAllOutcome}
-use Rattle.py_reader.proofs.Transfers.{more_taken, next_behind, held_next, keeps_self, keeps_then, still_tells, keeps_told, keeps_advanced, no_fault_then, no_wait_then, waits_once_then, uncounted, uncounted_then}
+use Rattle.py_reader.specs.Engine.{EngineView, IsEngine, KeepsEngine, EachBrings, FailsByRaw, FailsInReading, FailsMoved, StarvesAt, StarvesWith, Reaches, UsesUp, Gives}
+use Rattle.py_reader.specs.Reading.{StepsOn, StepOutcome, FailsStarved, ReadsInto, ReadIntoOutcome, ReadsMore, ReadMoreOutcome, ReadAllOutcome}
+use Rattle.py_reader.proofs.Transfers.{more_taken, next_behind, held_next, keeps_self, keeps_then, still_tells, keeps_told, keeps_advanced, no_fault_then, no_wait_then, waits_once_then, uncounted, uncounted_then, within_end, keeps_failed, each_then, each_but_last, each_but_failed}
+use Rattle.py_reader.proofs.Answering.{reaches_given}
 
 -- a buffer after what is left of it was written
 pub end_written : (count : ℕ) (buffer rest : List ℕ) → count < length buffer → length rest ≡ length (take (length buffer - count) (drop count buffer)) → put_mid count (length buffer - count) buffer rest ≡ take count buffer ++ rest
@@ -57,10 +60,13 @@ pub held_enough : (old : EngineView) (count : ℕ) (buffer : List ℕ) → IsEng
 held_enough old count buffer is live all fits front = record {
   fits = omega arith;
   full = λ enough. all;
-  idle = λ none. refl;
+  less = λ other. absurd (other refl);
+  idle = λ held. refl;
   stops = (
     gives_front old (record old { window = advanced count old.window }) count buffer (omega arith) (keeps_advanced old count is fits) (λ exact. refl) live (omega arith) (λ tells. held_next old.raw old.window count is.window_is.cursor fits (is.told tells live) ∙ sym front),
     λ exact. refl,
+    λ tells. omega arith,
+    λ within. refl,
   );
 }
 
@@ -73,6 +79,8 @@ pub record Reads (old : EngineView) (was : Bool) (count : ℕ) (buffer : List �
   pub place : place_of old.window ≤ place_of now.window
   pub end : end_of now.window ≡ place_of old.window + count
   pub told : WhereTold old.raw (take count (left_at old.raw.bytes (place_of old.window)) ≡ take count buffer)
+  pub ahead : length (ahead_of old.window) ≤ count
+  pub each : EachBrings 0 old now
   pub stepped : ((moved ≡ was) × (now ≡ old)) ⊎ ((moved ≡ true) × (0 < count) × (end_of old.window < end_of now.window) × WherePlace old.raw (old.raw.place < now.raw.place))
 
 -- before the first transfer
@@ -87,6 +95,8 @@ reads_first old was count buffer is live least more front =
       place = omega arith;
       end = omega (arith, is.window_is.cursor, length-drop old.window.cursor old.window.held);
       told = λ tells. held_next old.raw old.window count is.window_is.cursor (omega arith) (is.told tells live) ∙ sym front;
+      ahead = omega (arith, all);
+      each = λ tells. omega arith;
       stepped = inl (refl, refl);
     }
 
@@ -97,6 +107,10 @@ not_back old was count buffer moved now reads tells = ⊎_elim (λ same. omega (
 -- nor does the end of what was held
 pub end_not_back : (old : EngineView) (was : Bool) (count : ℕ) (buffer : List ℕ) (moved : Bool) (now : EngineView) → Reads old was count buffer moved now → end_of old.window ≤ end_of now.window
 end_not_back old was count buffer moved now reads = ⊎_elim (λ same. omega (arith, ap (λ (engine : EngineView). end_of engine.window) same.1)) (λ forth. omega (arith, forth.2)) reads.stepped
+
+-- told, what came lies before the end
+came_within : (old : EngineView) (was : Bool) (count : ℕ) (buffer : List ℕ) (moved : Bool) (now : EngineView) → Reads old was count buffer moved now → WhereTold old.raw (place_of old.window + count ≤ max (place_of old.window) (length old.raw.bytes))
+came_within old was count buffer moved now reads tells = within_end old.raw.bytes (take count buffer) (place_of old.window) count (reads.told tells) (length-take-le count buffer (omega (arith, reads.less)))
 
 -- what one more transfer brings, after what came
 pub behind_told : (old : EngineView) (was : Bool) (count : ℕ) (buffer : List ℕ) (moved : Bool) (now : EngineView) (more : ℕ) (rest : List ℕ) (new : EngineView) → Reads old was count buffer moved now → StepsOn now more rest new → WhereTold old.raw (take (count + more) (left_at old.raw.bytes (place_of old.window)) ≡ take (count + more) (take count buffer ++ rest))
@@ -118,6 +132,8 @@ reads_on old was count buffer moved now more rest new reads outcome =
       place = omega (arith, reads.end, steps.place);
       end = omega (arith, reads.end, outcome.2);
       told = behind_told old was count buffer moved now more rest new reads steps;
+      ahead = omega (arith, reads.ahead);
+      each = each_then old now new 0 reads.kept reads.each steps.each;
       stepped = inr (refl, omega (arith, steps.some), omega (arith, end_not_back old was count buffer moved now reads, outcome.2, steps.some), λ tells. omega (arith, not_back old was count buffer moved now reads tells, steps.forth (reads.kept.raw.tells_place ∙ tells)));
     }
 
@@ -128,10 +144,13 @@ reads_enough old was count buffer moved now more rest new reads steps all place 
     record {
       fits = omega arith;
       full = λ enough. sym long;
-      idle = λ none. absurd (omega (arith, ap length none, steps.some));
+      less = λ other. absurd (other refl);
+      idle = λ held. absurd (omega (arith, held, reads.ahead, steps.some));
       stops = (
         gives_front old new (count + more) (take count buffer ++ rest) (omega arith) (keeps_then old now new reads.kept steps.kept) (no_fault_then old now new reads.kept reads.counts.no_fault steps.counts.no_fault) steps.live (omega (arith, reads.end)) (behind_told old was count buffer moved now more rest new reads steps),
         no_wait_then old now new reads.kept reads.counts.no_wait steps.counts.no_wait,
+        each_then old now new 0 reads.kept reads.each steps.each,
+        λ within. absurd (omega (arith, within, place, end_not_back old was count buffer moved now reads, steps.some)),
       );
     }
 
@@ -147,22 +166,26 @@ reads_none old was count buffer moved now rest new stop.Enough other some reads 
 reads_none old was count buffer moved now rest new stop.End other some reads outcome = record {
   fits = omega (arith, reads.less, length-append (take count buffer) rest, length-take-le count buffer (omega (arith, reads.less)));
   full = λ enough. absurd (other enough);
-  idle = λ none. absurd (omega (arith, ap length none, some, length-append (take count buffer) rest));
+  less = λ before. omega (arith, some, length-append (take count buffer) rest, length-take-le count buffer (omega (arith, reads.less)));
+  idle = λ held. absurd (omega (arith, held, some, reads.ahead, length-append (take count buffer) rest, length-take-le count buffer (omega (arith, reads.less))));
   stops = (
     reads_given old was count buffer moved now rest new reads outcome.1,
     no_wait_then old now new reads.kept reads.counts.no_wait outcome.3,
     λ tells. subst (λ (bytes : List ℕ). length bytes ≤ place_of new.window) (keeps_told old now reads.kept tells) (subst (λ (place : ℕ). length now.raw.bytes ≤ place) (sym outcome.1.place) (outcome.2 (still_tells old now reads.kept tells))),
+    each_then old now new 1 reads.kept reads.each (each_but_last now new outcome.1),
   );
 }
 reads_none old was count buffer moved now rest new stop.Waits other some reads outcome = record {
   fits = omega (arith, reads.less, length-append (take count buffer) rest, length-take-le count buffer (omega (arith, reads.less)));
   full = λ enough. absurd (other enough);
-  idle = λ none. absurd (omega (arith, ap length none, some, length-append (take count buffer) rest));
+  less = λ before. omega (arith, some, length-append (take count buffer) rest, length-take-le count buffer (omega (arith, reads.less)));
+  idle = λ held. absurd (omega (arith, held, some, reads.ahead, length-append (take count buffer) rest, length-take-le count buffer (omega (arith, reads.less))));
   stops = (
     reads_given old was count buffer moved now rest new reads outcome.1,
     omega (arith, reads.kept.raw.waits, outcome.2),
     outcome.1.end ∙ sym outcome.1.place,
     waits_once_then old now new reads.kept reads.counts.no_wait outcome.3,
+    each_then old now new 1 reads.kept reads.each (each_but_last now new outcome.1),
   );
 }
 
@@ -176,10 +199,54 @@ reads_stopped old was count buffer moved now more stop.Waits rest new some reads
     let same : count ≡ count + more = omega (arith, outcome.0) in
     subst (λ (n : ℕ). ReadsInto old (record { count = n; stop = stop.Waits }) (take count buffer ++ rest) new) same (reads_none old was count buffer moved now rest new stop.Waits (λ (e : stop.Waits ≡ stop.Enough). cc) some reads (refl, outcome.1, outcome.2, outcome.3))
 
+-- the transfer failed
+reads_failed : (old : EngineView) (was : Bool) (count : ℕ) (buffer : List ℕ) (moved : Bool) (now new : EngineView) (most : ℕ) → count ≤ most → Reads old was count buffer moved now → FailsByRaw now new → FailsInReading (Some most) old new
+reads_failed old was count buffer moved now new most within reads fails = record {
+  kept = keeps_then old now new reads.kept fails.kept;
+  cause = omega (arith, reads.kept.raw.faults, fails.cause);
+  no_wait = no_wait_then old now new reads.kept reads.counts.no_wait fails.no_wait;
+  failed = fails.failed;
+  place = (omega (arith, fails.place, reads.end), omega (arith, fails.place, reads.end));
+  reach = λ tells. omega (arith, fails.place, reads.end, came_within old was count buffer moved now reads tells);
+  each = each_then old now new 1 reads.kept reads.each (each_but_failed now new fails);
+}
+
+-- memory ran out once bytes had moved
+reads_starved : (old : EngineView) (was : Bool) (count : ℕ) (buffer : List ℕ) (now : EngineView) (most : ℕ) → count ≤ most → Reads old was count buffer true now → FailsStarved (Some most) old was (record now { life = life.Failed })
+reads_starved old was count buffer now most within reads =
+    let left : was ≡ false → (0 < count) × (end_of old.window < end_of now.window) × WherePlace old.raw (old.raw.place < now.raw.place) = λ none. ⊎_elim (λ same. absurd (cc)) (λ forth. (forth.1, forth.2, forth.3)) reads.stepped in
+    record {
+      kept = keeps_then old now (record now { life = life.Failed }) reads.kept (keeps_failed now reads.kept.is);
+      counts = reads.counts;
+      failed = refl;
+      place = (reads.place, omega (arith, reads.end, reads.kept.is.window_is.cursor));
+      reach = λ tells. omega (arith, reads.end, reads.kept.is.window_is.cursor, came_within old was count buffer true now reads tells);
+      forth = end_not_back old was count buffer true now reads;
+      further = λ none. (left none).1;
+      raw_forth = not_back old was count buffer true now reads;
+      raw_further = λ none. (left none).2;
+      some = λ none tells nothing. absurd (omega (arith, (left none).0, ap length (reads.told tells), ap (λ (bytes : List ℕ). length (take count bytes)) nothing, length-take {A = ℕ} count [], length-take-le count buffer (omega (arith, reads.less))));
+      each = reads.each;
+    }
+
+reads_wanting : (old : EngineView) (was : Bool) (count : ℕ) (buffer : List ℕ) (moved : Bool) (now new : EngineView) (most : ℕ) → count ≤ most → Reads old was count buffer moved now → StarvesWith moved now new → ((was ≡ false) × (new ≡ old)) ⊎ FailsStarved (Some most) old was new
+reads_wanting old was count buffer false now new most within reads starves = ⊎_elim (λ same. inl (sym same.0, starves ∙ same.1)) (λ forth. absurd (cc)) reads.stepped
+reads_wanting old was count buffer true now new most within reads starves = inr (subst (FailsStarved (Some most) old was) (sym starves) (reads_starved old was count buffer now most within reads))
+
+pub reads_refused : (old : EngineView) (was : Bool) (count : ℕ) (buffer : List ℕ) (moved : Bool) (now : EngineView) (why : IoFault) (rest : List ℕ) (new : EngineView) → 0 < length rest → Reads old was count buffer moved now → StepOutcome now moved (Err why) rest new → ReadIntoOutcome old was (Err why) (take count buffer ++ rest) new
+reads_refused old was count buffer moved now fault.RawFault rest new some reads fails =
+    let long : length (take count buffer ++ rest) ≡ count + length rest = length-append (take count buffer) rest ∙ omega (arith, length-take-le count buffer (omega (arith, reads.less))) in
+    (reads_failed old was count buffer moved now new (length (take count buffer ++ rest)) (omega arith) reads fails, omega (arith, reads.ahead))
+reads_refused old was count buffer moved now fault.NoMemory rest new some reads wants =
+    let long : length (take count buffer ++ rest) ≡ count + length rest = length-append (take count buffer) rest ∙ omega (arith, length-take-le count buffer (omega (arith, reads.less))) in
+    ((sym reads.kept.raw.takes_memory ∙ wants.0, reads_wanting old was count buffer moved now new (length (take count buffer ++ rest)) (omega arith) reads wants.1), omega (arith, reads.ahead))
+reads_refused old was count buffer moved now why rest new some reads never = absurd never
+
 -- all that was asked for so far has come: nothing was, at first; then as much as is asked for next
 pub record ReadsAll (old : EngineView) (bytes : List ℕ) (more : ℕ) (moved : Bool) (now : EngineView) : Type 0 where
   pub gives : Gives old bytes now
   pub no_wait : NoWait old.raw now.raw
+  pub each : EachBrings 0 old now
   pub stands : WherePlace old.raw (old.raw.place ≡ end_of old.window)
   pub some : 0 < more
   pub fits : more < 2 ^ 64
@@ -204,6 +271,10 @@ gives_then old mid new first second before behind =
           ∙ take_all (length first + length second) (first ++ second) (omega arith));
     }
 
+-- told, a place that lies before the end after what was given lies before it at first
+reaches_on : (old mid new : EngineView) (part : List ℕ) → Gives old part mid → Reaches mid new → Reaches old new
+reaches_on old mid new part given reach tells = omega (arith, reaches_given old mid part given tells, reach (still_tells old mid given.kept tells), ap length (keeps_told old mid given.kept tells))
+
 -- what is asked for reaches after the bytes that were held at first
 pub past_held : (old : EngineView) (bytes : List ℕ) (more : ℕ) (moved : Bool) (now : EngineView) → ReadsAll old bytes more moved now → end_of old.window < place_of now.window + more
 past_held old bytes more false now reads =
@@ -220,6 +291,7 @@ all_on old bytes more moved now after next new reads brings size fits =
     record {
       gives = subst (λ (xs : List ℕ). Gives old xs new) (sym brings.behind) (gives_then old now new bytes brings.part reads.gives brings.stops.0);
       no_wait = no_wait_then old now new reads.gives.kept reads.no_wait brings.stops.1;
+      each = each_then old now new 0 reads.gives.kept reads.each brings.stops.2;
       stands = reads.stands;
       some = omega (arith, reads.some);
       fits = fits;
@@ -234,10 +306,62 @@ all_read old bytes more moved now stop.End after new other reads brings = (
   subst (λ (xs : List ℕ). Gives old xs new) (sym brings.behind) (gives_then old now new bytes brings.part reads.gives brings.stops.0),
   no_wait_then old now new reads.gives.kept reads.no_wait brings.stops.1,
   λ tells. subst (λ (xs : List ℕ). length xs ≤ place_of new.window) (keeps_told old now reads.gives.kept tells) (brings.stops.2 (still_tells old now reads.gives.kept tells)),
+  each_then old now new 1 reads.gives.kept reads.each brings.stops.3,
 )
 all_read old bytes more moved now stop.Waits after new other reads brings = (
   subst (λ (xs : List ℕ). Gives old xs new) (sym brings.behind) (gives_then old now new bytes brings.part reads.gives brings.stops.0),
   omega (arith, reads.gives.kept.raw.waits, brings.stops.1),
   brings.stops.2,
   waits_once_then old now new reads.gives.kept reads.no_wait brings.stops.3,
+  each_then old now new 1 reads.gives.kept reads.each brings.stops.4,
 )
+
+-- a turn found no memory once bytes had moved
+all_moved : (old : EngineView) (bytes : List ℕ) (more : ℕ) (now new : EngineView) → ReadsAll old bytes more true now → KeepsEngine now new → LeavesCounts now.raw new.raw → new.life ≡ life.Failed → place_of now.window ≤ place_of new.window → Reaches now new → end_of now.window ≤ end_of new.window → WherePlace now.raw (now.raw.place ≤ new.raw.place) → EachBrings 0 now new → FailsMoved None old new
+all_moved old bytes more now new reads kept counts failed forth reach end_forth raw_forth each =
+    let later : (more ≡ length bytes) × (end_of old.window < place_of now.window) = reads.later refl in
+    let here : KeepsEngine old now = reads.gives.kept in
+    record {
+      kept = keeps_then old now new here kept;
+      counts = uncounted_then old now new here (record { no_fault = reads.gives.no_fault; no_wait = reads.no_wait }) counts;
+      failed = failed;
+      place = omega (arith, reads.gives.place, forth);
+      reach = reaches_on old now new bytes reads.gives reach;
+      forth = omega (arith, later.1, here.is.window_is.cursor, end_forth);
+      raw_forth = λ tells. omega (arith, reads.stands tells, here.is.stands (here.raw.tells_place ∙ tells) reads.gives.live, later.1, here.is.window_is.cursor, raw_forth (here.raw.tells_place ∙ tells));
+      some = λ tells none. absurd (omega (arith, reads.some, later.0, ap length (reads.gives.told tells), ap (λ (left : List ℕ). length (take (length bytes) left)) none, length-take {A = ℕ} (length bytes) []));
+      each = each_then old now new 0 here reads.each each;
+    }
+
+all_wanting : (old : EngineView) (bytes : List ℕ) (more : ℕ) (moved : Bool) (now new : EngineView) → ReadsAll old bytes more moved now → StarvesWith moved now new ⊎ FailsStarved None now moved new → StarvesAt None old new
+all_wanting old bytes more false now new reads (inl same) = inl (same ∙ (reads.first refl).0)
+all_wanting old bytes more false now new reads (inr fails) =
+    let here : FailsStarved None old false new = subst (λ (engine : EngineView). FailsStarved None engine false new) (reads.first refl).0 fails in
+    inr (record {
+      kept = here.kept;
+      counts = here.counts;
+      failed = here.failed;
+      place = here.place;
+      reach = here.reach;
+      forth = here.further refl;
+      raw_forth = here.raw_further refl;
+      some = here.some refl;
+      each = here.each;
+    })
+all_wanting old bytes more true now new reads (inl same) =
+    subst (StarvesAt None old) (sym same) (inr (all_moved old bytes more now (record now { life = life.Failed }) reads (keeps_failed now reads.gives.kept.is) (uncounted now.raw now.raw refl) refl (omega arith) (λ tells. omega arith) (omega arith) (λ tells. omega arith) (λ tells. omega arith)))
+all_wanting old bytes more true now new reads (inr fails) = inr (all_moved old bytes more now new reads fails.kept fails.counts fails.failed fails.place fails.reach fails.forth fails.raw_forth fails.each)
+
+-- a turn was refused
+pub all_refused : (old : EngineView) (bytes : List ℕ) (more : ℕ) (moved : Bool) (now : EngineView) (why : IoFault) (after : List ℕ) (new : EngineView) → ReadsAll old bytes more moved now → ReadMoreOutcome now moved bytes more (Err why) after new → ReadAllOutcome old (Err why) after new
+all_refused old bytes more moved now fault.RawFault after new reads fails = record {
+  kept = keeps_then old now new reads.gives.kept fails.kept;
+  cause = omega (arith, reads.gives.kept.raw.faults, fails.cause);
+  no_wait = no_wait_then old now new reads.gives.kept reads.no_wait fails.no_wait;
+  failed = fails.failed;
+  place = omega (arith, reads.gives.place, fails.place);
+  reach = reaches_on old now new bytes reads.gives fails.reach;
+  each = each_then old now new 1 reads.gives.kept reads.each fails.each;
+}
+all_refused old bytes more moved now fault.NoMemory after new reads wants = all_wanting old bytes more moved now new reads wants
+all_refused old bytes more moved now why after new reads never = absurd never

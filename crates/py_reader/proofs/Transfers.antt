@@ -5,11 +5,12 @@ use Rattle.std.proofs.Math.Seq.{take-append-add}
 use Rattle.py_flat.specs.Bytes.{left_at}
 use Rattle.py_flat.specs.Causes.{counted}
 use Rattle.py_flat.specs.declared.life.Life.{Life}
+use Rattle.py_flat.specs.declared.life.Life.TheVariants as life
 use Rattle.py_raw.specs.RawStream.{Raw, tells, WhereTold, NoFault, NoWait, WaitsOnce, LeavesCounts}
 use Rattle.py_raw.proofs.Telling.{tells_its_bytes, tells_still, keeps_same}
 use Rattle.py_raw.proofs.ReadingOn.{Keeps-then}
 use Rattle.py_reader.specs.Window.{WindowView, IsWindow, place_of, ahead_of, advanced}
-use Rattle.py_reader.specs.Engine.{EngineView, IsEngine, HoldsBytes, KeepsEngine}
+use Rattle.py_reader.specs.Engine.{EngineView, IsEngine, HoldsBytes, KeepsEngine, EachBrings, FailsByRaw, UsesUp}
 
 -- Lists.
 
@@ -52,6 +53,7 @@ keeps_self engine is = record {
   raw = keeps_same engine.raw;
   stays = refl;
   bytes = λ tells. refl;
+  written = λ tells. refl;
   size = refl;
   short = refl;
   is = is;
@@ -62,6 +64,7 @@ keeps_then old mid new first second = record {
   raw = Keeps-then old.raw mid.raw new.raw first.raw second.raw;
   stays = second.stays ∙ first.stays;
   bytes = λ tells. second.bytes (first.raw.tells_bytes ∙ tells) ∙ first.bytes tells;
+  written = λ tells. second.written (first.raw.tells_transfers ∙ tells) ∙ first.written tells;
   size = second.size ∙ first.size;
   short = second.short ∙ first.short;
   is = second.is;
@@ -96,6 +99,20 @@ waits_once_then old mid new kept first second exact = second (kept.raw.counts_ex
 pub uncounted : (old new : Raw) → new ≡ old → LeavesCounts old new
 uncounted old new same = record { no_fault = λ exact. ap (λ (raw : Raw). raw.faults) same; no_wait = λ exact. ap (λ (raw : Raw). raw.waits) same }
 
+-- How many transfers were made, by the bytes that they brought.
+
+-- in two steps
+pub each_then : (old mid new : EngineView) (others : ℕ) → KeepsEngine old mid → EachBrings 0 old mid → EachBrings others mid new → EachBrings others old new
+each_then old mid new others kept first second tells = omega (arith, first tells, second (kept.raw.tells_transfers ∙ tells))
+
+-- by one that brought nothing
+pub each_but_last : (old new : EngineView) → UsesUp old new → EachBrings 1 old new
+each_but_last old new uses tells = omega (arith, uses.transferred.transfers tells, uses.end)
+
+-- or failed
+pub each_but_failed : (old new : EngineView) → FailsByRaw old new → EachBrings 1 old new
+each_but_failed old new fails tells = omega (arith, fails.transfers tells, fails.place, fails.kept.is.window_is.cursor)
+
 pub window_advanced : (window : WindowView) (count : ℕ) → IsWindow window → count ≤ length (ahead_of window) → IsWindow (advanced count window)
 window_advanced window count is fits = record {
   some = is.some;
@@ -110,6 +127,7 @@ keeps_advanced old count is fits = record {
   raw = keeps_same old.raw;
   stays = refl;
   bytes = λ tells. refl;
+  written = λ tells. refl;
   size = refl;
   short = refl;
   is = record {
@@ -118,6 +136,24 @@ keeps_advanced old count is fits = record {
     attached = is.attached;
     stands = is.stands;
     told = is.told;
+  };
+}
+
+-- an engine that failed
+pub keeps_failed : (engine : EngineView) → IsEngine engine.raw engine.window engine.life → KeepsEngine engine (record engine { life = life.Failed })
+keeps_failed engine is = record {
+  raw = keeps_same engine.raw;
+  stays = refl;
+  bytes = λ tells. refl;
+  written = λ tells. refl;
+  size = refl;
+  short = refl;
+  is = record {
+    window_is = is.window_is;
+    is_open = λ live. absurd (cc);
+    attached = λ detached. cc;
+    stands = λ tells live. absurd (cc);
+    told = λ tells live. absurd (cc);
   };
 }
 

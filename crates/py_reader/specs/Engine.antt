@@ -7,7 +7,7 @@ use Rattle.py_flat.specs.declared.life.Life.TheVariants as life
 use Rattle.py_flat.specs.Bytes.{left_at}
 use Rattle.py_flat.specs.Causes.{Rose}
 use Rattle.py_flat.specs.Refusals.{life_fault}
-use Rattle.py_raw.specs.RawStream.{Raw, Keeps, StaysOpen, WhereTold, WherePlace, WhereTransfers, KeepsBytes, NoFault, NoWait, WaitsOnce, LeavesCounts}
+use Rattle.py_raw.specs.RawStream.{Raw, Keeps, StaysOpen, WhereTold, WherePlace, WhereTransfers, KeepsBytes, NoFault, NoWait, WaitsOnce, LeavesCounts, AnswersFor}
 use Rattle.py_reader.specs.declared.window.Filled.{Filled}
 use Rattle.py_reader.specs.declared.window.Filled.TheVariants as filled
 use Rattle.py_reader.specs.declared.data.Stop.{Stop}
@@ -34,6 +34,7 @@ stream_of engine = record {
   buffer = Some engine.window.size;
   short = engine.short;
   owed = nothing_owed (place_of engine.window);
+  held = record { from = engine.window.begin; to = end_of engine.window };
 }
 
 -- the bytes held are the raw's, from the window's place on
@@ -53,6 +54,7 @@ pub record KeepsEngine (old new : EngineView) : Type 0 where
   pub raw : Keeps old.raw new.raw
   pub stays : StaysOpen old.raw new.raw
   pub bytes : KeepsBytes old.raw new.raw
+  pub written : AnswersFor 0 old.raw new.raw
   pub size : new.window.size ≡ old.window.size
   pub short : new.short ≡ old.short
   pub is : IsEngine new.raw new.window new.life
@@ -66,6 +68,12 @@ BeginOutcome old (Err why) new = (life_fault old.life ≡ Some why) × (new ≡ 
 abbrev pub BeginDetach : EngineView → Result (Unit {0}) IoFault → EngineView → Type 0
 BeginDetach old (Ok done) new = (old.life ≢ life.Closed) × (new ≡ record old { short = false })
 BeginDetach old (Err why) new = (old.life ≡ life.Closed) × (why ≡ fault.Closed) × (new ≡ record old { short = false })
+
+-- Where the raw tells its transfers.
+
+-- each brought a byte, but for at most n of them
+abbrev pub EachBrings : ℕ → EngineView → EngineView → Type 0
+EachBrings others old new = WhereTransfers old.raw (new.raw.transfers + end_of old.window ≤ old.raw.transfers + end_of new.window + others)
 
 -- Failing.
 
@@ -91,6 +99,7 @@ pub record FailsInReading (most : Option ℕ) (old new : EngineView) : Type 0 wh
   pub failed : new.life ≡ life.Failed
   pub place : MovesForth most (place_of old.window) (place_of new.window)
   pub reach : Reaches old new
+  pub each : EachBrings 1 old new
 
 -- memory ran out once bytes had left the raw, so some were left of the stream
 pub record FailsMoved (most : Option ℕ) (old new : EngineView) : Type 0 where
@@ -102,6 +111,7 @@ pub record FailsMoved (most : Option ℕ) (old new : EngineView) : Type 0 where
   pub forth : end_of old.window < end_of new.window
   pub raw_forth : WherePlace old.raw (old.raw.place < new.raw.place)
   pub some : WhereTold old.raw (left_at old.raw.bytes (place_of old.window) ≢ [])
+  pub each : EachBrings 0 old new
 
 -- memory ran out: nothing changed, or bytes had left the raw
 abbrev pub StarvesAt : Option ℕ → EngineView → EngineView → Type 0
@@ -144,6 +154,7 @@ pub record Fills (old : EngineView) (count : ℕ) (new : EngineView) : Type 0 wh
   pub holds : HoldsNew old.window count new.window
   pub some : 0 < count
   pub told : WhereTold old.raw (take count (left_at old.raw.bytes (end_of old.window)) ≡ new.window.held)
+  pub each : EachBrings 0 old new
   pub forth : WherePlace old.raw (old.raw.place < new.raw.place)
 
 abbrev pub FillsOutcome : EngineView → Bool → Result Filled IoFault → EngineView → Type 0
@@ -162,6 +173,7 @@ pub record Passes (old : EngineView) (count : ℕ) (buffer : List ℕ) (new : En
   pub some : 0 < count
   pub window_is : new.window ≡ emptied_at (end_of old.window + count) old.window
   pub told : WhereTold old.raw (take count (left_at old.raw.bytes (end_of old.window)) ≡ take count buffer)
+  pub each : EachBrings 0 old new
   pub forth : WherePlace old.raw (old.raw.place < new.raw.place)
 
 abbrev pub PassesOutcome : EngineView → Bool → Result Filled IoFault → List ℕ → EngineView → Type 0
@@ -187,6 +199,7 @@ pub record Took (old : EngineView) (part : List ℕ) (moved : Bool) (now : Engin
   pub end : end_of now.window ≡ place_of old.window + length part
   pub unmoved : moved ≡ false → now ≡ old
   pub told : WhereTold old.raw (ComesNext old part)
+  pub each : EachBrings 0 old now
   pub forth : moved ≡ true → end_of old.window < end_of now.window
   pub raw_forth : moved ≡ true → WherePlace old.raw (old.raw.place < now.raw.place)
 
@@ -198,11 +211,15 @@ pub record Gives (old : EngineView) (part : List ℕ) (new : EngineView) : Type 
   pub place : place_of new.window ≡ place_of old.window + length part
   pub told : WhereTold old.raw (ComesNext old part)
 
+-- the raw isn't called for what lies among the bytes that were held
+abbrev pub IsNeeded : EngineView → EngineView → Type 0
+IsNeeded old new = place_of new.window ≤ end_of old.window → new.raw ≡ old.raw
+
 -- why it stopped: it has enough; nothing comes after; the raw would have blocked, and nothing is held back
 abbrev pub StopOutcome : EngineView → List ℕ → Result Stop IoFault → EngineView → Type 0
-StopOutcome old part (Ok stop.Enough) new = Gives old part new × NoWait old.raw new.raw
-StopOutcome old part (Ok stop.End) new = Gives old part new × NoWait old.raw new.raw × WhereTold old.raw (length old.raw.bytes ≤ place_of new.window)
-StopOutcome old part (Ok stop.Waits) new = Gives old part new × Rose old.raw.waits new.raw.waits × (end_of new.window ≡ place_of new.window) × WaitsOnce old.raw new.raw
+StopOutcome old part (Ok stop.Enough) new = Gives old part new × NoWait old.raw new.raw × EachBrings 0 old new × IsNeeded old new
+StopOutcome old part (Ok stop.End) new = Gives old part new × NoWait old.raw new.raw × WhereTold old.raw (length old.raw.bytes ≤ place_of new.window) × EachBrings 1 old new
+StopOutcome old part (Ok stop.Waits) new = Gives old part new × Rose old.raw.waits new.raw.waits × (end_of new.window ≡ place_of new.window) × WaitsOnce old.raw new.raw × EachBrings 1 old new
 StopOutcome old part (Err fault.RawFault) new = FailsInReading None old new
 StopOutcome old part (Err fault.NoMemory) new = StarvesAt None old new
 StopOutcome old part (Err other) new = ⊥

@@ -1,5 +1,5 @@
 -- The steps of moving a stream.
-use Rattle.std.specs.Prelude.{◌≡◌, ℕ, ◌≤◌, ℤ, pos, suc, zero, IsTrue, length, Result, Ok, Err}
+use Rattle.std.specs.Prelude.{◌≡◌, ℕ, ◌≤◌, ℤ, pos, suc, zero, true, false, IsTrue, length, Result, Ok, Err}
 use Rattle.py_flat.specs.declared.fault.IoFault.{IoFault}
 use Rattle.py_flat.specs.declared.fault.IoFault.TheVariants as fault
 use Rattle.py_flat.specs.declared.life.Life.TheVariants as life
@@ -7,7 +7,7 @@ use Rattle.py_flat.specs.Limits.{greatest_place}
 use Rattle.py_flat.specs.Causes.{Rose}
 use Rattle.py_raw.specs.RawStream.{WhereBytes, NoWait, LeavesCounts}
 use Rattle.py_stream.specs.Moving.{MovedBy}
-use Rattle.py_reader.specs.Window.{place_of}
+use Rattle.py_reader.specs.Window.{place_of, covers}
 use Rattle.py_reader.specs.Engine.{EngineView, KeepsEngine}
 
 -- what asking the raw where it ends, or moving it, leaves where it failed
@@ -48,15 +48,16 @@ TargetOutcome old offset (pos (suc zero)) result new = TargetFrom (place_of old.
 TargetOutcome old offset (pos (suc (suc zero))) result new = TargetFromEnd offset old result new
 TargetOutcome old offset whence result new = (result ≡ Err fault.BadWhence) × (new ≡ old)
 
--- the stream stands at the target
+-- the stream stands at the target; the raw isn't moved for one that the window covers
 pub record GoesTo (old : EngineView) (target : ℕ) (new : EngineView) : Type 0 where
   pub kept : KeepsEngine old new
   pub counts : LeavesCounts old.raw new.raw
   pub live : new.life ≡ life.Live
   pub place : place_of new.window ≡ target
+  pub still : covers old.window target ≡ true → new.raw ≡ old.raw
 
 abbrev pub GoOutcome : EngineView → ℕ → Result (Unit {0}) IoFault → EngineView → Type 0
 GoOutcome old target (Ok done) new = GoesTo old target new
-GoOutcome old target (Err fault.RawFault) new = FailsMoving old new
+GoOutcome old target (Err fault.RawFault) new = FailsMoving old new × (covers old.window target ≡ false)
 GoOutcome old target (Err fault.NoMemory) new = IsTrue old.raw.takes_memory × (new ≡ old)
 GoOutcome old target (Err other) new = ⊥

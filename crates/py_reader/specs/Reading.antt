@@ -15,7 +15,7 @@ use Rattle.py_reader.specs.declared.data.reading.Progress.{Progress}
 use Rattle.py_reader.specs.declared.data.reading.Step.{Step}
 use Rattle.py_reader.specs.declared.data.reading.Step.TheVariants as step
 use Rattle.py_reader.specs.Window.{place_of, end_of, ahead_of, advanced}
-use Rattle.py_reader.specs.Engine.{EngineView, KeepsEngine, Reaches, FailsByRaw, FailsInReading, StarvesWith, RawStarves, UsesUp, IsLast, StopOutcome, Transferred}
+use Rattle.py_reader.specs.Engine.{EngineView, KeepsEngine, Reaches, FailsByRaw, FailsInReading, EachBrings, StarvesWith, RawStarves, UsesUp, IsLast, StopOutcome, Transferred}
 
 -- Into a caller's buffer.
 
@@ -27,6 +27,7 @@ pub record StepsOn (old : EngineView) (count : ℕ) (rest : List ℕ) (new : Eng
   pub some : 0 < count
   pub place : end_of old.window ≤ place_of new.window
   pub told : WhereTold old.raw (take count (left_at old.raw.bytes (end_of old.window)) ≡ take count rest)
+  pub each : EachBrings 0 old new
   pub forth : WherePlace old.raw (old.raw.place < new.raw.place)
 
 -- one transfer: it brought less than what is left of the buffer, and the window's end lies after it; or as much, and the
@@ -52,21 +53,24 @@ pub record FailsStarved (most : Option ℕ) (old : EngineView) (moved : Bool) (n
   pub raw_forth : WherePlace old.raw (old.raw.place ≤ new.raw.place)
   pub raw_further : moved ≡ false → WherePlace old.raw (old.raw.place < new.raw.place)
   pub some : moved ≡ false → WhereTold old.raw (left_at old.raw.bytes (place_of old.window) ≢ [])
+  pub each : EachBrings 0 old new
 
 abbrev pub StarvesIn : Option ℕ → EngineView → Bool → EngineView → Type 0
 StarvesIn most old moved new = IsTrue old.raw.takes_memory × (((moved ≡ false) × (new ≡ old)) ⊎ FailsStarved most old moved new)
 
--- n bytes came into the front of the buffer; all of it where there are enough; for none the raw isn't called
+-- n bytes came into the front of the buffer: all of it where there are enough, and else less; for one that the bytes held fill the
+-- raw isn't called
 pub record ReadsInto (old : EngineView) (progress : Progress) (buffer : List ℕ) (new : EngineView) : Type 0 where
   pub fits : progress.count ≤ length buffer
   pub full : progress.stop ≡ stop.Enough → progress.count ≡ length buffer
-  pub idle : buffer ≡ [] → new.raw ≡ old.raw
+  pub less : progress.stop ≢ stop.Enough → progress.count < length buffer
+  pub idle : length buffer ≤ length (ahead_of old.window) → new.raw ≡ old.raw
   pub stops : StopOutcome old (take progress.count buffer) (Ok progress.stop) new
 
 abbrev pub ReadIntoOutcome : EngineView → Bool → Result Progress IoFault → List ℕ → EngineView → Type 0
 ReadIntoOutcome old moved (Ok progress) buffer new = ReadsInto old progress buffer new
-ReadIntoOutcome old moved (Err fault.RawFault) buffer new = FailsInReading (Some (length buffer)) old new × (0 < length buffer)
-ReadIntoOutcome old moved (Err fault.NoMemory) buffer new = StarvesIn (Some (length buffer)) old moved new × (0 < length buffer)
+ReadIntoOutcome old moved (Err fault.RawFault) buffer new = FailsInReading (Some (length buffer)) old new × (length (ahead_of old.window) < length buffer)
+ReadIntoOutcome old moved (Err fault.NoMemory) buffer new = StarvesIn (Some (length buffer)) old moved new × (length (ahead_of old.window) < length buffer)
 ReadIntoOutcome old moved (Err other) buffer new = ⊥
 
 -- n bytes more were asked for, and some of them came after what a vector had; all of them where there are enough
@@ -115,10 +119,14 @@ pub record GathersFront (wanted : List ℕ → List ℕ) (old : EngineView) (par
   pub alone : wanted part ≡ part
   pub front : WhereTold old.raw (IsFrontOf part (wanted (left_at old.raw.bytes (place_of old.window))))
 
+-- it isn't all that is wanted, whatever comes after it
+abbrev pub IsOpen : (List ℕ → List ℕ) → List ℕ → Type 0
+IsOpen wanted part = ((more : List ℕ) → wanted (part ++ more) ≡ part) → ⊥
+
 abbrev pub Gathers : (List ℕ → List ℕ) → EngineView → List ℕ → Result Stop IoFault → Type 0
 Gathers wanted old part (Ok stop.Enough) = GathersEnough wanted old part
-Gathers wanted old part (Ok stop.End) = GathersEnough wanted old part
-Gathers wanted old part (Ok stop.Waits) = GathersFront wanted old part
+Gathers wanted old part (Ok stop.End) = GathersEnough wanted old part × IsOpen wanted part
+Gathers wanted old part (Ok stop.Waits) = GathersFront wanted old part × IsOpen wanted part
 Gathers wanted old part (Err refused) = Unit {0}
 
 -- memory ran out once bytes had left the raw: some of what is left are wanted
@@ -126,9 +134,13 @@ abbrev pub StarvesWanting : (List ℕ → List ℕ) → EngineView → Result St
 StarvesWanting wanted old (Err fault.NoMemory) new = new.life ≡ life.Failed → WhereTold old.raw (wanted (left_at old.raw.bytes (place_of old.window)) ≢ [])
 StarvesWanting wanted old result new = Unit {0}
 
--- where nothing is wanted, the raw isn't called
+-- no more is wanted than is held from the place on, whatever is left
+abbrev pub WantsHeld : (List ℕ → List ℕ) → EngineView → Type 0
+WantsHeld wanted old = (left : List ℕ) → length (wanted left) ≤ length (ahead_of old.window)
+
+-- the raw isn't called where no more is
 abbrev pub IdleWanting : (List ℕ → List ℕ) → EngineView → Result Stop IoFault → EngineView → Type 0
-IdleWanting wanted old result new = ((left : List ℕ) → wanted left ≡ []) → (new.raw ≡ old.raw) × (result ≢ Err fault.RawFault)
+IdleWanting wanted old result new = WantsHeld wanted old → (new.raw ≡ old.raw) × (result ≢ Err fault.RawFault)
 
 -- a refusal moves the place no further than a part reaches that may be wanted
 abbrev pub MovesWithin : (List ℕ → List ℕ) → EngineView → Result Stop IoFault → EngineView → Type 0

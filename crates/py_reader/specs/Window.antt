@@ -4,7 +4,7 @@ use Rattle.py_flat.specs.Limits.{greatest_place}
 use Rattle.py_flat.specs.Bytes.{left_at}
 use Rattle.py_raw.specs.declared.raw_error.RawError.{RawError}
 use Rattle.py_raw.specs.declared.raw_error.RawError.TheVariants as raw_error
-use Rattle.py_raw.specs.RawStream.{Raw, WhereTold, WherePlace, KeepsBytes, Transfers, LeavesCounts, AsksToWait, FailsWithout, LacksMemory}
+use Rattle.py_raw.specs.RawStream.{Raw, WhereTold, WherePlace, KeepsBytes, Transfers, LeavesCounts, AnswersFor, AsksToWait, FailsWithout, LacksMemory}
 use Rattle.py_reader.specs.declared.window.Filled.{Filled}
 use Rattle.py_reader.specs.declared.window.Filled.TheVariants as filled
 
@@ -62,6 +62,7 @@ pub record Brings (old : Raw) (place : ℕ) (part : List ℕ) (new : Raw) : Type
   pub some : part ≢ []
   pub within : place + length part ≤ greatest_place
   pub counts : LeavesCounts old new
+  pub written : AnswersFor 0 old new
   pub next : WhereTold old (old.place ≡ place → take (length part) (left_at old.bytes place) ≡ part)
   pub stands : WherePlace old (old.place ≡ place → new.place ≡ place + length part)
   pub bytes : KeepsBytes old new
@@ -70,6 +71,7 @@ pub record Brings (old : Raw) (place : ℕ) (part : List ℕ) (new : Raw) : Type
 -- nothing came; told, nothing comes after the place, where the raw stood there; and it stands where it stood
 pub record BringsNone (old : Raw) (place : ℕ) (new : Raw) : Type 0 where
   pub counts : LeavesCounts old new
+  pub written : AnswersFor 0 old new
   pub last : WhereTold old (old.place ≡ place → length old.bytes ≤ place)
   pub stands : WherePlace old (new.place ≡ old.place)
   pub bytes : KeepsBytes old new

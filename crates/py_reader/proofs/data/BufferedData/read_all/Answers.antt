@@ -1,7 +1,8 @@
-use Rattle.std.proofs.Common.{arith, subst}
+use Rattle.std.proofs.Common.{rules, ◌≡◌, Result, Err, arith, sym, subst}
+use Rattle.py_flat.specs.declared.fault.IoFault.{IoFault}
 use Rattle.py_reader.specs.declared.data.Stop.{Stop}
-use Rattle.py_reader.specs.Reading.{ReadsMore}
-use Rattle.py_reader.proofs.Steps.{all_on, all_read}
+use Rattle.py_reader.specs.Reading.{ReadsMore, ReadAllOutcome}
+use Rattle.py_reader.proofs.Steps.{all_on, all_read, all_refused}
 use Rattle.py_reader.proofs.data.BufferedData.read_all.Goals as goal
 
 pub loop-moved-preserved : goal.loop-moved-preserved
@@ -16,3 +17,10 @@ pub returns-in_default : goal.returns-in_default
 returns-in_default g c =
     let loop = c.loop-moved in
     all_read c.args.self.now loop.bytes.items loop.more loop.moved loop.self c.in_ok-stop.stop c.read_more.new.bytes.items c.read_more.new.self c.in_default.not-Enough loop.invariant c.in_ok-stop.ensures
+
+pub returns-in_err-stop : goal.returns-in_err-stop
+returns-in_err-stop g c =
+    let loop = c.loop-moved in
+    let says : c.from_residual.result ≡ Err c.in_err-stop.field-0.0 = search rules in
+    subst (λ (result : Result Stop IoFault). ReadAllOutcome c.args.self.now result c.read_more.new.bytes.items c.read_more.new.self) (sym says)
+    (all_refused c.args.self.now loop.bytes.items loop.more loop.moved loop.self c.in_err-stop.field-0.0 c.read_more.new.bytes.items c.read_more.new.self loop.invariant c.in_err-stop.ensures)

@@ -1,10 +1,13 @@
-use Rattle.std.proofs.Common.{rules, arith, ◌+◌, ◌-◌, List, length, drop, ℕ, true, Ok, subst, sym}
+use Rattle.std.proofs.Common.{rules, arith, ◌≡◌, ◌+◌, ◌-◌, List, length, drop, ℕ, true, Result, Ok, Err, subst, sym}
 use Rattle.std.proofs.lemmas.List.{length-drop, length-take-le}
+use borrow.Rule.Slice.PartMut.{put_mid}
+use Rattle.py_flat.specs.declared.fault.IoFault.{IoFault}
 use Rattle.py_reader.specs.declared.data.Stop.TheVariants as stop
+use Rattle.py_reader.specs.declared.data.reading.Progress.{Progress}
 use Rattle.py_reader.specs.declared.data.reading.Step.{Step}
-use Rattle.py_reader.specs.Reading.{ReadsInto, StepOutcome}
+use Rattle.py_reader.specs.Reading.{ReadsInto, ReadIntoOutcome, StepOutcome}
 use Rattle.py_reader.proofs.Transfers.{made_advanced}
-use Rattle.py_reader.proofs.Steps.{Reads, held_enough, reads_first, reads_on, reads_stopped, end_written}
+use Rattle.py_reader.proofs.Steps.{Reads, held_enough, reads_first, reads_on, reads_stopped, reads_refused, end_written}
 use Rattle.py_reader.proofs.data.BufferedData.read_into.Goals as goal
 
 pub returns-then-held-buffer-clause-outcome : goal.returns-then-held-buffer-clause-outcome
@@ -34,3 +37,14 @@ returns-in-Stopped-clause-outcome g c =
     (omega (arith, loop.invariant.less, c.read_on.ensures.length, length-drop loop.count loop.buffer, length-take-le (length loop.buffer - loop.count) (drop loop.count loop.buffer) (omega (arith, length-drop loop.count loop.buffer))))
     loop.invariant
     (subst (λ (step : Step). StepOutcome loop.self loop.has_moved (Ok step) c.read_on.new.rest c.read_on.new.self) c.in-Stopped.is c.in_ok-more.ensures.outcome))
+
+pub returns-in_err-more-clause-outcome : goal.returns-in_err-more-clause-outcome
+returns-in_err-more-clause-outcome g c =
+    let loop = c.loop-more in
+    let says : c.from_residual.result ≡ Err c.in_err-more.field-0.0 = search rules in
+    subst (λ (result : Result Progress IoFault). ReadIntoOutcome c.args.self.now c.args.moved result (put_mid loop.count (length loop.buffer - loop.count) loop.buffer c.read_on.new.rest) c.read_on.new.self) (sym says)
+    (subst (λ (after : List ℕ). ReadIntoOutcome c.args.self.now c.args.moved (Err c.in_err-more.field-0.0) after c.read_on.new.self)
+    (sym (end_written loop.count loop.buffer c.read_on.new.rest loop.invariant.less c.in_err-more.ensures.length))
+    (reads_refused c.args.self.now c.args.moved loop.count loop.buffer loop.has_moved loop.self c.in_err-more.field-0.0 c.read_on.new.rest c.read_on.new.self
+    (omega (arith, loop.invariant.less, c.in_err-more.ensures.length, length-drop loop.count loop.buffer, length-take-le (length loop.buffer - loop.count) (drop loop.count loop.buffer) (omega (arith, length-drop loop.count loop.buffer))))
+    loop.invariant c.in_err-more.ensures.outcome))

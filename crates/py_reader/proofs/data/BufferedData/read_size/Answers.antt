@@ -38,7 +38,7 @@ returns-then-answers g c =
     subst (λ (bytes : List ℕ). Answers (stream_of old) (Read (Some size)) (Bytes bytes) (stream_of c.answers.new.self)) (sym cut)
     (answers_stopped old c.read_into.new.self c.answers.new.self (Read (Some size)) part progress.stop (progress.count == 0) refl c.requires.live read.stops
     (gathers_into old c.read_into.new.self (Read (Some size)) size progress buffer (λ left. refl) long read)
-    (idle_into old c.read_into.new.self (Read (Some size)) size progress buffer refl (λ left. refl) long read)
+    (idle_into old c.read_into.new.self (Read (Some size)) size progress buffer (λ left. refl) long read)
     (some_counted part progress.count (progress.count == 0) (sym (length-take-le progress.count buffer read.fits)) refl)
     (sym c.answers.ensures.answer ∙ c.if-answers.true) c.answers.ensures.stream)
 
@@ -51,6 +51,6 @@ returns-else-answers g c =
     let part : List ℕ = take progress.count buffer in
     let long : length buffer ≡ size = c.in_ok-progress.ensures.length ∙ c.deref_mut.ensures.len ∙ c.in-Ok.ensures.len in
     unready_stopped c.args.self.now c.read_into.new.self c.answers.new.self (Read (Some size)) part progress.stop (progress.count == 0) refl c.requires.live read.stops
-    (idle_into c.args.self.now c.read_into.new.self (Read (Some size)) size progress buffer refl (λ left. refl) long read)
+    (idle_into c.args.self.now c.read_into.new.self (Read (Some size)) size progress buffer (λ left. refl) long read)
     (none_counted part progress.count (progress.count == 0) (sym (length-take-le progress.count buffer read.fits)) refl)
     (sym c.answers.ensures.answer ∙ c.if-answers.false) c.answers.ensures.stream

@@ -52,7 +52,7 @@ returns-then-answers-clause-answers g c =
     answers_begun first old call _ (stream_of c.answers.new.self) c.in_ok-begin.ensures.1
     (answers_stopped old c.read_into.new.self c.answers.new.self call part progress.stop (progress.count == 0) refl began.live read.stops
     (gathers_into old c.read_into.new.self call size progress buffer (λ left. refl) c.in_ok-progress.ensures.length read)
-    (idle_into old c.read_into.new.self call size progress buffer refl (λ left. refl) c.in_ok-progress.ensures.length read)
+    (idle_into old c.read_into.new.self call size progress buffer (λ left. refl) c.in_ok-progress.ensures.length read)
     (some_counted part progress.count (progress.count == 0) (sym (length-take-le progress.count buffer read.fits)) refl)
     (sym c.answers.ensures.answer ∙ c.if-answers.true) c.answers.ensures.stream)
 
@@ -71,6 +71,6 @@ returns-else-answers-clause-answers g c =
     let began = begun_live first old is c.in_ok-begin.ensures.0 c.in_ok-begin.ensures.1 in
     answers_begun first old call _ (stream_of c.answers.new.self) c.in_ok-begin.ensures.1
     (unready_stopped old c.read_into.new.self c.answers.new.self call part progress.stop (progress.count == 0) refl began.live read.stops
-    (idle_into old c.read_into.new.self call size progress buffer refl (λ left. refl) c.in_ok-progress.ensures.length read)
+    (idle_into old c.read_into.new.self call size progress buffer (λ left. refl) c.in_ok-progress.ensures.length read)
     (none_counted part progress.count (progress.count == 0) (sym (length-take-le progress.count buffer read.fits)) refl)
     (sym c.answers.ensures.answer ∙ c.if-answers.false) c.answers.ensures.stream)

@@ -49,7 +49,7 @@ returns-then-answers g c =
     let gathered = line_gathered c.new-collector.result c.args.limit old c.gather.new.self (Ok stop) part c.new-collector.ensures.new c.in_ok-stop.ensures in
     answers_begun first old call (Bytes line.items) (stream_of c.answers.new.self) c.in_ok-begin.ensures.1
     (subst (λ (bytes : List ℕ). Answers (stream_of old) call (Bytes bytes) (stream_of c.answers.new.self)) (sym c.into_line-line.ensures)
-    (answers_stopped old c.gather.new.self c.answers.new.self call part stop c.is_empty.result refl began.live gathered.0 gathered.1 (idle_gathered call old c.gather.new.self (Ok stop) refl gathered.3)
+    (answers_stopped old c.gather.new.self c.answers.new.self call part stop c.is_empty.result refl began.live gathered.0 gathered.1 (idle_gathered call old c.gather.new.self (Ok stop) gathered.3)
     (some_counted part line.len c.is_empty.result (line.ok.0 ∙ ap length c.into_line-line.ensures) c.is_empty.ensures)
     (sym c.answers.ensures.answer ∙ c.if-answers.true) c.answers.ensures.stream))
 
@@ -66,6 +66,6 @@ returns-else-answers g c =
     let began = begun_live first old is c.in_ok-begin.ensures.0 c.in_ok-begin.ensures.1 in
     let gathered = line_gathered c.new-collector.result c.args.limit old c.gather.new.self (Ok stop) part c.new-collector.ensures.new c.in_ok-stop.ensures in
     answers_begun first old call NotReady (stream_of c.answers.new.self) c.in_ok-begin.ensures.1
-    (unready_stopped old c.gather.new.self c.answers.new.self call part stop c.is_empty.result refl began.live gathered.0 (idle_gathered call old c.gather.new.self (Ok stop) refl gathered.3)
+    (unready_stopped old c.gather.new.self c.answers.new.self call part stop c.is_empty.result refl began.live gathered.0 (idle_gathered call old c.gather.new.self (Ok stop) gathered.3)
     (none_counted part line.len c.is_empty.result (line.ok.0 ∙ ap length c.into_line-line.ensures) c.is_empty.ensures)
     (sym c.answers.ensures.answer ∙ c.if-answers.false) c.answers.ensures.stream)

@@ -8,7 +8,7 @@ use Rattle.py_stream.specs.Replies.{lines_reply}
 use Rattle.py_reader.proofs.Refusing.{seen_is}
 use Rattle.py_reader.proofs.Begun.{begun_live, answers_begun}
 use Rattle.py_reader.proofs.Answering.{reading_refused, answers_stopped, unready_stopped}
-use Rattle.py_reader.proofs.ReadingOn.{none_counted, some_counted, refused_gather, lines_gathered, lines_are, none_joined, some_joined}
+use Rattle.py_reader.proofs.ReadingOn.{none_counted, some_counted, refused_gather, idle_gathered, lines_gathered, lines_are, none_joined, some_joined}
 use Rattle.py_reader.proofs.data.BufferedData.readlines.Goals as goal
 
 pub returns-in_err-begin : goal.returns-in_err-begin
@@ -53,7 +53,7 @@ returns-then-answers g c =
     let some : (c.len.result == 0) ≡ false → part ≢ [] = λ left. some_joined lines part handed.all handed.cut (some_counted lines c.len.result (c.len.result == 0) c.len.ensures refl left) in
     answers_begun first old call (Lines lines) (stream_of c.answers.new.self) c.in_ok-begin.ensures.1
     (subst (λ (all : List (List ℕ)). Answers (stream_of old) call (Lines all) (stream_of c.answers.new.self)) (sym (lines_are lines part handed.all handed.cut))
-    (answers_stopped old c.gather.new.self c.answers.new.self call part stop (c.len.result == 0) refl began.live gathered.0 gathered.1 (λ asks. absurd (cc)) some (sym c.answers.ensures.answer ∙ c.if-answers.true) c.answers.ensures.stream))
+    (answers_stopped old c.gather.new.self c.answers.new.self call part stop (c.len.result == 0) refl began.live gathered.0 gathered.1 (idle_gathered call old c.gather.new.self (Ok stop) gathered.3) some (sym c.answers.ensures.answer ∙ c.if-answers.true) c.answers.ensures.stream))
 
 pub returns-else-answers : goal.returns-else-answers
 returns-else-answers g c =
@@ -69,4 +69,4 @@ returns-else-answers g c =
     let gathered = lines_gathered c.new-collector.result c.args.hint old c.gather.new.self (Ok stop) part c.new-collector.ensures.new.2 c.in_ok-stop.ensures in
     let none : (c.len.result == 0) ≡ true → part ≡ [] = λ over. none_joined lines part c.into_lines-lines.ensures.all (none_counted lines c.len.result (c.len.result == 0) c.len.ensures refl over) in
     answers_begun first old call NotReady (stream_of c.answers.new.self) c.in_ok-begin.ensures.1
-    (unready_stopped old c.gather.new.self c.answers.new.self call part stop (c.len.result == 0) refl began.live gathered.0 (λ asks. absurd (cc)) none (sym c.answers.ensures.answer ∙ c.if-answers.false) c.answers.ensures.stream)
+    (unready_stopped old c.gather.new.self c.answers.new.self call part stop (c.len.result == 0) refl began.live gathered.0 (idle_gathered call old c.gather.new.self (Ok stop) gathered.3) none (sym c.answers.ensures.answer ∙ c.if-answers.false) c.answers.ensures.stream)
