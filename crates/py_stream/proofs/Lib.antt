@@ -2,6 +2,9 @@ pub mod Owing
 pub mod Fronts
 pub mod Refused
 pub mod Refusing
+pub mod Alone
+pub mod Accepting
+pub mod Stopping
 pub mod Completing
 pub mod Begun
 pub mod Returning

@@ -12,7 +12,7 @@ use Rattle.py_flat.specs.BinaryStep.{asks_end, payload}
 use Rattle.py_raw.proofs.Telling.{keeps_same}
 use Rattle.py_stream.proofs.Owing.{owes_as_before}
 use Rattle.py_stream.specs.Stream.{Stream, file_of, no_raw, detached_stream}
-use Rattle.py_stream.specs.Kinds.{says_no_memory}
+use Rattle.py_stream.specs.Kinds.{says_would_block, says_no_memory}
 use Rattle.py_stream.specs.Writing.{LaysInOrder, PassesOn, BlocksFull, OwesNoneOfIts, Writes}
 use Rattle.py_stream.specs.Answers.{LifeMoves, PlaceMoves, GivesWithin, IsShort, SeeksByEnd, closes_again, refused_by, Answers}
 
@@ -29,7 +29,7 @@ nothing_laid : (before : Stream) (call : FileCall) → LaysInOrder before call b
 nothing_laid before (Truncate size) = record { between = before.raw.bytes; lays = record { count = 0; bytes = refl }; cuts = inl refl }
 nothing_laid before call = record { count = 0; bytes = refl }
 
-nothing_passed : (before after : Stream) (call : FileCall) (why : IoFault) → PassesOn before call (Refused why) after
+pub nothing_passed : (before after : Stream) (call : FileCall) (why : IoFault) → PassesOn before call (Refused why) after
 nothing_passed before after Flush why = tt
 nothing_passed before after Close why = tt
 nothing_passed before after Detach why = tt
@@ -37,11 +37,16 @@ nothing_passed before after (Seek offset whence) why = tt
 nothing_passed before after (Truncate size) why = tt
 nothing_passed before after call why = tt
 
-nothing_blocked : (after : Stream) (call : FileCall) (why : IoFault) → is_own why ≡ true → BlocksFull call (Refused why) after
-nothing_blocked after call (fault.WouldBlock taken) own = absurd (cc)
-nothing_blocked after (Write bytes) why own = tt
-nothing_blocked after (WriteLines lines) why own = tt
-nothing_blocked after call why own = tt
+-- no wait fills the buffer
+pub nothing_blocked : (after : Stream) (call : FileCall) (why : IoFault) → says_would_block (Refused why) ≡ false → BlocksFull call (Refused why) after
+nothing_blocked after call (fault.WouldBlock taken) other = absurd (cc)
+nothing_blocked after (Write bytes) why other = tt
+nothing_blocked after (WriteLines lines) why other = tt
+nothing_blocked after call why other = tt
+
+never_waits : (why : IoFault) → is_own why ≡ true → says_would_block (Refused why) ≡ false
+never_waits (fault.WouldBlock taken) own = absurd (cc)
+never_waits why own = refl
 
 none_of_its : (before after : Stream) (call : FileCall) (why : IoFault) → is_own why ≡ true → OwesNoneOfIts before call (Refused why) after
 none_of_its before after (Write bytes) fault.RawFault own = absurd (cc)
@@ -61,7 +66,7 @@ leaves_all before call why own whole = record {
   leaves = λ _. record { passed = 0; most = omega arith; answered = λ tells. refl; bytes = refl; place = λ _. omega arith };
   lays = λ tells. nothing_laid before call;
   passes = nothing_passed before before call why;
-  full = nothing_blocked before call why own;
+  full = nothing_blocked before call why (never_waits why own);
   starves = λ wants. absurd (cc (wants_none why own));
   straight = none_of_its before before call why own;
   settles = λ at. at;

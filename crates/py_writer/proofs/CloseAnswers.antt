@@ -21,8 +21,9 @@ use Rattle.py_stream.proofs.Begun.{answers_whole}
 use Rattle.py_stream.proofs.Fronts.{LaidInOrder}
 use Rattle.py_writer.specs.Pending.{PendingView, end_of}
 use Rattle.py_writer.specs.Engine.{WriterView, stream_of, BeginOutcome, Took, FailsTaking, PassAllOutcome, ClosingOutcome, ClosesRaw, CloseRawOutcome}
+use Rattle.py_writer.proofs.Flat.{Stands}
 use Rattle.py_writer.proofs.Taking.{no_wait_then, answers_still}
-use Rattle.py_writer.proofs.PassingOn.{begun, Stands, PassesSome, Asked, took_passes, passing_keeps_place, passing_lays, passed_all, works_answers, close_accepts, fault_closes, failing_works, waiting_answers, lacking_answers, rested}
+use Rattle.py_writer.proofs.PassingOn.{begun, PassesSome, Asked, took_passes, passing_keeps_place, passing_lays, passed_all, works_answers, close_accepts, fault_closes, failing_works, waiting_answers, lacking_answers, rested}
 
 -- What stops the passing on.
 

@@ -20,11 +20,15 @@ use Rattle.py_writer.specs.Engine.{WriterView, stream_of, IsWriter, KeepsWriter,
 
 -- Where a writer and its raw stand.
 
+-- what holds of a writer at each call
+abbrev pub Stands : WriterView → Type 0
+Stands writer = IsWriter writer.raw writer.pending writer.life
+
 -- a live writer's raw stands no further after its place than the buffer is long
-pub is_near : (writer : WriterView) → IsWriter writer.raw writer.pending writer.life → writer.life ≡ life.Live → IsNear (stream_of writer)
+pub is_near : (writer : WriterView) → Stands writer → writer.life ≡ life.Live → IsNear (stream_of writer)
 is_near writer is live = record { after_first = omega arith; before_end = omega arith; fits = omega (arith, is.pending_is.held); ahead = omega arith; behind = omega (arith, is.pending_is.held); stands = λ tells. is.stands tells live }
 
-pub is_placed : (writer : WriterView) → IsWriter writer.raw writer.pending writer.life → IsPlaced (stream_of writer)
+pub is_placed : (writer : WriterView) → Stands writer → IsPlaced (stream_of writer)
 is_placed writer is = record { far = is.pending_is.far; near = is_near writer is }
 
 -- where the stream stands once bytes were taken

@@ -1,5 +1,5 @@
 -- Calls that take no bytes, and pass on what is owed: `seek`, `flush`, `close` and `detach`.
-use Rattle.std.proofs.Common.{◌≡◌, ◌≢◌, ℕ, suc, zero, pos, ℤ, ◌+◌, ◌≤◌, inr, Bool, true, false, ◌&&◌, ◌||◌, not, IsTrue, List, [], ◌++◌, length, take, drop, Option, Some, None, is_none, Err, if◌then◌else◌, refl, sym, ap, ◌∙◌, subst, arith, zero-le, length-drop}
+use Rattle.std.proofs.Common.{◌≡◌, ◌≢◌, ℕ, suc, zero, pos, ℤ, ◌+◌, ◌≤◌, inr, Bool, true, false, ◌||◌, IsTrue, List, [], ◌++◌, length, take, drop, Option, Some, None, Err, if◌then◌else◌, refl, sym, ap, ◌∙◌, subst, arith, zero-le, length-drop}
 use Rattle.std.proofs.lemmas.List.{append-nil}
 use Rattle.py_flat.specs.declared.fault.IoFault.{IoFault}
 use Rattle.py_flat.specs.declared.fault.IoFault.TheVariants as fault
@@ -10,31 +10,30 @@ use Rattle.py_flat.specs.Limits.{greatest_place}
 use Rattle.py_flat.specs.Causes.{Rose}
 use Rattle.py_flat.specs.Calls.{FileCall, Write, Seek, Flush, Close, Detach, FileReply, Done, Unwritten, Refused}
 use Rattle.py_flat.specs.FlatFile.{FlatFile, Buffered}
-use Rattle.py_flat.specs.Refusals.{refusal, is_getter, or_else, lets_through, life_fault, life_refusal, is_close, is_detach}
+use Rattle.py_flat.specs.Refusals.{refusal, is_getter, or_else, lets_through, life_fault, life_refusal}
 use Rattle.py_flat.specs.ExactStep.{is_closed}
 use Rattle.py_flat.specs.AllowedStep.{waited_for, raw_faulted, out_of_memory}
 use Rattle.py_flat.specs.BinaryStep.{BinaryStep, is_live, asks_end, does_work, reaches_raw, is_tell, Fails, WaitedBy, FaultedBy, StarvedBy}
 use Rattle.py_flat.proofs.Laying.{lay_resumes}
 use Rattle.py_raw.specs.RawStream.{Raw, WhereTold, NoFault, NoWait, WaitsOnce, AnswersFor}
 use Rattle.py_stream.specs.Stream.{Stream, file_of, writer_can}
-use Rattle.py_stream.specs.Kinds.{is_reading, reads_on, is_single, takes_space_first, asks_nothing, is_writing, keeps_raw, says_fault, says_no_memory}
+use Rattle.py_stream.specs.Kinds.{is_reading, is_writing, keeps_raw, says_fault, says_no_memory}
 use Rattle.py_stream.specs.Writing.{PassesFront, LaysFront, LaysInOrder, PassesOn, BlocksFull, OwesNoneOfIts}
-use Rattle.py_stream.specs.Answers.{Answers, KeepsStream, Leaves, ClosedWith, closes_again, IsReplyTo, HasCauses, InHandOf, IsShort, LifeMoves, PlaceStarves, PlaceMoves, GivesWithin, refused_by, SeeksByEnd, IsNear}
+use Rattle.py_stream.specs.Answers.{Answers, KeepsStream, Leaves, ClosedWith, closes_again, IsReplyTo, HasCauses, InHandOf, IsShort, LifeMoves, PlaceMoves, refused_by, SeeksByEnd, IsNear}
 use Rattle.py_stream.proofs.Completing.{completes}
 use Rattle.py_stream.proofs.Fronts.{LaidInOrder, lays_front}
+use Rattle.py_stream.proofs.Accepting.{works_unrefused, work_reaches}
 use Rattle.py_stream.proofs.Refusing.{refused_alone}
-use Rattle.py_stream.proofs.Seeking.{fault_needs_no_end, want_needs_no_end, want_answers, not_refused}
+use Rattle.py_stream.proofs.Seeking.{not_refused}
+use Rattle.py_stream.proofs.Stopping.{GivesNone, gives_none, says_short, needs_no_end, waits_alive, waits_there, waits_with_none, waits_answer, fails_there, fault_answers, starves_alive, starves_there, starve_answers}
+use Rattle.py_stream.proofs.Refused.{nothing_passed, nothing_blocked}
 use Rattle.py_writer.specs.Pending.{end_of}
-use Rattle.py_writer.specs.Engine.{WriterView, stream_of, IsWriter, KeepsWriter, Took, FailsTaking, Lacks, PassAllOutcome}
+use Rattle.py_writer.specs.Engine.{WriterView, stream_of, KeepsWriter, Took, FailsTaking, Lacks, PassAllOutcome}
 use Rattle.py_writer.proofs.Flat.{is_near, same_abilities}
 
 -- an engine of which a call was begun
 abbrev pub begun : WriterView → WriterView
 begun writer = record writer { short = false }
-
--- what holds of every engine
-abbrev pub Stands : WriterView → Type 0
-Stands writer = IsWriter writer.raw writer.pending writer.life
 
 -- Kinds of calls.
 
@@ -42,34 +41,12 @@ Stands writer = IsWriter writer.raw writer.pending writer.life
 pub record TakesNone (call : FileCall) : Type 0 where
   pub writing : is_writing call ≡ false
   pub reading : is_reading call ≡ false
-  pub going_on : reads_on call ≡ false
-  pub first : takes_space_first call ≡ false
-  pub nothing : asks_nothing call ≡ false
+  pub telling : is_tell call ≡ false
   pub keeps : keeps_raw true call ≡ false
-  pub single : is_single call ≡ false
   pub unheld : (writer : WriterView) → InHandOf (stream_of writer) call → ⊥
-  pub within : (size : ℕ) (reply : FileReply) → GivesWithin size call reply
   pub lays : (before : Stream) (after : List ℕ) → LaysFront before [] after → LaysInOrder before call after
-  pub stopped : (before after : Stream) (why : IoFault) → PassesOn before call (Refused why) after
-  pub wait_short : IsShort call (Refused (fault.WouldBlock 0)) true
-  pub wait_life : (size : ℕ) (current : Life) → LifeMoves (Some size) call (Refused (fault.WouldBlock 0)) current current
-  pub wait_place : (size : ℕ) (current : Life) (place : ℕ) → PlaceMoves (Some size) call (Refused (fault.WouldBlock 0)) current place place
-  pub wait_full : (after : Stream) → BlocksFull call (Refused (fault.WouldBlock 0)) after
-  pub wait_answer : (size : ℕ) → IsReplyTo (Some size) true call (Refused (fault.WouldBlock 0))
-  pub wait_ends : (before after : Stream) → SeeksByEnd before call (Refused (fault.WouldBlock 0)) after
-  pub wait_step : (file : FlatFile) → WaitedBy file call (Refused (fault.WouldBlock 0)) file
-  pub lack_short : IsShort call (Refused fault.NoMemory) false
-  pub lack_life : (size : ℕ) (current : Life) → LifeMoves (Some size) call (Refused fault.NoMemory) current current
-  pub lack_place : (size : ℕ) (current : Life) (place : ℕ) → PlaceMoves (Some size) call (Refused fault.NoMemory) current place place
-  pub lack_full : (after : Stream) → BlocksFull call (Refused fault.NoMemory) after
-  pub lack_ends : (before after : Stream) → SeeksByEnd before call (Refused fault.NoMemory) after
-  pub lack_answer : (size : ℕ) → IsReplyTo (Some size) true call (Refused fault.NoMemory)
-  pub lack_step : (file : FlatFile) → StarvedBy file call file
-  pub fault_short : IsShort call (Refused fault.RawFault) false
-  pub fault_place : (size : ℕ) (current : Life) (place : ℕ) → PlaceMoves (Some size) call (Refused fault.RawFault) current place place
-  pub fault_full : (after : Stream) → BlocksFull call (Refused fault.RawFault) after
-  pub fault_ends : (before after : Stream) → SeeksByEnd before call (Refused fault.RawFault) after
-  pub fault_answer : (size : ℕ) → IsReplyTo (Some size) true call (Refused fault.RawFault)
+  pub waits : (file : FlatFile) → WaitedBy file call (Refused (fault.WouldBlock 0)) file
+  pub starves : (file : FlatFile) → StarvedBy file call file
 
 -- the life in which a fault leaves the stream
 pub record FaultLeaves (call : FileCall) (left : Life) : Type 0 where
@@ -113,46 +90,48 @@ not_one_write before after (Write bytes) reply other = absurd (cc)
 not_one_write before after call reply other = tt
 
 pub works_answers : (old : WriterView) (call : FileCall) (reply : FileReply) (after : Stream) → TakesNone call → Works old call reply after → Answers (stream_of old) call reply after
-works_answers old call reply after none works = record {
-  keeps = works.keeps;
-  refused = λ why refuses. not_refused (stream_of old) call (Refused why) reply after why works.passes refuses;
-  again = works.again;
-  shut = λ _. works.shut;
-  causes = works.causes;
-  counted = λ exact. record { faults = λ sound. works.no_fault sound exact; waits = λ whole other. works.no_wait whole exact; once = λ short other. works.once short exact };
-  shorts = works.shorts;
-  moves = record { life_is = works.life_is; place = works.place; far = works.far; within = none.within old.pending.size reply };
-  ends = works.ends;
-  wants = λ wanting room. works.wants wanting;
-  starves = λ wanting reads. absurd (cc (none.going_on));
-  first = λ wanting takes. absurd (cc (none.first));
-  nothing = λ asks. absurd (cc (none.nothing));
-  idle = λ keeps. absurd (cc (none.keeps));
-  single = λ single. absurd (cc (none.single));
-  in_hand = λ has. absurd (none.unheld old has.of);
-  needs = λ reads. absurd (cc (none.going_on));
-  spares = λ reads. absurd (cc);
-  writes = λ can. record {
-    owes = λ writing. absurd (cc (none.writing));
-    takes = λ writing. absurd (cc (none.writing));
-    leaves = λ other. works.leaves;
-    lays = λ tells. none.lays (stream_of old) after.raw.bytes (lays_front (stream_of old) [] after.raw.bytes (inr refl) (works.lays tells));
-    passes = works.does;
-    full = works.full;
-    starves = λ wanting writing. absurd (cc (none.writing));
-    straight = not_one_write (stream_of old) after call reply none.writing;
-    settles = λ at. works.settles;
-    unclosed = works.unclosed;
-    rests = works.rests;
-  };
-  answer = λ accepted. works.answer;
-  at_once = λ failed is accepted. works.at_once failed;
-  complete = λ accepted calm sound. completes old.raw after.raw (Some old.pending.size) true call reply after.short works.causes works.shorts works.answer calm sound;
-  told = works.told;
-  reach = λ reads. absurd (cc (none.reading));
-  near = works.near;
-  hides = λ short reads. absurd (cc (none.reading));
-}
+works_answers old call reply after none works =
+    let gives : GivesNone call = gives_none call none.reading in
+    record {
+      keeps = works.keeps;
+      refused = λ why refuses. not_refused (stream_of old) call (Refused why) reply after why works.passes refuses;
+      again = works.again;
+      shut = λ _. works.shut;
+      causes = works.causes;
+      counted = λ exact. record { faults = λ sound. works.no_fault sound exact; waits = λ whole other. works.no_wait whole exact; once = λ short other. works.once short exact };
+      shorts = works.shorts;
+      moves = record { life_is = works.life_is; place = works.place; far = works.far; within = gives.within old.pending.size reply };
+      ends = works.ends;
+      wants = λ wanting room. works.wants wanting;
+      starves = λ wanting reads. absurd (cc (gives.going_on));
+      first = λ wanting takes. absurd (cc (gives.first));
+      nothing = λ asks. absurd (cc (gives.nothing));
+      idle = λ keeps. absurd (cc (none.keeps));
+      single = λ single. absurd (cc (gives.single));
+      in_hand = λ has. absurd (none.unheld old has.of);
+      needs = λ reads. absurd (cc (gives.going_on));
+      spares = λ reads. absurd (cc);
+      writes = λ can. record {
+        owes = λ writing. absurd (cc (none.writing));
+        takes = λ writing. absurd (cc (none.writing));
+        leaves = λ other. works.leaves;
+        lays = λ tells. none.lays (stream_of old) after.raw.bytes (lays_front (stream_of old) [] after.raw.bytes (inr refl) (works.lays tells));
+        passes = works.does;
+        full = works.full;
+        starves = λ wanting writing. absurd (cc (none.writing));
+        straight = not_one_write (stream_of old) after call reply none.writing;
+        settles = λ at. works.settles;
+        unclosed = works.unclosed;
+        rests = works.rests;
+      };
+      answer = λ accepted. works.answer;
+      at_once = λ failed is accepted. works.at_once failed;
+      complete = λ accepted calm sound. completes old.raw after.raw (Some old.pending.size) true call reply after.short works.causes works.shorts works.answer calm sound;
+      told = works.told;
+      reach = λ reads. absurd (cc (none.reading));
+      near = works.near;
+      hides = λ short reads. absurd (cc (none.reading));
+    }
 
 -- Passing on what is owed.
 
@@ -246,9 +225,6 @@ pub record Accepts (old : WriterView) (call : FileCall) : Type 0 where
   pub asked : Asked old call
   pub works : WhereTold old.raw (IsTrue (does_work (file_of (stream_of old)) call))
 
-pub work_reaches : (file : FlatFile) (call : FileCall) → IsTrue (does_work file call) → IsTrue (reaches_raw file call)
-work_reaches file call work = ap (λ (does : Bool). does || asks_end file call) work
-
 pub stays_open : (old new : WriterView) → old.life ≡ life.Live → new.raw.closed ≡ old.raw.closed → is_closed new.life ≡ false → ClosedWith old.life old.raw → ClosedWith new.life new.raw
 stays_open old new live stays alive closed = stays ∙ closed ∙ ap is_closed live ∙ sym alive
 
@@ -272,23 +248,23 @@ waiting_works old new call accepts took short rose once =
       no_fault = λ _. took.no_fault;
       no_wait = λ whole. absurd (cc);
       once = λ _. once;
-      shorts = subst (IsShort call (Refused (fault.WouldBlock 0))) (sym short) asked.none.wait_short;
-      life_is = subst (LifeMoves (Some old.pending.size) call (Refused (fault.WouldBlock 0)) old.life) (sym same) (asked.none.wait_life old.pending.size old.life);
-      place = subst (PlaceMoves (Some old.pending.size) call (Refused (fault.WouldBlock 0)) new.life (end_of old.pending)) (sym place) (asked.none.wait_place old.pending.size new.life (end_of old.pending));
+      shorts = subst (IsShort call (Refused (fault.WouldBlock 0))) (sym short) (says_short call (fault.WouldBlock 0));
+      life_is = subst (LifeMoves (Some old.pending.size) call (Refused (fault.WouldBlock 0)) old.life) (sym same) (waits_alive (Some old.pending.size) call old.life);
+      place = subst (PlaceMoves (Some old.pending.size) call (Refused (fault.WouldBlock 0)) new.life (end_of old.pending)) (sym place) (waits_there (Some old.pending.size) call new.life (end_of old.pending) asked.none.writing);
       far = took.kept.is.pending_is.far;
-      ends = asked.none.wait_ends (stream_of old) (stream_of new);
+      ends = needs_no_end (stream_of old) call (fault.WouldBlock 0) (stream_of new) refl;
       wants = λ wanting. absurd (cc);
       lives = λ wanting. absurd (cc);
       leaves = passing_front old left new.life new.short passes;
       lays = passing_lays old left passes;
-      does = asked.none.stopped (stream_of old) (stream_of new) (fault.WouldBlock 0);
-      full = asked.none.wait_full (stream_of new);
+      does = nothing_passed (stream_of old) (stream_of new) call (fault.WouldBlock 0);
+      full = waits_with_none call (stream_of new) asked.none.writing;
       settles = λ none. omega (arith, ap length none);
       unclosed = λ some. took.kept.stays;
       rests = rested old new.raw asked.live;
       at_once = λ failed. absurd (cc (asked.live));
-      answer = asked.none.wait_answer old.pending.size;
-      told = λ tells. waited_for short (accepts.works tells, subst (λ (file : FlatFile). WaitedBy (file_of (stream_of old)) call (Refused (fault.WouldBlock 0)) file) (sym (passing_file old left passes same tells)) (asked.none.wait_step (file_of (stream_of old))));
+      answer = waits_answer old.pending.size call asked.none.reading asked.none.telling;
+      told = λ tells. waited_for short (accepts.works tells, subst (λ (file : FlatFile). WaitedBy (file_of (stream_of old)) call (Refused (fault.WouldBlock 0)) file) (sym (passing_file old left passes same tells)) (asked.none.waits (file_of (stream_of old))));
       near = is_near new took.kept.is;
     }
 
@@ -308,23 +284,23 @@ lacking_works old new call asked whole lacks no_wait =
       no_fault = λ _. lacks.took.no_fault;
       no_wait = λ _. no_wait;
       once = λ waited. absurd (cc);
-      shorts = subst (IsShort call (Refused fault.NoMemory)) (sym short) asked.none.lack_short;
-      life_is = subst (LifeMoves (Some old.pending.size) call (Refused fault.NoMemory) old.life) (sym same) (asked.none.lack_life old.pending.size old.life);
-      place = subst (PlaceMoves (Some old.pending.size) call (Refused fault.NoMemory) new.life (end_of old.pending)) (sym place) (asked.none.lack_place old.pending.size new.life (end_of old.pending));
+      shorts = subst (IsShort call (Refused fault.NoMemory)) (sym short) (says_short call fault.NoMemory);
+      life_is = subst (LifeMoves (Some old.pending.size) call (Refused fault.NoMemory) old.life) (sym same) (starves_alive (Some old.pending.size) call old.life);
+      place = subst (PlaceMoves (Some old.pending.size) call (Refused fault.NoMemory) new.life (end_of old.pending)) (sym place) (starves_there (Some old.pending.size) call new.life (end_of old.pending));
       far = passes.kept.is.pending_is.far;
-      ends = asked.none.lack_ends (stream_of old) (stream_of new);
+      ends = needs_no_end (stream_of old) call fault.NoMemory (stream_of new) refl;
       wants = λ _. lacks.takes;
       lives = λ _. lacks.took.live;
       leaves = passing_front old new new.life new.short passes;
       lays = passing_lays old new passes;
-      does = asked.none.stopped (stream_of old) (stream_of new) fault.NoMemory;
-      full = asked.none.lack_full (stream_of new);
+      does = nothing_passed (stream_of old) (stream_of new) call fault.NoMemory;
+      full = nothing_blocked (stream_of new) call fault.NoMemory refl;
       settles = λ none. omega (arith, ap length none);
       unclosed = λ some. passes.kept.stays;
       rests = rested old new.raw asked.live;
       at_once = λ failed. absurd (cc (asked.live));
-      answer = asked.none.lack_answer old.pending.size;
-      told = λ tells. out_of_memory refl (asked.reaches, subst (λ (file : FlatFile). StarvedBy (file_of (stream_of old)) call file) (sym (passing_file old new passes same tells)) (asked.none.lack_step (file_of (stream_of old))));
+      answer = starve_answers (Some old.pending.size) true call asked.none.telling;
+      told = λ tells. out_of_memory refl (asked.reaches, subst (λ (file : FlatFile). StarvedBy (file_of (stream_of old)) call file) (sym (passing_file old new passes same tells)) (asked.none.starves (file_of (stream_of old))));
       near = is_near new passes.kept.is;
     }
 
@@ -344,36 +320,27 @@ failing_works old failed call left asked leaves whole fails no_wait alive =
       no_fault = λ sound. absurd (cc);
       no_wait = λ _. no_wait;
       once = λ waited. absurd (cc);
-      shorts = subst (IsShort call (Refused fault.RawFault)) (sym short) asked.none.fault_short;
+      shorts = subst (IsShort call (Refused fault.RawFault)) (sym short) (says_short call fault.RawFault);
       life_is = leaves.life_is old.pending.size old.life;
-      place = subst (PlaceMoves (Some old.pending.size) call (Refused fault.RawFault) left (end_of old.pending)) (sym place) (asked.none.fault_place old.pending.size left (end_of old.pending));
+      place = subst (PlaceMoves (Some old.pending.size) call (Refused fault.RawFault) left (end_of old.pending)) (sym place) (fails_there (Some old.pending.size) call left (end_of old.pending));
       far = passes.kept.is.pending_is.far;
-      ends = asked.none.fault_ends (stream_of old) (stream_of new);
+      ends = needs_no_end (stream_of old) call fault.RawFault (stream_of new) refl;
       wants = λ wanting. absurd (cc);
       lives = λ wanting. absurd (cc);
       leaves = passing_front old failed left failed.short passes;
       lays = passing_lays old failed passes;
-      does = asked.none.stopped (stream_of old) (stream_of new) fault.RawFault;
-      full = asked.none.fault_full (stream_of new);
+      does = nothing_passed (stream_of old) (stream_of new) call fault.RawFault;
+      full = nothing_blocked (stream_of new) call fault.RawFault refl;
       settles = λ none. omega (arith, ap length none);
       unclosed = λ some. passes.kept.stays;
       rests = rested old failed.raw asked.live;
       at_once = λ failed. absurd (cc (asked.live));
-      answer = asked.none.fault_answer old.pending.size;
+      answer = fault_answers (Some old.pending.size) true call asked.none.telling;
       told = λ tells. raw_faulted refl refl (asked.reaches, leaves.step (file_of (stream_of old)) (file_of (stream_of new)) (record { life_is = refl; bytes_are = passing_keeps_bytes old failed passes tells; can = same_abilities old failed passes.kept; buffering = ap Buffered passes.kept.size }));
       near = λ live. absurd (let dead : is_live left ≡ false = leaves.dead in let alive : is_live left ≡ true = ap is_live live in cc);
     }
 
 -- Which calls these are.
-
--- running out of memory leaves the place of such a call, whatever became of the stream
-starved_there : (current : Life) (place : ℕ) → PlaceStarves current None place place
-starved_there life.Live place = refl
-starved_there current place = omega arith
-
-wait_needs_no_end : (before : Stream) (offset whence : ℤ) (after : Stream) → SeeksByEnd before (Seek offset whence) (Refused (fault.WouldBlock 0)) after
-wait_needs_no_end before offset (pos (suc (suc zero))) after = λ _. tt
-wait_needs_no_end before offset whence after = tt
 
 -- a writer, which doesn't read, has no place in hand
 seeks_unheld : (writer : WriterView) (offset whence : ℤ) → InHandOf (stream_of writer) (Seek offset whence) → ⊥
@@ -385,136 +352,48 @@ pub seek_takes_none : (offset whence : ℤ) → TakesNone (Seek offset whence)
 seek_takes_none offset whence = record {
   writing = refl;
   reading = refl;
-  going_on = refl;
-  first = refl;
-  nothing = refl;
+  telling = refl;
   keeps = refl;
-  single = refl;
   unheld = λ writer. seeks_unheld writer offset whence;
-  within = λ size reply. tt;
   lays = λ before after is. is;
-  stopped = λ before after why. tt;
-  wait_short = refl;
-  wait_life = λ size current. refl;
-  wait_place = λ size current place. refl;
-  wait_full = λ after. refl;
-  wait_answer = λ size. refl;
-  wait_ends = λ before after. wait_needs_no_end before offset whence after;
-  wait_step = λ file. (refl, refl);
-  lack_short = refl;
-  lack_life = λ size current. refl;
-  lack_place = λ size current place. starved_there current place;
-  lack_full = λ after. tt;
-  lack_ends = λ before after. want_needs_no_end before offset whence after;
-  lack_answer = λ size. want_answers (Some size) true offset whence;
-  lack_step = λ file. refl;
-  fault_short = refl;
-  fault_place = λ size current place. refl;
-  fault_full = λ after. tt;
-  fault_ends = λ before after. fault_needs_no_end before offset whence after;
-  fault_answer = λ size. tt;
+  waits = λ file. (refl, refl);
+  starves = λ file. refl;
 }
 
 pub flush_takes_none : TakesNone Flush
 flush_takes_none = record {
   writing = refl;
   reading = refl;
-  going_on = refl;
-  first = refl;
-  nothing = refl;
+  telling = refl;
   keeps = refl;
-  single = refl;
   unheld = λ writer never. never;
-  within = λ size reply. tt;
   lays = λ before after is. is;
-  stopped = λ before after why. tt;
-  wait_short = refl;
-  wait_life = λ size current. refl;
-  wait_place = λ size current place. refl;
-  wait_full = λ after. refl;
-  wait_answer = λ size. refl;
-  wait_ends = λ before after. tt;
-  wait_step = λ file. (refl, refl);
-  lack_short = refl;
-  lack_life = λ size current. refl;
-  lack_place = λ size current place. starved_there current place;
-  lack_full = λ after. tt;
-  lack_ends = λ before after. tt;
-  lack_answer = λ size. tt;
-  lack_step = λ file. refl;
-  fault_short = refl;
-  fault_place = λ size current place. refl;
-  fault_full = λ after. tt;
-  fault_ends = λ before after. tt;
-  fault_answer = λ size. tt;
+  waits = λ file. (refl, refl);
+  starves = λ file. refl;
 }
 
 pub close_takes_none : TakesNone Close
 close_takes_none = record {
   writing = refl;
   reading = refl;
-  going_on = refl;
-  first = refl;
-  nothing = refl;
+  telling = refl;
   keeps = refl;
-  single = refl;
   unheld = λ writer never. never;
-  within = λ size reply. tt;
   lays = λ before after is. is;
-  stopped = λ before after why. tt;
-  wait_short = refl;
-  wait_life = λ size current. refl;
-  wait_place = λ size current place. refl;
-  wait_full = λ after. refl;
-  wait_answer = λ size. refl;
-  wait_ends = λ before after. tt;
-  wait_step = λ file. (refl, refl);
-  lack_short = refl;
-  lack_life = λ size current. refl;
-  lack_place = λ size current place. starved_there current place;
-  lack_full = λ after. tt;
-  lack_ends = λ before after. tt;
-  lack_answer = λ size. tt;
-  lack_step = λ file. refl;
-  fault_short = refl;
-  fault_place = λ size current place. refl;
-  fault_full = λ after. tt;
-  fault_ends = λ before after. tt;
-  fault_answer = λ size. tt;
+  waits = λ file. (refl, refl);
+  starves = λ file. refl;
 }
 
 pub detach_takes_none : TakesNone Detach
 detach_takes_none = record {
   writing = refl;
   reading = refl;
-  going_on = refl;
-  first = refl;
-  nothing = refl;
+  telling = refl;
   keeps = refl;
-  single = refl;
   unheld = λ writer never. never;
-  within = λ size reply. tt;
   lays = λ before after is. is;
-  stopped = λ before after why. tt;
-  wait_short = refl;
-  wait_life = λ size current. refl;
-  wait_place = λ size current place. refl;
-  wait_full = λ after. refl;
-  wait_answer = λ size. refl;
-  wait_ends = λ before after. tt;
-  wait_step = λ file. (refl, refl);
-  lack_short = refl;
-  lack_life = λ size current. refl;
-  lack_place = λ size current place. starved_there current place;
-  lack_full = λ after. tt;
-  lack_ends = λ before after. tt;
-  lack_answer = λ size. tt;
-  lack_step = λ file. refl;
-  fault_short = refl;
-  fault_place = λ size current place. refl;
-  fault_full = λ after. tt;
-  fault_ends = λ before after. tt;
-  fault_answer = λ size. tt;
+  waits = λ file. (refl, refl);
+  starves = λ file. refl;
 }
 
 pub fault_fails_seek : (offset whence : ℤ) → FaultLeaves (Seek offset whence) life.Failed
@@ -530,12 +409,6 @@ pub fault_closes : FaultLeaves Close life.Closed
 fault_closes = record { dead = refl; life_is = λ size current. refl; step = λ file after fails. fails }
 
 -- a call that a live stream doesn't refuse
-pub works_unrefused : (file : FlatFile) (call : FileCall) → file.life ≡ life.Live → refusal file call ≡ None → (is_getter call || is_tell call) ≡ false → IsTrue (does_work file call)
-works_unrefused file call live none asks =
-    ap (λ (current : Life). is_live current && is_none (refusal file call) && not (is_getter call || is_tell call)) live
-    ∙ ap (λ (refused : Option IoFault). is_none refused && not (is_getter call || is_tell call)) none
-    ∙ ap not asks
-
 accepts_unrefused : (old : WriterView) (call : FileCall) → TakesNone call → old.life ≡ life.Live → closes_again (stream_of old) call ≡ false → asks_end (file_of (stream_of old)) call ≡ false → (is_getter call || is_tell call) ≡ false → refusal (file_of (stream_of old)) call ≡ None → Accepts old call
 accepts_unrefused old call takes live again alone asks none =
     let work : IsTrue (does_work (file_of (stream_of old)) call) = works_unrefused (file_of (stream_of old)) call live none asks in
@@ -589,10 +462,3 @@ pass_all_refuses old new call (fault.WouldBlock taken) accepts leaves whole wait
 pass_all_refuses old new call fault.RawFault accepts leaves whole fails = failing_answers old new call accepts.asked leaves whole fails.0 fails.1
 pass_all_refuses old new call fault.NoMemory accepts leaves whole lacks = lacking_answers old new call accepts.asked whole lacks.0 lacks.1
 pass_all_refuses old new call why accepts leaves whole never = absurd never
-
--- A life that refuses anything lets nothing through but a close, and a detaching.
-pub shut_by_life : (current : Life) (size : ℕ) (call : FileCall) (why : IoFault) → is_close call ≡ false → is_detach call ≡ false → life_fault current ≡ Some why → lets_through current (Buffered size) call ≡ false
-shut_by_life life.Live size call why closes detaches by = absurd (cc)
-shut_by_life life.Failed size call why closes detaches by = ap (λ (detaching : Bool). detaching && true) detaches
-shut_by_life life.Closed size call why closes detaches by = closes
-shut_by_life life.Detached size call why closes detaches by = refl

@@ -17,14 +17,15 @@ use Rattle.py_raw.proofs.Telling.{tells_its_bytes}
 use Rattle.py_stream.specs.Stream.{writer_can, file_of}
 use Rattle.py_stream.specs.Answers.{Answers}
 use Rattle.py_stream.proofs.Refusing.{refused_by_life}
+use Rattle.py_stream.proofs.Alone.{shut_by_life}
 use Rattle.py_stream.proofs.Begun.{answers_whole}
 use Rattle.py_stream.proofs.Fronts.{LaidInOrder}
 use Rattle.py_stream.proofs.Seeking.{MaySeek, AnswersEnd, TargetOf, Goes, goes, RawStays, NoTarget, target_answers}
 use Rattle.py_writer.specs.Pending.{PendingView, end_of}
 use Rattle.py_writer.specs.Engine.{WriterView, stream_of, KeepsWriter, BeginOutcome, Took, FailsTaking, AsksEnd, FailsMoving, TargetFromEnd, TargetOutcome, GoesTo, GoOutcome, PassAllOutcome}
 use Rattle.py_writer.proofs.Taking.{keeps_then, no_fault_then, no_wait_then, waits_once_then, waited_then, faulted_then, answers_still, took_none, took_on, fails_on, lacks_on}
-use Rattle.py_writer.proofs.Flat.{is_near, is_placed, same_abilities}
-use Rattle.py_writer.proofs.PassingOn.{begun, Stands, PassesSome, Asked, Accepts, took_passes, works_answers, seek_takes_none, fault_fails_seek, failing_answers, lacking_answers, pass_all_refuses, passing_lays, passed_all, stays_open, rested, shut_by_life}
+use Rattle.py_writer.proofs.Flat.{Stands, is_near, is_placed, same_abilities}
+use Rattle.py_writer.proofs.PassingOn.{begun, PassesSome, Asked, Accepts, took_passes, works_answers, seek_takes_none, fault_fails_seek, failing_answers, lacking_answers, pass_all_refuses, passing_lays, passed_all, stays_open, rested}
 
 -- a live writer that may be moved
 pub record MayMove (old : WriterView) : Type 0 where
@@ -277,7 +278,7 @@ may_move old started seeks = record {
 }
 
 pub seek_begins_in_vain : (old new : WriterView) (offset whence : ℤ) (why : IoFault) → Stands old → BeginOutcome old (Err why) new → Answers (stream_of old) (Seek offset whence) (Refused why) (stream_of new)
-seek_begins_in_vain old new offset whence why stands begins = refused_by_life (stream_of old) (stream_of new) (Seek offset whence) why (is_placed old stands) refl refl (shut_by_life old.life old.pending.size (Seek offset whence) why refl refl begins.0) begins.0 (ap stream_of begins.1)
+seek_begins_in_vain old new offset whence why stands begins = refused_by_life (stream_of old) (stream_of new) (Seek offset whence) why (is_placed old stands) refl refl (shut_by_life old.life (Buffered old.pending.size) (Seek offset whence) why refl refl begins.0) begins.0 (ap stream_of begins.1)
 
 pub seek_finds_nothing : (old started new : WriterView) (offset whence : ℤ) (why : IoFault) → Seeks old started → TargetOutcome started offset whence (Err why) new → Answers (stream_of old) (Seek offset whence) (Refused why) (stream_of new)
 seek_finds_nothing old started new offset whence why seeks found =

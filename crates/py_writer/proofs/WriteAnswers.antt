@@ -19,12 +19,13 @@ use Rattle.py_stream.specs.Kinds.{is_writing}
 use Rattle.py_stream.specs.Writing.{Takes, OwesOld, OwesNoneOfIts, TookOwn}
 use Rattle.py_stream.specs.Answers.{Answers}
 use Rattle.py_stream.proofs.Begun.{answers_whole}
+use Rattle.py_stream.proofs.Accepting.{work_reaches}
 use Rattle.py_stream.proofs.Fronts.{LaidInOrder}
 use Rattle.py_writer.specs.Pending.{IsPending, end_of, cut_at}
 use Rattle.py_writer.specs.Engine.{WriterView, stream_of, IsWriter, BeginOutcome, Took, FailsTaking, FillsUp, StarvesTaking, PutOutcome, PutsOutcome, OwesOld as LeavesOld}
 use Rattle.py_writer.proofs.Putting.{starves_either}
 use Rattle.py_writer.proofs.Flat.{same_abilities, take_front, laid_in_order, took_ends, took_bytes, took_file, took_none_file, fails_ends, fails_bytes, fails_lays}
-use Rattle.py_writer.proofs.WritingCalls.{MayWrite, answers_coming, accepted, works, reaches, taken_reply, says_no_fault, wants_none, is_taken, is_blocked, is_faulted, is_starved}
+use Rattle.py_writer.proofs.WritingCalls.{MayWrite, answers_coming, accepted, works, taken_reply, says_no_fault, wants_none, is_taken, is_blocked, is_faulted, is_starved}
 
 -- What was taken of a call's own bytes.
 
@@ -162,7 +163,7 @@ faults old new call may fails straight =
       told = λ tells.
           let laid = fails_bytes old new own fails tells in
           raw_faulted refl refl (
-            reaches (file_of (stream_of old)) call (works old call may),
+            work_reaches (file_of (stream_of old)) call (works old call may),
             is.faulted (file_of (stream_of new)) (
               laid.count,
               laid.fits,
@@ -253,7 +254,7 @@ starves_nothing old new call may takes took straight =
       straight = straight;
       starves = λ wanting failed. absurd (let wrong : life.Live ≡ life.Failed = sym took.live ∙ failed in cc);
       answers = is.answers;
-      told = λ tells. out_of_memory refl (reaches (file_of (stream_of old)) call (works old call may), is.starved (file_of (stream_of new)) (inl (took_none_file old new may.live took tells)));
+      told = λ tells. out_of_memory refl (work_reaches (file_of (stream_of old)) call (works old call may), is.starved (file_of (stream_of new)) (inl (took_none_file old new may.live took tells)));
     })
 
 starves_midway : (old between : WriterView) (call : FileCall) (taken : ℕ) → MayWrite old call → taken ≤ length (payload call) → IsTrue old.raw.takes_memory → Took old (take taken (payload call)) between → end_of old.pending < between.pending.place → OwesNoneOfIts (stream_of old) call (Refused fault.NoMemory) (stream_of (record between { life = life.Failed; short = false })) → Answers (stream_of old) call (Refused fault.NoMemory) (stream_of (record between { life = life.Failed; short = false }))
@@ -303,7 +304,7 @@ starves_midway old between call taken may fits takes took past straight =
       starves = λ wanting failed. took_own old between (take taken own) took past;
       answers = is.answers;
       told = λ tells. out_of_memory refl (
-        reaches (file_of (stream_of old)) call (works old call may),
+        work_reaches (file_of (stream_of old)) call (works old call may),
         is.starved (file_of (stream_of new)) (inr (
           taken,
           some,

@@ -1,5 +1,5 @@
 -- A call that gives bytes to a writer: what it is, whichever of the two it is, and what makes its answer.
-use Rattle.std.proofs.Common.{◌≡◌, ℕ, ◌+◌, ◌<◌, ◌≤◌, ◌⊎◌, inr, Bool, true, false, ◌&&◌, ◌||◌, not, IsTrue, List, length, Option, Some, None, Ok, Err, is_none, if◌then◌else◌, refl, sym, ap, ◌∙◌, subst, le-ltb, lt-ltb, arith}
+use Rattle.std.proofs.Common.{◌≡◌, ℕ, ◌+◌, ◌<◌, ◌≤◌, ◌⊎◌, inr, Bool, true, false, ◌||◌, IsTrue, List, length, Option, Some, None, Ok, Err, if◌then◌else◌, refl, sym, ap, ◌∙◌, subst, le-ltb, lt-ltb, arith}
 use Rattle.std.specs.Option.{is_some}
 use Rattle.py_flat.specs.declared.fault.IoFault.{IoFault}
 use Rattle.py_flat.specs.declared.fault.IoFault.TheVariants as fault
@@ -9,26 +9,25 @@ use Rattle.py_flat.specs.Limits.{greatest_place}
 use Rattle.py_flat.specs.Lines.{joined}
 use Rattle.py_flat.specs.FlatFile.{FlatFile, Buffered}
 use Rattle.py_flat.specs.Calls.{FileCall, Write, WriteLines, FileReply, Count, Done, Refused}
-use Rattle.py_flat.specs.Refusals.{refusal, is_getter, is_other_getter, lets_through, life_fault, life_refusal, or_else, refused_if, too_far}
+use Rattle.py_flat.specs.Refusals.{refusal, is_close, is_getter, is_other_getter, lets_through, life_fault, life_refusal, or_else, refused_if, too_far}
 use Rattle.py_flat.specs.ExactStep.{is_closed, after_write}
-use Rattle.py_flat.specs.BinaryStep.{BinaryStep, payload, asks_end, reaches_raw, does_work, is_live, is_tell, Accepted, WaitedBy, FaultedBy, StarvedBy, TakesPart, FailsWriting, FailsMidway}
+use Rattle.py_flat.specs.BinaryStep.{BinaryStep, payload, asks_end, does_work, is_tell, Accepted, WaitedBy, FaultedBy, StarvedBy, TakesPart, FailsWriting, FailsMidway}
 use Rattle.py_raw.specs.RawStream.{WhereTold, NoFault}
 use Rattle.py_stream.specs.Stream.{Stream, size_of, file_of}
-use Rattle.py_stream.specs.Kinds.{is_reading, reads_on, is_single, takes_space_first, asks_nothing, is_writing, keeps_raw, says_fault, says_no_memory}
+use Rattle.py_stream.specs.Kinds.{is_reading, is_writing, keeps_raw, says_fault, says_no_memory}
 use Rattle.py_stream.specs.Writing.{Takes, LaysFront, LaysInOrder, PassesOn, BlocksFull, OwesNoneOfIts, TookOwn}
-use Rattle.py_stream.specs.Answers.{Answers, HasCauses, InHandOf, IsShort, LifeMoves, PlaceStarves, PlaceMoves, GivesWithin, SeeksByEnd, IsReplyTo, closes_again, refused_by}
+use Rattle.py_stream.specs.Answers.{Answers, HasCauses, InHandOf, IsShort, LifeMoves, PlaceStarves, PlaceMoves, SeeksByEnd, IsReplyTo, closes_again, refused_by}
 use Rattle.py_stream.proofs.Completing.{completes}
+use Rattle.py_stream.proofs.Accepting.{works_unrefused}
+use Rattle.py_stream.proofs.Alone.{detaches, shut_by_life}
+use Rattle.py_stream.proofs.Stopping.{GivesNone, gives_none}
 use Rattle.py_stream.proofs.Fronts.{LaidInOrder, lays_front}
 use Rattle.py_stream.proofs.Owing.{owes_both}
 use Rattle.py_stream.proofs.Refusing.{refused_alone, refused_by_life, refused_with}
 use Rattle.py_writer.specs.Pending.{end_of}
 use Rattle.py_stream.specs.Moving.{EndsWithin}
-use Rattle.py_writer.specs.Engine.{WriterView, stream_of, IsWriter, KeepsWriter, BeginOutcome}
-use Rattle.py_writer.proofs.Flat.{is_near, is_placed, same_abilities}
-
--- what holds of a writer at each call
-abbrev pub Stands : WriterView → Type 0
-Stands writer = IsWriter writer.raw writer.pending writer.life
+use Rattle.py_writer.specs.Engine.{WriterView, stream_of, KeepsWriter, BeginOutcome}
+use Rattle.py_writer.proofs.Flat.{Stands, is_near, is_placed, same_abilities}
 
 -- The two calls.
 
@@ -78,19 +77,20 @@ no_close : (stream : Stream) (call : FileCall) → is_writing call ≡ true → 
 no_close stream call writing = of_both (λ (call : FileCall). closes_again stream call ≡ false) (λ bytes. refl) (λ lines. refl) call writing
 
 held_up : (current : Life) (size : ℕ) (why : IoFault) → life_fault current ≡ Some why → (call : FileCall) → is_writing call ≡ true → lets_through current (Buffered size) call ≡ false
-held_up life.Live size why by call writing = absurd (cc)
-held_up life.Failed size why by call writing = of_both (λ (call : FileCall). lets_through life.Failed (Buffered size) call ≡ false) (λ bytes. refl) (λ lines. refl) call writing
-held_up life.Closed size why by call writing = of_both (λ (call : FileCall). lets_through life.Closed (Buffered size) call ≡ false) (λ bytes. refl) (λ lines. refl) call writing
-held_up life.Detached size why by call writing = refl
+held_up current size why fails call writing =
+    shut_by_life current (Buffered size) call why
+    (of_both (λ (call : FileCall). is_close call ≡ false) (λ bytes. refl) (λ lines. refl) call writing)
+    (of_both (λ (call : FileCall). detaches (Buffered size) call ≡ false) (λ bytes. refl) (λ lines. refl) call writing)
+    fails
 
 -- a writer that doesn't live refuses it
-pub writing_begins_in_vain : (first begun : WriterView) (call : FileCall) (why : IoFault) → is_writing call ≡ true → IsWriter first.raw first.pending first.life → BeginOutcome first (Err why) begun → Answers (stream_of first) call (Refused why) (stream_of begun)
+pub writing_begins_in_vain : (first begun : WriterView) (call : FileCall) (why : IoFault) → is_writing call ≡ true → Stands first → BeginOutcome first (Err why) begun → Answers (stream_of first) call (Refused why) (stream_of begun)
 writing_begins_in_vain first begun call why writing is began =
     refused_by_life (stream_of first) (stream_of begun) call why (is_placed first is) (no_getter call writing) (no_other_getter call writing)
     (held_up first.life first.pending.size why began.0 call writing) began.0 (ap stream_of began.1)
 
 -- and a live one what would go past the greatest place
-pub writing_too_far : (first begun : WriterView) (call : FileCall) → is_writing call ≡ true → IsWriter first.raw first.pending first.life → BeginOutcome first (Ok tt) begun → greatest_place < end_of begun.pending + length (payload call) → Answers (stream_of first) call (Refused fault.TooFar) (stream_of begun)
+pub writing_too_far : (first begun : WriterView) (call : FileCall) → is_writing call ≡ true → Stands first → BeginOutcome first (Ok tt) begun → greatest_place < end_of begun.pending + length (payload call) → Answers (stream_of first) call (Refused fault.TooFar) (stream_of begun)
 writing_too_far first begun call writing is began far =
     let past : greatest_place < end_of first.pending + length (payload call) = subst (λ (writer : WriterView). greatest_place < end_of writer.pending + length (payload call)) began.1 far in
     refused_with (stream_of first) (stream_of begun) call fault.TooFar (is_placed first is)
@@ -111,7 +111,7 @@ lines_too_far end None ends none = ends
 -- a call that gives bytes, of a live writer that may place them
 pub record MayWrite (old : WriterView) (call : FileCall) : Type 0 where
   pub writing : is_writing call ≡ true
-  pub is : IsWriter old.raw old.pending old.life
+  pub is : Stands old
   pub live : old.life ≡ life.Live
   pub within : end_of old.pending + length (payload call) ≤ greatest_place
 
@@ -121,13 +121,7 @@ accepted old call may = live_refusal old call may.writing may.live
 
 -- the raw may be called
 pub works : (old : WriterView) (call : FileCall) → MayWrite old call → IsTrue (does_work (file_of (stream_of old)) call)
-works old call may =
-    ap (λ (current : Life). is_live current && is_none (refusal (file_of (stream_of old)) call) && not (is_getter call || is_tell call)) may.live
-    ∙ ap (λ (refused : Option IoFault). is_none refused && not (is_getter call || is_tell call)) (accepted old call may)
-    ∙ ap not (no_tell call may.writing)
-
-pub reaches : (file : FlatFile) (call : FileCall) → IsTrue (does_work file call) → IsTrue (reaches_raw file call)
-reaches file call work = ap (λ (does : Bool). does || asks_end file call) work
+works old call may = works_unrefused (file_of (stream_of old)) call may.live (accepted old call may) (no_tell call may.writing)
 
 -- a call over a writer, and what it left, but for whether a wait cut it short
 pub record Comes (old : WriterView) (call : FileCall) (reply : FileReply) (short : Bool) (new : WriterView) : Type 0 where
@@ -149,22 +143,17 @@ pub record Comes (old : WriterView) (call : FileCall) (reply : FileReply) (short
 
 -- what else such a call says by what it is
 record IsGiving (before : Stream) (call : FileCall) (reply : FileReply) (after : Stream) : Type 0 where
-  pub within : GivesWithin (size_of before) call reply
   pub ends : SeeksByEnd before call reply after
   pub passes : PassesOn before call reply after
   pub lays : LaysFront before (payload call) after.raw.bytes → LaysInOrder before call after.raw.bytes
   pub reads : is_reading call ≡ false
-  pub goes_on : reads_on call ≡ false
-  pub first : takes_space_first call ≡ false
-  pub asks : asks_nothing call ≡ false
   pub calls : keeps_raw true call ≡ false
-  pub many : is_single call ≡ false
   pub unheld : InHandOf before call → ⊥
 
 is_giving : (before : Stream) (call : FileCall) (reply : FileReply) (after : Stream) → is_writing call ≡ true → IsGiving before call reply after
 is_giving before call reply after writing = of_both (λ (call : FileCall). IsGiving before call reply after)
-    (λ bytes. record { within = tt; ends = tt; passes = tt; lays = λ laid. laid; reads = refl; goes_on = refl; first = refl; asks = refl; calls = refl; many = refl; unheld = λ never. never })
-    (λ lines. record { within = tt; ends = tt; passes = tt; lays = λ laid. laid; reads = refl; goes_on = refl; first = refl; asks = refl; calls = refl; many = refl; unheld = λ never. never })
+    (λ bytes. record { ends = tt; passes = tt; lays = λ laid. laid; reads = refl; calls = refl; unheld = λ never. never })
+    (λ lines. record { ends = tt; passes = tt; lays = λ laid. laid; reads = refl; calls = refl; unheld = λ never. never })
     call writing
 
 pub answers_coming : (old new : WriterView) (call : FileCall) (reply : FileReply) (short : Bool) → MayWrite old call → Comes old call reply short new → Answers (stream_of old) call reply (stream_of (record new { short = short }))
@@ -172,6 +161,7 @@ answers_coming old new call reply short may comes =
     let before : Stream = stream_of old in
     let left : WriterView = record new { short = short } in
     let giving : IsGiving before call reply (stream_of left) = is_giving before call reply (stream_of left) may.writing in
+    let gives : GivesNone call = gives_none call giving.reads in
     let unrefused : refused_by before call ≡ None = refused_alone before call (no_end (file_of before) call may.writing) ∙ accepted old call may in
     record {
       keeps = record { buffer = ap Some comes.kept.size; can = same_abilities old new comes.kept; raw = comes.kept.raw; bare = λ bare. absurd (cc) };
@@ -181,16 +171,16 @@ answers_coming old new call reply short may comes =
       causes = comes.causes;
       counted = λ exact. record { faults = λ sound. comes.no_fault sound exact; waits = λ whole reads. absurd (cc (may.writing)); once = λ shortened reads. absurd (cc (may.writing)) };
       shorts = comes.shorts;
-      moves = record { life_is = comes.life_is; place = comes.place; far = comes.kept.is.pending_is.far; within = giving.within };
+      moves = record { life_is = comes.life_is; place = comes.place; far = comes.kept.is.pending_is.far; within = gives.within (size_of before) reply };
       ends = giving.ends;
       wants = λ wanting room. comes.wants wanting;
-      starves = λ wanting reads. absurd (cc (giving.goes_on));
-      first = λ wanting first. absurd (cc (giving.first));
-      nothing = λ asks. absurd (cc (giving.asks));
+      starves = λ wanting reads. absurd (cc (gives.going_on));
+      first = λ wanting first. absurd (cc (gives.first));
+      nothing = λ asks. absurd (cc (gives.nothing));
       idle = λ keeps. absurd (cc (giving.calls));
-      single = λ single. absurd (cc (giving.many));
+      single = λ single. absurd (cc (gives.single));
       in_hand = λ has. absurd (giving.unheld has.of);
-      needs = λ reads. absurd (cc (giving.goes_on));
+      needs = λ reads. absurd (cc (gives.going_on));
       spares = λ reads. absurd (cc);
       writes = λ can. record {
         owes = λ writing. owes_both before (payload call) (stream_of left) (inr refl) comes.takes;

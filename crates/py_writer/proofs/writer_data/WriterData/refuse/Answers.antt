@@ -1,5 +1,5 @@
 use Rattle.std.proofs.Common.{subst}
-use Rattle.py_writer.proofs.PassingOn.{Stands}
+use Rattle.py_writer.proofs.Flat.{Stands}
 use Rattle.py_writer.proofs.Lacking.{refuses_by_life, refuses_by_ability}
 use Rattle.py_writer.proofs.writer_data.WriterData.refuse.Goals as goal
 

@@ -1,7 +1,7 @@
 use Rattle.std.proofs.Common.{◌≡◌, ℤ, true, false, Ok, Err, sym, ap, ◌∙◌, subst, subst₂, to_z-of_z}
 use Rattle.std.proofs.lemmas.Result.{err_from_is_err_and}
 use Rattle.py_writer.specs.Engine.{WriterView, TargetOutcome}
-use Rattle.py_writer.proofs.PassingOn.{Stands}
+use Rattle.py_writer.proofs.Flat.{Stands}
 use Rattle.py_writer.proofs.SeekAnswers.{Seeks, seek_begins_in_vain, seek_finds_nothing, seek_stops, seek_fails, seek_answers}
 use Rattle.py_writer.proofs.writer_data.WriterData.seek.Goals as goal
 

@@ -4,7 +4,8 @@ use Rattle.py_flat.specs.Calls.{Write}
 use Rattle.py_writer.specs.Pending.{end_of}
 use Rattle.py_writer.specs.Engine.{WriterView, PutOutcome}
 use Rattle.py_writer.proofs.Putting.{puts_one}
-use Rattle.py_writer.proofs.WritingCalls.{Stands, writing_begins_in_vain, writing_too_far}
+use Rattle.py_writer.proofs.Flat.{Stands}
+use Rattle.py_writer.proofs.WritingCalls.{writing_begins_in_vain, writing_too_far}
 use Rattle.py_writer.proofs.WriteAnswers.{writing_begun, writing_takes, writing_blocks, writing_fails, one_write}
 use Rattle.py_writer.proofs.writer_data.WriterData.write.Goals as goal
 

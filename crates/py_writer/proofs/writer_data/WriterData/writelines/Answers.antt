@@ -5,7 +5,8 @@ use Rattle.py_flat.specs.Lines.{joined}
 use Rattle.py_flat.specs.Calls.{FileCall, WriteLines}
 use Rattle.py_writer.specs.Pending.{end_of}
 use Rattle.py_writer.specs.Engine.{WriterView, PutsOutcome}
-use Rattle.py_writer.proofs.WritingCalls.{Stands, writing_begins_in_vain, writing_too_far, lines_fit, lines_too_far}
+use Rattle.py_writer.proofs.Flat.{Stands}
+use Rattle.py_writer.proofs.WritingCalls.{writing_begins_in_vain, writing_too_far, lines_fit, lines_too_far}
 use Rattle.py_writer.proofs.WriteAnswers.{writing_begun, writing_takes, writing_blocks, writing_fails}
 use Rattle.py_writer.proofs.writer_data.WriterData.writelines.Goals as goal
 

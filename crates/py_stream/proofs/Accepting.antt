@@ -1,0 +1,18 @@
+-- What a flat file doesn't refuse: such a call of a live one does work, and may blame the raw.
+use Rattle.std.proofs.Common.{◌≡◌, Bool, false, ◌&&◌, ◌||◌, not, IsTrue, Option, None, is_none, ap, ◌∙◌}
+use Rattle.py_flat.specs.declared.fault.IoFault.{IoFault}
+use Rattle.py_flat.specs.declared.life.Life.{Life}
+use Rattle.py_flat.specs.declared.life.Life.TheVariants as life
+use Rattle.py_flat.specs.Calls.{FileCall}
+use Rattle.py_flat.specs.FlatFile.{FlatFile}
+use Rattle.py_flat.specs.Refusals.{refusal, is_getter}
+use Rattle.py_flat.specs.BinaryStep.{is_live, is_tell, asks_end, does_work, reaches_raw}
+
+pub works_unrefused : (file : FlatFile) (call : FileCall) → file.life ≡ life.Live → refusal file call ≡ None → (is_getter call || is_tell call) ≡ false → IsTrue (does_work file call)
+works_unrefused file call live none asks =
+    ap (λ (current : Life). is_live current && is_none (refusal file call) && not (is_getter call || is_tell call)) live
+    ∙ ap (λ (refused : Option IoFault). is_none refused && not (is_getter call || is_tell call)) none
+    ∙ ap not asks
+
+pub work_reaches : (file : FlatFile) (call : FileCall) → IsTrue (does_work file call) → IsTrue (reaches_raw file call)
+work_reaches file call work = ap (λ (does : Bool). does || asks_end file call) work

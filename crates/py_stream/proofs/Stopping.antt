@@ -1,0 +1,113 @@
+-- What a call leaves that its raw stops, whichever call it is: the raw would have blocked, or failed, or memory ran out.
+use Rattle.std.proofs.Common.{◌≡◌, ℕ, suc, zero, pos, inl, Bool, true, false, not, length, Option, Some, None, refl, ap, arith}
+use Rattle.py_flat.specs.declared.fault.IoFault.{IoFault}
+use Rattle.py_flat.specs.declared.fault.IoFault.TheVariants as fault
+use Rattle.py_flat.specs.declared.life.Life.{Life}
+use Rattle.py_flat.specs.declared.life.Life.TheVariants as life
+use Rattle.py_flat.specs.Lines.{joined}
+use Rattle.py_flat.specs.Calls.{FileCall, Read, Read1, ReadLine, ReadLines, Peek, ReadInto, ReadInto1, Write, WriteLines, Seek, Tell, Close, Detach, FileReply, Refused}
+use Rattle.py_flat.specs.BinaryStep.{is_tell}
+use Rattle.py_stream.specs.Stream.{Stream}
+use Rattle.py_stream.specs.Kinds.{is_reading, reads_on, is_single, takes_space_first, asks_nothing, is_writing, goes_on, says_would_block}
+use Rattle.py_stream.specs.Writing.{BlocksFull}
+use Rattle.py_stream.specs.Answers.{IsReplyTo, IsShort, StarvesTo, LifeMoves, MovesForth, PlaceFails, PlaceStarves, PlaceMoves, moves_most, GivesWithin, SeeksByEnd}
+use Rattle.py_stream.proofs.Refused.{is_own}
+
+-- A call that gives no bytes.
+
+pub record GivesNone (call : FileCall) : Type 0 where
+  pub going_on : reads_on call ≡ false
+  pub first : takes_space_first call ≡ false
+  pub nothing : asks_nothing call ≡ false
+  pub single : is_single call ≡ false
+  pub within : (size : ℕ) (reply : FileReply) → GivesWithin size call reply
+
+pub gives_none : (call : FileCall) → is_reading call ≡ false → GivesNone call
+gives_none (Read size) reads = absurd (cc)
+gives_none (Read1 size) reads = absurd (cc)
+gives_none (ReadLine limit) reads = absurd (cc)
+gives_none (ReadLines hint) reads = absurd (cc)
+gives_none Peek reads = absurd (cc)
+gives_none (ReadInto size) reads = absurd (cc)
+gives_none (ReadInto1 size) reads = absurd (cc)
+gives_none call reads = record { going_on = refl; first = refl; nothing = refl; single = refl; within = λ size reply. tt }
+
+-- Whatever stops a call.
+
+-- it is short where it says so
+pub says_short : (call : FileCall) (why : IoFault) → IsShort call (Refused why) (says_would_block (Refused why))
+says_short (Read1 size) why = refl
+says_short call why = refl
+
+-- and needs no end of the file
+pub needs_no_end : (before : Stream) (call : FileCall) (why : IoFault) (after : Stream) → is_own why ≡ false → SeeksByEnd before call (Refused why) after
+needs_no_end before (Seek offset (pos (suc (suc zero)))) fault.RawFault after raws = λ _. tt
+needs_no_end before (Seek offset (pos (suc (suc zero)))) fault.NoMemory after raws = λ _. tt
+needs_no_end before (Seek offset (pos (suc (suc zero)))) (fault.WouldBlock taken) after raws = λ _. tt
+needs_no_end before (Seek offset (pos (suc (suc zero)))) why after raws = absurd (cc)
+needs_no_end before call why after raws = tt
+
+-- The raw would have blocked, and nothing was given or taken.
+
+pub waits_alive : (buffer : Option ℕ) (call : FileCall) (current : Life) → LifeMoves buffer call (Refused (fault.WouldBlock 0)) current current
+waits_alive buffer Close current = refl
+waits_alive buffer Detach current = refl
+waits_alive buffer call current = refl
+
+pub waits_there : (buffer : Option ℕ) (call : FileCall) (current : Life) (place : ℕ) → is_writing call ≡ false → PlaceMoves buffer call (Refused (fault.WouldBlock 0)) current place place
+waits_there buffer (Write bytes) current place writing = absurd (cc)
+waits_there buffer (WriteLines lines) current place writing = absurd (cc)
+waits_there buffer call current place writing = refl
+
+pub waits_with_none : (call : FileCall) (after : Stream) → is_writing call ≡ false → BlocksFull call (Refused (fault.WouldBlock 0)) after
+waits_with_none (Write bytes) after writing = absurd (cc)
+waits_with_none (WriteLines lines) after writing = absurd (cc)
+waits_with_none call after writing = refl
+
+pub waits_answer : (size : ℕ) (call : FileCall) → is_reading call ≡ false → is_tell call ≡ false → IsReplyTo (Some size) true call (Refused (fault.WouldBlock 0))
+waits_answer size Tell reads tells = absurd (cc)
+waits_answer size call reads tells = ap not reads
+
+-- The raw failed.
+
+stays_forth : (most : Option ℕ) (place : ℕ) → MovesForth most place place
+stays_forth None place = omega arith
+stays_forth (Some most) place = (omega arith, omega arith)
+
+fails_where : (goes : Bool) (most : Option ℕ) (place : ℕ) → PlaceFails goes most place place
+fails_where true most place = stays_forth most place
+fails_where false most place = refl
+
+pub fails_there : (buffer : Option ℕ) (call : FileCall) (current : Life) (place : ℕ) → PlaceMoves buffer call (Refused fault.RawFault) current place place
+fails_there buffer (Write bytes) current place = fails_where (goes_on buffer (Write bytes)) (Some (length bytes)) place
+fails_there buffer (WriteLines lines) current place = fails_where (goes_on buffer (WriteLines lines)) (Some (length (joined lines))) place
+fails_there buffer call current place = fails_where (goes_on buffer call) (moves_most call) place
+
+pub fault_answers : (buffer : Option ℕ) (writes : Bool) (call : FileCall) → is_tell call ≡ false → IsReplyTo buffer writes call (Refused fault.RawFault)
+fault_answers buffer writes Tell tells = absurd (cc)
+fault_answers buffer writes call tells = tt
+
+-- Memory ran out, and the stream is as it was.
+
+starves_so : (goes : Bool) (current : Life) → StarvesTo goes current current
+starves_so true current = inl refl
+starves_so false current = refl
+
+pub starves_alive : (buffer : Option ℕ) (call : FileCall) (current : Life) → LifeMoves buffer call (Refused fault.NoMemory) current current
+starves_alive buffer Close current = starves_so (goes_on buffer Close) current
+starves_alive buffer Detach current = starves_so (goes_on buffer Detach) current
+starves_alive buffer call current = starves_so (goes_on buffer call) current
+
+starves_where : (current : Life) (most : Option ℕ) (place : ℕ) → PlaceStarves current most place place
+starves_where life.Live most place = refl
+starves_where current most place = stays_forth most place
+
+pub starves_there : (buffer : Option ℕ) (call : FileCall) (current : Life) (place : ℕ) → PlaceMoves buffer call (Refused fault.NoMemory) current place place
+starves_there buffer (Write bytes) current place = starves_where current (Some (length bytes)) place
+starves_there buffer (WriteLines lines) current place = starves_where current (Some (length (joined lines))) place
+starves_there buffer call current place = starves_where current (moves_most call) place
+
+pub starve_answers : (buffer : Option ℕ) (writes : Bool) (call : FileCall) → is_tell call ≡ false → IsReplyTo buffer writes call (Refused fault.NoMemory)
+starve_answers buffer writes Tell tells = absurd (cc)
+starve_answers buffer writes (Seek offset (pos (suc (suc zero)))) tells = tt
+starve_answers buffer writes call tells = tt
