@@ -1,5 +1,6 @@
 -- What the buffered reader's clause says of the bytes under a text.
-use Rattle.std.proofs.Common.{◌≡◌, ◌≢◌, ℕ, zero, suc, ◌+◌, ◌<◌, ◌≤◌, Bool, true, false, ◌&&◌, IsTrue, List, [], ◌∷◌, ◌++◌, length, take, drop, Option, Some, None, unwrap_or, not, Result, Ok, Err, Vec, sym, ap, ◌∙◌, subst, refl, arith}
+use Rattle.std.proofs.Common.{◌≡◌, ◌≢◌, ℕ, zero, suc, ◌+◌, ◌<◌, ◌≤◌, Bool, true, false, ◌&&◌, IsTrue, List, [], ◌∷◌, ◌++◌, length, take, drop, Option, Some, None, unwrap_or, is_some, not, Result, Ok, Err, Vec, sym, ap, ◌∙◌, subst, refl, arith}
+use Rattle.std.proofs.Math.Bool.{and-false}
 use Rattle.std.proofs.lemmas.List.{append_assoc, take-append-drop, length-drop}
 use Rattle.std.specs.declared.alloc.Global.{Global}
 use Rattle.py_flat.specs.declared.fault.IoFault.{IoFault}
@@ -17,7 +18,7 @@ use Rattle.py_flat.specs.AllowedStep.{settled, waited_for, raw_faulted, out_of_m
 use Rattle.py_flat.specs.BinaryStep.{Transfers, BinaryStep, CarriedOut, SettledBy, if_over_raw}
 use Rattle.py_stream.specs.Stream.{Stream, size_of, buffering_of, file_of, nothing_owed}
 use Rattle.py_stream.specs.Kinds.{goes_on, waits_unready}
-use Rattle.py_stream.specs.Answers.{Answers, Leaves, StarvesTo, PlaceStarves, refused_by}
+use Rattle.py_stream.specs.Answers.{Answers, Leaves, StarvesTo, PlaceStarves, parts_at_close, refused_by}
 use Rattle.py_stream.specs.Replies.{bytes_reply, done_reply}
 use Rattle.py_textio.specs.Reader.{ReaderView, IsReader, KeepsReader, GivesTold, ReadFails, ChunkReadOutcome, ClosesRaw, ClosesIn, CloseOutcome}
 
@@ -135,12 +136,21 @@ reads_chunk old new place size result is answers = reads_in old new place size r
 
 -- What every call keeps.
 
+-- a close of a stream that doesn't write has its raw closed too, whatever it answers
+closes_whole : (reader : Stream) (call : FileCall) (reply : FileReply) → reader.can.writable ≡ false → parts_at_close reader call reply ≡ false
+closes_whole reader Close (Refused fault.RawFault) writes =
+    ap (λ (can : Bool). is_some reader.buffer && (reader.can.readable && can)) writes
+    ∙ (ap (λ (both : Bool). is_some reader.buffer && both) (and-false reader.can.readable)
+    ∙ and-false (is_some reader.buffer))
+closes_whole reader call reply writes = refl
+
 pub keeps_reader : (old new : Stream) (call : FileCall) (reply : FileReply) (before after : ℕ) → IsReader old before → Answers old call reply new → KeepsReader (seen_at old before) (seen_at new after)
 keeps_reader old new call reply before after is answers = record {
   size = ap (λ (buffer : Option ℕ). unwrap_or buffer 0) answers.keeps.buffer;
   raw = answers.keeps.raw;
   bytes = (answers.spares is.writes is.owed).bytes;
-  shut = answers.shut (none_owed new (answers.spares is.writes is.owed).owed);
+  written = (answers.spares is.writes is.owed).written;
+  shut = answers.shut (closes_whole old call reply is.writes) (none_owed new (answers.spares is.writes is.owed).owed);
 }
 
 -- the place that is counted is the reader's while that lives, which a reading keeps

@@ -9,7 +9,7 @@ use Rattle.py_flat.specs.Causes.{rose}
 use Rattle.py_flat.specs.ExactStep.{is_closed}
 use Rattle.py_plain.specs.TextFile.{TextPlace, clean_at, TextFile}
 use Rattle.py_plain.specs.TextStep.{TextCall, Read, ReadLine, Close, text_refusal, asks_any, place_taking, TextStep}
-use Rattle.py_raw.specs.RawStream.{Raw, Keeps, KeepsBytes, WhereTold, NoFault}
+use Rattle.py_raw.specs.RawStream.{Raw, Keeps, KeepsBytes, WhereBytes, WhereTold, NoFault, AnswersFor}
 use Rattle.py_stream.specs.Kinds.{says_fault}
 use Rattle.py_stream.specs.Answers.{ClosedWith, HasCauses}
 use Rattle.py_textio.specs.Waiting.{ShowsAll}
@@ -112,14 +112,17 @@ pub record IsComplete (call : TextCall) (reply : FileReply) (short : Bool) : Typ
   pub whole : short ≡ false
 
 -- one call of a text: what the raw can do stays and its counts never fall; what the life or the kind refuses; a close
--- of a closed text; that the raw is closed with the text; causes, and that a close hides no fault; what is short; life and place; completeness; and,
--- where the raw tells, that its bytes stay, the step of the model, and that a wait hides nothing
+-- of a closed text; that the raw is closed with the text; that the raw's bytes and the flat ones stay where it tells its bytes, and that
+-- none is written; causes, and that a close hides no fault; what is short; life and place; completeness; and, where the raw tells, the
+-- step of the model, and that a wait hides nothing
 pub record AnswersText (before : TextFile) (old : Raw) (call : TextCall) (reply : FileReply) (after : TextFile) (new : Raw) (short : Bool) : Type 0 where
   pub keeps : Keeps old new
   pub refused : (refused : IoFault) → text_refusal before call ≡ Some refused → LeavesText before old (Refused refused) reply after new short
   pub again : closes_again before call ≡ true → LeavesText before old Done reply after new short
   pub shut : ClosedWith before.life old → ClosedWith after.life new
   pub bytes : KeepsBytes old new
+  pub written : AnswersFor 0 old new
+  pub flat : WhereBytes old (after.bytes ≡ before.bytes)
   pub causes : HasCauses old reply new short
   pub shorts : IsShort reply short
   pub wants : WantsMemory call reply old

@@ -10,7 +10,7 @@ use Rattle.py_flat.specs.Bytes.{left_at}
 use Rattle.py_flat.specs.Causes.{Rose}
 use Rattle.py_flat.specs.Refusals.{life_fault}
 use Rattle.py_flat.specs.BinaryStep.{IsFrontOf}
-use Rattle.py_raw.specs.RawStream.{NoFault, Raw, Keeps, KeepsBytes, WhereTold, WherePlace, LeavesCounts}
+use Rattle.py_raw.specs.RawStream.{NoFault, Raw, Keeps, KeepsBytes, AnswersFor, WhereTold, WherePlace, LeavesCounts}
 use Rattle.py_stream.specs.Stream.{Stream, nothing_owed}
 use Rattle.py_stream.specs.Answers.{ClosedWith}
 use Rattle.py_stream.specs.Opening.{Untouched, RefusesRaw}
@@ -34,12 +34,13 @@ pub record IsReader (reader : Stream) (place : ℕ) : Type 0 where
   pub at : reader.life ≡ life.Live → reader.place ≡ place
   pub far : place ≤ greatest_place
 
--- what every call keeps: the buffer's size; of the raw what it can do, its counts, and its bytes; and that it is closed
--- with the reader
+-- what every call keeps: the buffer's size; of the raw what it can do, its counts, and its bytes, none of which is written; and that
+-- it is closed with the reader
 pub record KeepsReader (old new : ReaderView) : Type 0 where
   pub size : new.size ≡ old.size
   pub raw : Keeps old.raw new.raw
   pub bytes : KeepsBytes old.raw new.raw
+  pub written : AnswersFor 0 old.raw new.raw
   pub shut : ClosedWith old.life old.raw → ClosedWith new.life new.raw
 
 -- the place never falls, and never lies past the greatest
