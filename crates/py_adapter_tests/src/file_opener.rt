@@ -8,6 +8,7 @@ use std::alloc::Global;
 use std::fs::{Files, OpenOptions};
 use std::io::{ErrorKind, Read, Write, pipe};
 use std::os::fd::AsRawFd;
+use std::path::PathBuf;
 use std::process::Abort;
 use std::test::Fail;
 use std::{env, fs, process};
@@ -129,25 +130,40 @@ fn only_read<'a>(rt: &impl Files, made: &'a str) -> &'a str {
     }
 }
 
-#[test]
-fn a_file_that_may_only_be_read_opens_to_be_read_alone(rt: HostRuntime) -> Result<(), Fail> {
+/// Makes a file that may only be read.
+fn make_only_read(rt: &HostRuntime) -> Result<PathBuf, Fail> {
     let alloc = rt.alloc();
     let name = format!(in alloc; "py_adapter_tests-only_read-{}", process::id(rt.process()))?;
-    let made = env::temp_dir(&rt)?.join(alloc, name.as_str())?;
-    fs::write(&rt, made.as_path(), "old")?;
-    let mut rights = fs::metadata(&rt, made.as_path())?.permissions();
+    let path = env::temp_dir(rt)?.join(alloc, name.as_str())?;
+    fs::write(rt, path.as_path(), "old")?;
+    let mut rights = fs::metadata(rt, path.as_path())?.permissions();
     rights.set_readonly(true);
-    fs::set_permissions(&rt, made.as_path(), rights)?;
+    fs::set_permissions(rt, path.as_path(), rights)?;
+    Ok(path)
+}
+
+/// Of such a file only `rb` opens it, and no mode changes it.
+fn assert_rb_alone_opens<O: Opener>(
+    rt: &(impl Abort + Files + Alloc),
+    alloc: Global,
+    opener: &mut O,
+    path: &str,
+    mode: &str,
+) -> Result<(), Fail> {
+    let held = fs::read(rt, path)?;
+    let opened = opens(rt, alloc, opener, path, mode);
+    assert_eq!(rt; opened, mode == "rb", "at {mode}");
+    assert!(rt; fs::read(rt, path)? == held, "at {mode}");
+    Ok(())
+}
+
+#[test]
+fn a_file_that_may_only_be_read_opens_to_be_read_alone(rt: HostRuntime) -> Result<(), Fail> {
+    let made = make_only_read(&rt)?;
     let path = only_read(&rt, made.as_str());
-    let held = fs::read(&rt, path)?;
     let mut opener = FileOpener::new(&rt);
     for (mode, _, _) in EACH_MODE {
-        let opened = opens(&rt, alloc, &mut opener, path, mode);
-        assert_eq!(rt; opened, mode == "rb", "at {mode}");
-        assert!(rt;
-            fs::read(&rt, path)?.as_slice() == held.as_slice(),
-            "at {mode}"
-        );
+        assert_rb_alone_opens(&rt, rt.alloc(), &mut opener, path, mode)?;
     }
     fs::remove_file(&rt, made.as_path())?;
     Ok(())
