@@ -1,11 +1,14 @@
 //! Openers: what each raw mode makes of a real file.
 ghost use Rattle.std.specs.Prelude.{◌≡◌, true, false};
 
-use py_raw::{OpenError, Opener, RawStream, is_raw_mode};
+use crate::failing_files::FailingFiles;
+use py_raw::{OpenError, Opener, RawError, RawStream, is_raw_mode};
 use py_raw_files::FileOpener;
 use std::alloc::Global;
-use std::fs::Files;
-use std::io::ErrorKind;
+use std::fs::{Files, OpenOptions};
+use std::io::{ErrorKind, Read, Write, pipe};
+use std::os::fd::AsRawFd;
+use std::path::PathBuf;
 use std::process::Abort;
 use std::test::Fail;
 use std::{env, fs, process};
@@ -114,6 +117,125 @@ fn the_last_error_is_what_the_system_said_of_a_path(rt: HostRuntime) -> Result<(
     ] {
         assert!(rt; !opens(&rt, alloc, &mut opener, path, "rb"));
         assert_eq!(rt; opener.last_error(), Some(kind));
+    }
+    Ok(())
+}
+
+/// A file that may only be read: this one, or where no rights bind this process, as an administrator's, one of the system's own that
+/// nobody may write.
+fn only_read<'a>(rt: &impl Files, made: &'a str) -> &'a str {
+    match OpenOptions::new().append(true).open(rt, made) {
+        Ok(_) => "/sys/kernel/uevent_seqnum",
+        Err(_) => made,
+    }
+}
+
+/// Makes a file that may only be read.
+fn make_only_read(rt: &HostRuntime) -> Result<PathBuf, Fail> {
+    let alloc = rt.alloc();
+    let name = format!(in alloc; "py_adapter_tests-only_read-{}", process::id(rt.process()))?;
+    let path = env::temp_dir(rt)?.join(alloc, name.as_str())?;
+    fs::write(rt, path.as_path(), "old")?;
+    let mut rights = fs::metadata(rt, path.as_path())?.permissions();
+    rights.set_readonly(true);
+    fs::set_permissions(rt, path.as_path(), rights)?;
+    Ok(path)
+}
+
+/// Of such a file only `rb` opens it, and no mode changes it.
+fn assert_rb_alone_opens<O: Opener>(
+    rt: &(impl Abort + Files + Alloc),
+    alloc: Global,
+    opener: &mut O,
+    path: &str,
+    mode: &str,
+) -> Result<(), Fail> {
+    let held = fs::read(rt, path)?;
+    let opened = opens(rt, alloc, opener, path, mode);
+    assert_eq!(rt; opened, mode == "rb", "at {mode}");
+    assert!(rt; fs::read(rt, path)? == held, "at {mode}");
+    Ok(())
+}
+
+#[test]
+fn a_file_that_may_only_be_read_opens_to_be_read_alone(rt: HostRuntime) -> Result<(), Fail> {
+    let made = make_only_read(&rt)?;
+    let path = only_read(&rt, made.as_str());
+    let mut opener = FileOpener::new(&rt);
+    for (mode, _, _) in EACH_MODE {
+        assert_rb_alone_opens(&rt, rt.alloc(), &mut opener, path, mode)?;
+    }
+    fs::remove_file(&rt, made.as_path())?;
+    Ok(())
+}
+
+/// What a pipe opened by a mode does: it can't be moved, and what it can by the mode is a byte through the pipe. Whether it opened.
+fn passes_a_byte<O: Opener, R: Read, W: Write>(
+    rt: &impl Abort,
+    alloc: Global,
+    opener: &mut O,
+    ends: (&mut R, &mut W),
+    path: &str,
+    mode: &str,
+) -> bool {
+    assert!(rt; is_raw_mode(mode));
+    let Ok(mut raw) = opener.open_raw(alloc, path, mode) else {
+        return false;
+    };
+    let (reader, writer) = ends;
+    assert!(rt; !raw.seekable());
+    let mut buf = [0; 4];
+    if raw.writable() {
+        assert_eq!(rt; raw.write(b"w").ok(), Some(Some(1)));
+        assert_eq!(rt; reader.read(&mut buf).ok(), Some(1));
+        assert_eq!(rt; buf[0], b'w');
+    }
+    if raw.readable() {
+        assert_eq!(rt; writer.write(b"r").ok(), Some(1));
+        assert_eq!(rt; raw.readinto(&mut buf), Ok(Some(1)));
+        assert_eq!(rt; buf[0], b'r');
+    }
+    assert_eq!(rt; raw.seek(0), Err(RawError::Fault));
+    assert_eq!(rt; raw.tell(), Err(RawError::Fault));
+    assert_eq!(rt; raw.end(), Err(RawError::Fault));
+    assert_eq!(rt; opener.done(path, raw), Ok(()));
+    true
+}
+
+#[test]
+fn each_mode_opens_a_pipe_but_those_that_make_a_file(rt: HostRuntime) -> Result<(), Fail> {
+    let alloc = rt.alloc();
+    let (mut reader, mut writer) = pipe(&rt)?;
+    let path = format!(in alloc; "/proc/self/fd/{}", reader.as_raw_fd())?;
+    let mut opener = FileOpener::new(&rt);
+    for (mode, _, _) in EACH_MODE {
+        let ends = (&mut reader, &mut writer);
+        let opened = passes_a_byte(&rt, alloc, &mut opener, ends, path.as_str(), mode);
+        assert_eq!(rt; opened, !mode.contains('x'), "at {mode}");
+    }
+    Ok(())
+}
+
+#[test]
+fn only_one_error_says_that_a_file_can_t_seek(rt: HostRuntime) -> Result<(), Fail> {
+    let table = [
+        (ErrorKind::NotSeekable, None),
+        (ErrorKind::InvalidInput, Some(ErrorKind::InvalidInput)),
+        (
+            ErrorKind::PermissionDenied,
+            Some(ErrorKind::PermissionDenied),
+        ),
+        (ErrorKind::Unsupported, Some(ErrorKind::Unsupported)),
+        (ErrorKind::Other, Some(ErrorKind::Other)),
+    ];
+    for (why, last_error) in table {
+        let files = FailingFiles { files: &rt, why };
+        let mut opener = FileOpener::new(&files);
+        match opener.open_raw(rt.alloc(), "/dev/null", "rb") {
+            Ok(raw) => assert!(rt; last_error.is_none() && !raw.seekable()),
+            Err(error) => assert!(rt; last_error.is_some() && error == OpenError::Fault),
+        }
+        assert_eq!(rt; opener.last_error(), last_error);
     }
     Ok(())
 }

@@ -119,6 +119,21 @@ fn a_real_file_keeps_what_is_written(rt: HostRuntime) -> Result<(), Fail> {
     Ok(())
 }
 
+#[test]
+fn an_end_that_the_system_can_t_move_to_is_a_fault(rt: HostRuntime) -> Result<(), Fail> {
+    let alloc = rt.alloc();
+    let mut opener = FileOpener::new(&rt);
+    // Its metadata says that it is empty.
+    let mut raw = opener.open_raw(alloc, "/proc/version", "rb")?;
+    let mut buf = [0; 5];
+    assert_eq!(rt; raw.readinto(&mut buf), Ok(Some(5)));
+    assert_eq!(rt; &buf, b"Linux");
+    assert_eq!(rt; raw.end(), Err(RawError::Fault));
+    assert_eq!(rt; raw.last_error(), Some(ErrorKind::InvalidInput));
+    assert_eq!(rt; raw.tell(), Ok(5));
+    Ok(())
+}
+
 /// How many files this process has open, one more for the folder that tells it.
 fn open_files(rt: &HostRuntime) -> io::Result<usize> {
     let mut count = 0usize;

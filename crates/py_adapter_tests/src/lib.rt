@@ -5,6 +5,8 @@
 #![tactic(auto)]
 
 #[cfg(test)]
+mod failing_files;
+#[cfg(test)]
 mod fake;
 #[cfg(test)]
 mod file_opener;

@@ -1,5 +1,9 @@
-//! The texts of errors.
-use py_raw::{Failed, IoFault, ModeError, OpenError, ParseModeError, RawError};
+//! The texts of errors, and what `{:?}` shows of what holds bytes.
+use py_raw::{
+    Failed, IoFault, ModeError, OpenError, ParseModeError, RawError, ReadSource, WriteSink,
+};
+use py_raw_files::FileOpener;
+use py_raw_memory::MemOpener;
 use std::test::Fail;
 
 /// Python's message for a mode without just one of its letters for files.
@@ -138,5 +142,32 @@ fn a_mode_that_is_refused_has_pythons_message(rt: HostRuntime) -> Result<(), Fai
     ] {
         assert_eq!(rt; error.error_msg(alloc, mode)?.as_str(), message);
     }
+    Ok(())
+}
+
+#[test]
+fn openers_sources_and_sinks_show_counts_and_no_bytes(rt: HostRuntime) -> Result<(), Fail> {
+    let alloc = rt.alloc();
+    let mut held = MemOpener::new(alloc);
+    held.put(alloc, "f", Vec::from_slice(alloc, b"abc")?)?;
+    assert_eq!(rt;
+        format!(in alloc; "{held:?}")?.as_str(),
+        "MemOpener { paths: 1, plans: 0, faults: 0, raw_faults: 0, raw_waits: 0, .. }"
+    );
+    let files = FileOpener::new(&rt);
+    assert_eq!(rt;
+        format!(in alloc; "{files:?}")?.as_str(),
+        "FileOpener { faults: 0, raw_faults: 0, raw_waits: 0, last_error: None, .. }"
+    );
+    let source = ReadSource::new(rt.stdin());
+    assert_eq!(rt;
+        format!(in alloc; "{source:?}")?.as_str(),
+        "ReadSource { faults: 0, .. }"
+    );
+    let sink = WriteSink::new(Vec::new(alloc));
+    assert_eq!(rt;
+        format!(in alloc; "{sink:?}")?.as_str(),
+        "WriteSink { faults: 0, .. }"
+    );
     Ok(())
 }

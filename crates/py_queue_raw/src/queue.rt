@@ -3,6 +3,7 @@ ghost use Rattle.std.specs.Prelude.{◌≤◌, length};
 
 use std::alloc::{AllocError, Global};
 use std::cell::Cell;
+use std::fmt;
 
 /// Bytes that were put in and not taken out yet, and whether more may come.
 ///
@@ -13,6 +14,19 @@ pub struct Queue {
     alloc: Global,
     bytes: Cell<Vec<u8>>,
     ended: Cell<bool>,
+}
+
+// Only how many bytes there are, and not which: thousands of them would hide all else.
+impl fmt::Debug for Queue {
+    fn fmt<W: fmt::Write>(&self, f: &mut fmt::Formatter<W>) -> fmt::Result {
+        let held = self.bytes.replace(Vec::new(self.alloc));
+        let count = held.len();
+        self.bytes.set(held);
+        f.debug_struct("Queue")
+            .field("count", &count)
+            .field("ended", &self.ended.get())
+            .finish_non_exhaustive()
+    }
 }
 
 impl Queue {

@@ -10,7 +10,7 @@ use py_raw::{RawError, RawStream};
 /// What is taken out of a queue, as a raw stream: it can be read, and neither written nor moved.
 ///
 /// It tells nothing. An empty queue would block until its end was said; that is counted, once each time.
-#[derive(Drop)]
+#[derive(Debug, Drop)]
 pub struct QueueRaw<'a> {
     queue: &'a Queue,
     closed: bool,

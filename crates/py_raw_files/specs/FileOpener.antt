@@ -1,5 +1,9 @@
 -- What an opener of real files shows.
-use Rattle.std.specs.Prelude.{true, false, None}
+use Rattle.std.specs.Prelude.{ℕ, Bool, true, false, None, Result, Ok, Err, if◌then◌else◌}
+use Rattle.std.specs.declared.io.ErrorKind.{ErrorKind}
+use Rattle.std.specs.declared.io.ErrorKind.TheVariants.{NotSeekable}
+use Rattle.std.specs.declared.io.Error.{Error}
+use Rattle.std.specs.IoError.{error_kind}
 use Rattle.py_raw.specs.Opener.{OpenerView}
 use Rattle.py_raw_files.specs.declared.file_opener.FileOpener.{FileOpener}
 
@@ -13,3 +17,13 @@ shown_file_opener opener = record {
   raw_waits = opener.raw_waits;
   counts_exactly = true;
 }
+
+-- the kind of an error by which the system says that a file can't seek
+abbrev pub denies_seeking : ErrorKind → Bool
+denies_seeking NotSeekable = true
+denies_seeking _ = false
+
+-- whether a file can seek, by what the system answers when it is asked where it stands; any other error is the opening's
+abbrev pub can_seek : Result ℕ Error → Result Bool Error
+can_seek (Ok place) = Ok true
+can_seek (Err error) = if denies_seeking (error_kind error) then Ok false else Err error

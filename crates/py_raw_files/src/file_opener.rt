@@ -1,13 +1,14 @@
 ghost use Rattle.std.specs.Prelude.{◌≡◌, ◌||◌, nat_eq, IsOk, OnOk, IfErr};
 ghost use Rattle.std.specs.Fs.{asks_read, asks_write, asks_append, asks_truncate, asks_create, asks_create_new};
 ghost use Rattle.py_raw.specs.RawMode.{IsRawMode, file_letter, mode_reads, mode_writes, letter_w, letter_x, letter_a};
+ghost use Rattle.py_raw_files.specs.FileOpener.{can_seek};
 
 use crate::FileRaw;
 use py_raw::{OpenError, Opener, file_letter, mode_reads, mode_writes};
 use std::alloc::Global;
 use std::fs::{Files, OpenFile, OpenOptions};
-use std::io;
 use std::io::{ErrorKind, Seek};
+use std::{fmt, io};
 
 /// Opens real files by their paths.
 ///
@@ -22,6 +23,18 @@ pub struct FileOpener<'a, R: Files> {
     raw_waits: u64,
     /// What the system said of the last fault.
     last_error: Option<ErrorKind>,
+}
+
+// Only what it counted and the last error, since few handles of the system can be shown.
+impl<'a, R: Files> fmt::Debug for FileOpener<'a, R> {
+    fn fmt<W: fmt::Write>(&self, f: &mut fmt::Formatter<W>) -> fmt::Result {
+        f.debug_struct("FileOpener")
+            .field("faults", &self.faults)
+            .field("raw_faults", &self.raw_faults)
+            .field("raw_waits", &self.raw_waits)
+            .field("last_error", &self.last_error)
+            .finish_non_exhaustive()
+    }
 }
 
 impl<'a, R: Files> FileOpener<'a, R> {
@@ -69,8 +82,19 @@ fn options_for(mode: &str) -> OpenOptions
     options
 }
 
-/// Opens a file, and asks whether it can seek: only the system's own word for "can't seek" says that it can't, and any other error
-/// is one of the opening. A directory is refused, since it opens for reading too.
+/// Whether a file can seek, by what the system answers when it is asked where it stands: only the system's own word for "can't
+/// seek" says that it can't, and any other error is one of the opening.
+fn can_seek(answer: io::Result<u64>) -> io::Result<bool>
+    ensures { result ≡ can_seek answer }
+{
+    match answer {
+        Ok(_) => Ok(true),
+        Err(error) if matches!(error.kind(), ErrorKind::NotSeekable) => Ok(false),
+        Err(error) => Err(error),
+    }
+}
+
+/// Opens a file, and asks whether it can seek. A directory is refused, since it opens for reading too.
 fn open_file<R: Files>(files: &R, path: &str, mode: &str) -> io::Result<(R::File, bool)>
     requires { IsRawMode mode.now }
 {
@@ -78,11 +102,8 @@ fn open_file<R: Files>(files: &R, path: &str, mode: &str) -> io::Result<(R::File
     if file.metadata()?.is_dir() {
         return Err(io::Error::from(ErrorKind::IsADirectory));
     }
-    match file.stream_position() {
-        Ok(_) => Ok((file, true)),
-        Err(error) if error.kind() == ErrorKind::NotSeekable => Ok((file, false)),
-        Err(error) => Err(error),
-    }
+    let seekable = can_seek(file.stream_position())?;
+    Ok((file, seekable))
 }
 
 impl<R: Files> Opener for FileOpener<'_, R>

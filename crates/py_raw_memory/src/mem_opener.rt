@@ -14,6 +14,7 @@ use crate::{Cut, MemRaw};
 use plan::{Plan, plan_of};
 use py_raw::{OpenError, Opener, file_letter, misses, mode_flags};
 use std::alloc::{AllocError, Global};
+use std::fmt;
 
 /// Paths with bytes in memory, which opens raw streams of them: what a test opens its files by.
 ///
@@ -26,6 +27,19 @@ pub struct MemOpener {
     faults: u64,
     raw_faults: u64,
     raw_waits: u64,
+}
+
+// Only how many paths hold something, and not what: their bytes would hide all else.
+impl fmt::Debug for MemOpener {
+    fn fmt<W: fmt::Write>(&self, f: &mut fmt::Formatter<W>) -> fmt::Result {
+        f.debug_struct("MemOpener")
+            .field("paths", &self.entries.len())
+            .field("plans", &self.plans.len())
+            .field("faults", &self.faults)
+            .field("raw_faults", &self.raw_faults)
+            .field("raw_waits", &self.raw_waits)
+            .finish_non_exhaustive()
+    }
 }
 
 /// The bytes that a path holds.
