@@ -39,13 +39,13 @@ replacing_ends order place zero (byte ∷ rest) =
     let first : FirstItem = item_of (treatment Replace Utf8) true place (byte ∷ rest) unit in
     onto_through place first (walk_from Utf8 (treatment Replace Utf8) true (order_after Utf8 order unit) (place + 1) (used_behind first) rest) (item_given unit place (byte ∷ rest)) (replacing_ends (order_after Utf8 order unit) (place + 1) (used_behind first) rest)
 
--- what such a walk answers is no refusal
+-- what a walk in which nothing was refused answers is no refusal
 through_refuses_nothing : (characters : List ℕ) (total : ℕ) (refusal : (start end : ℕ) → IoFault) (ending : Ending) (why : IoFault) → is_through ending ≡ true → ended characters total refusal ending ≡ Err why → ⊥
 through_refuses_nothing characters total refusal AtEnd why through e = cc
 through_refuses_nothing characters total refusal (AtCut start) why through e = cc
 through_refuses_nothing characters total refusal (AtRange start end) why through e = cc
 
--- so a decoding by the handler `replace` is refused only when out of memory
+-- a decoding by the handler `replace` is refused only when out of memory
 pub only_memory : (bytes : List ℕ) (why : IoFault) → (why ≡ fault.NoMemory) ⊎ (decoding_of (walk_from Utf8 (treatment Replace Utf8) true Unknown 0 0 bytes) (length bytes) fault.UnicodeDecodeError ≡ Err why) → why ≡ fault.NoMemory
 only_memory bytes why (inl is) = is
 only_memory bytes why (inr is) =

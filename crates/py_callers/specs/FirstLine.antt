@@ -1,5 +1,5 @@
 -- What a session that is asked for a line answers, by what its raw shows before and after.
-use Rattle.std.specs.Prelude.{◌≡◌, ◌⊎◌, IsTrue, None, Result, Ok, Err}
+use Rattle.std.specs.Prelude.{◌≡◌, ◌⊎◌, false, IsTrue, Some, None, Result, Ok, Err}
 use Rattle.py_flat.specs.declared.fault.IoFault.TheVariants as fault
 use Rattle.py_flat.specs.Bytes.{left_at}
 use Rattle.py_flat.specs.Lines.{Lf, first_line}
@@ -7,6 +7,9 @@ use Rattle.py_flat.specs.Causes.{Rose}
 use Rattle.py_flat.specs.Calls.{FileReply, Bytes, Refused}
 use Rattle.py_raw.specs.RawStream.{Raw, WhereTold}
 use Rattle.py_stream.specs.Kinds.{says_fault}
+use Rattle.py_stream.specs.Opening.{RefusesRaw}
+use Rattle.py_unbuffered.specs.Unbuffered.{is_able}
+use Rattle.py_unbuffered.specs.declared.access.Access.TheVariants as access
 use Rattle.py_calls.specs.Calls.{said}
 use Rattle.py_open.specs.declared.open_refused.OpenRefused.{OpenRefused}
 use Rattle.py_open.specs.Run.{IsSmooth}
@@ -21,6 +24,7 @@ pub record AnswersLine (raw : Raw) (reply : FileReply) (back : Raw) : Type 0 whe
   pub line : WhereTold raw (IsSmooth raw back → IsFirstLine raw reply)
   pub fault : IsTrue (says_fault reply) → Rose raw.faults back.faults
 
+-- the reply, with the raw; or why the opening was refused, of a raw that is read from where it stands through a buffer of 8192 bytes
 abbrev pub LineOutcome : {R : Type 0} → (R → Raw) → R → Result (FirstLine R) (OpenRefused R) → Type 0
 LineOutcome shows raw (Ok first) = AnswersLine (shows raw) (said first.reply) (shows first.raw)
-LineOutcome shows raw (Err refused) = refused.fault ≡ fault.RawFault → Rose (shows raw).faults (shows refused.raw).faults
+LineOutcome shows raw (Err refused) = RefusesRaw (is_able access.Read) false (shows raw) (Some 8192) refused.fault (shows refused.raw)

@@ -1,7 +1,7 @@
 //! A caller of streams: what a reader has left is copied to a writer.
-ghost use Rattle.std.specs.Prelude.{◌≡◌, ◌⊎◌, true};
+ghost use Rattle.std.specs.Prelude.{◌≡◌, ◌⊎◌, true, false};
 ghost use Rattle.py_flat.specs.Causes.{Rose};
-ghost use Rattle.py_callers.specs.Copying.{Copied};
+ghost use Rattle.py_callers.specs.Copying.{Copied, CopyOutcome};
 
 use py_buffered::{BufferedReader, BufferedWriter};
 use py_raw::{IoFault, RawStream};
@@ -18,12 +18,15 @@ pub fn copy_all<R: RawStream, W: RawStream>(
     writer: &mut BufferedWriter<W>,
 ) -> Result<bool, IoFault>
     ensures copied { result ≡ Ok true → Copied reader.old writer.old writer.new }
+    ensures waited { result ≡ Ok false → Rose reader.old.raw.waits reader.new.raw.waits }
     ensures fault { result ≡ Err IoFault.RawFault → Rose reader.old.raw.faults reader.new.raw.faults ⊎ Rose writer.old.raw.faults writer.new.raw.faults }
+    ensures outcome { CopyOutcome reader.old writer.old result reader.new writer.new }
 {
+    let _ = writer.buffer_size(); // by its clause there is a buffer, so that a write takes all that it is given
     let Some(bytes) = reader.read(alloc, None)? else {
         return Ok(false);
     };
-    let taken = writer.write(&bytes)?;
+    writer.write(&bytes)?;
     writer.flush()?;
-    Ok(taken == bytes.len() && !reader.short())
+    Ok(!reader.short())
 }

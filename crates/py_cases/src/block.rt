@@ -27,7 +27,7 @@ impl<'a> Line<'a> {
 
     /// The refusal of this line.
     pub(crate) fn malformed<T>(&self) -> Result<T> {
-        bail!("line {} is out of form", self.number)
+        bail!("line {} is malformed", self.number)
     }
 
     /// The numbers that the words of a part of this line are.

@@ -1,6 +1,7 @@
 //! Prints how many lines a file has, and how many bytes the longest of them.
 #![tactic(auto)]
 
+use anyhow::bail;
 use py_buffered::BufferedReader;
 use py_raw::{IoFault, Opener, RawStream};
 use py_raw_files::FileOpener;
@@ -30,7 +31,13 @@ fn main(rt: HostRuntime) -> anyhow::Result<()> {
     let Some(path) = env::args(&rt)?.nth(1) else {
         return Ok(println!(rt; "usage: count_lines <path>")?);
     };
-    let raw = FileOpener::new(&rt).open_raw(alloc, path.as_str(), "rb")?;
+    let mut opener = FileOpener::new(&rt);
+    let Ok(raw) = opener.open_raw(alloc, path.as_str(), "rb") else {
+        match opener.last_error() {
+            Some(kind) => bail!("{path} can't be opened: {kind}"), // the system's reason
+            None => bail!("out of memory"),
+        }
+    };
     let mut reader = BufferedReader::new(alloc, raw, 8192)?; // refused, the raw is dropped with nothing read
     let (lines, longest) = count(alloc, &mut reader)?;
     Ok(println!(rt; "{lines} lines, the longest of {longest} bytes")?)

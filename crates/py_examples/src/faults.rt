@@ -11,8 +11,8 @@ fn lines_are_collected_and_passed_on(rt: HostRuntime) -> Result<(), Fail> {
     assert_eq!(rt; writer.write(b"one\n"), Ok(4)); // in the buffer
     assert_eq!(rt; writer.write(b"two\n"), Ok(4));
     assert_eq!(rt; writer.tell(), Ok(8));
-    writer.flush()?; // the raw has all eight bytes
-    writer.close()?;
+    assert_eq!(rt; writer.flush(), Ok(())); // the raw has all eight bytes
+    assert_eq!(rt; writer.close(), Ok(()));
     let Some(parts) = writer.into_parts() else {
         return Err(Fail::from("detached"));
     };
@@ -31,7 +31,7 @@ fn a_write_that_has_to_wait_goes_on_past_what_was_taken(rt: HostRuntime) -> Resu
     );
     assert!(rt; writer.short()); // a wait cut it short: three bytes went, and four fill the buffer
     assert_eq!(rt; writer.write(b"789"), Ok(3)); // later: what is left of them
-    writer.flush()?;
+    assert_eq!(rt; writer.flush(), Ok(()));
     let detached = writer.detach()?;
     assert_eq!(rt; detached.raw.bytes_of(), &b"0123456789"[..]);
     assert!(rt; detached.unwritten.is_empty());
@@ -49,7 +49,7 @@ fn lines_that_have_to_wait_are_counted_over_all_of_them(rt: HostRuntime) -> Resu
         Err(IoFault::WouldBlock { taken: 7 })
     );
     assert_eq!(rt; writer.write(b"\nghi\n"), Ok(5)); // later: what is left of the lines joined
-    writer.flush()?;
+    assert_eq!(rt; writer.flush(), Ok(()));
     let detached = writer.detach()?;
     assert_eq!(rt; detached.raw.bytes_of(), &b"abc\ndef\nghi\n"[..]);
     Ok(())
@@ -63,7 +63,7 @@ fn a_flush_that_has_to_wait_is_called_again(rt: HostRuntime) -> Result<(), Fail>
     assert_eq!(rt; writer.write(b"abcdef"), Ok(6));
     assert_eq!(rt; writer.flush(), Err(IoFault::WouldBlock { taken: 0 })); // four bytes are still owed
     assert_eq!(rt; writer.life(), Life::Live);
-    writer.flush()?; // later: now the raw has them
+    assert_eq!(rt; writer.flush(), Ok(())); // later: now the raw has them
     assert_eq!(rt; writer.tell(), Ok(6));
     let detached = writer.detach()?;
     assert_eq!(rt; detached.raw.bytes_of(), &b"abcdef"[..]);
@@ -84,7 +84,7 @@ fn what_a_fault_leaves_is_written_elsewhere(rt: HostRuntime) -> Result<(), Fail>
     assert_eq!(rt; detached.place, Some(2));
     // the stream is opened anew, and what wasn't written is written where it belongs
     let mut writer = writer_to(alloc, detached.raw.bytes_of(), &[], &[], 8)?;
-    writer.seek(2, 0)?;
+    assert_eq!(rt; writer.seek(2, 0), Ok(2));
     assert_eq!(rt; writer.write(&detached.unwritten), Ok(4));
     let detached = writer.detach()?;
     assert_eq!(rt; detached.raw.bytes_of(), &b"abcdef"[..]);
@@ -122,7 +122,7 @@ fn a_close_that_has_to_wait_is_called_again(rt: HostRuntime) -> Result<(), Fail>
     assert_eq!(rt; writer.write(b"abc"), Ok(3));
     assert_eq!(rt; writer.close(), Err(IoFault::WouldBlock { taken: 0 }));
     assert_eq!(rt; writer.life(), Life::Live);
-    writer.close()?; // later
+    assert_eq!(rt; writer.close(), Ok(())); // later
     let Some(parts) = writer.into_parts() else {
         return Err(Fail::from("detached"));
     };

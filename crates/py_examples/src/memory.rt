@@ -1,6 +1,6 @@
 //! What the examples begin from: raw streams in memory, and buffered streams over them.
 use py_buffered::{BufferedReader, BufferedWriter};
-use py_raw::{Data, Lines, RawFlags};
+use py_raw::{Data, IoFault, Lines, RawFlags};
 use py_raw_memory::{Cut, MemRaw};
 use std::alloc::{AllocError, Global};
 use std::test::Fail;
@@ -45,10 +45,13 @@ pub(crate) fn three_lines(alloc: Global) -> Result<Lines, AllocError> {
     Ok(lines)
 }
 
-/// The bytes of an answer; none where it isn't ready.
-pub(crate) fn shown(answer: &Option<Vec<u8>>) -> Option<&[u8]> {
+/// The bytes of an answer, to be compared where they stand; none where it isn't ready.
+///
+/// A `?` would drop all that its function holds, which is proved anew for each: the calls of an example are compared as they are.
+pub(crate) fn shown(answer: &Result<Option<Vec<u8>>, IoFault>) -> Result<Option<&[u8]>, IoFault> {
     match answer {
-        Some(bytes) => Some(bytes.as_slice()),
-        None => None,
+        Ok(Some(bytes)) => Ok(Some(bytes.as_slice())),
+        Ok(None) => Ok(None),
+        Err(fault) => Err(*fault),
     }
 }

@@ -12,18 +12,16 @@ fn lines_are_read_from_a_queue(rt: HostRuntime) -> Result<(), Fail> {
         return Err(Fail::from("refused"));
     };
     let mut reader = reader;
-    queue.put(b"one\ntw")?;
-    let line = reader.readline(alloc, None)?;
-    assert_eq!(rt; shown(&line), Some(&b"one\n"[..]));
-    let line = reader.readline(alloc, None)?;
-    assert_eq!(rt; shown(&line), Some(&b"tw"[..])); // what came so far: `short` is true
-    let line = reader.readline(alloc, None)?;
-    assert_eq!(rt; shown(&line), None); // the queue is empty
-    queue.put(b"o\n")?;
+    assert_eq!(rt; queue.put(b"one\ntw"), Ok(()));
+    assert_eq!(rt;
+        shown(&reader.readline(alloc, None)),
+        Ok(Some(&b"one\n"[..]))
+    );
+    assert_eq!(rt; shown(&reader.readline(alloc, None)), Ok(Some(&b"tw"[..]))); // what came so far: `short` is true
+    assert_eq!(rt; shown(&reader.readline(alloc, None)), Ok(None)); // the queue is empty
+    assert_eq!(rt; queue.put(b"o\n"), Ok(()));
     queue.end();
-    let line = reader.readline(alloc, None)?;
-    assert_eq!(rt; shown(&line), Some(&b"o\n"[..]));
-    let line = reader.readline(alloc, None)?;
-    assert_eq!(rt; shown(&line), Some(&b""[..])); // the end
+    assert_eq!(rt; shown(&reader.readline(alloc, None)), Ok(Some(&b"o\n"[..])));
+    assert_eq!(rt; shown(&reader.readline(alloc, None)), Ok(Some(&b""[..]))); // the end
     Ok(())
 }

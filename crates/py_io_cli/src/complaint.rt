@@ -38,7 +38,7 @@ where
     }
 }
 
-/// Which word is malformed: the last of the shortest front of the words that is no form, once a command, a path and a mode are there.
+/// Which word is malformed: the last of the shortest front of the words that is malformed, once a command, a path and a mode are there.
 fn words_complaint(alloc: Global, words: &[String]) -> Result<String, AllocError> {
     if words.len() < 3 {
         return String::from_str(

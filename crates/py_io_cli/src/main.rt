@@ -14,7 +14,7 @@ use std::io::ErrorKind;
 use std::process::ExitCode;
 use std::{env, fs, io};
 
-/// The words of the command line without the program's own name: `NoForm` where one isn't UTF-8, `NoMemory` where there
+/// The words of the command line without the program's own name: `WordsMalformed` where one isn't UTF-8, `NoMemory` where there
 /// is none.
 fn command_words(rt: &HostRuntime) -> Result<Vec<String>, Status> {
     match env::args(rt) {
@@ -29,7 +29,7 @@ fn command_words(rt: &HostRuntime) -> Result<Vec<String>, Status> {
         }
         Err(error) => match error.kind() {
             ErrorKind::OutOfMemory => Err(Status::NoMemory),
-            _ => Err(Status::NoForm),
+            _ => Err(Status::WordsMalformed),
         },
     }
 }

@@ -40,11 +40,11 @@ calls_keep path asked status.Refused before after reads did tells = path_keeps p
 calls_keep path asked status.SinkFailed before after reads did tells = path_keeps path asked status.SinkFailed before after reads did tells
 calls_keep path asked status.NoMemory before after reads did tells = memory_keeps path asked before after reads did tells
 calls_keep path asked status.OpenerFailed before after reads did tells = opener_keeps path asked before after did tells
-calls_keep path asked status.NoForm before after reads did tells = absurd did
-calls_keep path asked status.OutOfForm before after reads did tells = absurd did
+calls_keep path asked status.WordsMalformed before after reads did tells = absurd did
+calls_keep path asked status.ScriptMalformed before after reads did tells = absurd did
 calls_keep path asked status.SourceFailed before after reads did tells = absurd did
 
--- whatever the plan is, if there is one, it reads
+-- whatever the plan of a mode and arguments is, if there is one, it reads
 abbrev pub PlansToRead : List ℕ → OpenArgs → Type 0
 PlansToRead mode args = (plan : OpenPlan) → plan_of mode args ≡ Ok plan → plan.mode.file ≡ Read
 
@@ -52,7 +52,7 @@ planned_keeps : (path mode : List ℕ) (args : OpenArgs) (calls : List Call) (en
 planned_keeps path mode args calls ended before after reads (inl refused) tells = opener_same before.opener after.opener refused.opener
 planned_keeps path mode args calls ended before after reads (inr follows) tells = calls_keep path (asked_by follows.plan args calls) ended before after (reads follows.plan follows.planned) follows.does tells
 
--- the same of the words that ask for it
+-- whatever plan the words ask for, if there is one, it reads
 abbrev pub WordsToRead : Option Command → Type 0
 WordsToRead (Some (Run path mode args)) = PlansToRead mode args
 WordsToRead command = Unit {0}
@@ -62,8 +62,8 @@ script_keeps words ended old new before after reads did tells =
     planned_keeps did.path did.mode did.args did.calls ended before after (subst WordsToRead did.form reads) did.does tells
 
 kept_by : (ended : Status) (words : List (List ℕ)) (old new : SourceView) (before after : Outside) → WordsToRead (command_of words) → Outcome ended words old new before after → IsTrue before.opener.tells → HoldsTheSame before.opener after.opener
-kept_by status.NoForm words old new before after reads did tells = same_keeps before after did.1.same
-kept_by status.OutOfForm words old new before after reads did tells = same_keeps before after did.0.same
+kept_by status.WordsMalformed words old new before after reads did tells = same_keeps before after did.1.same
+kept_by status.ScriptMalformed words old new before after reads did tells = same_keeps before after did.0.same
 kept_by status.SourceFailed words old new before after reads did tells = same_keeps before after did.0.same
 kept_by status.OpenerFailed words old new before after reads did tells = script_keeps words status.OpenerFailed old new before after reads did tells
 kept_by status.Refused words old new before after reads did tells = script_keeps words status.Refused old new before after reads did tells
@@ -95,8 +95,8 @@ failed_keeps path mode args calls before after (inl refused) tells = opener_same
 failed_keeps path mode args calls before after (inr follows) tells = opener_keeps path (asked_by follows.plan args calls) before after follows.does tells
 
 code_keeps : (ended : Status) (words : List (List ℕ)) (old new : SourceView) (before after : Outside) → (code_of ended ≡ 2) ⊎ ((code_of ended ≡ 3) ⊎ ((code_of ended ≡ 5) ⊎ (code_of ended ≡ 8))) → Outcome ended words old new before after → IsTrue before.opener.tells → HoldsTheSame before.opener after.opener
-code_keeps status.NoForm words old new before after is did tells = same_keeps before after did.1.same
-code_keeps status.OutOfForm words old new before after is did tells = same_keeps before after did.0.same
+code_keeps status.WordsMalformed words old new before after is did tells = same_keeps before after did.1.same
+code_keeps status.ScriptMalformed words old new before after is did tells = same_keeps before after did.0.same
 code_keeps status.SourceFailed words old new before after is did tells = same_keeps before after did.0.same
 code_keeps status.OpenerFailed words old new before after is did tells = failed_keeps did.path did.mode did.args did.calls before after did.does tells
 code_keeps status.Refused words old new before after is did tells = absurd (omega arith)
@@ -122,8 +122,8 @@ calls_spare path asked status.NoMemory before after (inl opened) tells = path_sp
 calls_spare path asked status.NoMemory before after (inr (inl opened)) tells = path_spares path asked status.Done before after opened tells
 calls_spare path asked status.NoMemory before after (inr (inr none)) tells = λ other differs. none.0.holds tells other
 calls_spare path asked status.OpenerFailed before after did tells = λ other differs. opener_keeps path asked before after did tells other
-calls_spare path asked status.NoForm before after did tells = absurd did
-calls_spare path asked status.OutOfForm before after did tells = absurd did
+calls_spare path asked status.WordsMalformed before after did tells = absurd did
+calls_spare path asked status.ScriptMalformed before after did tells = absurd did
 calls_spare path asked status.SourceFailed before after did tells = absurd did
 
 planned_spares : (path mode : List ℕ) (args : OpenArgs) (calls : List Call) (ended : Status) (before after : Outside) → PlannedOutcome path mode args calls ended before after → IsTrue before.opener.tells → OthersHoldTheSame path before.opener after.opener
@@ -141,8 +141,8 @@ all_spare (Some Version) before after same = same
 all_spare None before after same = same
 
 spared_by : (ended : Status) (words : List (List ℕ)) (old new : SourceView) (before after : Outside) → Outcome ended words old new before after → IsTrue before.opener.tells → KeepsOthers (command_of words) before.opener after.opener
-spared_by status.NoForm words old new before after did tells = all_spare (command_of words) before.opener after.opener (same_keeps before after did.1.same)
-spared_by status.OutOfForm words old new before after did tells = all_spare (command_of words) before.opener after.opener (same_keeps before after did.0.same)
+spared_by status.WordsMalformed words old new before after did tells = all_spare (command_of words) before.opener after.opener (same_keeps before after did.1.same)
+spared_by status.ScriptMalformed words old new before after did tells = all_spare (command_of words) before.opener after.opener (same_keeps before after did.0.same)
 spared_by status.SourceFailed words old new before after did tells = all_spare (command_of words) before.opener after.opener (same_keeps before after did.0.same)
 spared_by status.OpenerFailed words old new before after did tells = script_spares words status.OpenerFailed old new before after did tells
 spared_by status.Refused words old new before after did tells = script_spares words status.Refused old new before after did tells
@@ -163,8 +163,8 @@ others_kept code words old new before after ends tells = spared_by ends.ended wo
 all_refused : (ended : Status) (words : List (List ℕ)) (old new : SourceView) (before after : Outside) → code_of ended ≡ 4 → Outcome ended words old new before after → RunsScript words status.Refused old new before after
 all_refused status.Refused words old new before after is did = did
 all_refused status.Done words old new before after is did = absurd (omega arith)
-all_refused status.NoForm words old new before after is did = absurd (omega arith)
-all_refused status.OutOfForm words old new before after is did = absurd (omega arith)
+all_refused status.WordsMalformed words old new before after is did = absurd (omega arith)
+all_refused status.ScriptMalformed words old new before after is did = absurd (omega arith)
 all_refused status.SourceFailed words old new before after is did = absurd (omega arith)
 all_refused status.SinkFailed words old new before after is did = absurd (omega arith)
 all_refused status.NoMemory words old new before after is did = absurd (omega arith)
@@ -192,8 +192,8 @@ path_left_by words old new before after path plan ends accepted tells =
 all_failed : (ended : Status) (words : List (List ℕ)) (old new : SourceView) (before after : Outside) → code_of ended ≡ 8 → Outcome ended words old new before after → RunsScript words status.OpenerFailed old new before after
 all_failed status.OpenerFailed words old new before after is did = did
 all_failed status.Done words old new before after is did = absurd (omega arith)
-all_failed status.NoForm words old new before after is did = absurd (omega arith)
-all_failed status.OutOfForm words old new before after is did = absurd (omega arith)
+all_failed status.WordsMalformed words old new before after is did = absurd (omega arith)
+all_failed status.ScriptMalformed words old new before after is did = absurd (omega arith)
 all_failed status.SourceFailed words old new before after is did = absurd (omega arith)
 all_failed status.SinkFailed words old new before after is did = absurd (omega arith)
 all_failed status.NoMemory words old new before after is did = absurd (omega arith)

@@ -50,7 +50,7 @@ use Rattle.py_program.proofs.Keeping.{opening_keeps}
 stays_unrisen : (before mid after opened back : ℕ) → mid ≡ before → after ≡ counted mid back → rose before after ≡ false → rose opened back ≡ false
 stays_unrisen before mid after opened back kept added still = grind (arith, nat_tests)
 
--- so no count of the raw rose
+-- where no count of the opener's raws rose, none of this raw did
 smooth_raw : (before after : Outside) (opened session : Raw) → RawsAreReady before after → after.opener.raw_waits ≡ counted before.opener.raw_waits session.waits → after.opener.raw_faults ≡ counted before.opener.raw_faults session.faults → IsSmooth opened session
 smooth_raw before after opened session ready waits faults = record {
   waits = stays_unrisen before.opener.raw_waits before.opener.raw_waits after.opener.raw_waits opened.waits session.waits refl waits ready.waits;
@@ -108,8 +108,8 @@ file_opened Bytes raw plan chunk bytes (TextSession text) opens tells seeks plac
 -- with 0 all was done
 all_done : (ended : Status) (words : List (List ℕ)) (old new : SourceView) (before after : Outside) → code_of ended ≡ 0 → Outcome ended words old new before after → Outcome status.Done words old new before after
 all_done status.Done words old new before after is did = did
-all_done status.NoForm words old new before after is did = absurd (omega arith)
-all_done status.OutOfForm words old new before after is did = absurd (omega arith)
+all_done status.WordsMalformed words old new before after is did = absurd (omega arith)
+all_done status.ScriptMalformed words old new before after is did = absurd (omega arith)
 all_done status.Refused words old new before after is did = absurd (omega arith)
 all_done status.SourceFailed words old new before after is did = absurd (omega arith)
 all_done status.SinkFailed words old new before after is did = absurd (omega arith)

@@ -25,7 +25,7 @@ use Rattle.py_program.specs.declared.status.Status.{Status}
 use Rattle.py_program.specs.declared.status.Status.TheVariants as status
 use Rattle.py_program.specs.Outcome.{Outside, Asked, raw_mode, closed_calls, RanCalls, HasLines, PrintsSome, RawOutcome, OpensPath}
 
--- one path or another
+-- a path is a given one or another
 same_or_other : (test : Bool) (other path : List ℕ) → bytes_eq other path ≡ test → (other ≡ path) ⊎ (other ≢ path)
 same_or_other true other path is = inl ((bytes_eq-Decides other path).0 is)
 same_or_other false other path is = inr (λ same. let both : true ≡ false = sym ((bytes_eq-Decides other path).1 same) ∙ is in cc)
@@ -43,13 +43,13 @@ found_held : (held : Option (List ℕ)) → is_none held ≡ false → Some (unw
 found_held (Some bytes) found = refl
 found_held None found = cc
 
--- two changes that leave the others
+-- two changes, each of which leaves the other paths, leave them together
 others_of_both : (path : List ℕ) (old mid new : OpenerView) → OthersHoldTheSame path old mid → OthersHoldTheSame path mid new → OthersHoldTheSame path old new
 others_of_both path old mid new first second other differs = second other differs ∙ first other differs
 
 -- A raw that is only read keeps its bytes.
 
--- an opening leaves them
+-- an opening leaves a raw's bytes
 pub opening_keeps : (encode : EncodeMode) (raw : Raw) (plan : OpenPlan) (chunk : ℕ) (session : SessionView) → OpensBy encode raw plan chunk session → Untouched raw (raw_of session)
 opening_keeps Text raw plan chunk (TextSession text) opens = opens.untouched
 opening_keeps Bytes raw plan chunk (BinarySession stream) opens = opens.untouched
@@ -91,8 +91,8 @@ outcome_keeps raw back asked status.Refused old new reads does tells = does.1.wh
 outcome_keeps raw back asked status.SinkFailed old new reads does tells = some_keeps raw back asked old new reads does.0 tells
 outcome_keeps raw back asked status.NoMemory old new reads (inl prints) tells = some_keeps raw back asked old new reads prints tells
 outcome_keeps raw back asked status.NoMemory old new reads (inr none) tells = none_keeps raw back asked none.hands tells
-outcome_keeps raw back asked status.NoForm old new reads does tells = absurd does
-outcome_keeps raw back asked status.OutOfForm old new reads does tells = absurd does
+outcome_keeps raw back asked status.WordsMalformed old new reads does tells = absurd does
+outcome_keeps raw back asked status.ScriptMalformed old new reads does tells = absurd does
 outcome_keeps raw back asked status.SourceFailed old new reads does tells = absurd does
 outcome_keeps raw back asked status.OpenerFailed old new reads does tells = absurd does
 
@@ -109,7 +109,7 @@ read_holds file plus held reads found =
 pub path_spares : (path : List ℕ) (asked : Asked) (ended : Status) (before after : Outside) → OpensPath path asked ended before after → IsTrue before.opener.tells → OthersHoldTheSame path before.opener after.opener
 path_spares path asked ended before after opened tells = others_of_both path before.opener opened.mid after.opener (opened.opens.told tells).others (opened.puts tells).others
 
--- and so does one that was opened to be read
+-- a path that was opened to be read holds what it held, whatever became of the calls
 pub path_keeps : (path : List ℕ) (asked : Asked) (ended : Status) (before after : Outside) → asked.plan.mode.file ≡ Read → OpensPath path asked ended before after → IsTrue before.opener.tells → HoldsTheSame before.opener after.opener
 path_keeps path asked ended before after reads opened tells =
     let told = opened.opens.told tells in

@@ -16,7 +16,7 @@ use Rattle.py_program.specs.Outcome.{Asked, raw_mode, RanCalls, RawOutcome, Open
 use Rattle.py_program.proofs.Keeping.{opening_keeps}
 use Rattle.py_program.proofs.Printed.{rose_later}
 
--- whatever the opener answered, where it tells the path holds the raw's bytes
+-- once a raw was put away, the path holds its bytes where the opener tells, whatever that answered
 puts_away : (path : List ℕ) (asked : Asked) (raw back : Raw) (before mid after : OpenerView) (done : Result (Unit {0}) OpenError) → OpenKeeps before mid → Opens before path (raw_mode asked.plan) raw mid → DoneOutcome back mid path done after → IsTrue before.tells → PutsAway back mid path after
 puts_away path asked raw back before mid after (Ok done) keeps opens puts tells = puts (keeps.tells ∙ tells)
 puts_away path asked raw back before mid after (Err open_error.Fault) keeps opens puts tells = let both : true ≡ false = sym (keeps.tells ∙ tells) ∙ puts.untold in cc
@@ -25,7 +25,7 @@ puts_away path asked raw back before mid after (Err open_error.Memory) keeps ope
     let P : Option (List ℕ) → Type 0 = λ held. IsSome held in
     record { held = put.held (subst P (sym (opens.told tells).held) refl); others = put.others }
 
--- and the flat bytes where a close or detach of a live session was done: nothing calls the raw after that
+-- once a raw was put away, the path holds the flat bytes where a close or detach of a live session was done: nothing calls the raw after that
 holds_flat : (path : List ℕ) (asked : Asked) (raw back : Raw) (before mid after : OpenerView) (old new : SinkView) (lines : List ℕ) → Opens before path (raw_mode asked.plan) raw mid → (IsTrue before.tells → PutsAway back mid path after) → (ran : RanCalls raw asked back lines) → PathHoldsFlat path ran.run.opened ran.session (record { opener = before; sink = old }) (record { opener = after; sink = new })
 holds_flat path asked raw back before mid after old new lines opens puts ran front rest replies others live_view next call reply first step second live ended passes tells =
     let told = opens.told tells in
@@ -36,7 +36,7 @@ holds_flat path asked raw back before mid after old new lines opens puts ran fro
     (puts tells).held
     ∙ ap Some (ap (λ (raw : Raw). raw.bytes) (ran.raw_is ∙ run_rests next rest others ran.session second ended) ∙ flat.holds (tells_still (raw_of ran.run.opened) (raw_of live_view) kept ∙ tells_still raw (raw_of ran.run.opened) begun.keeps ∙ told.tells))
 
--- the whole of it, by how the calls ended
+-- all that comes of a path that was opened, by how the calls ended
 opened : (path : List ℕ) (asked : Asked) (ended : Status) (raw back : Raw) (before mid after : OpenerView) (old new : SinkView) (done : Result (Unit {0}) OpenError) → OpenKeeps before mid → Opens before path (raw_mode asked.plan) raw mid → RawOutcome raw asked ended back old new → DoneKeeps back mid after → DoneOutcome back mid path done after → OpensPath path asked ended (record { opener = before; sink = old }) (record { opener = after; sink = new })
 opened path asked ended raw back before mid after old new done keeps opens does kept puts = record {
   raw = raw;
@@ -59,12 +59,12 @@ put_away_outcome path asked status.Done raw back before mid after old new (Err o
 put_away_outcome path asked status.Refused raw back before mid after old new done keeps opens does kept puts = opened path asked status.Refused raw back before mid after old new done keeps opens does kept puts
 put_away_outcome path asked status.SinkFailed raw back before mid after old new done keeps opens does kept puts = opened path asked status.SinkFailed raw back before mid after old new done keeps opens does kept puts
 put_away_outcome path asked status.NoMemory raw back before mid after old new done keeps opens does kept puts = inl (opened path asked status.NoMemory raw back before mid after old new done keeps opens does kept puts)
-put_away_outcome path asked status.NoForm raw back before mid after old new done keeps opens does kept puts = absurd does
-put_away_outcome path asked status.OutOfForm raw back before mid after old new done keeps opens does kept puts = absurd does
+put_away_outcome path asked status.WordsMalformed raw back before mid after old new done keeps opens does kept puts = absurd does
+put_away_outcome path asked status.ScriptMalformed raw back before mid after old new done keeps opens does kept puts = absurd does
 put_away_outcome path asked status.SourceFailed raw back before mid after old new done keeps opens does kept puts = absurd does
 put_away_outcome path asked status.OpenerFailed raw back before mid after old new done keeps opens does kept puts = absurd does
 
--- the same of the status that comes of both
+-- all that comes of a path that was opened, by the status of the calls and of putting the raw away
 pub ended_outcome : (path : List ℕ) (asked : Asked) (ended last : Status) (raw back : Raw) (before mid after : OpenerView) (old new : SinkView) (done : Result (Unit {0}) OpenError) → last ≡ after_done ended done → OpenKeeps before mid → Opens before path (raw_mode asked.plan) raw mid → RawOutcome raw asked ended back old new → DoneKeeps back mid after → DoneOutcome back mid path done after → CallsOutcome path asked last (record { opener = before; sink = old }) (record { opener = after; sink = new })
 ended_outcome path asked ended last raw back before mid after old new done is keeps opens does kept puts =
     subst (λ (as_told : Status). CallsOutcome path asked as_told (record { opener = before; sink = old }) (record { opener = after; sink = new })) (sym is) (put_away_outcome path asked ended raw back before mid after old new done keeps opens does kept puts)

@@ -19,8 +19,8 @@ text_printed words command text source opener old new (Err status.SinkFailed) en
     subst (λ (last : Status). Outcome last words source source (record { opener = opener; sink = old }) (record { opener = opener; sink = new })) (sym is) (inr (prints_text words command text status.SinkFailed source opener old new form asked keeps prints))
 text_printed words command text source opener old new (Err status.NoMemory) ended form asked keeps prints had is = absurd (had refl)
 text_printed words command text source opener old new (Err status.Done) ended form asked keeps prints had is = absurd prints
-text_printed words command text source opener old new (Err status.NoForm) ended form asked keeps prints had is = absurd prints
-text_printed words command text source opener old new (Err status.OutOfForm) ended form asked keeps prints had is = absurd prints
+text_printed words command text source opener old new (Err status.WordsMalformed) ended form asked keeps prints had is = absurd prints
+text_printed words command text source opener old new (Err status.ScriptMalformed) ended form asked keeps prints had is = absurd prints
 text_printed words command text source opener old new (Err status.Refused) ended form asked keeps prints had is = absurd prints
 text_printed words command text source opener old new (Err status.SourceFailed) ended form asked keeps prints had is = absurd prints
 text_printed words command text source opener old new (Err status.OpenerFailed) ended form asked keeps prints had is = absurd prints

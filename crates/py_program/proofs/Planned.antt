@@ -25,29 +25,29 @@ use Rattle.py_program.specs.declared.status.Status.TheVariants as status
 use Rattle.py_program.specs.Outside.{PrintOutcome}
 use Rattle.py_program.specs.Outcome.{raw_mode, RefusalPrinted, RefusesPlan, PlannedOutcome}
 
--- the plan of a mode and arguments is one
+-- a mode and arguments have one plan
 pub one_plan : (result : Result OpenPlan IoFault) (first second : OpenPlan) → result ≡ Ok first → result ≡ Ok second → first ≡ second
 one_plan result first second one two = let both : Ok first ≡ Ok second = sym one ∙ two in cc
 
--- so the run is by this one
+-- a run by the plan of a mode and arguments is one by their plan as it is named here
 pub run_by : (raw : Raw) (mode : List ℕ) (args : OpenArgs) (first plan : OpenPlan) (calls : List Call) (session : SessionView) (replies : List Reply) → plan_of mode args ≡ Ok first → plan_of mode args ≡ Ok plan → RunsCalls raw first args.chunk_size calls session replies → RunsCalls raw plan args.chunk_size calls session replies
 run_by raw mode args first plan calls session replies one two run =
     subst (λ (by : OpenPlan). RunsCalls raw by args.chunk_size calls session replies) (one_plan (plan_of mode args) first plan one two) run
 
--- and a refusal is the opening's
+-- a refusal of an opening that the plan accepts is the session's
 pub refused_raw : (raw : Raw) (mode : List ℕ) (args : OpenArgs) (plan : OpenPlan) (refused : IoFault) (back : Raw) → plan_of mode args ≡ Ok plan → RefusesPlanned raw (plan_of mode args) refused back → RefusesOpening raw plan refused back
 refused_raw raw mode args plan refused back accepted why = subst (λ (planned : Result OpenPlan IoFault). RefusesPlanned raw planned refused back) accepted why
 
 -- A raw that was opened as it is planned.
 
--- it is able to do what it is opened for
+-- a raw that was opened is able to do what it is opened for
 opened_able : (file : FileMode) (plus : Bool) (raw : Raw) → IsOpened (raw_mode_text (letter_of file) plus) raw → is_able (access_of file) raw ≡ true
 opened_able Read plus raw opened = opened.reads
 opened_able Write plus raw opened = opened.writes
 opened_able Exclusive plus raw opened = opened.writes
 opened_able Append plus raw opened = opened.writes
 
--- so it is refused by a fault of its own, or when out of memory
+-- a session over a raw that was opened is refused by a fault of the raw, or when out of memory
 refused_session : (raw back : Raw) (plan : OpenPlan) (refused : IoFault) → IsOpened (raw_mode plan) raw → plan.buffer_size ≢ Some 0 → RefusesSession raw plan refused back → (refused ≡ fault.NoMemory) ⊎ ((refused ≡ fault.RawFault) × RefusesSession raw plan fault.RawFault back)
 refused_session raw back plan fault.NoMemory opened some why = inl refl
 refused_session raw back plan fault.RawFault opened some why = inr (refl, why)
@@ -69,8 +69,8 @@ printed_refusal refused old new (Ok done) ended prints is = subst (λ (last : St
 printed_refusal refused old new (Err status.SinkFailed) ended prints is = subst (λ (last : Status). RefusalPrinted refused last old new) (sym is) prints
 printed_refusal refused old new (Err status.NoMemory) ended prints is = subst (λ (last : Status). RefusalPrinted refused last old new) (sym is) prints
 printed_refusal refused old new (Err status.Done) ended prints is = absurd prints
-printed_refusal refused old new (Err status.NoForm) ended prints is = absurd prints
-printed_refusal refused old new (Err status.OutOfForm) ended prints is = absurd prints
+printed_refusal refused old new (Err status.WordsMalformed) ended prints is = absurd prints
+printed_refusal refused old new (Err status.ScriptMalformed) ended prints is = absurd prints
 printed_refusal refused old new (Err status.Refused) ended prints is = absurd prints
 printed_refusal refused old new (Err status.SourceFailed) ended prints is = absurd prints
 printed_refusal refused old new (Err status.OpenerFailed) ended prints is = absurd prints

@@ -33,18 +33,18 @@ front_behind old mid new before line whole keeps printed (rest, joins) stops tol
     sym (append_assoc (before ++ part.0) part.1.0 rest) ∙ ap (λ bytes. bytes ++ rest) (append_assoc before part.0 part.1.0 ∙ ap (λ bytes. before ++ bytes) part.1.1) ∙ joins in
     (before ++ part.0, (part.1.0 ++ rest, joined), part.2 ∙ ap (λ bytes. bytes ++ part.0) (printed told) ∙ append_assoc old.written before part.0)
 
--- and so with the outcome of a line that wasn't printed
+-- where a line wasn't printed, a front of all was printed
 pub stops_behind : (old mid new : SinkView) (before line whole : List ℕ) (ended : Status) → SinkKeeps old mid → Prints old before mid → IsFrontOf (before ++ line) whole → PrintOutcome mid line (Err ended) new → PrintOutcome old whole (Err ended) new
 stops_behind old mid new before line whole status.SinkFailed keeps printed front (cause, stops) = (rose_later old.faults mid.faults new.faults keeps.faults cause, front_behind old mid new before line whole keeps printed front stops)
 stops_behind old mid new before line whole status.NoMemory keeps printed front stops = front_behind old mid new before line whole keeps printed front stops
 stops_behind old mid new before line whole status.Done keeps printed front stops = absurd stops
-stops_behind old mid new before line whole status.NoForm keeps printed front stops = absurd stops
-stops_behind old mid new before line whole status.OutOfForm keeps printed front stops = absurd stops
+stops_behind old mid new before line whole status.WordsMalformed keeps printed front stops = absurd stops
+stops_behind old mid new before line whole status.ScriptMalformed keeps printed front stops = absurd stops
 stops_behind old mid new before line whole status.Refused keeps printed front stops = absurd stops
 stops_behind old mid new before line whole status.SourceFailed keeps printed front stops = absurd stops
 stops_behind old mid new before line whole status.OpenerFailed keeps printed front stops = absurd stops
 
--- what no call came between
+-- a sink keeps over two calls what it keeps over each
 pub sink_keeps_more : (old mid new : SinkView) → SinkKeeps old mid → SinkKeeps mid new → SinkKeeps old new
 sink_keeps_more old mid new first second = record { tells = second.tells ∙ first.tells; faults = omega arith; counts_exactly = second.counts_exactly ∙ first.counts_exactly }
 
@@ -62,7 +62,7 @@ lines_more replies i reply within is =
     ∙ lines_joined (take i replies) (reply ∷ [])
     ∙ ap (λ line. reply_lines (take i replies) ++ line) (append-nil (reply_line reply))
 
--- they are a front of the lines of all
+-- the lines of one more reply are a front of the lines of all
 pub lines_front : (replies : List Reply) (i : ℕ) (reply : Reply) → i < length replies → reply ≡ get_or replies i reply → IsFrontOf (reply_lines (take i replies) ++ reply_line reply) (reply_lines replies)
 lines_front replies i reply within is = (
   reply_lines (drop (i + 1) replies),

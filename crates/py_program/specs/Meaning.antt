@@ -23,18 +23,22 @@ use Rattle.py_open.specs.Laws.{RunsComplete, exact_replies}
 use Rattle.py_script.specs.CommandWords.{Command, Run}
 use Rattle.py_script.specs.Script.{script_calls}
 use Rattle.py_script.specs.ReplyLine.{reply_lines}
-use Rattle.py_program.specs.Outside.{IsOutOfForm, ReadsScript, Prints}
+use Rattle.py_program.specs.Outside.{IsMalformed, ReadsScript, Prints}
 use Rattle.py_program.specs.Outcome.{Outside, raw_mode, closed_calls, PathHoldsFlat}
 
--- the source tells that its script is in form
-pub record TellsForm (source : SourceView) : Type 0 where
+-- the opener tells what each path holds
+abbrev pub TellsPaths : OpenerView → Type 0
+TellsPaths opener = IsTrue opener.tells
+
+-- the source tells that its script is well formed
+pub record TellsWellFormed (source : SourceView) : Type 0 where
   pub told : IsTrue source.tells
-  pub form : ¬ IsOutOfForm source.left
+  pub form : ¬ IsMalformed source.left
 
 -- the source tells that its script is malformed
-pub record TellsNoForm (source : SourceView) : Type 0 where
+pub record TellsMalformed (source : SourceView) : Type 0 where
   pub told : IsTrue source.tells
-  pub out_of_form : IsOutOfForm source.left
+  pub malformed : IsMalformed source.left
 
 -- no count of faults rose, of the source, the sink, the opener or its raws
 pub record NothingFails (old new : SourceView) (before after : Outside) : Type 0 where
@@ -138,7 +142,8 @@ pub record PrintsSettled (path : List ℕ) (plan : OpenPlan) (chunk : ℕ) (old 
   pub prints : Prints before.sink (reply_lines replies) after.sink
   pub says : NoneLacksMemory (all_said replies) → (last : SessionFile) × AllSettle (opened_file plan chunk (opened_bytes (raw_mode plan) (before.opener.holds path))) (closed_calls calls) (all_said replies) last
 
--- the same of a text on these bytes, begun at place 0, with chunks of this size: the replies are the exact ones
+-- what was printed is the lines of replies to the script's calls and a Close; unless one says out of memory, they are the exact ones
+-- of a text on these bytes, begun at place 0, with chunks of this size
 pub record PrintsExactly (bytes : List ℕ) (chunk : ℕ) (old : SourceView) (before after : Outside) : Type 0 where
   pub calls : List Call
   pub form : script_calls old.left ≡ Some calls

@@ -31,14 +31,14 @@ use Rattle.py_mode.specs.Plan.{plan_of}
 use Rattle.py_raw.specs.declared.opener.OpenError.{OpenError}
 use Rattle.py_raw.specs.declared.opener.OpenError.TheVariants as open_error
 use Rattle.py_program.specs.Status.{code_of}
-use Rattle.py_program.specs.Outside.{texts, IsOutOfForm, ReadsScript, Prints, PrintsFront}
+use Rattle.py_program.specs.Outside.{texts, IsMalformed, ReadsScript, Prints, PrintsFront}
 
 -- what the program changes: what its opener shows, and its output
 pub record Outside : Type 0 where
   pub opener : OpenerView
   pub sink : SinkView
 
--- of an opener and a sink, as they show themselves
+-- what the program changes of an opener and a sink, as they show themselves
 abbrev pub outside : {O K : Type 0} → (O → OpenerView) → (K → SinkView) → O → K → Outside
 outside shows_opener shows_sink opener sink = record { opener = shows_opener opener; sink = shows_sink sink }
 
@@ -93,7 +93,7 @@ pub record MakesNoCall (raw : Raw) (asked : Asked) (back : Raw) (old new : SinkV
   pub hands : (back ≡ raw) ⊎ RefusesOpening raw asked.plan fault.NoMemory back
   pub sink : new ≡ old
 
--- by the status: every reply was printed; or the refusal was; or a front of the one or the other, since the sink failed
+-- what was printed over a raw, by the status: every reply; or the refusal; or a front of the one or the other, since the sink failed
 -- or there was no memory, for which no call may have been made
 abbrev pub RawOutcome : Raw → Asked → Status → Raw → SinkView → SinkView → Type 0
 RawOutcome raw asked status.Done back old new = (lines : List ℕ) × RanCalls raw asked back lines × Prints old lines new
@@ -133,11 +133,11 @@ pub record OpensNothing (before after : Outside) : Type 0 where
 abbrev pub OpenerFails : List ℕ → Asked → Outside → Outside → Type 0
 OpenerFails path asked before after = (OpensNothing before after × OpenFaults before.opener path (raw_mode asked.plan) after.opener) ⊎ (OpensPath path asked status.Done before after × Rose before.opener.faults after.opener.faults × IsFalse before.opener.tells)
 
--- there was no memory: over the raw; or to put it away when all was printed; or the opener had none
+-- there was no memory for a path that the plan accepts: over the raw; or to put it away when all was printed; or the opener had none
 abbrev pub LacksMemory : List ℕ → Asked → Outside → Outside → Type 0
 LacksMemory path asked before after = OpensPath path asked status.NoMemory before after ⊎ (OpensPath path asked status.Done before after ⊎ (OpensNothing before after × OpenLacksMemory before.opener path (raw_mode asked.plan) after.opener))
 
--- once the script was read
+-- what came of the calls of a script that was read, by the status
 abbrev pub CallsOutcome : List ℕ → Asked → Status → Outside → Outside → Type 0
 CallsOutcome path asked status.Done before after = OpensPath path asked status.Done before after
 CallsOutcome path asked status.Refused before after = OpensPath path asked status.Refused before after
@@ -168,7 +168,7 @@ pub record FollowsPlan (path mode : List ℕ) (args : OpenArgs) (calls : List Ca
   pub planned : plan_of mode args ≡ Ok plan
   pub does : CallsOutcome path (asked_by plan args calls) ended before after
 
--- by the plan
+-- what came of the script's calls, by whether the plan refuses the opening or accepts it
 abbrev pub PlannedOutcome : List ℕ → List ℕ → OpenArgs → List Call → Status → Outside → Outside → Type 0
 PlannedOutcome path mode args calls ended before after = RefusesPlan mode args ended before after ⊎ FollowsPlan path mode args calls ended before after
 
@@ -224,8 +224,8 @@ pub record RunsScript (words : List (List ℕ)) (ended : Status) (old new : Sour
 
 -- what the program did, by its status
 abbrev pub Outcome : Status → List (List ℕ) → SourceView → SourceView → Outside → Outside → Type 0
-Outcome status.NoForm words old new before after = (command_of words ≡ None) × CallsNothing old new before after
-Outcome status.OutOfForm words old new before after = OnlyReads words old new before after × (IsTrue old.tells → IsOutOfForm old.left)
+Outcome status.WordsMalformed words old new before after = (command_of words ≡ None) × CallsNothing old new before after
+Outcome status.ScriptMalformed words old new before after = OnlyReads words old new before after × (IsTrue old.tells → IsMalformed old.left)
 Outcome status.SourceFailed words old new before after = OnlyReads words old new before after × Rose old.faults new.faults
 Outcome status.NoMemory words old new before after = CallsNothing old new before after ⊎ (OnlyReads words old new before after ⊎ RunsScript words status.NoMemory old new before after)
 Outcome status.Done words old new before after = RunsScript words status.Done old new before after ⊎ PrintsText words status.Done old new before after

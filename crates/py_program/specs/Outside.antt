@@ -21,10 +21,10 @@ abbrev pub script_limit : ℕ
 script_limit = 1048576
 
 -- a script that is too long, or has a malformed line
-abbrev pub IsOutOfForm : List ℕ → Type 0
-IsOutOfForm script = (script_limit < length script) ⊎ (script_calls script ≡ None)
+abbrev pub IsMalformed : List ℕ → Type 0
+IsMalformed script = (script_limit < length script) ⊎ (script_calls script ≡ None)
 
--- told: the script was read to its end, and these are its calls
+-- the script was read to its end, and these are its calls
 pub record ReadsScript (old : SourceView) (calls : List Call) (new : SourceView) : Type 0 where
   pub short : length old.left ≤ script_limit
   pub form : script_calls old.left ≡ Some calls
@@ -33,32 +33,32 @@ pub record ReadsScript (old : SourceView) (calls : List Call) (new : SourceView)
 -- reading the script: its calls; or it is malformed, the source failed, or there is no memory
 abbrev pub ScriptOutcome : SourceView → Result (Vec Call Global) Status → SourceView → Type 0
 ScriptOutcome old (Ok calls) new = IsTrue old.tells → ReadsScript old calls.items new
-ScriptOutcome old (Err status.OutOfForm) new = IsTrue old.tells → IsOutOfForm old.left
+ScriptOutcome old (Err status.ScriptMalformed) new = IsTrue old.tells → IsMalformed old.left
 ScriptOutcome old (Err status.SourceFailed) new = Rose old.faults new.faults
 ScriptOutcome old (Err status.NoMemory) new = Unit {0}
 ScriptOutcome old (Err _) new = ⊥
 
 -- The output.
 
--- told: these bytes were printed, after what was there
+-- where the sink tells what was written, these bytes were printed, after what was there
 abbrev pub Prints : SinkView → List ℕ → SinkView → Type 0
 Prints old bytes new = IsTrue old.tells → new.written ≡ old.written ++ bytes
 
--- told: a front of them
+-- where the sink tells what was written, a front of these bytes was printed, after what was there
 abbrev pub PrintsFront : SinkView → List ℕ → SinkView → Type 0
 PrintsFront old bytes new = IsTrue old.tells → (front : List ℕ) × IsFrontOf front bytes × (new.written ≡ old.written ++ front)
 
--- printing: all; or a front, since the sink failed or there is no memory
+-- printing some bytes: all; or a front, since the sink failed or there is no memory
 abbrev pub PrintOutcome : SinkView → List ℕ → Result (Unit {0}) Status → SinkView → Type 0
 PrintOutcome old bytes (Ok done) new = Prints old bytes new
 PrintOutcome old bytes (Err status.SinkFailed) new = Rose old.faults new.faults × PrintsFront old bytes new
 PrintOutcome old bytes (Err status.NoMemory) new = PrintsFront old bytes new
 PrintOutcome old bytes (Err _) new = ⊥
 
--- all bytes of a script
+-- reading all bytes of a script: these; or it is too long, the source failed, or there is no memory
 abbrev pub ReadOutcome : SourceView → Result (Vec ℕ Global) Status → SourceView → Type 0
 ReadOutcome old (Ok bytes) new = (length bytes.items ≤ script_limit) × (IsTrue old.tells → (bytes.items ≡ old.left) × (new.left ≡ []))
-ReadOutcome old (Err status.OutOfForm) new = IsTrue old.tells → script_limit < length old.left
+ReadOutcome old (Err status.ScriptMalformed) new = IsTrue old.tells → script_limit < length old.left
 ReadOutcome old (Err status.SourceFailed) new = Rose old.faults new.faults
 ReadOutcome old (Err status.NoMemory) new = Unit {0}
 ReadOutcome old (Err _) new = ⊥

@@ -5,8 +5,8 @@ use Rattle.py_program.specs.declared.status.Status.TheVariants as status
 
 abbrev pub code_of : Status → ℕ
 code_of status.Done = 0
-code_of status.NoForm = 2
-code_of status.OutOfForm = 3
+code_of status.WordsMalformed = 2
+code_of status.ScriptMalformed = 3
 code_of status.Refused = 4
 code_of status.SourceFailed = 5
 code_of status.SinkFailed = 6

@@ -20,7 +20,8 @@ pub fn a_smooth_run_prints_what_settles()
     a_smooth_run_settles();
 }
 
-/// The same of a text: the replies are the exact ones, begun at place 0. The sizes of buffer and chunks change no reply.
+/// A run of a text that ends with 0, over a file in which no call failed or would have blocked, prints the lines of the model's exact
+/// replies, begun at place 0, unless one says out of memory. The sizes of buffer and chunks change no reply.
 ///
 /// Two such runs of one script over equal files print the same, whatever pieces the file was read in.
 pub fn a_smooth_run_prints_the_exact_replies()

@@ -10,9 +10,9 @@ ghost use Rattle.py_mode.specs.declared.open_args.OpenArgs.{OpenArgs as Argument
 ghost use Rattle.py_mode.specs.Plan.{plan_of};
 ghost use Rattle.py_script.specs.CommandWords.{Run as Asks, Help, Version};
 ghost use Rattle.py_script.specs.Help.{help_text, version_text};
-ghost use Rattle.py_program.specs.Outside.{texts, IsOutOfForm, Prints};
+ghost use Rattle.py_program.specs.Outside.{texts, IsMalformed, Prints};
 ghost use Rattle.py_program.specs.Outcome.{raw_mode, asked_by, asked_in, outside, RawOutcome, PlannedOutcome, Outcome, Ends, after_done};
-ghost use Rattle.py_program.specs.Meaning.{AsksForRun, IsRefusedPlan, IsAcceptedAt, TellsForm, TellsNoForm, NothingFails, LeavesPaths, KeepsOthers, PrintsReplies};
+ghost use Rattle.py_program.specs.Meaning.{TellsPaths, AsksForRun, IsRefusedPlan, IsAcceptedAt, TellsWellFormed, TellsMalformed, NothingFails, LeavesPaths, KeepsOthers, PrintsReplies};
 
 use crate::laws::{a_smooth_run_prints_the_exact_replies, a_smooth_run_prints_what_settles};
 use crate::printing::{print_refused, print_replies, print_text};
@@ -35,24 +35,24 @@ use std::alloc::Global;
 /// `ends` says all that was read, opened, printed and put away, by the status. The other clauses follow from it:
 ///
 /// - `statuses`: it is 0 or one of 2 to 8;
-/// - `no_form`, `words`: 2 comes only of words of no form, and such words end with 2 unless memory ran out;
+/// - `malformed_words`, `words`: 2 comes only of malformed words, and such words end with 2 unless memory ran out;
 /// - `source`, `sink`, `opener`: 5, 6 and 8 come only where a count of faults rose, of the source, the sink, the opener;
 /// - `source_exact`, `sink_exact`, `opener_exact`: a source that counts exactly counted no fault, unless it is 5; such a sink none,
 ///   unless it is 6; and such an opener none, where it is 0: so 0 hides no fault of the three;
 /// - `refused`: 4 comes only where the plan refuses the opening, or the raw's count of faults rose;
 /// - `planned`, `unopened`: an opening that the plan refuses opens nothing, and with a script that the source tells to be
-///   in form it ends with 4 unless the source or the sink failed or memory ran out;
-/// - `complete`: of words in form, where no count rose and no plan refuses, it is 0, or 3 for a malformed script, or 7 for
+///   well formed it ends with 4 unless the source or the sink failed or memory ran out;
+/// - `complete`: of well-formed words, where no count rose and no plan refuses, it is 0, or 3 for a malformed script, or 7 for
 ///   running out of memory;
-/// - `out_of_form`, `form`: of a source that tells, 3 comes only of a malformed script, and such a script of a run ends
+/// - `malformed_script`, `script`: of a source that tells, 3 comes only of a malformed script, and such a script of a run ends
 ///   with 3 unless the source failed or memory ran out;
 /// - `missing`, `found`: of an opener that tells, and an opening that the plan accepts, 8 comes only where `x` finds the path or
-///   `r` misses it, and such a path, with a script that the source tells to be in form, ends with 8 unless the source failed or
+///   `r` misses it, and such a path, with a script that the source tells to be well formed, ends with 8 unless the source failed or
 ///   memory ran out;
 /// - `kept`: of an opener that tells every path holds what it held with 2, 3, 5 and 8, where the plan refuses, and where the
 ///   path is only read;
 /// - `others`: of an opener that tells, whatever the status is, every path but that of the words holds what it held;
-/// - `left`: the same with 4 of an opening that the plan accepts, the path holds what its opening left;
+/// - `left`: of an opener that tells, with 4 of an opening that the plan accepts, the path holds what its opening left;
 /// - `printed`: with 0, what was printed is the lines of a run of calls, those of the whole script, where the source tells it, and
 ///   a Close; of an opener that tells, the path holds the raw's bytes in the end, the flat ones where a `Close` or `Detach` of a live
 ///   session was done; where no raw failed or would have blocked, each call that isn't refused is answered by an answer of its own, or for
@@ -68,7 +68,7 @@ pub fn run_program<O: Opener, I: Source, K: Sink>(
     ensures ends { Ends result (texts words.now) (I.shows script.old) (I.shows script.new)
         (outside O.shows K.shows opener.old out.old) (outside O.shows K.shows opener.new out.new) }
     ensures statuses { (result ≤ 8) × (result ≢ 1) }
-    ensures no_form { result ≡ 2 → asked_in words.now ≡ None }
+    ensures malformed_words { result ≡ 2 → asked_in words.now ≡ None }
     ensures words { asked_in words.now ≡ None → (result ≡ 2) ⊎ (result ≡ 7) }
     ensures source { result ≡ 5 → Rose (I.shows script.old).faults (I.shows script.new).faults }
     ensures sink { result ≡ 6 → Rose (K.shows out.old).faults (K.shows out.new).faults }
@@ -77,23 +77,23 @@ pub fn run_program<O: Opener, I: Source, K: Sink>(
     ensures sink_exact { result ≢ 6 → NoSinkFault (K.shows out.old) (K.shows out.new) }
     ensures opener_exact { result ≡ 0 → NoOpenerFault (O.shows opener.old) (O.shows opener.new) }
     ensures refused { result ≡ 4 → IsRefusedPlan (asked_in words.now) ⊎ Rose (O.shows opener.old).raw_faults (O.shows opener.new).raw_faults }
-    ensures planned { IsRefusedPlan (asked_in words.now) → TellsForm (I.shows script.old)
+    ensures planned { IsRefusedPlan (asked_in words.now) → TellsWellFormed (I.shows script.old)
         → (result ≡ 4) ⊎ ((result ≡ 5) ⊎ ((result ≡ 6) ⊎ (result ≡ 7))) }
     ensures unopened { IsRefusedPlan (asked_in words.now) → O.shows opener.new ≡ O.shows opener.old }
     ensures complete { asked_in words.now ≢ None → ¬ IsRefusedPlan (asked_in words.now) → NothingFails (I.shows script.old) (I.shows script.new)
         (outside O.shows K.shows opener.old out.old) (outside O.shows K.shows opener.new out.new)
         → (result ≡ 0) ⊎ ((result ≡ 3) ⊎ (result ≡ 7)) }
-    ensures out_of_form { result ≡ 3 → IsTrue (I.shows script.old).tells → IsOutOfForm (I.shows script.old).left }
-    ensures form { AsksForRun (asked_in words.now) → TellsNoForm (I.shows script.old)
+    ensures malformed_script { result ≡ 3 → IsTrue (I.shows script.old).tells → IsMalformed (I.shows script.old).left }
+    ensures script { AsksForRun (asked_in words.now) → TellsMalformed (I.shows script.old)
         → (result ≡ 3) ⊎ ((result ≡ 5) ⊎ (result ≡ 7)) }
-    ensures missing { (path : List ℕ) (plan : Plan) → IsAcceptedAt path plan (asked_in words.now) → result ≡ 8 → IsTrue (O.shows opener.old).tells
+    ensures missing { (path : List ℕ) (plan : Plan) → IsAcceptedAt path plan (asked_in words.now) → result ≡ 8 → TellsPaths (O.shows opener.old)
         → misses (raw_mode plan) ((O.shows opener.old).holds path) ≡ true }
-    ensures found { (path : List ℕ) (plan : Plan) → IsAcceptedAt path plan (asked_in words.now) → TellsForm (I.shows script.old)
-        → IsTrue (O.shows opener.old).tells → misses (raw_mode plan) ((O.shows opener.old).holds path) ≡ true
+    ensures found { (path : List ℕ) (plan : Plan) → IsAcceptedAt path plan (asked_in words.now) → TellsWellFormed (I.shows script.old)
+        → TellsPaths (O.shows opener.old) → misses (raw_mode plan) ((O.shows opener.old).holds path) ≡ true
         → (result ≡ 8) ⊎ ((result ≡ 5) ⊎ (result ≡ 7)) }
-    ensures kept { IsTrue (O.shows opener.old).tells → LeavesPaths result (asked_in words.now) → HoldsTheSame (O.shows opener.old) (O.shows opener.new) }
-    ensures others { IsTrue (O.shows opener.old).tells → KeepsOthers (asked_in words.now) (O.shows opener.old) (O.shows opener.new) }
-    ensures left { (path : List ℕ) (plan : Plan) → IsAcceptedAt path plan (asked_in words.now) → result ≡ 4 → IsTrue (O.shows opener.old).tells
+    ensures kept { TellsPaths (O.shows opener.old) → LeavesPaths result (asked_in words.now) → HoldsTheSame (O.shows opener.old) (O.shows opener.new) }
+    ensures others { TellsPaths (O.shows opener.old) → KeepsOthers (asked_in words.now) (O.shows opener.old) (O.shows opener.new) }
+    ensures left { (path : List ℕ) (plan : Plan) → IsAcceptedAt path plan (asked_in words.now) → result ≡ 4 → TellsPaths (O.shows opener.old)
         → (O.shows opener.new).holds path ≡ Some (opened_bytes (raw_mode plan) ((O.shows opener.old).holds path)) }
     ensures printed { (path mode : List ℕ) (args : Arguments) → result ≡ 0 → asked_in words.now ≡ Some (Asks path mode args) → PrintsReplies path mode args (I.shows script.old) (I.shows script.new)
         (outside O.shows K.shows opener.old out.old) (outside O.shows K.shows opener.new out.new) }
@@ -129,7 +129,7 @@ fn run_to_status<O: Opener, I: Source, K: Sink>(
         },
         Ok(Some(Command::Help)) => status_of(print_text(out, help_text()), Status::Done),
         Ok(Some(Command::Version)) => status_of(print_text(out, version_text()), Status::Done),
-        Ok(None) => Status::NoForm,
+        Ok(None) => Status::WordsMalformed,
         Err(_) => Status::NoMemory,
     }
 }

@@ -15,7 +15,7 @@ const MAX_SCRIPT_SIZE: usize = 1_048_576;
 /// How many bytes are read from a source at once.
 const PIECE_SIZE: usize = 4096;
 
-/// The calls of a script that is read to its end: `OutOfForm` as soon as it has more than 1,048,576 bytes or where a line
+/// The calls of a script that is read to its end: `ScriptMalformed` as soon as it has more than 1,048,576 bytes or where a line
 /// is malformed, `SourceFailed` where the source fails, `NoMemory` where there is none.
 pub fn read_script<I: Source>(alloc: Global, source: &mut I) -> Result<Vec<Call>, Status>
     ensures keeps { SourceKeeps (I.shows source.old) (I.shows source.new) }
@@ -25,7 +25,7 @@ pub fn read_script<I: Source>(alloc: Global, source: &mut I) -> Result<Vec<Call>
     let bytes = read_bytes(alloc, source)?;
     match parse_script(alloc, &bytes) {
         Ok(Some(calls)) => Ok(calls),
-        Ok(None) => Err(Status::OutOfForm),
+        Ok(None) => Err(Status::ScriptMalformed),
         Err(_) => Err(Status::NoMemory),
     }
 }
@@ -46,7 +46,7 @@ fn read_bytes<I: Source>(alloc: Global, source: &mut I) -> Result<Vec<u8>, Statu
                     return Err(Status::NoMemory);
                 }
                 if bytes.len() > MAX_SCRIPT_SIZE {
-                    return Err(Status::OutOfForm);
+                    return Err(Status::ScriptMalformed);
                 }
             }
             Err(_) => return Err(Status::SourceFailed),

@@ -6,10 +6,10 @@ ghost use Rattle.py_program.specs.Status.{code_of};
 pub enum Status {
     /// 0: the script was read to its end and every reply printed.
     Done,
-    /// 2: the words are no form.
-    NoForm,
+    /// 2: the words are malformed.
+    WordsMalformed,
     /// 3: a line of the script is malformed, or it has more than 1,048,576 bytes.
-    OutOfForm,
+    ScriptMalformed,
     /// 4: the opening was refused, and the refusal printed.
     Refused,
     /// 5: the script couldn't be read.
@@ -29,8 +29,8 @@ impl Status {
     {
         match self {
             Status::Done => 0,
-            Status::NoForm => 2,
-            Status::OutOfForm => 3,
+            Status::WordsMalformed => 2,
+            Status::ScriptMalformed => 3,
             Status::Refused => 4,
             Status::SourceFailed => 5,
             Status::SinkFailed => 6,

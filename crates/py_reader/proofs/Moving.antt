@@ -9,7 +9,7 @@ use Rattle.py_raw.specs.RawStream.{WherePlace, NoWait, LeavesCounts}
 use Rattle.py_stream.specs.Stream.{Span, Stream, reader_can, nothing_owed}
 use Rattle.py_stream.specs.Answers.{SeekGoes, Covers, InHandOf, InHand, Answers}
 use Rattle.py_stream.proofs.Begun.{answers_whole}
-use Rattle.py_stream.proofs.Lacking.{Begins}
+use Rattle.py_stream.proofs.Alone.{Begins}
 use Rattle.py_stream.proofs.Seeking.{MaySeek, RawStays, TargetOf, Goes, goes, NoTarget, target_answers, seek_faults, seek_wants, Arrives, arrival_answers}
 use Rattle.py_reader.specs.Window.{WindowView, place_of, end_of, covers}
 use Rattle.py_reader.specs.Engine.{EngineView, stream_of, IsEngine, KeepsEngine, BeginOutcome}

@@ -32,7 +32,7 @@ first_digit value digit next digits =
       | false ↦ λ fits. absurd (none-some next fits)
     ]
 
--- one that doesn't, or is no digit, makes no number
+-- a digit that doesn't fit, or a byte that is no digit, makes no number
 first_digit_none : (value digit : ℕ) (digits : List ℕ) → as_size (value_onto value (digit ∷ [])) ≡ None → as_size (value_onto value (digit ∷ digits)) ≡ None
 first_digit_none value digit digits =
     let with_it : ℕ = value * 10 + (digit - 48) in
@@ -46,7 +46,7 @@ pub value_onto_more : (value : ℕ) (digits : List ℕ) (i next : ℕ) → i < l
 value_onto_more value digits i next within fits =
     rw (drop-cons digits i 0, add-one) (first_digit value (get_or digits i 0) next _ fits)
 
--- the next one doesn't
+-- the next digit of a list doesn't fit, or is none
 pub value_onto_none : (value : ℕ) (digits : List ℕ) (i : ℕ) → i < length digits → as_size (value_onto value (get_or digits i 0 ∷ [])) ≡ None → as_size (value_onto value (drop i digits)) ≡ None
 value_onto_none value digits i within fails =
     rw (drop-cons digits i 0) (first_digit_none value (get_or digits i 0) _ fails)

@@ -44,7 +44,7 @@ fault_of name numbers =
     else if bytes_eq name (codes "IndexError") then IndexError (get_or numbers 0 0)
     else Closed
 
--- it is the fault
+-- a fault is that of its name and its numbers
 fault_of_own : (fault : IoFault) → fault_of (fault_name fault) (fault_numbers fault) ≡ fault
 unfolding fault_of
 fault_of_own Closed = refl

@@ -26,7 +26,7 @@ and_then_none f (Some x) fails = fails x
 abbrev both : Given → Option WordOption → Option WordOption → Option Given
 both given first second = option_and_then (λ next. option_and_then (given_with next) second) (option_and_then (given_with given) first)
 
--- they may change places
+-- two options, one after the other, may change places
 pair_commutes : (given : Given) (x y : WordOption) → both given (Some x) (Some y) ≡ both given (Some y) (Some x)
 pair_commutes given (Buffering m) (Buffering n) = grind arith
 pair_commutes given (Buffering m) y = grind arith
@@ -55,11 +55,11 @@ words_commute_behind : (given : Given) (front words : List (List ℕ)) (first se
 words_commute_behind given [] words first second = words_commute given first second words
 words_commute_behind given (word ∷ front) words first second = and_then_same _ _ (given_with_word given word) (λ next. words_commute_behind next front words first second)
 
--- so the arguments are the same
+-- where two neighbouring words of options change places the arguments stay the same
 pub any_order : (front words : List (List ℕ)) (first second : List ℕ) → arguments_of (front ++ first ∷ second ∷ words) ≡ arguments_of (front ++ second ∷ first ∷ words)
 any_order front words first second = ap (option_map arguments_by) (words_commute_behind nothing_given front words first second)
 
--- two options of a kind are one too many
+-- the kind of an option: two of one kind are one too many
 abbrev kind : WordOption → ℕ
 kind (Buffering size) = 0
 kind (Encoding name) = 1
@@ -82,7 +82,7 @@ clash_pair given (Newline m) y same = absurd (omega (arith, same))
 clash_pair given (ChunkSize m) (ChunkSize n) same = grind arith
 clash_pair given (ChunkSize m) y same = absurd (omega (arith, same))
 
--- so are values of a kind
+-- two values of options of one kind are one too many
 clash_map : {A : Type 0} (given : Given) (make : A → WordOption) (o p : Option A) → ((m n : A) → Clash given (Some (make m)) (Some (make n))) → Clash given (option_map make o) (option_map make p)
 clash_map given make None p pair = refl
 clash_map given make (Some m) None pair = and_then_none (λ next. None) (given_with given (make m)) (λ next. refl)
@@ -92,7 +92,7 @@ clash_either : (given : Given) (b : Bool) (o o' p p' : Option WordOption) → Cl
 clash_either given true o o' p p' clash clash' = clash
 clash_either given false o o' p p' clash clash' = clash'
 
--- and two values of one name
+-- two values of one name are one too many
 clash_named : (given : Given) (name v w : List ℕ) → Clash given (named_option name v) (named_option name w)
 clash_named given name v w =
     clash_either given (bytes_eq name (codes "buffering")) _ _ _ _ (clash_map given Buffering (integer_value v) (integer_value w) (λ m n. clash_pair given (Buffering m) (Buffering n) refl))
@@ -107,13 +107,13 @@ clash_if given false b o p clash = refl
 clash_if given true false o p clash = and_then_none (λ next. None) (option_and_then (given_with given) o) (λ next. refl)
 clash_if given true true o p clash = clash
 
--- and two words of one name
+-- two words of one name are one too many
 clash_words : (given : Given) (first second : List ℕ) → name_of first ≡ name_of second → Clash given (option_of first) (option_of second)
 clash_words given first second same =
     clash_if given (nat_lt (position_or_len is_equals first) (length first)) (nat_lt (position_or_len is_equals second) (length second)) (named_option (name_of first) (after_first is_equals first)) (named_option (name_of second) (after_first is_equals second))
     (rw same (clash_named given (name_of second) (after_first is_equals first) (after_first is_equals second)))
 
--- wherever the second stands
+-- two words of one name are one too many, wherever the second stands
 clash_between : (given : Given) (between words : List (List ℕ)) (first second : List ℕ) → name_of first ≡ name_of second → given_with_words given (first ∷ between ++ second ∷ words) ≡ None
 clash_between given [] words first second same =
     and_then_assoc (λ next. given_with_word next second) (λ next. given_with_words next words) (given_with_word given first)
@@ -122,11 +122,11 @@ clash_between given (word ∷ between) words first second same =
     words_commute given first word (between ++ second ∷ words)
     ∙ and_then_none (λ next. given_with_words next (first ∷ between ++ second ∷ words)) (given_with_word given word) (λ next. clash_between next between words first second same)
 
--- and wherever the first does
+-- two words of one name are one too many, wherever both stand
 clash_behind : (given : Given) (front between words : List (List ℕ)) (first second : List ℕ) → name_of first ≡ name_of second → given_with_words given (front ++ (first ∷ between ++ second ∷ words)) ≡ None
 clash_behind given [] between words first second same = clash_between given between words first second same
 clash_behind given (word ∷ front) between words first second same = and_then_none (λ next. given_with_words next (front ++ (first ∷ between ++ second ∷ words))) (given_with_word given word) (λ next. clash_behind next front between words first second same)
 
--- so the words are malformed
+-- words with two of one name among them are malformed
 pub each_once : (front between words : List (List ℕ)) (first second : List ℕ) → name_of first ≡ name_of second → arguments_of (front ++ (first ∷ between ++ second ∷ words)) ≡ None
 each_once front between words first second same = ap (option_map arguments_by) (clash_behind nothing_given front between words first second same)

@@ -10,7 +10,7 @@ use Rattle.py_script.specs.Options.{text_of, hex_text}
 pub text_of_utf8 : (bytes : List ℕ) → IsUtf8 bytes → text_of bytes ≡ Some (chars bytes)
 text_of_utf8 bytes utf8 = rw (is_utf8-from_IsUtf8 bytes utf8) refl
 
--- and others none
+-- bytes that aren't UTF-8 are no text
 pub text_of_other : (bytes : List ℕ) → ¬ (IsUtf8 bytes) → text_of bytes ≡ None
 text_of_other bytes other = elim (is_utf8 bytes) as (λ b. is_utf8 bytes ≡ b → text_of bytes ≡ None) [
   | true ↦ λ is. absurd (other (IsUtf8-from_is_utf8 bytes is))

@@ -55,7 +55,7 @@ decimal_is_no_dash number small same =
     let digits : AllDigits 10 (codes "-") = subst (AllDigits 10) (sym same) (decimal_is_IsNumeral number small).0.1 in
     absurd (omega (arith, digits.0))
 
--- it tells the place
+-- the word of a place tells the place
 place_same : (p q : Option ℕ) → IfSome p (λ some. some < 2 ^ 64) → IfSome q (λ some. some < 2 ^ 64) → place_of p ≡ place_of q → p ≡ q
 place_same None None small_p small_q same = refl
 place_same None (Some q) small_p small_q same = absurd (decimal_is_no_dash q small_q same)
@@ -107,7 +107,7 @@ kind_of_word (Name name) = refl
 kind_of_word (Unwritten bytes place) = refl
 kind_of_word (Refused fault) = refl
 
--- it is a word
+-- the word that a reply's line begins with is a word
 reply_word_word : (reply : Reply) → is_word (reply_word reply) ≡ true
 reply_word_word (Bytes bytes) = refl
 reply_word_word (Text text) = refl
@@ -134,19 +134,19 @@ record Alike (a b : Reply) : Type 0 where
   kinds : kind a ≡ kind b
   rests : rest a ≡ rest b
 
--- bytes
+-- a reply alike to an answer of bytes is that answer
 bytes_same : (bytes : List ℕ) (b : Reply) → Alike (Bytes bytes) b → Bytes bytes ≡ b
 unfolding kind
 bytes_same x (Bytes y) alike = ap Bytes (hex_same x y alike.range_a alike.range_b (one_word_same (hex_of x) (hex_of y) alike.rests))
 bytes_same x b alike = absurd (omega (arith, alike.kinds))
 
--- a text
+-- a reply alike to an answer of a text is that answer
 text_same : (text : List ℕ) (b : Reply) → Alike (Text text) b → Text text ≡ b
 unfolding kind
 text_same x (Text y) alike = ap Text (encodes_same x y (hex_same (encode_utf8_all x) (encode_utf8_all y) alike.range_a alike.range_b (one_word_same (hex_of (encode_utf8_all x)) (hex_of (encode_utf8_all y)) alike.rests)))
 text_same x b alike = absurd (omega (arith, alike.kinds))
 
--- lines, after how many they are
+-- the words of an answer of lines, after how many they are
 lines_words : (lines : List (List ℕ)) → IsInRange (Lines lines) → AreWords (reply_fields (Lines lines))
 lines_words lines range = (decimal_word (length lines) range.1, hex_lines_words lines)
 
@@ -161,31 +161,31 @@ unfolding kind
 lines_same x (Lines y) alike = lines_parts x y alike.range_a alike.range_b alike.rests
 lines_same x b alike = absurd (omega (arith, alike.kinds))
 
--- a count
+-- a reply alike to a count is that count
 count_same : (count : ℕ) (b : Reply) → Alike (Count count) b → Count count ≡ b
 unfolding kind
 count_same x (Count y) alike = ap Count (decimal_injective x y alike.range_a alike.range_b (one_word_same (decimal x) (decimal y) alike.rests))
 count_same x b alike = absurd (omega (arith, alike.kinds))
 
--- a place
+-- a reply alike to a place is that place
 place_reply_same : (place : ℕ) (b : Reply) → Alike (Place place) b → Place place ≡ b
 unfolding kind
 place_reply_same x (Place y) alike = ap Place (decimal_injective x y alike.range_a alike.range_b (one_word_same (decimal x) (decimal y) alike.rests))
 place_reply_same x b alike = absurd (omega (arith, alike.kinds))
 
--- done
+-- a reply alike to done is done
 done_same : (b : Reply) → Alike Done b → Done ≡ b
 unfolding kind
 done_same Done alike = refl
 done_same b alike = absurd (omega (arith, alike.kinds))
 
--- not ready
+-- a reply alike to not ready is not ready
 not_ready_same : (b : Reply) → Alike NotReady b → NotReady ≡ b
 unfolding kind
 not_ready_same NotReady alike = refl
 not_ready_same b alike = absurd (omega (arith, alike.kinds))
 
--- yes or no: the words differ
+-- the words of yes and no differ
 flags_same : (x y : Bool) → reply_word (Flag x) ≡ reply_word (Flag y) → x ≡ y
 flags_same true true words = refl
 flags_same true false words = absurd (omega (arith, ap (λ word. get_or word 0 0) words))
@@ -197,13 +197,13 @@ unfolding kind
 flag_same x (Flag y) alike = ap Flag (flags_same x y alike.words)
 flag_same x b alike = absurd (omega (arith, alike.kinds))
 
--- a name, whatever it holds
+-- a reply alike to a name, whatever that holds, is that name
 name_same : (name : List ℕ) (b : Reply) → Alike (Name name) b → Name name ≡ b
 unfolding kind
 name_same x (Name y) alike = ap Name (encodes_same x y (one_word_same (encode_utf8_all x) (encode_utf8_all y) alike.rests))
 name_same x b alike = absurd (omega (arith, alike.kinds))
 
--- bytes that are not known to be written
+-- the words of bytes that are not known to be written, and of their place
 unwritten_words : (bytes : List ℕ) (place : Option ℕ) → IsInRange (Unwritten bytes place) → AreWords (reply_fields (Unwritten bytes place))
 unwritten_words bytes place range = (hex_word bytes, (place_word place range.1, tt))
 
@@ -221,14 +221,14 @@ unfolding kind
 unwritten_same x p (Unwritten y q) alike = unwritten_parts x y p q alike.range_a alike.range_b alike.rests
 unwritten_same x p b alike = absurd (omega (arith, alike.kinds))
 
--- a refusal
+-- a reply alike to a refusal is that refusal
 refused_same : (fault : IoFault) (b : Reply) → Alike (Refused fault) b → Refused fault ≡ b
 unfolding kind
 refused_same f (Refused g) alike =
     ap Refused (fault_same f g alike.range_a alike.range_b (rest_of_line_same (reply_fields (Refused f)) (reply_fields (Refused g)) (fault_words f alike.range_a) (fault_words g alike.range_b) alike.rests))
 refused_same f b alike = absurd (omega (arith, alike.kinds))
 
--- so two replies that are alike are the same
+-- two replies of one kind whose lines go on alike are the same
 same_from_alike : (a b : Reply) → Alike a b → a ≡ b
 same_from_alike (Bytes bytes) b alike = bytes_same bytes b alike
 same_from_alike (Text text) b alike = text_same text b alike
@@ -242,7 +242,7 @@ same_from_alike (Name name) b alike = name_same name b alike
 same_from_alike (Unwritten bytes place) b alike = unwritten_same bytes place b alike
 same_from_alike (Refused fault) b alike = refused_same fault b alike
 
--- a line is its word, and what follows
+-- a reply's line is its first word, and what follows that
 line_parts : (reply : Reply) → reply_line reply ≡ reply_word reply ++ rest reply
 line_parts reply = append_assoc (reply_word reply) (spaced (reply_fields reply)) (10 ∷ [])
 

@@ -20,7 +20,7 @@ two_are_no_minus first second rest = elim (eqb first 45) as (λ b. (b && false) 
   | false ↦ refl
 ]
 
--- so they are read as hex
+-- a word of two bytes and more is read as hex
 word_of_two : (first second : ℕ) (rest : List ℕ) → word_bytes (first ∷ second ∷ rest) ≡ hex_bytes (first ∷ second ∷ rest)
 word_of_two first second rest = rw (two_are_no_minus first second rest) refl
 
@@ -28,12 +28,12 @@ word_of_hex : (byte : ℕ) (bytes : List ℕ) → word_bytes (encode_lower (byte
 unfolding encode_with
 word_of_hex byte bytes = word_of_two _ _ _
 
--- a reply's word for bytes is read as these
+-- a reply's word for bytes is read as these bytes
 word_of_bytes : (bytes : List ℕ) → IsBytes bytes → word_bytes (hex_of bytes) ≡ Some bytes
 word_of_bytes [] range = refl
 word_of_bytes (byte ∷ bytes) range = word_of_hex byte bytes ∙ ap result_ok (decode_of-encode_lower (byte ∷ bytes) range)
 
--- and its words for lines as these
+-- a reply's words for lines are read as these lines
 words_of_lines : (lines : List (List ℕ)) → All IsBytes lines → words_bytes (map hex_of lines) ≡ Some lines
 words_of_lines [] all = refl
 words_of_lines (line ∷ lines) all =
@@ -41,7 +41,7 @@ words_of_lines (line ∷ lines) all =
     let more = words_of_lines lines (All-tail IsBytes line lines all) in
     rw (first, more) refl
 
--- so a line of them makes the call that writes them
+-- `write` with a reply's word for bytes makes the call that writes these
 pub write_line : (bytes : List ℕ) → IsBytes bytes → line_call (codes "write" ++ spaced (hex_of bytes ∷ [])) ≡ Some (Write bytes)
 write_line bytes range =
     ap words_call (words_apart (codes "write") (hex_of bytes ∷ []) refl (hex_word bytes, tt))

@@ -19,24 +19,24 @@ use Rattle.py_script.specs.ReplyLine.{hex_of}
 abbrev pub is_separator : ℕ → Bool
 is_separator byte = eqb byte 32 || eqb byte 10
 
--- whether a word holds neither
+-- whether bytes hold neither a space nor an LF, as a word does
 abbrev pub is_word : List ℕ → Bool
 is_word [] = true
 is_word (byte ∷ bytes) = not (is_separator byte) && is_word bytes
 
--- whether bytes begin with one of them
+-- whether bytes begin with a space or an LF
 abbrev pub ends_word : List ℕ → Bool
 ends_word [] = false
 ends_word (byte ∷ bytes) = is_separator byte
 
--- the first byte of a word is none of them
+-- the first byte of a word is neither a space nor an LF
 first_of_word : (byte : ℕ) (bytes : List ℕ) → is_word (byte ∷ bytes) ≡ true → is_separator byte ≡ false
 first_of_word byte bytes = elim (is_separator byte) as (λ b. (not b && is_word bytes) ≡ true → b ≡ false) [
   | true ↦ λ h. sym h
   | false ↦ λ h. refl
 ]
 
--- what follows is a word
+-- what follows the first byte of a word is a word
 rest_of_word : (byte : ℕ) (bytes : List ℕ) → is_word (byte ∷ bytes) ≡ true → is_word bytes ≡ true
 rest_of_word byte bytes = elim (is_separator byte) as (λ b. (not b && is_word bytes) ≡ true → is_word bytes ≡ true) [
   | true ↦ λ h. absurd (false≢true h)
@@ -63,7 +63,7 @@ cut (c ∷ u) (d ∷ v) r s word_u word_v ends_r ends_s same =
 abbrev pub rest_of_line : List (List ℕ) → List ℕ
 rest_of_line words = spaced words ++ 10 ∷ []
 
--- they begin with a space or the LF
+-- what stands after a line's first word begins with a space or the LF
 pub rest_ends_word : (words : List (List ℕ)) → ends_word (rest_of_line words) ≡ true
 rest_ends_word [] = refl
 rest_ends_word (word ∷ words) = refl
@@ -77,7 +77,7 @@ AreWords (word ∷ words) = (is_word word ≡ true) × AreWords words
 rest_of_line_more : (word : List ℕ) (words : List (List ℕ)) → rest_of_line (word ∷ words) ≡ 32 ∷ (word ++ rest_of_line words)
 rest_of_line_more word words = ap (λ rest. 32 ∷ rest) (append_assoc word (spaced words) (10 ∷ []))
 
--- they are cut in one way
+-- what stands after a line's first word is cut into words in one way
 pub rest_of_line_same : (us vs : List (List ℕ)) → AreWords us → AreWords vs → rest_of_line us ≡ rest_of_line vs → us ≡ vs
 rest_of_line_same [] [] words_u words_v same = refl
 rest_of_line_same [] (v ∷ vs) words_u words_v same = absurd (omega (arith, ap (λ bytes. get_or bytes 0 0) same))
@@ -110,7 +110,7 @@ encode_word [] = refl
 encode_word (byte ∷ bytes) =
     rw (byte_of_word lower_digits (byte / 16) refl, byte_of_word lower_digits (byte % 16) refl) (encode_word bytes)
 
--- and so is the word of bytes
+-- the word of bytes, hex digits or `-`, is a word
 pub hex_word : (bytes : List ℕ) → is_word (hex_of bytes) ≡ true
 hex_word [] = refl
 hex_word (byte ∷ bytes) = encode_word (byte ∷ bytes)
@@ -124,7 +124,7 @@ digits_word : (digits : List ℕ) → AllDigits 10 digits → is_word digits ≡
 digits_word [] all = refl
 digits_word (digit ∷ digits) all = rw (digit_is_none digit all.0) (digits_word digits all.1)
 
--- so a decimal is one
+-- a decimal is a word
 pub decimal_word : (number : ℕ) → number < 2 ^ 64 → is_word (decimal number) ≡ true
 decimal_word number small = digits_word (decimal number) (decimal_is_IsNumeral number small).0.1
 

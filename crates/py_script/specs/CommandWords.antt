@@ -28,7 +28,7 @@ lone_command word =
     else if bytes_eq word (codes "--version") then Some Version
     else None
 
--- the command of the words after the program's own name; None where they are no form
+-- the command of the words after the program's own name; None where they are malformed
 abbrev pub command_of : List (List ℕ) → Option Command
 command_of (word ∷ []) = lone_command word
 command_of (word ∷ path ∷ mode ∷ options) = if bytes_eq word (codes "run") then option_map (Run path mode) (arguments_of options) else None

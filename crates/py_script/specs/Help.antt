@@ -22,7 +22,7 @@ words_help =
     codes "MODE is as in Python's open. Each OPTION is given at most once, in any order:" ∷
     codes "  buffering=I    size of the buffer in bytes; 0: none; 1, and I below 0: 8192" ∷
     codes "  encoding=NAME  the encoding (default utf-8)" ∷
-    codes "  errors=NAME    the handler of bytes that are out of form (default strict)" ∷
+    codes "  errors=NAME    the handler of malformed bytes (default strict)" ∷
     codes "  newline=HEX    what ends a line, in hex of its UTF-8: 0a is LF (default: any" ∷
     codes "                 of CR LF, CR and LF, each read as LF); none: empty text" ∷
     codes "  chunk=N        bytes that a text asks its buffer for at once (default 8192)" ∷
@@ -58,8 +58,8 @@ abbrev pub status_help : List (List ℕ)
 status_help =
     codes "The first status that applies ends the program:" ∷
     codes "  0  every reply was printed        5  the script could not be read" ∷
-    codes "  2  the words are no form          6  a line could not be printed" ∷
-    codes "  3  the script is out of form      7  there was no memory left" ∷
+    codes "  2  the words are malformed        6  a line could not be printed" ∷
+    codes "  3  the script is malformed        7  there was no memory left" ∷
     codes "  4  refused NAME was printed, of   8  the path could not be opened, or the" ∷
     codes "     the mode, option or file          file not be put away again" ∷
     []

@@ -61,7 +61,7 @@ write_call _ = None
 abbrev pub writelines_call : List (List ℕ) → Option Call
 writelines_call lines = option_map WriteLines (words_bytes lines)
 
--- the call of a line's words; None where they are no form
+-- the call of a line's words; None where they are malformed
 abbrev pub words_call : List (List ℕ) → Option Call
 words_call [] = None
 words_call (name ∷ words) =

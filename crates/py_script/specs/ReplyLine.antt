@@ -31,7 +31,7 @@ reply_word (Name name) = codes "name"
 reply_word (Unwritten bytes place) = codes "detached"
 reply_word (Refused fault) = codes "err"
 
--- the words that follow it: bytes, the UTF-8 of a text and each line as hex, numbers as decimals, a name as its UTF-8
+-- the words of a reply's line after its first: bytes, the UTF-8 of a text and each line as hex, numbers as decimals, a name as its UTF-8
 abbrev pub reply_fields : Reply → List (List ℕ)
 reply_fields (Bytes bytes) = hex_of bytes ∷ []
 reply_fields (Text text) = hex_of (encode_utf8_all text) ∷ []

@@ -23,7 +23,7 @@ pub enum Command<'a> {
     Version,
 }
 
-/// What the words of a command line ask for, without the program's own name; `None` where they are no form, `Err` when out of
+/// What the words of a command line ask for, without the program's own name; `None` where they are malformed, `Err` when out of
 /// memory.
 ///
 /// A form is `--help` alone, `--version` alone, or `run`, a path, a mode and options, each at most once and in any

@@ -9,7 +9,7 @@ ghost use Rattle.py_script.specs.CommandWords.{Run, Help, Version, command_of};
 use py_calls::{Call, Reply};
 use py_flat::{IoFault, ModeError, ParseModeError};
 
-/// Worked examples of scripts in form, computed from the definition.
+/// Worked examples of well-formed scripts, computed from the definition.
 #[tactic(auto, unfolding(crate::specs::Words::is_digit))]
 pub fn examples_of_scripts()
     ensures two_calls { script_calls (codes "readline\nread\n") ≡ Some (Call.ReadLine None ∷ Call.Read None ∷ []) }
@@ -80,7 +80,7 @@ pub fn examples_of_writes()
 
 /// Worked examples of malformed scripts, computed from the definition.
 #[tactic(auto, unfolding(crate::specs::Words::is_digit))]
-pub fn examples_out_of_form()
+pub fn examples_of_malformed_lines()
     ensures misspelled { script_calls (codes "red") ≡ None }
     ensures misspelled_later { script_calls (codes "read\nclose1\n") ≡ None }
     ensures upper_case { script_calls (codes "READ") ≡ None }
@@ -144,7 +144,7 @@ pub fn examples_of_commands()
     ensures other_word { command_of (words_of (codes "open f r")) ≡ None }
 {}
 
-/// Worked examples of options in form, computed from the definition.
+/// Worked examples of well-formed options, computed from the definition.
 pub fn examples_of_options()
     ensures empty_newline { option_map (λ args. args.newline) (arguments_of (words_of (codes "newline="))) ≡ Some (Some []) }
     ensures lower_case { option_map (λ args. args.newline) (arguments_of (words_of (codes "newline=c3a9"))) ≡ Some (Some (233 ∷ [])) }

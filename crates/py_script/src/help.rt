@@ -10,7 +10,7 @@ Opens a file, makes the calls of a script on it, and prints each reply.
 MODE is as in Python's open. Each OPTION is given at most once, in any order:
   buffering=I    size of the buffer in bytes; 0: none; 1, and I below 0: 8192
   encoding=NAME  the encoding (default utf-8)
-  errors=NAME    the handler of bytes that are out of form (default strict)
+  errors=NAME    the handler of malformed bytes (default strict)
   newline=HEX    what ends a line, in hex of its UTF-8: 0a is LF (default: any
                  of CR LF, CR and LF, each read as LF); none: empty text
   chunk=N        bytes that a text asks its buffer for at once (default 8192)
@@ -38,8 +38,8 @@ Each call is answered by a line:
 
 The first status that applies ends the program:
   0  every reply was printed        5  the script could not be read
-  2  the words are no form          6  a line could not be printed
-  3  the script is out of form      7  there was no memory left
+  2  the words are malformed        6  a line could not be printed
+  3  the script is malformed        7  there was no memory left
   4  refused NAME was printed, of   8  the path could not be opened, or the
      the mode, option or file          file not be put away again
 ";

@@ -24,9 +24,9 @@ mod word_laws;
 pub use command::{Command, parse_words};
 pub use decimal::parse_decimal;
 pub use examples::{
-    examples_of_commands, examples_of_moves, examples_of_no_options, examples_of_options,
-    examples_of_plain_lines, examples_of_refusals, examples_of_replies, examples_of_scripts,
-    examples_of_sized_lines, examples_of_writes, examples_out_of_form,
+    examples_of_commands, examples_of_malformed_lines, examples_of_moves, examples_of_no_options,
+    examples_of_options, examples_of_plain_lines, examples_of_refusals, examples_of_replies,
+    examples_of_scripts, examples_of_sized_lines, examples_of_writes,
 };
 pub use fault_line::{fault_name, push_refused_line};
 pub use help::{help_text, version_text};

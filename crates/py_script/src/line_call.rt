@@ -6,7 +6,7 @@ use crate::hex_words::{word_bytes, words_bytes};
 use py_calls::Call;
 use std::alloc::{AllocError, Global};
 
-/// The call of a line's words, or `None` where they are no form; `Err` when out of memory.
+/// The call of a line's words, or `None` where they are malformed; `Err` when out of memory.
 pub(crate) fn words_call(alloc: Global, words: &[&[u8]]) -> Result<Option<Call>, AllocError>
     ensures { IfOk result (λ call. call ≡ words_call (map (λ word. word.now) words.now)) }
 {

@@ -1,12 +1,12 @@
 -- What a stream refuses without a look at the argument, whatever is below it: by its life, or since it lacks what the call needs.
-use Rattle.std.proofs.Common.{◌≡◌, ◌≢◌, ◌⊎◌, inl, inr, Bool, true, false, not, ◌&&◌, Some, refl, sym, ap, ◌∙◌}
+use Rattle.std.proofs.Common.{◌≡◌, ◌≢◌, ◌⊎◌, inl, inr, Bool, true, false, not, ◌&&◌, Some, Result, Ok, Err, refl, sym, ap, ◌∙◌}
 use Rattle.py_flat.specs.declared.fault.IoFault.{IoFault}
 use Rattle.py_flat.specs.declared.fault.IoFault.TheVariants as fault
 use Rattle.py_flat.specs.declared.life.Life.{Life}
 use Rattle.py_flat.specs.declared.life.Life.TheVariants as life
 use Rattle.py_flat.specs.Calls.{FileCall, Close, Detach, Refused}
 use Rattle.py_flat.specs.FlatFile.{FlatFile, Buffering, Buffered}
-use Rattle.py_flat.specs.Refusals.{is_buffered, is_close, is_detach, life_fault, lets_through, lacks}
+use Rattle.py_flat.specs.Refusals.{is_getter, is_other_getter, is_buffered, is_close, is_detach, life_fault, lets_through, lacks}
 use Rattle.py_stream.specs.Stream.{Stream, buffering_of, file_of}
 use Rattle.py_stream.specs.Answers.{RefusesAlone, Answers}
 use Rattle.py_stream.proofs.Refusing.{IsPlaced, refused_by_life, refused_by_ability}
@@ -66,3 +66,22 @@ alone_by_life before after call why is alone fails same = refused_by_life before
 -- and a live one as a call that it lacks
 pub alone_by_ability : (before after : Stream) (call : FileCall) → IsPlaced before → RefusesAlone before call → before.life ≡ life.Live → after ≡ record before { short = false } → Answers before call (Refused fault.Unsupported) after
 alone_by_ability before after call is alone live same = refused_by_ability before after call is alone.0 alone.1 live (live_lacks before call live alone.2) same
+
+-- How a call begins.
+
+-- the life refuses it, or lets it go on, and no answer is short yet
+abbrev pub Begins : Stream → Result (Unit {0}) IoFault → Stream → Type 0
+Begins before (Ok done) after = (before.life ≡ life.Live) × (after ≡ record before { short = false })
+Begins before (Err why) after = (life_fault before.life ≡ Some why) × (after ≡ record before { short = false })
+
+-- a call that this refuses
+pub begins_in_vain : (before after : Stream) (call : FileCall) (why : IoFault) → IsPlaced before → is_getter call ≡ false → is_other_getter call ≡ false → is_close call ≡ false → detaches (buffering_of before.buffer) call ≡ false → Begins before (Err why) after → Answers before call (Refused why) after
+begins_in_vain before after call why is works own close detach begins = refused_by_life before after call why is works own (shut_by_life before.life (buffering_of before.buffer) call why close detach begins.0) begins.0 begins.1
+
+-- of a stream that has just begun: it doesn't live, and refuses by its life
+pub refuses_by_life : (before after : Stream) (why : IoFault) → IsPlaced before → Begins before (Err why) after → (call : FileCall) → RefusesAlone before call → Answers before call (Refused why) after
+refuses_by_life before after why is begins call alone = alone_by_life before after call why is alone begins.0 begins.1
+
+-- or it lives, and lacks what the call needs
+pub refuses_by_ability : (before after : Stream) → IsPlaced before → Begins before (Ok tt) after → (call : FileCall) → RefusesAlone before call → Answers before call (Refused fault.Unsupported) after
+refuses_by_ability before after is begins call alone = alone_by_ability before after call is alone begins.0 begins.1

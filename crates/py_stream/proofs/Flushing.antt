@@ -17,7 +17,7 @@ use Rattle.py_stream.specs.Writing.{Writes}
 use Rattle.py_stream.specs.Answers.{Answers, refused_by}
 use Rattle.py_stream.specs.Replies.{done_reply}
 use Rattle.py_stream.proofs.Refusing.{IsPlaced}
-use Rattle.py_stream.proofs.Lacking.{Begins, begins_in_vain}
+use Rattle.py_stream.proofs.Alone.{Begins, begins_in_vain}
 
 flush_passes : (before : Stream) → before.life ≡ life.Live → refusal (file_of before) Flush ≡ None
 flush_passes before live = ap (λ (current : Life). or_else (if lets_through current (buffering_of before.buffer) Flush then None else life_fault current) None) live

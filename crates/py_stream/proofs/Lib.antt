@@ -9,7 +9,6 @@ pub mod Completing
 pub mod Begun
 pub mod Returning
 pub mod Joined
-pub mod Lacking
 pub mod Flushing
 pub mod Seeking
 pub mod Smooth

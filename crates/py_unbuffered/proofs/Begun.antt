@@ -13,7 +13,7 @@ use Rattle.py_stream.specs.Stream.{Stream, file_of}
 use Rattle.py_stream.specs.Answers.{Answers, IsNear, closes_again}
 use Rattle.py_stream.proofs.Begun.{answers_whole}
 use Rattle.py_stream.proofs.Refused.{is_own}
-use Rattle.py_stream.proofs.Lacking.{Begins, begins_in_vain as stream_begins_in_vain}
+use Rattle.py_stream.proofs.Alone.{detaches, Begins, begins_in_vain as stream_begins_in_vain}
 use Rattle.py_stream.proofs.Refusing.{IsPlaced, refused_with as stream_refuses, refused_by_life as life_refuses, refused_by_ability as ability_refuses}
 use Rattle.py_unbuffered.specs.Engine.{EngineView, stream_of, IsEngine, BeginOutcome}
 
@@ -55,7 +55,7 @@ begins old new (Ok done) began = (began.0, ap stream_of began.1)
 begins old new (Err why) began = (began.0, ap stream_of began.1)
 
 -- and each but a close and a detaching that `begin` refuses
-pub begins_in_vain : (old new : EngineView) (call : FileCall) (why : IoFault) → Stands old → is_getter call ≡ false → is_other_getter call ≡ false → is_close call ≡ false → is_detach call ≡ false → BeginOutcome old (Err why) new → Answers (stream_of old) call (Refused why) (stream_of new)
+pub begins_in_vain : (old new : EngineView) (call : FileCall) (why : IoFault) → Stands old → is_getter call ≡ false → is_other_getter call ≡ false → is_close call ≡ false → detaches Unbuffered call ≡ false → BeginOutcome old (Err why) new → Answers (stream_of old) call (Refused why) (stream_of new)
 begins_in_vain old new call why stands works own closes detaches began = stream_begins_in_vain (stream_of old) (stream_of new) call why (is_placed old stands) works own closes detaches (begins old new (Err why) began)
 
 -- one that refuses anything, but of a closed stream, lets no close through either

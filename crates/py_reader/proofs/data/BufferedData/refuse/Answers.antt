@@ -1,5 +1,5 @@
 use Rattle.std.proofs.Common.{Ok, Err, subst}
-use Rattle.py_stream.proofs.Lacking.{refuses_by_life, refuses_by_ability}
+use Rattle.py_stream.proofs.Alone.{refuses_by_life, refuses_by_ability}
 use Rattle.py_reader.specs.Engine.{stream_of}
 use Rattle.py_reader.proofs.Refusing.{placed}
 use Rattle.py_reader.proofs.Moving.{Stands, begins}

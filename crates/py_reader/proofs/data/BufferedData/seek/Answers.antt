@@ -1,7 +1,7 @@
 use Rattle.std.proofs.Common.{◌≡◌, ℤ, true, Ok, Err, refl, sym, ap, ◌∙◌, subst, subst₂, to_z-of_z}
 use Rattle.std.proofs.lemmas.Result.{err_from_is_err_and}
 use Rattle.py_flat.specs.Calls.{Seek}
-use Rattle.py_stream.proofs.Lacking.{begins_in_vain}
+use Rattle.py_stream.proofs.Alone.{begins_in_vain}
 use Rattle.py_reader.specs.Engine.{EngineView, stream_of}
 use Rattle.py_reader.specs.Moving.{TargetOutcome}
 use Rattle.py_reader.proofs.Moving.{Stands, begins, seek_begins, seek_finds_nothing, seek_finds, going_fails, going_answers}

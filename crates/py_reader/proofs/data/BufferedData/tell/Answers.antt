@@ -1,7 +1,7 @@
 use Rattle.std.proofs.Common.{Err, refl, subst}
 use Rattle.std.proofs.lemmas.Result.{err_from_is_err_and}
 use Rattle.py_flat.specs.Calls.{Tell}
-use Rattle.py_stream.proofs.Lacking.{begins_in_vain}
+use Rattle.py_stream.proofs.Alone.{begins_in_vain}
 use Rattle.py_reader.specs.Engine.{stream_of}
 use Rattle.py_reader.proofs.Refusing.{placed}
 use Rattle.py_reader.proofs.Moving.{Stands, begins}

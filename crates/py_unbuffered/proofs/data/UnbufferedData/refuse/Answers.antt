@@ -1,5 +1,5 @@
 use Rattle.std.proofs.Common.{Ok, Err, subst}
-use Rattle.py_stream.proofs.Lacking.{refuses_by_life, refuses_by_ability}
+use Rattle.py_stream.proofs.Alone.{refuses_by_life, refuses_by_ability}
 use Rattle.py_unbuffered.specs.Engine.{stream_of}
 use Rattle.py_unbuffered.proofs.Begun.{Stands, is_placed, begins}
 use Rattle.py_unbuffered.proofs.data.UnbufferedData.refuse.Goals as goal
