@@ -73,7 +73,7 @@ binary_passes false before call reply after is step is_in live all =
     }
 
 text_holds : (getter : Bool) (before : TextState) (call : Call) (reply : FileReply) (after : TextState) → AnswersTextBy getter before call reply after → IsInStep (TextSession before) → HoldsFlat (TextSession before) (TextSession after)
-text_holds getter before call reply after step is_in = record { none = refl; holds = λ tells. text_bytes getter before call reply after step (tells_its_bytes before.raw tells) ∙ sym (is_in tells) }
+text_holds getter before call reply after step is_in = record { none = refl; holds = λ tells. text_bytes getter before call reply after step tells ∙ sym (is_in tells) }
 
 pub step_passes : (before : SessionView) (call : Call) (reply : Reply) (after : SessionView) → Answers before call reply after → IsInStep before → life_of before ≡ life.Live → PassesAll (file_call call) (said reply) → HoldsFlat before after
 step_passes (TextSession before) call reply (TextSession after) step is_in live all = text_holds (is_getter (file_call call)) before call (said reply) after step is_in

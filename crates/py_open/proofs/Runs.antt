@@ -6,7 +6,7 @@ use Rattle.py_flat.specs.Limits.{greatest_count}
 use Rattle.py_flat.specs.Calls.{FileReply}
 use Rattle.py_flat.specs.Refusals.{is_getter}
 use Rattle.py_plain.specs.TextFile.{TextFile}
-use Rattle.py_raw.specs.RawStream.{Raw, Keeps, tells}
+use Rattle.py_raw.specs.RawStream.{Raw, Keeps, tells, AnswersFor}
 use Rattle.py_raw.proofs.Telling.{keeps_same, tells_still}
 use Rattle.py_raw.proofs.ReadingOn.{Keeps-then}
 use Rattle.py_stream.specs.Kinds.{says_fault}
@@ -21,7 +21,7 @@ use Rattle.py_open.specs.Session.{SessionFile, OfText, OfBinary, SessionView, Te
 use Rattle.py_open.specs.Opening.{OpensBy, OpensSession}
 use Rattle.py_open.specs.Run.{Entry, IsRun, IsHistory, IsCalm, IsSmooth, NoneLacksMemory, AllSettle, all_said, calls_of, replies_of}
 use Rattle.py_open.specs.Laws.{exact_by, exact_replies, exact_after, IsExact, HasHistory, RunsInTwo, RunsComplete, KeepsSettings, OnlyReads, IsInStep, closed_replies, StaysClosed}
-use Rattle.py_open.proofs.Steps.{step_keeps, step_told, step_settles, smooth_step, step_completes, step_in_step, step_reads, step_spares, step_shuts}
+use Rattle.py_open.proofs.Steps.{step_keeps, step_told, step_settles, smooth_step, step_completes, step_in_step, step_reads, step_spares, step_writes_none, step_shuts}
 use Rattle.py_open.proofs.Ending.{step_closed}
 
 pub one_reply_each : (before : SessionView) (calls : List Call) (replies : List Reply) (after : SessionView) → IsRun before calls replies after → length replies ≡ length calls
@@ -63,6 +63,14 @@ run_spares before (call ∷ calls) (reply ∷ replies) after run reads tells =
     ∙ step_spares before call reply run.0 run.1 reads tells
 run_spares before [] (reply ∷ replies) after run reads tells = absurd run
 run_spares before (call ∷ calls) [] after run reads tells = absurd run
+
+pub run_writes_none : (before : SessionView) (calls : List Call) (replies : List Reply) (after : SessionView) → IsRun before calls replies after → OnlyReads before → AnswersFor 0 (raw_of before) (raw_of after)
+run_writes_none before [] [] after run reads = subst (λ (view : SessionView). AnswersFor 0 (raw_of before) (raw_of view)) (sym run) (λ _. refl)
+run_writes_none before (call ∷ calls) (reply ∷ replies) after run reads = λ tells.
+    run_writes_none run.0 calls replies after run.2 (step_reads before call reply run.0 run.1 reads) ((step_keeps before call reply run.0 run.1).0.tells_transfers ∙ tells)
+    ∙ step_writes_none before call reply run.0 run.1 reads tells
+run_writes_none before [] (reply ∷ replies) after run reads = absurd run
+run_writes_none before (call ∷ calls) [] after run reads = absurd run
 
 pub run_shuts : (before : SessionView) (calls : List Call) (replies : List Reply) (after : SessionView) → IsRun before calls replies after → OnlyReads before → ClosedWith (life_of before) (raw_of before) → ClosedWith (life_of after) (raw_of after)
 run_shuts before [] [] after run reads shut = subst (λ (view : SessionView). ClosedWith (life_of view) (raw_of view)) (sym run) shut

@@ -19,7 +19,7 @@ use Rattle.py_plain.specs.TextFile.{TextFile}
 use Rattle.py_plain.specs.Rest.{Rest, text_rest}
 use Rattle.py_plain.specs.TextStep.{TextCall, Read, ReadLine, OtherKind, text_refusal, range_refusal, asks_past, asks_any, after_taking, after_text_read, answered_text, text_read, text_line, text_answered, ReadsTextPart, TextWaitedBy, TextSettled, TextStep}
 use Rattle.py_plain.specs.TextStep as plain
-use Rattle.py_raw.specs.RawStream.{Raw, Keeps, tells}
+use Rattle.py_raw.specs.RawStream.{Raw, Keeps, tells, AnswersFor}
 use Rattle.py_raw.proofs.Telling.{keeps_same, tells_its_bytes, tells_still}
 use Rattle.py_stream.specs.Stream.{Stream, file_of, nothing_owed}
 use Rattle.py_stream.specs.Kinds.{says_fault}
@@ -32,6 +32,7 @@ use Rattle.py_binary.specs.Binary.{left_by, left_of, AnswersCall, AnswersBy}
 use Rattle.py_open.specs.Session.{SessionFile, OfText, OfBinary, SessionView, TextSession, BinarySession, FileLeftBy, FileLeft, StepBy, SessionStep, SettlesBy, Settles, file_seen, raw_of, life_of, short_of, AnswersTextBy, Answers}
 use Rattle.py_open.specs.Run.{IsSmooth}
 use Rattle.py_open.specs.Laws.{CompletesBy, Completes, KeepsSettings, OnlyReads, IsInStep}
+use Rattle.py_stream.proofs.Closing.{closes_whole}
 
 -- What is left of a stream.
 
@@ -247,8 +248,8 @@ text_bytes false before call reply after step tells = step.answers.bytes tells
 text_in_step : (getter : Bool) (before : TextState) (call : Call) (reply : FileReply) (after : TextState) → AnswersTextBy getter before call reply after → IsInStep (TextSession before) → IsInStep (TextSession after)
 text_in_step true before call reply after step is = subst (λ (t : TextState). IsInStep (TextSession t)) (sym step.same) is
 text_in_step false before call reply after step is = λ now.
-    let told : IsTrue (tells before.raw) = sym (tells_still before.raw after.raw step.answers.keeps) ∙ now in
-    kept_bytes before.file (text_call call) reply after.short (says_fault reply) after.file (step.answers.told told) ∙ is told ∙ sym (step.answers.bytes (tells_its_bytes before.raw told))
+    let told : IsTrue before.raw.tells_bytes = sym step.answers.keeps.tells_bytes ∙ now in
+    step.answers.flat told ∙ is told ∙ sym (step.answers.bytes told)
 
 -- what a stream that doesn't write, or has no buffer, leaves owed
 owes_none : (before : Stream) (call : FileCall) (reply : FileReply) (after : Stream) → (step : AnswersCall before call reply after) → IsInStep (BinarySession before) → (after.can.writable ≡ false) ⊎ (after.buffer ≡ None) → step.answered.owed ≡ nothing_owed step.answered.place
@@ -292,6 +293,22 @@ step_spares (BinarySession before) call reply (BinarySession after) step reads t
 step_spares (TextSession before) call reply (BinarySession after) step reads tells = absurd step
 step_spares (BinarySession before) call reply (TextSession after) step reads tells = absurd step
 
+binary_writes_none : (getter : Bool) (before : Stream) (call : FileCall) (reply : FileReply) (after : Stream) → AnswersBy getter before call reply after → OnlyReads (BinarySession before) → AnswersFor 0 before.raw after.raw
+binary_writes_none true before call reply after step reads = subst (λ (s : Stream). AnswersFor 0 before.raw s.raw) (sym step.same) (λ _. refl)
+binary_writes_none false before call reply after step reads =
+    let a : Stream = step.answered in
+    subst (λ (s : Stream). AnswersFor 0 before.raw s.raw) (sym step.leaves) (subst (AnswersFor 0 before.raw) (sym (left_raw a.life a)) (step.answers.spares reads.0 reads.1).written)
+
+text_writes_none : (getter : Bool) (before : TextState) (call : Call) (reply : FileReply) (after : TextState) → AnswersTextBy getter before call reply after → AnswersFor 0 before.raw after.raw
+text_writes_none true before call reply after step = subst (λ (t : TextState). AnswersFor 0 before.raw t.raw) (sym step.same) (λ _. refl)
+text_writes_none false before call reply after step = step.answers.written
+
+pub step_writes_none : (before : SessionView) (call : Call) (reply : Reply) (after : SessionView) → Answers before call reply after → OnlyReads before → AnswersFor 0 (raw_of before) (raw_of after)
+step_writes_none (TextSession before) call reply (TextSession after) step reads = text_writes_none (is_getter (file_call call)) before call (said reply) after step
+step_writes_none (BinarySession before) call reply (BinarySession after) step reads = binary_writes_none (is_getter (file_call call)) before (file_call call) (said reply) after step reads
+step_writes_none (TextSession before) call reply (BinarySession after) step reads = absurd step
+step_writes_none (BinarySession before) call reply (TextSession after) step reads = absurd step
+
 -- a raw that is closed with its session
 text_shuts : (getter : Bool) (before : TextState) (call : Call) (reply : FileReply) (after : TextState) → AnswersTextBy getter before call reply after → ClosedWith before.file.life before.raw → ClosedWith after.file.life after.raw
 text_shuts true before call reply after step shut = subst (λ (t : TextState). ClosedWith t.file.life t.raw) (sym step.same) shut
@@ -302,7 +319,7 @@ binary_shuts true before call reply after step reads shut = subst (λ (s : Strea
 binary_shuts false before call reply after step reads shut =
     let a : Stream = step.answered in
     let none : a.owed.bytes ≡ [] = ap (λ (owed : Owed). owed.bytes) (step.answers.spares reads.0 reads.1).owed in
-    let closed : ClosedWith a.life a.raw = step.answers.shut none shut in
+    let closed : ClosedWith a.life a.raw = step.answers.shut (closes_whole before call reply reads.0) none shut in
     subst (λ (s : Stream). ClosedWith s.life s.raw) (sym step.leaves)
     (subst (λ (raw : Raw). ClosedWith (left_of a).life raw) (sym (left_raw a.life a)) (subst (λ (current : Life). ClosedWith current a.raw) (sym (left_life a.life a refl)) closed))
 

@@ -6,7 +6,7 @@ use Rattle.py_flat.specs.Refusals.{is_getter}
 use Rattle.py_plain.specs.TextFile.{TextFile}
 use Rattle.py_plain.specs.TextStep.{TextCall, text_refusal, text_exact}
 use Rattle.py_plain.specs.TextStep as plain
-use Rattle.py_raw.specs.RawStream.{WhereTold}
+use Rattle.py_raw.specs.RawStream.{WhereTold, WhereBytes}
 use Rattle.py_stream.specs.Stream.{nothing_owed}
 use Rattle.py_stream.specs.Answers as stream
 use Rattle.py_calls.specs.declared.call.Call.{Call}
@@ -90,7 +90,7 @@ OnlyReads (BinarySession stream) = (stream.can.writable ≡ false) × (stream.ow
 -- a session is in step with its raw, as every session is from its opening on: the bytes of a text's flat file are the raw's,
 -- where that tells them; and a stream that doesn't write, or has no buffer, owes nothing
 abbrev pub IsInStep : SessionView → Type 0
-IsInStep (TextSession text) = WhereTold text.raw (text.file.bytes ≡ text.raw.bytes)
+IsInStep (TextSession text) = WhereBytes text.raw (text.file.bytes ≡ text.raw.bytes)
 IsInStep (BinarySession stream) = (stream.can.writable ≡ false) ⊎ (stream.buffer ≡ None) → stream.owed ≡ nothing_owed stream.place
 
 -- What is passed on.
@@ -102,10 +102,16 @@ PassesAll Close Done = Unit {0}
 PassesAll Detach (Unwritten bytes place) = Unit {0}
 PassesAll call reply = ⊥
 
--- nothing is owed any more; told, the raw holds the flat bytes of the session that the call came to
+-- where the raw tells what it takes to know what it holds: of a text, which writes nothing, its bytes; of a stream of bytes its place
+-- too
+abbrev pub WhereShown : SessionView → Type 0 → Type 0
+WhereShown (TextSession text) Fact = WhereBytes text.raw Fact
+WhereShown (BinarySession stream) Fact = WhereTold stream.raw Fact
+
+-- nothing is owed any more; where it shows, the raw holds the flat bytes of the session that the call came to
 pub record HoldsFlat (before after : SessionView) : Type 0 where
   pub none : owed_of after ≡ []
-  pub holds : WhereTold (raw_of before) ((raw_of after).bytes ≡ flat_bytes before)
+  pub holds : WhereShown before ((raw_of after).bytes ≡ flat_bytes before)
 
 -- Closed sessions.
 

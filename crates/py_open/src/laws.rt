@@ -5,7 +5,7 @@ ghost use Rattle.std.specs.Prelude.{◌≡◌, ◌≢◌, ℕ, ◌≤◌, IsTrue
 ghost use Rattle.py_flat.specs.declared.life.Life.TheVariants as life;
 ghost use Rattle.py_flat.specs.Calls.{FileReply};
 ghost use Rattle.py_plain.specs.TextFile.{TextFile};
-ghost use Rattle.py_raw.specs.RawStream.{Raw, Keeps, tells};
+ghost use Rattle.py_raw.specs.RawStream.{Raw, Keeps, AnswersFor, tells};
 ghost use Rattle.py_stream.specs.Answers.{ClosedWith};
 ghost use Rattle.py_calls.specs.declared.call.Call.{Call};
 ghost use Rattle.py_calls.specs.declared.reply.Reply.{Reply};
@@ -70,13 +70,15 @@ pub fn a_run_keeps_the_settings()
     ensures session { (before : SessionView) (calls : List Call) (replies : List Reply) (after : SessionView) → IsRun before calls replies after → KeepsSettings before after }
 {}
 
-/// A session that only reads leaves the raw's bytes, where it tells them, as they were.
+/// A session that only reads leaves the raw's bytes, where it tells them, as they were; and where it tells its transfers, as files do,
+/// its writes answered for no byte.
 pub fn a_session_that_reads_spares_the_bytes()
-    ensures { (before : SessionView) (calls : List Call) (replies : List Reply) (after : SessionView) → IsRun before calls replies after → OnlyReads before → IsTrue (raw_of before).tells_bytes → (raw_of after).bytes ≡ (raw_of before).bytes }
+    ensures written { (before : SessionView) (calls : List Call) (replies : List Reply) (after : SessionView) → IsRun before calls replies after → OnlyReads before → AnswersFor 0 (raw_of before) (raw_of after) }
+    ensures bytes { (before : SessionView) (calls : List Call) (replies : List Reply) (after : SessionView) → IsRun before calls replies after → OnlyReads before → IsTrue (raw_of before).tells_bytes → (raw_of after).bytes ≡ (raw_of before).bytes }
 {}
 
 /// What is passed on is in the raw: after a `flush`, a `close` or a `detach` of a live session that was done nothing is owed, and the
-/// raw holds the flat bytes of the session that the call came to.
+/// raw holds the flat bytes of the session that the call came to, of a text also where it tells its bytes alone.
 ///
 /// For this the session is in step with its raw: a text has the raw's bytes, and only a stream that writes through a buffer owes
 /// anything. So it is where a session opens, and over every run.

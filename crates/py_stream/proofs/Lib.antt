@@ -6,6 +6,7 @@ pub mod Alone
 pub mod Accepting
 pub mod Stopping
 pub mod Completing
+pub mod Closing
 pub mod Begun
 pub mod Returning
 pub mod Joined

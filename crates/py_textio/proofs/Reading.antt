@@ -1,6 +1,5 @@
 -- What the buffered reader's clause says of the bytes under a text.
-use Rattle.std.proofs.Common.{◌≡◌, ◌≢◌, ℕ, zero, suc, ◌+◌, ◌<◌, ◌≤◌, Bool, true, false, ◌&&◌, IsTrue, List, [], ◌∷◌, ◌++◌, length, take, drop, Option, Some, None, unwrap_or, is_some, not, Result, Ok, Err, Vec, sym, ap, ◌∙◌, subst, refl, arith}
-use Rattle.std.proofs.Math.Bool.{and-false}
+use Rattle.std.proofs.Common.{◌≡◌, ◌≢◌, ℕ, zero, suc, ◌+◌, ◌<◌, ◌≤◌, Bool, true, false, ◌&&◌, IsTrue, List, [], ◌∷◌, ◌++◌, length, take, drop, Option, Some, None, unwrap_or, not, Result, Ok, Err, Vec, sym, ap, ◌∙◌, subst, refl, arith}
 use Rattle.std.proofs.lemmas.List.{append_assoc, take-append-drop, length-drop}
 use Rattle.std.specs.declared.alloc.Global.{Global}
 use Rattle.py_flat.specs.declared.fault.IoFault.{IoFault}
@@ -18,9 +17,10 @@ use Rattle.py_flat.specs.AllowedStep.{settled, waited_for, raw_faulted, out_of_m
 use Rattle.py_flat.specs.BinaryStep.{Transfers, BinaryStep, CarriedOut, SettledBy, if_over_raw}
 use Rattle.py_stream.specs.Stream.{Stream, size_of, buffering_of, file_of, nothing_owed}
 use Rattle.py_stream.specs.Kinds.{goes_on, waits_unready}
-use Rattle.py_stream.specs.Answers.{Answers, Leaves, StarvesTo, PlaceStarves, parts_at_close, refused_by}
+use Rattle.py_stream.specs.Answers.{Answers, Leaves, StarvesTo, PlaceStarves, refused_by}
 use Rattle.py_stream.specs.Replies.{bytes_reply, done_reply}
 use Rattle.py_textio.specs.Reader.{ReaderView, IsReader, KeepsReader, GivesTold, ReadFails, ChunkReadOutcome, ClosesRaw, ClosesIn, CloseOutcome}
+use Rattle.py_stream.proofs.Closing.{closes_whole}
 
 -- a reader with the place that is counted beside it, as the text sees it
 abbrev pub seen_at : Stream → ℕ → ReaderView
@@ -135,14 +135,6 @@ pub reads_chunk : (old new : Stream) (place size : ℕ) (result : Result (Option
 reads_chunk old new place size result is answers = reads_in old new place size result old.life refl is answers
 
 -- What every call keeps.
-
--- a close of a stream that doesn't write has its raw closed too, whatever it answers
-closes_whole : (reader : Stream) (call : FileCall) (reply : FileReply) → reader.can.writable ≡ false → parts_at_close reader call reply ≡ false
-closes_whole reader Close (Refused fault.RawFault) writes =
-    ap (λ (can : Bool). is_some reader.buffer && (reader.can.readable && can)) writes
-    ∙ (ap (λ (both : Bool). is_some reader.buffer && both) (and-false reader.can.readable)
-    ∙ and-false (is_some reader.buffer))
-closes_whole reader call reply writes = refl
 
 pub keeps_reader : (old new : Stream) (call : FileCall) (reply : FileReply) (before after : ℕ) → IsReader old before → Answers old call reply new → KeepsReader (seen_at old before) (seen_at new after)
 keeps_reader old new call reply before after is answers = record {
