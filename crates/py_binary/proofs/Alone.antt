@@ -1,27 +1,20 @@
 -- Calls that a stream refuses by itself: those that it lacks, and those that its life doesn't let through.
 use Rattle.std.proofs.Common.{◌≡◌, ◌≢◌, ℕ, ℤ, Bool, true, false, not, ◌&&◌, ◌||◌, List, Option, None, inl, inr, refl, ap, ◌∙◌}
 use Rattle.std.proofs.Math.Bool.{or-true}
-use Rattle.py_flat.specs.declared.life.Life.{Life}
 use Rattle.py_flat.specs.declared.life.Life.TheVariants as life
 use Rattle.py_flat.specs.Calls.{FileCall, Detach}
-use Rattle.py_flat.specs.FlatFile.{Buffering}
-use Rattle.py_flat.specs.Refusals.{is_getter, is_other_getter, is_close, is_detach, is_unbuffered, is_buffered, lets_through}
+use Rattle.py_flat.specs.Refusals.{is_getter, is_other_getter, is_close, is_detach, is_unbuffered, is_buffered}
 use Rattle.py_stream.specs.Stream.{Stream, buffering_of}
 use Rattle.py_stream.specs.Answers.{RefusesAlone}
+use Rattle.py_stream.proofs.Alone.{stopped}
 use Rattle.py_calls.specs.declared.call.Call.{Call}
 use Rattle.py_calls.specs.declared.call.Call.TheVariants as call
 use Rattle.py_calls.specs.Calls.{file_call}
 
 -- By the life.
 
-stopped : (current : Life) (buffering : Buffering) (call : FileCall) → current ≢ life.Live → is_close call ≡ false → is_detach call ≡ false → lets_through current buffering call ≡ false
-stopped life.Live buffering call dead close detach = absurd (dead refl)
-stopped life.Failed buffering call dead close detach = ap (λ (detaching : Bool). detaching && is_buffered buffering) detach
-stopped life.Closed buffering call dead close detach = close
-stopped life.Detached buffering call dead close detach = refl
-
 pub refuses_dead : (stream : Stream) (call : FileCall) → is_getter call ≡ false → is_other_getter call ≡ false → is_close call ≡ false → is_detach call ≡ false → stream.life ≢ life.Live → RefusesAlone stream call
-refuses_dead stream call asks known close detach dead = (asks, known, inl (stopped stream.life (buffering_of stream.buffer) call dead close detach))
+refuses_dead stream call asks known close detach dead = (asks, known, inl (stopped stream.life (buffering_of stream.buffer) call dead close (ap (λ (detaching : Bool). detaching && is_buffered (buffering_of stream.buffer)) detach)))
 
 -- By what the stream lacks.
 

@@ -7,6 +7,7 @@ use Rattle.py_stream.specs.Stream.{Stream}
 use Rattle.py_stream.specs.Kinds.{has_room}
 use Rattle.py_stream.specs.Answers.{AnswersWith, Answers}
 use Rattle.py_stream.specs.Replies.{into_reply}
+use Rattle.py_stream.proofs.Begun.{answers_with}
 use Rattle.py_binary.specs.Binary.{has_reply_room}
 
 -- a call for which the reply has its room has it for itself
@@ -17,33 +18,7 @@ has_own_room Peek room = absurd (cc)
 has_own_room call room = room
 
 pub with_reply_room : (old : Stream) (call : FileCall) (reply : FileReply) (new : Stream) → Answers old call reply new → AnswersWith has_reply_room old call reply new
-with_reply_room old call reply new a = record {
-  keeps = a.keeps;
-  refused = a.refused;
-  again = a.again;
-  shut = a.shut;
-  causes = a.causes;
-  counted = a.counted;
-  shorts = a.shorts;
-  moves = a.moves;
-  ends = a.ends;
-  wants = λ wants room. a.wants wants (has_own_room call room);
-  starves = a.starves;
-  first = a.first;
-  nothing = a.nothing;
-  idle = a.idle;
-  single = a.single;
-  held = a.held;
-  spares = a.spares;
-  writes = a.writes;
-  answer = a.answer;
-  at_once = a.at_once;
-  complete = a.complete;
-  told = a.told;
-  reach = a.reach;
-  near = a.near;
-  hides = a.hides;
-}
+with_reply_room old call reply new answers = answers_with has_room has_reply_room old new call reply (has_own_room call) answers
 
 -- the same of a reply that says it
 pub with_said : (old : Stream) (call : FileCall) (reply said : FileReply) (new : Stream) → said ≡ reply → Answers old call reply new → AnswersWith has_reply_room old call said new

@@ -1,5 +1,5 @@
 //! The binary session.
-ghost use Rattle.std.specs.Prelude.{◌≡◌, ◌≢◌, Some, None, false};
+ghost use Rattle.std.specs.Prelude.{◌≡◌, ◌≢◌, Some, None, false, IsTrue, IfErr};
 ghost use Rattle.py_flat.specs.Calls.{Detach, Refused};
 ghost use Rattle.py_flat.specs.Refusals.{is_getter};
 ghost use Rattle.py_stream.specs.Handing.{PartsOutcome};
@@ -54,7 +54,7 @@ impl<R: RawStream> BinarySession<R> {
     ///
     /// Refused, the raw is handed back with nothing read or written: `Closed` where it is closed, then `Unsupported` where it
     /// can't do what it is opened for, `BadArgument` for a buffer of no bytes, `NoMemory`, and `RawFault` where it failed to say
-    /// where it stands or ends, or to move there.
+    /// where it stands or ends, or to move there. Without a buffer `NoMemory` comes only of a raw that takes some.
     pub fn new(
         alloc: Global,
         raw: R,
@@ -62,7 +62,8 @@ impl<R: RawStream> BinarySession<R> {
         buffer_size: Option<usize>,
     ) -> Result<Self, NewRefused<R>>
         requires start { StandsAtStart (R.shows raw) }
-        ensures { NewOutcome R.shows (is_able access) (can_of access) raw buffer_size result }
+        ensures outcome { NewOutcome R.shows (is_able access) (can_of access) raw buffer_size result }
+        ensures memory { buffer_size ≡ None → IfErr result (λ refused. refused.fault ≡ IoFault.NoMemory → IsTrue (R.shows raw).takes_memory) }
     {
         match buffer_size {
             Some(size) => BinarySession::buffered(alloc, raw, access, size),

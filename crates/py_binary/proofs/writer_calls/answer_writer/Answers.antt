@@ -1,9 +1,15 @@
 use Rattle.std.proofs.Common.{rules}
-use Rattle.py_stream.specs.Replies.{place_reply}
+use Rattle.py_stream.specs.Replies.{count_reply, place_reply, done_reply}
 use Rattle.py_calls.specs.Calls.{file_call}
 use Rattle.py_binary.proofs.Answering.{with_said, with_reply_room}
 use Rattle.py_binary.proofs.Alone.{writer_refuses}
 use Rattle.py_binary.proofs.writer_calls.answer_writer.Goals as goal
+
+pub returns-in-Write : goal.returns-in-Write
+returns-in-Write g c = rw c.in-Write.is (with_said _ _ (count_reply c.write.result) _ _ c.count_reply.ensures (rw c.as_slice.ensures at c.write.ensures))
+
+pub returns-in-WriteLines : goal.returns-in-WriteLines
+returns-in-WriteLines g c = rw c.in-WriteLines.is (with_said _ _ (done_reply c.writelines.result) _ _ c.done_reply.ensures c.writelines.ensures)
 
 pub returns-in-Seek : goal.returns-in-Seek
 returns-in-Seek g c = rw c.in-Seek.is (with_said _ _ (place_reply c.seek.result) _ _ c.place_reply.ensures (search rules))
