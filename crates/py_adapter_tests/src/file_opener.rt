@@ -125,7 +125,7 @@ fn the_last_error_is_what_the_system_said_of_a_path(rt: HostRuntime) -> Result<(
 /// nobody may write.
 fn only_read<'a>(rt: &impl Files, made: &'a str) -> &'a str {
     match OpenOptions::new().append(true).open(rt, made) {
-        Ok(_) => "/sys/kernel/uevent_seqnum",
+        Ok(_) => "/sys/kernel/fscaps",
         Err(_) => made,
     }
 }

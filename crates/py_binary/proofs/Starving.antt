@@ -70,6 +70,6 @@ starved_into stream size is live reads = record {
   complete = λ accepted calm sound. (tt, refl);
   told = λ tells. out_of_memory refl (reaches stream size live reads, inl refl);
   reach = λ reading tells. omega arith;
-  near = λ lives. let near : IsNear stream = is.near lives in record { after_first = near.after_first; before_end = near.before_end; fits = near.fits; ahead = near.ahead; behind = near.behind; stands = near.stands };
+  near = λ lives. let near : IsNear stream = is.near lives in record { after_first = near.after_first; before_end = near.before_end; fits = near.fits; read_ahead = near.read_ahead; ahead = near.ahead; behind = near.behind; stands = near.stands };
   hides = λ short. absurd (cc);
 }

@@ -8,7 +8,7 @@ use Rattle.py_raw.specs.RawStream.{WhereTold}
 use Rattle.py_stream.specs.Stream.{Stream, file_of}
 use Rattle.py_stream.specs.Answers.{Answers}
 
--- where both raws tell their bytes: that of the writer holds all that was written to it, and at its place all that the reader had left
+-- where both raws tell their bytes and their places: that of the writer holds all that was written to it, and at its place all that the reader had left
 abbrev pub Copied : Stream → Stream → Stream → Type 0
 Copied reader writer after = WhereTold reader.raw (WhereTold writer.raw (after.raw.bytes ≡ lay (file_of writer).bytes writer.place (rest (file_of reader))))
 

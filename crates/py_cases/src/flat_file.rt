@@ -148,7 +148,7 @@ impl Flat {
         matches!(call, Call::Write(_)) && !self.buffered
     }
 
-    /// The same of the answers to writing calls, and of those that say no more than that all was done.
+    /// Compares the answers to writing calls, and those that say no more than that all was done.
     fn writes(
         &mut self,
         alloc: Global,

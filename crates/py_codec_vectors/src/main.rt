@@ -40,7 +40,7 @@ fn compare_table(rt: &HostRuntime, what: &str, table: Table, path: &str) -> io::
 fn compare_rows(rt: &HostRuntime, path: &str) -> io::Result<()> {
     let bytes = fs::read(rt, path)?;
     let Ok(table) = str::from_utf8(&bytes) else {
-        return rt.println("the rows are out of form: no UTF-8");
+        return rt.println("the rows are malformed: no UTF-8");
     };
     let (tallies, out_of_form) = rows::compare(rt.alloc(), table)?;
     print(rt, "decode rows", &tallies.decodings)?;
@@ -48,7 +48,7 @@ fn compare_rows(rt: &HostRuntime, path: &str) -> io::Result<()> {
     print(rt, "pieces rows", &tallies.pieces)?;
     print(rt, "cuts", &tallies.cuts)?;
     match &out_of_form {
-        Some(place) => println!(rt; "out of form, and the end of the rows: {place}"),
+        Some(place) => println!(rt; "malformed, and the end of the rows: {place}"),
         None => Ok(()),
     }
 }

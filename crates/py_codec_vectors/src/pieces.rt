@@ -22,7 +22,7 @@ fn read_call(alloc: Global, words: &[&str]) -> Result<Call, Unread> {
         ["getstate"] => Ok(Call::GetState),
         ["setstate"] => Ok(Call::SetState),
         ["reset"] => Ok(Call::Reset),
-        _ => Err(Unread::OutOfForm),
+        _ => Err(Unread::Malformed),
     }
 }
 
@@ -31,7 +31,7 @@ fn read_answer(alloc: Global, words: &[&str]) -> Result<Result<Vec<u8>, Refusal>
     match words {
         [output] => Ok(Ok(bytes(alloc, output)?)),
         ["refused", start, end] => Ok(Err(refusal(start, end)?)),
-        _ => Err(Unread::OutOfForm),
+        _ => Err(Unread::Malformed),
     }
 }
 
@@ -72,7 +72,7 @@ fn step_agrees(
     step: &str,
 ) -> Result<bool, Unread> {
     let Some((front, behind)) = step.split_once("->") else {
-        return Err(Unread::OutOfForm);
+        return Err(Unread::Malformed);
     };
     let front: Vec<&str> = front.split_whitespace().collect(alloc)?;
     let behind: Vec<&str> = behind.split_whitespace().collect(alloc)?;
@@ -93,7 +93,7 @@ pub(crate) fn try_steps(
     tally: &mut Tally,
 ) -> Result<(), Unread> {
     if !codec.handler.reads_texts() {
-        return Err(Unread::OutOfForm);
+        return Err(Unread::Malformed);
     }
     let mut decoder = IncrementalDecoder::new(codec.encoding, codec.handler);
     let Ok(mut kept) = decoder.getstate(alloc) else {

@@ -15,7 +15,7 @@ impl<'a> Records<'a> {
 
     fn byte(&mut self) -> Result<u8, Unread> {
         let [byte, left @ ..] = self.left else {
-            return Err(Unread::OutOfForm);
+            return Err(Unread::Malformed);
         };
         self.left = left;
         Ok(*byte)
@@ -29,7 +29,7 @@ impl<'a> Records<'a> {
                 self.left = left;
                 Ok(counted)
             }
-            None => Err(Unread::OutOfForm),
+            None => Err(Unread::Malformed),
         }
     }
 
@@ -40,7 +40,7 @@ impl<'a> Records<'a> {
             2 => Ok(Encoding::Ascii),
             3 => Ok(Encoding::Utf16Le),
             4 => Ok(Encoding::Utf16Be),
-            _ => Err(Unread::OutOfForm),
+            _ => Err(Unread::Malformed),
         }
     }
 

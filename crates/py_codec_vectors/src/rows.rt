@@ -36,7 +36,7 @@ impl Answer {
                 used: usize::MAX,
                 refusal: Some(refusal(start, end)?),
             }),
-            _ => Err(Unread::OutOfForm),
+            _ => Err(Unread::Malformed),
         }
     }
 
@@ -60,10 +60,10 @@ fn try_decoding(
         ["final", words @ ..] => (true, 0, words),
         ["more", words @ ..] => (false, 0, words),
         ["from", from, words @ ..] => (true, number(from)? as usize, words),
-        _ => return Err(Unread::OutOfForm),
+        _ => return Err(Unread::Malformed),
     };
     let [input, "->", answer @ ..] = words else {
-        return Err(Unread::OutOfForm);
+        return Err(Unread::Malformed);
     };
     let input = bytes(alloc, input)?;
     let answer = Answer::read(alloc, answer)?;
@@ -102,10 +102,10 @@ fn try_encoding(
     tally: &mut Tally,
 ) -> Result<(), Unread> {
     let [text, "->", answer @ ..] = words else {
-        return Err(Unread::OutOfForm);
+        return Err(Unread::Malformed);
     };
     let Ok(text) = String::from_utf8(bytes(alloc, text)?) else {
-        return Err(Unread::OutOfForm);
+        return Err(Unread::Malformed);
     };
     let answer = Answer::read(alloc, answer)?;
     let expected = answer.expected();
@@ -120,11 +120,11 @@ fn try_encoding(
 fn try_row(alloc: Global, line: &str, place: &str, tallies: &mut Tallies) -> Result<(), Unread> {
     let parts: Vec<&str> = line.split('|').collect(alloc)?;
     let [head, steps @ ..] = parts.as_slice() else {
-        return Err(Unread::OutOfForm);
+        return Err(Unread::Malformed);
     };
     let words: Vec<&str> = head.split_whitespace().collect(alloc)?;
     let [kind, encoding_name, handler_name, words @ ..] = words.as_slice() else {
-        return Err(Unread::OutOfForm);
+        return Err(Unread::Malformed);
     };
     let codec = Codec {
         encoding: encoding(encoding_name)?,
@@ -144,7 +144,7 @@ fn try_row(alloc: Global, line: &str, place: &str, tallies: &mut Tallies) -> Res
             pieces::try_steps(alloc, codec, steps, &mut tallies.pieces)?;
             Ok(tallies.pieces.place(alloc, place)?)
         }
-        _ => Err(Unread::OutOfForm),
+        _ => Err(Unread::Malformed),
     }
 }
 
@@ -166,7 +166,7 @@ pub(crate) fn compare(alloc: Global, table: &str) -> Result<(Tallies, Option<Str
         let place = format!(in alloc; "line {number}: {line}")?;
         match try_row(alloc, line, &place, &mut tallies) {
             Ok(()) => {}
-            Err(Unread::OutOfForm) => return Ok((tallies, Some(place))),
+            Err(Unread::Malformed) => return Ok((tallies, Some(place))),
             Err(Unread::NoMemory) => return Err(AllocError),
         }
     }

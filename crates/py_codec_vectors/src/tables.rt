@@ -117,7 +117,7 @@ fn try_encoding(
 ) -> Result<(), Unread> {
     let encoding = records.encoding()?;
     let Ok(text) = str::from_utf8(records.counted()?) else {
-        return Err(Unread::OutOfForm);
+        return Err(Unread::Malformed);
     };
     let count = text.chars().count();
     let strict = records.answer(count)?;
@@ -157,7 +157,7 @@ pub(crate) fn compare(alloc: Global, table: Table, bytes: &[u8]) -> Result<Tally
         };
         match tried {
             Ok(()) => tally.place_record(alloc, index)?,
-            Err(Unread::OutOfForm) => return Ok(tally),
+            Err(Unread::Malformed) => return Ok(tally),
             Err(Unread::NoMemory) => return Err(AllocError),
         }
     }

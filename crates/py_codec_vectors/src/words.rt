@@ -6,7 +6,7 @@ use std::alloc::{AllocError, Global};
 /// Why a line gives no row.
 #[derive(Clone, Copy)]
 pub(crate) enum Unread {
-    OutOfForm,
+    Malformed,
     NoMemory,
 }
 
@@ -24,7 +24,7 @@ pub(crate) fn encoding(word: &str) -> Result<Encoding, Unread> {
         "ascii" => Ok(Encoding::Ascii),
         "utf-16-le" => Ok(Encoding::Utf16Le),
         "utf-16-be" => Ok(Encoding::Utf16Be),
-        _ => Err(Unread::OutOfForm),
+        _ => Err(Unread::Malformed),
     }
 }
 
@@ -38,7 +38,7 @@ pub(crate) fn handler(word: &str) -> Result<Handler, Unread> {
         "backslashreplace" => Ok(Handler::BackslashReplace),
         "surrogatepass" => Ok(Handler::SurrogatePass),
         "surrogateescape" => Ok(Handler::SurrogateEscape),
-        _ => Err(Unread::OutOfForm),
+        _ => Err(Unread::Malformed),
     }
 }
 
@@ -46,7 +46,7 @@ pub(crate) fn handler(word: &str) -> Result<Handler, Unread> {
 pub(crate) fn number(word: &str) -> Result<u64, Unread> {
     match word.parse() {
         Ok(number) => Ok(number),
-        Err(_) => Err(Unread::OutOfForm),
+        Err(_) => Err(Unread::Malformed),
     }
 }
 
@@ -66,6 +66,6 @@ pub(crate) fn bytes(alloc: Global, word: &str) -> Result<Vec<u8>, Unread> {
     match hex::decode(alloc, word.as_bytes()) {
         Ok(bytes) => Ok(bytes),
         Err(FromHexError::OutOfMemory) => Err(Unread::NoMemory),
-        Err(_) => Err(Unread::OutOfForm),
+        Err(_) => Err(Unread::Malformed),
     }
 }

@@ -19,7 +19,7 @@ fn first_line(
     reader.readline(alloc, None)
 }
 
-/// The same for a program that prints, too.
+/// Prints the first line of what a path holds; a refusal is an `io::Error`, as one of printing is.
 fn print_first_line(rt: &HostRuntime, opener: &mut MemOpener, path: &str) -> io::Result<()> {
     let alloc = rt.alloc();
     let raw = opener.open_raw(alloc, path, "rb")?;

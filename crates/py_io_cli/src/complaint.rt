@@ -46,6 +46,10 @@ fn words_complaint(alloc: Global, words: &[String]) -> Result<String, AllocError
             "the words are malformed: run PATH MODE [OPTION ..], or --help",
         );
     }
+    if matches!(words[0].as_str(), "--help" | "--version") {
+        let word = &words[0];
+        return format!(in alloc; "{word} stands alone");
+    }
     for count in 3..=words.len() {
         let front = words.get(..count).unwrap_or(words);
         if let (None, Some(word)) = (parse_words(alloc, front)?, front.last()) {
@@ -56,8 +60,12 @@ fn words_complaint(alloc: Global, words: &[String]) -> Result<String, AllocError
     String::from_str(alloc, "a word is not UTF-8")
 }
 
-/// Which line of a script is malformed, from 1 on.
+/// Why a script is malformed: it is too long, and was read no further then, so that its last line is cut; or which of its lines is,
+/// from 1 on.
 fn script_complaint(alloc: Global, script: &[u8]) -> Result<String, AllocError> {
+    if script.len() > 1_048_576 {
+        return String::from_str(alloc, "the script has more than 1048576 bytes");
+    }
     for (index, line) in script.split(|byte| *byte == b'\n').enumerate() {
         let is_skipped = line.is_empty() || line.starts_with(b"#");
         if !is_skipped && parse_line(alloc, line)?.is_none() {
@@ -65,5 +73,5 @@ fn script_complaint(alloc: Global, script: &[u8]) -> Result<String, AllocError> 
             return format!(in alloc; "line {number} of the script is malformed");
         }
     }
-    String::from_str(alloc, "the script has more than 1048576 bytes")
+    String::from_str(alloc, "the script is malformed") // a piece of it for which there was no memory isn't among what was seen
 }

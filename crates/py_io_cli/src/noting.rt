@@ -11,7 +11,7 @@ pub struct Noting<S> {
 }
 
 impl<S> Noting<S> {
-    /// The same source, of which nothing was read.
+    /// A source of which nothing was read so far.
     pub fn new(alloc: Global, source: S) -> Self {
         Noting {
             source,

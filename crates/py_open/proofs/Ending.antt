@@ -23,7 +23,7 @@ use Rattle.py_textio.specs.TextState.{TextState}
 use Rattle.py_textio.specs.Answers as text
 use Rattle.py_binary.specs.Binary.{has_reply_room, left_by, left_of, AnswersBy}
 use Rattle.py_open.specs.Session.{OfText, OfBinary, SessionView, TextSession, BinarySession, file_seen, raw_of, life_of, AnswersTextBy, Answers}
-use Rattle.py_open.specs.Laws.{IsInStep, PassesAll, HoldsFlat, closed_text_reply, closed_file_reply, closed_by, closed_reply}
+use Rattle.py_open.specs.Laws.{IsInStep, PassesAll, HoldsFlat, closed_text_reply, closed_file_reply, closed_by, closed_reply, WhereShown}
 use Rattle.py_open.proofs.Steps.{left_raw, left_none, text_bytes}
 
 -- What is passed on.
@@ -147,3 +147,8 @@ step_closed (BinarySession before) call reply (BinarySession after) closed step 
     record { says = left.0; file = ap (λ (s : Stream). OfBinary (file_of s)) left.1; raw = ap (λ (s : Stream). s.raw) left.1; life_is = ap (λ (s : Stream). s.life) left.1 }
 step_closed (TextSession before) call reply (BinarySession after) closed step = absurd step
 step_closed (BinarySession before) call reply (TextSession after) closed step = absurd step
+
+-- what shows of a session's raw shows where it tells its bytes and its place
+pub shown_where_told : (before : SessionView) (Fact : Type 0) → WhereShown before Fact → WhereTold (raw_of before) Fact
+shown_where_told (TextSession text) Fact shown tells = shown (tells_its_bytes text.raw tells)
+shown_where_told (BinarySession stream) Fact shown tells = shown tells

@@ -46,7 +46,7 @@ abbrev pub IsMarkedRun : SessionView → List Entry → SessionView → Type 0
 IsMarkedRun before [] after = after ≡ before
 IsMarkedRun before (entry ∷ entries) after = (mid : SessionView) × Answers before entry.call entry.reply mid × (entry.waited ≡ short_of mid) × (entry.faulted ≡ says_fault (said entry.reply)) × IsMarkedRun mid entries after
 
--- the same of flat files alone: there is a file between any two entries, and each entry is a step from one to the next
+-- entries as a history of flat files alone: there is a file between any two of them, and each is a step from one to the next
 abbrev pub IsHistory : SessionFile → List Entry → SessionFile → Type 0
 IsHistory before [] after = after ≡ before
 IsHistory before (entry ∷ entries) after = (mid : SessionFile) × SessionStep before entry.call (said entry.reply) entry.waited entry.faulted mid × IsHistory mid entries after

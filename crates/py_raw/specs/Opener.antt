@@ -20,7 +20,7 @@ pub record OpenerView : Type 0 where
 abbrev pub HoldsTheSame : OpenerView → OpenerView → Type 0
 HoldsTheSame old new = (path : List ℕ) → new.holds path ≡ old.holds path
 
--- every path but one
+-- every path but one holds what it held
 abbrev pub OthersHoldTheSame : List ℕ → OpenerView → OpenerView → Type 0
 OthersHoldTheSame path old new = (other : List ℕ) → other ≢ path → new.holds other ≡ old.holds other
 

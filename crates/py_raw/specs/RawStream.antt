@@ -51,7 +51,7 @@ untold faults waits closed readable writable seekable = record {
   counts_exactly = true;
 }
 
--- what every call keeps: what the stream tells and can do never changes, and its counts never fall
+-- what every call keeps: what the stream tells and can do never changes, and its counts of faults and of waits never fall
 pub record Keeps (old new : Raw) : Type 0 where
   pub tells_bytes : new.tells_bytes ≡ old.tells_bytes
   pub tells_place : new.tells_place ≡ old.tells_place

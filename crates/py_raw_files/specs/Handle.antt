@@ -19,11 +19,11 @@ shown_handle handle = record (untold handle.counts.faults handle.counts.waits (i
   written = handle.counts.written;
 }
 
--- such a stream at its opening: nothing is counted
+-- a stream over a handle at its opening: nothing is counted
 abbrev pub opened : (readable writable seekable : Bool) → Raw
 opened readable writable seekable = record (untold 0 0 false readable writable seekable) { tells_transfers = true }
 
--- which errors of a transfer says that the call is to be made again later
+-- which errors of a transfer say that the call is to be made again later
 abbrev pub asks_to_wait : ErrorKind → Bool
 asks_to_wait WouldBlock = true
 asks_to_wait Interrupted = true

@@ -62,7 +62,7 @@ opened_raw mode bytes = record {
   counts_exactly = true;
 }
 
--- such a stream with the plan that it follows; none of its calls was made
+-- a stream that was just opened, with the plan that it follows; none of its calls was made
 abbrev pub opened_view : List ℕ → List ℕ → PlanView → MemRawView
 opened_view mode bytes plan = record { shows = opened_raw mode bytes; plan = plan.plan; refused = plan.refused; calls = 0 }
 

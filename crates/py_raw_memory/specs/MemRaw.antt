@@ -40,7 +40,7 @@ pub record MemRawView : Type 0 where
   pub refused : List ℕ
   pub calls : ℕ
 
--- such a view of a stream
+-- a stream in memory, as its view
 abbrev pub view_of : MemRaw → MemRawView
 view_of raw = record { shows = shown raw; plan = raw.plan.items; refused = raw.refused.items; calls = raw.calls }
 

@@ -10,7 +10,7 @@ pub record PlanView : Type 0 where
   pub plan : List Cut
   pub refused : List ℕ
 
--- such a view of a plan
+-- a plan, as its view
 abbrev pub shown_plan : Plan → PlanView
 shown_plan plan = record { plan = plan.cuts.items; refused = plan.refused.items }
 

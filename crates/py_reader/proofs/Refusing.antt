@@ -1,5 +1,5 @@
 -- What a reader refuses by itself.
-use Rattle.std.proofs.Common.{◌≡◌, ◌≤◌, Bool, true, false, Some, Err, ap, subst, arith}
+use Rattle.std.proofs.Common.{◌≡◌, ◌≤◌, Bool, true, false, Some, Err, ap, subst, arith, refl}
 use Rattle.py_flat.specs.declared.fault.IoFault.{IoFault}
 use Rattle.py_flat.specs.declared.fault.IoFault.TheVariants as fault
 use Rattle.py_flat.specs.declared.life.Life.{Life}
@@ -23,7 +23,7 @@ seen_is raw window current short engine seen is = subst (λ (view : EngineView).
 
 -- where a live stream's raw stands
 pub near : (engine : EngineView) → IsEngine engine.raw engine.window engine.life → engine.life ≡ life.Live → IsNear (stream_of engine)
-near engine is live = record { after_first = omega arith; before_end = omega (arith, is.window_is); fits = omega (arith, is.window_is); ahead = omega (arith, is.window_is); behind = omega (arith, is.window_is); stands = λ tells. is.stands tells live }
+near engine is live = record { after_first = omega arith; before_end = omega (arith, is.window_is); fits = omega (arith, is.window_is); read_ahead = λ _. refl; ahead = omega (arith, is.window_is); behind = omega (arith, is.window_is); stands = λ tells. is.stands tells live }
 
 -- a stream's place lies within its window
 pub within_window : (window : WindowView) → IsWindow window → place_of window ≤ greatest_place

@@ -291,7 +291,7 @@ impl<R: RawStream> BufferedReader<R> {
         }
     }
 
-    /// The same in every life; `None` exactly where the raw was handed back already. It calls no raw and takes no memory.
+    /// Hands back the raw with the place, in every life; `None` exactly where the raw was handed back already. It calls no raw and takes no memory.
     pub fn into_parts(self) -> Option<Detached<R>>
         ensures { PartsOutcome R.shows self result }
     {

@@ -81,7 +81,7 @@ flush_is_done before is live bare stands =
       complete = λ _ _ _. (tt, refl);
       told = λ _. settled (subst (λ (refused : Option IoFault). SettledBy (file_of before) Flush refused Done (file_of before)) (sym none) refl);
       reach = λ reads. absurd (cc);
-      near = λ lives. let near = is.near lives in record { after_first = near.after_first; before_end = near.before_end; fits = near.fits; ahead = near.ahead; behind = near.behind; stands = near.stands };
+      near = λ lives. let near = is.near lives in record { after_first = near.after_first; before_end = near.before_end; fits = near.fits; read_ahead = near.read_ahead; ahead = near.ahead; behind = near.behind; stands = near.stands };
       hides = λ short. absurd (cc);
     }
 

@@ -103,7 +103,7 @@ refused_with before after call why is refuses alone own first same =
       complete = λ accepted calm sound. absurd (let wrong : Some why ≡ None = sym by ∙ accepted in cc);
       told = λ tells. settled (subst (λ (refused : Option IoFault). SettledBy (file_of before) call refused (Refused why) (file_of left)) (sym refuses) (refl, refl));
       reach = λ reads tells. omega arith;
-      near = λ live. let near = is.near live in record { after_first = near.after_first; before_end = near.before_end; fits = near.fits; ahead = near.ahead; behind = near.behind; stands = near.stands };
+      near = λ live. let near = is.near live in record { after_first = near.after_first; before_end = near.before_end; fits = near.fits; read_ahead = near.read_ahead; ahead = near.ahead; behind = near.behind; stands = near.stands };
       hides = λ short. absurd (cc);
     } in
     subst (λ (now : Stream). Answers before call (Refused why) now) (sym same) answers

@@ -324,6 +324,7 @@ near_with before new near still keeps = record {
   after_first = near.after_first;
   before_end = near.before_end;
   fits = near.fits;
+  read_ahead = near.read_ahead;
   ahead = near.ahead;
   behind = near.behind;
   stands = λ tells. let told : IsTrue before.raw.tells_place = sym keeps.tells_place ∙ tells in still told ∙ near.stands told;

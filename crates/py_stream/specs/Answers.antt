@@ -219,7 +219,7 @@ EndMoves before offset (Refused fault.NoMemory) after = Unit {0}
 EndMoves before offset (Refused (fault.WouldBlock taken)) after = Unit {0}
 EndMoves before offset reply after = SeeksFromEnd before offset reply after
 
--- the same of an accepted seek from the end, and nothing of other calls
+-- where an accepted seek from the end goes, by what the raw answered; of other calls nothing
 abbrev pub SeeksByEnd : Stream → FileCall → FileReply → Stream → Type 0
 SeeksByEnd before (Seek offset (pos (suc (suc zero)))) reply after = asks_end (file_of before) (Seek offset (pos 2)) ≡ true → EndMoves before offset reply after
 SeeksByEnd before call reply after = Unit {0}
@@ -280,7 +280,7 @@ InHandOf stream (Seek offset (pos zero)) = (stream.can.readable ≡ true) × Cov
 InHandOf stream (Seek offset (pos (suc zero))) = (stream.can.readable ≡ true) × Covers stream.held (moved_by stream.place offset)
 InHandOf stream call = ⊥
 
--- of a live stream with a buffer
+-- a live stream with a buffer has in hand what answers a call
 pub record InHand (stream : Stream) (call : FileCall) : Type 0 where
   pub lives : stream.life ≡ life.Live
   pub buffered : IsSome stream.buffer
@@ -310,11 +310,12 @@ pub record AsksNoMore (before : Stream) (call : FileCall) (reply : FileReply) (a
 -- The raw's place and bytes, where the raw tells them.
 
 -- a live stream's place and its raw's differ by at most the size of the buffer, which the bytes held fit; the place is among these, or
--- right after them; the raw stands where the stream counts
+-- right after them, and of a stream that doesn't write they end where its raw stands; the raw stands where the stream counts
 pub record IsNear (stream : Stream) : Type 0 where
   pub after_first : stream.held.from ≤ stream.place
   pub before_end : stream.place ≤ stream.held.to
   pub fits : stream.held.to ≤ stream.held.from + size_of stream
+  pub read_ahead : stream.can.writable ≡ false → stream.held.to ≡ stream.raw_place
   pub ahead : stream.raw_place ≤ stream.place + size_of stream
   pub behind : stream.place ≤ stream.raw_place + size_of stream
   pub stands : WherePlace stream.raw (stream.raw.place ≡ stream.raw_place)

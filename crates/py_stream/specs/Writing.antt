@@ -55,7 +55,8 @@ first_of_both (byte ∷ more) start place = min start place
 abbrev pub first_place : Owed → ℕ → ℕ
 first_place owed place = first_of_both owed.bytes owed.place place
 
--- and the place after the last, of a write of n bytes: where what was owed ends for a write of none
+-- the place after the last of the bytes that were owed and of n that a write gives at a place: where what was owed ends for a write of
+-- none
 abbrev pub end_of_both : (owed : List ℕ) (start place count : ℕ) → ℕ
 end_of_both owed start place zero = start + length owed
 end_of_both [] start place (suc count) = place + suc count
@@ -152,7 +153,7 @@ pub record TookOwn (before after : Stream) : Type 0 where
 pub record Writes (before : Stream) (call : FileCall) (reply : FileReply) (after : Stream) : Type 0 where
   -- what is owed after a write, wherever it was made
   pub owes : IsTrue (is_writing call) → OwesBoth before (payload call) after
-  -- and where what was owed ended at the place: how much was passed on, too
+  -- where what was owed ended at the place, how much a write passed on, too
   pub takes : IsTrue (is_writing call) → OwesUpTo before.owed before.place → Takes before (payload call) after
   -- every other call owes what is left of what was owed, where that stood
   pub leaves : is_writing call ≡ false → PassesFront before after

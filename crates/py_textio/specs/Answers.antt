@@ -111,26 +111,39 @@ pub record IsComplete (call : TextCall) (reply : FileReply) (short : Bool) : Typ
   pub answer : IsAnswerTo call reply
   pub whole : short ≡ false
 
--- one call of a text: what the raw can do stays and its counts never fall; what the life or the kind refuses; a close
--- of a closed text; that the raw is closed with the text; that the raw's bytes and the flat ones stay where it tells its bytes, and that
--- none is written; causes, and that a close hides no fault; what is short; life and place; completeness; and, where the raw tells, the
--- step of the model, and that a wait hides nothing
+-- One call of a text.
 pub record AnswersText (before : TextFile) (old : Raw) (call : TextCall) (reply : FileReply) (after : TextFile) (new : Raw) (short : Bool) : Type 0 where
+  -- what the raw can do stays, and its counts never fall
   pub keeps : Keeps old new
+  -- what the life or the kind refuses is answered with that, and leaves all as it was
   pub refused : (refused : IoFault) → text_refusal before call ≡ Some refused → LeavesText before old (Refused refused) reply after new short
+  -- a close of a closed text is done, and leaves all as it was
   pub again : closes_again before call ≡ true → LeavesText before old Done reply after new short
+  -- the raw is closed with its text
   pub shut : ClosedWith before.life old → ClosedWith after.life new
+  -- the raw's bytes stay
   pub bytes : KeepsBytes old new
+  -- the raw's writes answered for no byte
   pub written : AnswersFor 0 old new
+  -- the flat bytes stay, where the raw tells its own
   pub flat : WhereBytes old (after.bytes ≡ before.bytes)
+  -- a short answer and a fault have their cause in the raw's counts
   pub causes : HasCauses old reply new short
+  -- which answers are short
   pub shorts : IsShort reply short
+  -- a close needs no memory but its raw's
   pub wants : WantsMemory call reply old
+  -- a close that is done hides no fault
   pub sound : ClosesSound call reply old new
+  -- life and place after the call, and what every call keeps
   pub moves : TextMoves before call short reply after
+  -- which replies may come of a call that isn't refused
   pub answer : text_refusal before call ≡ None → IsReplyTo call reply
+  -- where no count of the raw rose, a call that isn't refused is answered in full, or ran out of memory
   pub complete : text_refusal before call ≡ None → rose old.waits new.waits ≡ false → rose old.faults new.faults ≡ false → IsComplete call reply short
+  -- where the raw tells, the call is a step of the model
   pub told : WhereTold old (TextStep before call reply short (says_fault reply) after)
+  -- where the raw tells, a wait hides nothing
   pub hides : IsTrue short → WhereTold old (ShowsAll after new)
 
 -- one call of a text that is read; the buffer's size stays

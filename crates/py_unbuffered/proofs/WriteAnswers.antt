@@ -225,7 +225,7 @@ write_tells old now call reply short write may tells stands =
       complete = λ _ calm sound. completes old.raw now.raw None (can_of old.access old.raw.seekable).writable call reply short tells.causes tells.shorts answer calm sound;
       told = tells.told;
       reach = λ reads. absurd (let none = write.reads in cc);
-      near = λ live. let near = is_near now tells.kept.is live in record { after_first = near.after_first; before_end = near.before_end; fits = near.fits; ahead = near.ahead; behind = near.behind; stands = near.stands };
+      near = λ live. let near = is_near now tells.kept.is live in record { after_first = near.after_first; before_end = near.before_end; fits = near.fits; read_ahead = near.read_ahead; ahead = near.ahead; behind = near.behind; stands = near.stands };
       hides = λ _ reads. absurd (let none = write.reads in cc);
     }
 

@@ -26,7 +26,7 @@ Stands writer = IsWriter writer.raw writer.pending writer.life
 
 -- a live writer's raw stands no further after its place than the buffer is long
 pub is_near : (writer : WriterView) → Stands writer → writer.life ≡ life.Live → IsNear (stream_of writer)
-is_near writer is live = record { after_first = omega arith; before_end = omega arith; fits = omega (arith, is.pending_is.held); ahead = omega arith; behind = omega (arith, is.pending_is.held); stands = λ tells. is.stands tells live }
+is_near writer is live = record { after_first = omega arith; before_end = omega arith; fits = omega (arith, is.pending_is.held); read_ahead = λ writes. absurd (cc); ahead = omega arith; behind = omega (arith, is.pending_is.held); stands = λ tells. is.stands tells live }
 
 pub is_placed : (writer : WriterView) → Stands writer → IsPlaced (stream_of writer)
 is_placed writer is = record { far = is.pending_is.far; near = is_near writer is }
