@@ -148,7 +148,7 @@ ends encoding treat gives place (suc skip) (c ∷ text) = ends encoding treat gi
 ends encoding treat gives place zero (c ∷ text) =
     ends_by encoding treat gives place (run_length encoding (c ∷ text)) (c ∷ text) text (own_bytes encoding c) (λ skip. ends encoding treat gives (place + 1) skip text)
 
--- so an encoding by one of them is the bytes of all characters
+-- by a built-in handler that writes each run, encoding a text succeeds, for all of its characters
 pub never_refused : {H : Type 0} (meaning : H → EncodeMeaning) (handler : Handler) → writes_runs handler ≡ true → (encoding : Encoding) (text : List ℕ) → (bytes : List ℕ) × (encoding_by meaning (Builtin handler) encoding text ≡ Ok (bytes, len text))
 never_refused meaning handler writes encoding text =
     let made : Encoded = encoded_from encoding (encode_treatment handler encoding) 0 0 text in

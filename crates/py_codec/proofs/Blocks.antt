@@ -94,12 +94,12 @@ text_bytes-paired false (g ∷ greater) (l ∷ lesser) same none ascii =
     (own_ascii false g l (All-head (λ byte. byte < 1) g greater none) (All-head (λ byte. byte < 0x80) l lesser ascii))
     (text_bytes-paired false greater lesser (omega arith) (All-tail (λ byte. byte < 1) g greater none) (All-tail (λ byte. byte < 0x80) l lesser ascii))
 
--- the same in the order of the bytes
+-- the UTF-16 of ASCII characters is pairs of a zero and the character, in the order of the bytes
 pub text_bytes-ordered : (big : Bool) (greater lesser first second : List ℕ) → first ≡ cond big greater lesser → second ≡ cond big lesser greater → length greater ≡ length lesser → All (λ byte. byte < 1) greater → All (λ byte. byte < 0x80) lesser → text_bytes (utf16 big) lesser ≡ Some (paired first second)
 text_bytes-ordered true greater lesser first second one other same none ascii = rw (one, other) (text_bytes-paired true greater lesser same none ascii)
 text_bytes-ordered false greater lesser first second one other same none ascii = rw (one, other) (text_bytes-paired false greater lesser same none ascii)
 
--- the same, where the halves are known by the order of their bytes
+-- first and second bytes in pairs are the UTF-16 of those that are ASCII, where the greater ones by the order are zeros
 pub text_bytes-halves : (big : Bool) (first second greater lesser : List ℕ) → greater ≡ cond big first second → lesser ≡ cond big second first → length first ≡ length second → All (λ byte. byte < 1) greater → All (λ byte. byte < 0x80) lesser → text_bytes (utf16 big) lesser ≡ Some (paired first second)
 text_bytes-halves true first second greater lesser one other same none ascii =
     text_bytes-ordered true greater lesser first second (sym one) (sym other) (ap length one ∙ same ∙ ap length (sym other)) none ascii
@@ -123,7 +123,7 @@ pub IsRun-both : (encoding : Encoding) (bytes before between after : List ℕ) (
 IsRun-both encoding bytes before between after used size run more =
     IsRun-behind encoding bytes before between after used size more.text (take size (drop used bytes)) run (omega (arith, run.within, more.within, length-drop used bytes)) more.scalars more.written refl more.appended
 
--- the same of the bytes after the run as they are sliced
+-- a run, then a run of the slice of bytes that are after it, are one run
 pub IsRun-sliced : (encoding : Encoding) (bytes before between after : List ℕ) (used size : ℕ) → IsRun encoding bytes before between used → IsRun encoding (take (length bytes - used) (drop used bytes)) between after size → IsRun encoding bytes before after (used + size)
 IsRun-sliced encoding bytes before between after used size run more =
     IsRun-both encoding bytes before between after used size run (IsRun-window encoding (drop used bytes) _ between after (length bytes - used) size refl more)

@@ -90,7 +90,7 @@ Encodes-bytes {encoding} {treat} {text} {place} {out} {left} used written rest a
   within = within;
 }
 
--- so they are after a front that was written
+-- once a front of what is left was written, what is out and the encoding of the rest are the whole encoding
 pub Encodes-wrote : {encoding : Encoding} {treat : EncodeTreatment} {text : List ℕ} {place count : ℕ} {out after left rest : List ℕ} → Encodes encoding treat text place out left → Wrote encoding left out after count rest → Encodes encoding treat text (place + count) after rest
 Encodes-wrote {encoding} {treat} {text} {place} {count} {out} {after} {left} {rest} before wrote =
     let whole : encoded_from encoding treat place 0 (wrote.front ++ rest) ≡ encoded_from encoding treat place 0 left = ap (λ cs. encoded_from encoding treat place 0 cs) (sym wrote.split) in
@@ -105,7 +105,7 @@ Encodes-wrote {encoding} {treat} {text} {place} {count} {out} {after} {left} {re
     (sym (drop_at wrote.front rest count (sym wrote.counted)) ∙ ap (λ cs. drop count cs) (sym wrote.split))
     (omega (arith, Wrote-count wrote, length-drop place text, ap length before.rest, before.within))
 
--- and after a run that was treated
+-- once a run was treated, what is out and the encoding of the rest are the whole encoding
 pub Encodes-treated : {encoding : Encoding} {treat : EncodeTreatment} {text : List ℕ} {place size used : ℕ} {out after left rest : List ℕ} → Encodes encoding treat text place out left → size ≡ run_length encoding left → 1 ≤ size → IsTreated (treat place left size) out after used → rest ≡ drop used left → used ≤ length left → Encodes encoding treat text (place + used) after rest
 Encodes-treated {encoding} {treat} {text} {place} {size} {used} {out} {after} {left} {rest} before is some treated behind fits =
     let more = encoded-run encoding treat place size used left treated.written is some treated.some treated.is in
@@ -134,7 +134,7 @@ answer-refused {encoding} {treat} {text} {place} {size} {out} {left} refusal enc
     let ending : made.ending ≡ AtRun place (place + size) = sym encodes.ending ∙ ap (λ (w : Encoded). w.ending) (encoded-refused encoding treat place size left is some refuses) in
     ap (λ (end : EncodeEnding). encode_ended made.bytes (length text) refusal end) ending
 
--- so an answer says out of memory, or that refusal
+-- a fault at a run says out of memory, or is what the encoding of the text is refused with
 pub answer-fault : {encoding : Encoding} {treat : EncodeTreatment} {text : List ℕ} {place size : ℕ} {out left : List ℕ} (refusal : (start end : ℕ) → IoFault) (why : IoFault) → Encodes encoding treat text place out left → size ≡ run_length encoding left → 1 ≤ size → IsRunFault (treat place left size) why (refusal place (place + size)) → (why ≡ NoMemory) ⊎ (encoding_of (encoded encoding treat text) (length text) refusal ≡ Err why)
 answer-fault refusal why encodes is some (inl memory) = inl memory
 answer-fault refusal why encodes is some (inr refused) = inr (answer-refused refusal encodes is some refused.0 ∙ ap (λ (fault : IoFault). Err fault) (sym refused.1))

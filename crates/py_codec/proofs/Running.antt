@@ -66,7 +66,7 @@ IsRun-front encoding near before after front within utf8 written appended = reco
   appended = appended;
 }
 
--- the same of an answer, which may be out of memory
+-- a call that answered a front of UTF-8, and didn't fail, appended the characters of that front as a run
 pub front_run : {E : Type 0} (encoding : Encoding) (near before after : List ℕ) (front : ℕ) (result : Result ℕ E) → front ≤ length near → IsUtf8 (take front near) → text_bytes encoding (chars (take front near)) ≡ Some (take front near) → IfOk result (λ used. used ≡ front) → OnOk result (after ≡ before ++ chars (take front near)) → IfOk result (IsRun encoding near before after)
 front_run encoding near before after front (Ok used) within utf8 written all appended = subst (IsRun encoding near before after) (sym all) (IsRun-front encoding near before after front within utf8 written appended)
 front_run encoding near before after front (Err why) within utf8 written all appended = tt

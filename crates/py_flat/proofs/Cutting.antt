@@ -44,7 +44,7 @@ line_is_front end after_cr (c ∷ cs) = front_after (ends_line end c cs || ends_
 pub first_line_is_front : (end : LineEnd) (limit : Option ℕ) (cs : List ℕ) → IsFrontOf (first_line end limit cs) cs
 first_line_is_front end limit cs = front_of_front (first_line end limit cs) (line_after end false cs) cs (first_of_is_front limit (line_after end false cs)) (line_is_front end false cs)
 
--- and holds something where there is something to hold and room for it
+-- the first line of a list that isn't empty holds something, where its limit isn't 0
 pub first_line_holds_some : (end : LineEnd) (limit : Option ℕ) (cs : List ℕ) → cs ≢ [] → limit ≢ Some 0 → first_line end limit cs ≢ []
 first_line_holds_some end limit [] some room = absurd (some refl)
 first_line_holds_some end None (c ∷ cs) some room = λ e. cc

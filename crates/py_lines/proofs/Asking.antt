@@ -11,7 +11,7 @@ pub some_length : (xs : List ℕ) → xs ≢ [] → 0 < length xs
 some_length [] some = absurd (some refl)
 some_length (x ∷ xs) some = omega arith
 
--- and makes what stands before it longer
+-- a list becomes longer where something is appended
 longer_by : (xs ys : List ℕ) → ys ≢ [] → length xs < length (xs ++ ys)
 longer_by xs ys some = omega (arith, length-append xs ys, some_length ys some)
 

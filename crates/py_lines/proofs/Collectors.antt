@@ -206,7 +206,7 @@ enough_after (Some (suc hint)) kept lines line part left size cut leaves is size
     let same : Some left ≡ Some (suc hint - length (joined lines)) = sym is ∙ leaves.1 in
     enough_by (nat_lt left size) hint lines line part left size cut leaves.0 (cc) size_is refl
 
--- the same of a list and a number that are these
+-- lines and a number left that equal some others are enough for the hint where those are, and open where those are
 pub enough_along : (enough : Bool) (lines same : List (List ℕ)) (part : List ℕ) (hint : Option ℕ) (left now : ℕ) → same ≡ lines → now ≡ left → AreEnoughIf enough (record { lines = lines; part = part; hint = hint; left = Some left }) → AreEnoughIf enough (record { lines = same; part = part; hint = hint; left = Some now })
 enough_along enough lines same part hint left now is left_is h =
     subst (λ (t : List (List ℕ)). AreEnoughIf enough (record { lines = t; part = part; hint = hint; left = Some now })) (sym is)
@@ -231,7 +231,7 @@ pub record CollectsFront (old : LinesView) (bytes : List ℕ) (used : ℕ) (view
   pub hint : view.hint ≡ old.hint
   pub collected : lines_collected view ≡ lines_collected old ++ take used bytes
 
--- and goes on up to the end of a line
+-- once a front of a piece was collected, ending a line with the bytes after it collects the front up to the end of that line
 pub front_ended : (old view new : LinesView) (bytes rest : List ℕ) (used at : ℕ) (enough : Bool) → CollectsFront old bytes used view → EndsAt (drop used bytes) at → rest ≡ take (at + 1) (drop used bytes) → EndsLine view rest enough new → CollectsFront old bytes (used + (at + 1)) new
 front_ended old view new bytes rest used at enough front ends is ended = record {
   within = omega (arith, length-drop used bytes, ends.within, front.within);

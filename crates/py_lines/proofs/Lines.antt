@@ -92,7 +92,7 @@ lines_onto after_cr (c ∷ cs) more none =
     let parts = none_here (nat_eq c lf) (has_end_after Lf (nat_eq c cr) cs) none in
     line_onto c (cs ++ more) parts.0 ∙ ap (onto_first c) (lines_onto (nat_eq c cr) cs more parts.1)
 
--- and do so of a line that comes after
+-- bytes in which no line ends, then one line with its end, are one line with its end
 pub one_behind : (part rest : List ℕ) → has_end_after Lf false part ≡ false → IsOneLine rest → IsOneLine (part ++ rest)
 one_behind part rest none one = λ more.
     ap lines_of (append_assoc part rest more)

@@ -124,11 +124,11 @@ planned_without_plus mode args plan planned = without_plus plan.mode.plus _ (acc
 pub planned_buffer : (mode : List ℕ) (args : OpenArgs) (plan : OpenPlan) → plan_of mode args ≡ Ok plan → plan.buffer_size ≡ buffer_size_of args.buffering
 planned_buffer mode args plan planned = (accepted mode args plan planned).buffer
 
--- which has at least one byte
+-- a buffer that an accepted plan has is of at least one byte
 pub planned_buffer_has_bytes : (mode : List ℕ) (args : OpenArgs) (plan : OpenPlan) (size : ℕ) → plan_of mode args ≡ Ok plan → plan.buffer_size ≡ Some size → 0 < size
 planned_buffer_has_bytes mode args plan size planned is = some_buffer args.buffering size (sym (planned_buffer mode args plan planned) ∙ is)
 
--- so it is never one of no bytes
+-- an accepted plan never has a buffer of no bytes
 pub planned_buffer_is_not_empty : (mode : List ℕ) (args : OpenArgs) (plan : OpenPlan) → plan_of mode args ≡ Ok plan → plan.buffer_size ≢ Some 0
 planned_buffer_is_not_empty mode args plan planned is = let some = planned_buffer_has_bytes mode args plan 0 planned is in omega arith
 

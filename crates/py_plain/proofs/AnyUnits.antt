@@ -71,7 +71,7 @@ abbrev pub Stays : Read → Read → Type 0
 Stays (Cut n) longer = Unit {0}
 Stays unit longer = longer ≡ unit
 
--- the same where there may be no unit
+-- where some bytes are a unit: what may come of it once more bytes come after them
 abbrev pub StaysIf : Option Read → Option Read → Type 0
 StaysIf unit longer = IfSome unit (λ first. IfSome longer (λ later. Stays first later))
 

@@ -24,7 +24,7 @@ encoded_at-first encoding treat text place inside =
     let split = drop_more text place 0 inside in
     rw split refl
 
--- so it does where bytes are written
+-- where bytes are written first, the encoding from a place on is these bytes, then the encoding from after what they stand for
 pub encoded_at-written : (encoding : Encoding) (treat : EncodeTreatment) (text : List ℕ) (place used : ℕ) (bytes : List ℕ) → place < len text → 1 ≤ used → first_encoded encoding treat place (drop place text) ≡ Written bytes used → encoded_at encoding treat text place ≡ record { bytes = bytes ++ (encoded_at encoding treat text (place + used)).bytes; ending = (encoded_at encoding treat text (place + used)).ending }
 encoded_at-written encoding treat text place used bytes inside some first =
     let behind : drop (used - 1) (drop (place + 1) text) ≡ drop (place + used) text = drop-drop (used - 1) (place + 1) text ∙ ap (λ k. drop k text) (omega arith) in
@@ -32,7 +32,7 @@ encoded_at-written encoding treat text place used bytes inside some first =
     ∙ ap (λ item. onto_encoded place (run_length encoding (drop place text)) item (encoded_from encoding treat (place + 1) (characters_behind item) (drop (place + 1) text))) first
     ∙ ap (λ e. onto_encoded place (run_length encoding (drop place text)) (Written bytes used) e) (encoded-skip encoding treat (place + 1) (used - 1) (drop (place + 1) text) ∙ ap (λ p. encoded_from encoding treat p 0 (drop (used - 1) (drop (place + 1) text))) (omega arith) ∙ ap (λ cs. encoded_from encoding treat (place + used) 0 cs) behind)
 
--- and it ends at a run that is refused
+-- the encoding from a place on has no bytes and ends there, where a run is refused
 pub encoded_at-refused : (encoding : Encoding) (treat : EncodeTreatment) (text : List ℕ) (place : ℕ) → place < len text → first_encoded encoding treat place (drop place text) ≡ RefusesRun → encoded_at encoding treat text place ≡ record { bytes = []; ending = AtRun place (place + run_length encoding (drop place text)) }
 encoded_at-refused encoding treat text place inside first =
     encoded_at-first encoding treat text place inside
@@ -48,7 +48,7 @@ writes-written : (size : ℕ) (handled : EncodeHandled) (used : ℕ) (before aft
 writes-written size (Written bytes count) used before after writes = (bytes, cc, writes.0)
 writes-written size RefusesRun used before after writes = absurd (cc)
 
--- and at a refused run nothing came
+-- a refused run was seen only where the encoding refuses it, with its own length, and nothing came
 writes-refused : (size : ℕ) (handled : EncodeHandled) (length : ℕ) (before after : List ℕ) → WritesFirst size handled before after (seen.RefusedRun length) → (handled ≡ RefusesRun) × (length ≡ size) × (after ≡ before)
 writes-refused size (Written bytes count) length before after writes = absurd (cc)
 writes-refused size RefusesRun length before after writes = (refl, cc, writes.0)

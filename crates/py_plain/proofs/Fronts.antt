@@ -112,7 +112,7 @@ longer big unit rest = longer_if (is_high unit) _ _ (high_longer big unit rest) 
 two_longer : (big : Bool) (unit : ℕ) (rest : List ℕ) (c : ℕ) → unit_of big unit rest ≡ Character c 1 → ⊥
 two_longer big unit rest c is = omega (arith, (subst Longer is (longer big unit rest)))
 
--- the same where there may be no unit
+-- where there are a unit and a front of it: what its first bytes are by themselves
 abbrev pub FrontIsIf : Option Read → ℕ → Option Read → Type 0
 FrontIsIf unit count front = IfSome unit (λ whole. IfSome front (λ part. FrontIs whole count part))
 

@@ -16,7 +16,7 @@ Gives-given (Given characters count) used before after gives = (characters, cc, 
 Gives-given (RefusedRange length) used before after gives = absurd (cc)
 Gives-given Unfinished used before after gives = absurd gives
 
--- and at a refused one nothing came
+-- a refused range was seen only where the item is that range, and no characters came
 Gives-range : (item : FirstItem) (size : ℕ) (before after : List ℕ) → Gives item before after (seen.RefusedRange size) → (item ≡ RefusedRange size) × (after ≡ before)
 Gives-range (Given characters count) size before after gives = absurd (cc)
 Gives-range (RefusedRange length) size before after gives = (cc, gives.0)

@@ -18,7 +18,7 @@ pub front-ends : (bytes : List ℕ) (at : ℕ) → at < length bytes → get_or 
 front-ends bytes at inside below =
     ap front_past_ascii (drop_more bytes at 0 inside) ∙ cond-true _ _ _ (is_ascii-below (get_or bytes at 0) below)
 
--- and goes on past another
+-- the front goes on past a byte that isn't ASCII
 pub front-goes_on : (bytes : List ℕ) (at : ℕ) → at < length bytes → 0x80 ≤ get_or bytes at 0 → take at bytes ++ front_past_ascii (drop at bytes) ≡ take (at + 1) bytes ++ front_past_ascii (drop (at + 1) bytes)
 front-goes_on bytes at inside above =
     ap (λ more. take at bytes ++ more) (ap front_past_ascii (drop_more bytes at 0 inside) ∙ cond-false _ _ _ (is_ascii-above (get_or bytes at 0) above))

@@ -58,7 +58,7 @@ read_unit false unit rest =
     let same : unit / 256 * 256 + unit % 256 ≡ unit = omega arith in
     ap (λ (read : ℕ). Some (unit_of false read rest)) same
 
--- and so the second of a pair
+-- after the first of a pair, two bytes are read as the unit that they were written for: its second, or an unpaired one
 read_behind : (big : Bool) (high unit : ℕ) (rest : List ℕ) → behind_high big high (unit_bytes big unit ++ rest) ≡ cond (is_low unit) (Character (joined high unit) 4) (Malformed 2)
 read_behind true high unit rest =
     let same : unit / 256 * 256 + unit % 256 ≡ unit = omega arith in

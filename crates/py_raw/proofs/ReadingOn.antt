@@ -15,13 +15,13 @@ held_and_read : (held buffer behind more : List ℕ) (count whole : ℕ) → cou
 held_and_read held buffer behind more count whole within enough =
     rw (take-take (length held + count) whole ((held ++ (buffer ++ behind)) ++ more) enough, append_assoc held (buffer ++ behind) more, append_assoc buffer behind more, take-add (length held) count (held ++ (buffer ++ (behind ++ more))), take_at held (buffer ++ (behind ++ more)) (length held) refl, drop_at held (buffer ++ (behind ++ more)) (length held) refl, take-append-le count buffer (behind ++ more) within) refl
 
--- the same for a vector that was cut after them
+-- a vector that is cut after what a transfer brought has what it held, then these bytes
 pub cut_behind : (held front buffer behind more cut : List ℕ) (size count whole : ℕ) → front ≡ held → size ≡ length held → count ≤ length buffer → size + count ≤ whole → cut ≡ take (size + count) (take whole ((front ++ (buffer ++ behind)) ++ more)) → cut ≡ held ++ take count buffer
 cut_behind held front buffer behind more cut size count whole same long within enough is =
     let here : take (length held + count) (take whole ((held ++ (buffer ++ behind)) ++ more)) ≡ held ++ take count buffer = held_and_read held buffer behind more count whole within (omega arith) in
     is ∙ rw (same, long) here
 
--- and for one that was cut before them
+-- a vector that is cut before the room of a transfer has just what it held
 pub cut_back : (held front buffer behind more cut : List ℕ) (size whole : ℕ) → front ≡ held → size ≡ length held → size ≤ whole → cut ≡ take size (take whole ((front ++ (buffer ++ behind)) ++ more)) → cut ≡ held
 cut_back held front buffer behind more cut size whole same long enough is =
     is
@@ -43,7 +43,7 @@ Keeps-then old mid new first second = record {
   waits = omega (arith, first.waits, second.waits);
 }
 
--- and what they leave uncounted
+-- faults, waits and written bytes that neither of two calls counts aren't counted by the one after the other
 pub no_fault_then : (old mid new : Raw) → Keeps old mid → NoFault old mid → NoFault mid new → NoFault old new
 no_fault_then old mid new keeps first second exact = second (keeps.counts_exactly ∙ exact) ∙ first exact
 
@@ -110,7 +110,7 @@ pub came_by_more : (old mid new : Raw) (start held : List ℕ) (most : ℕ) → 
 came_by_more old mid new start held most tells was is within =
     came_by_part was.part most old.transfers mid.transfers new.transfers (λ none. ap (λ (raw : Raw). raw.transfers) (was.untouched none)) (was.transfers tells) is within
 
--- and so for what was appended so far
+-- once a transfer brings some bytes more, what was read so far is what was appended before, then these bytes
 pub so_far_more : (old mid new : Raw) (start held before after : List ℕ) (count : ℕ) → Keeps old mid → ReadSoFar old start held mid → ReadBytes mid before count after new → 1 ≤ count → count ≤ length after → ReadSoFar old start (held ++ take count after) new
 so_far_more old mid new start held before after count keeps was is some within =
     let size : length (take count after) ≡ count = length-take-le count after within in

@@ -15,7 +15,7 @@ right_of false right both = cc
 pub tells_its_bytes : (raw : Raw) → IsTrue (tells raw) → IsTrue raw.tells_bytes
 tells_its_bytes raw told = left_of raw.tells_bytes raw.tells_place told
 
--- and its place
+-- one that tells its bytes and its place tells its place
 pub tells_its_place : (raw : Raw) → IsTrue (tells raw) → IsTrue raw.tells_place
 tells_its_place raw told = right_of raw.tells_bytes raw.tells_place told
 

@@ -26,7 +26,7 @@ held_around : {T : Type 0} → (front : List (Entry T)) (entry changed : Entry T
 held_around [] entry changed back other same apart = let unlike = other_path (path_of entry) other apart in grind (arith, unlike)
 held_around (first ∷ more) entry changed back other same apart = grind (arith, held_around more entry changed back other same apart)
 
--- and be added after all
+-- an entry that is added after all leaves the look-up of any other path as it was
 held_added : {T : Type 0} → (entries : List (Entry T)) (added : Entry T) (other : List ℕ) → other ≢ path_of added → held_in (entries ++ added ∷ []) other ≡ held_in entries other
 held_added [] added other apart = let unlike = other_path (path_of added) other apart in grind (arith, unlike)
 held_added (first ∷ more) added other apart = grind (arith, held_added more added other apart)
