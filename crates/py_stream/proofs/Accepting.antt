@@ -1,4 +1,4 @@
--- What a flat file doesn't refuse: such a call of a live one does work, and may blame the raw.
+-- What a flat file doesn't refuse: a call that a live file accepts does work, and may blame the raw.
 use Rattle.std.proofs.Common.{◌≡◌, Bool, false, ◌&&◌, ◌||◌, not, IsTrue, Option, None, is_none, ap, ◌∙◌}
 use Rattle.py_flat.specs.declared.fault.IoFault.{IoFault}
 use Rattle.py_flat.specs.declared.life.Life.{Life}

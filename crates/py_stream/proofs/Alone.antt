@@ -27,11 +27,11 @@ stopped life.Detached buffering call dead close detach = refl
 faults_dead : (current : Life) (why : IoFault) → life_fault current ≡ Some why → current ≢ life.Live
 faults_dead current why fails live = let never : life_fault life.Live ≡ Some why = sym (ap life_fault live) ∙ fails in absurd (cc)
 
--- nor does one that a life refuses
+-- a life that refuses calls lets none through but a `close` and a `detach`
 pub shut_by_life : (current : Life) (buffering : Buffering) (call : FileCall) (why : IoFault) → is_close call ≡ false → detaches buffering call ≡ false → life_fault current ≡ Some why → lets_through current buffering call ≡ false
 shut_by_life current buffering call why close detach fails = stopped current buffering call (faults_dead current why fails) close detach
 
--- By what it lacks.
+-- By what the stream lacks.
 
 lacks_no_close : (file : FlatFile) (call : FileCall) → lacks file call ≡ true → is_close call ≡ false
 lacks_no_close file Close lacking = absurd (cc)
@@ -45,7 +45,7 @@ lacks_no_detach : (file : FlatFile) (call : FileCall) → lacks file call ≡ tr
 lacks_no_detach file Detach lacking = no_detach file.buffering lacking
 lacks_no_detach file call lacking = refl
 
--- Either.
+-- By either: what the stream lacks, or its life.
 
 -- a call that a life stops, or that the stream lacks
 abbrev Stopped : Stream → FileCall → Type 0
@@ -59,29 +59,29 @@ live_lacks : (stream : Stream) (call : FileCall) → stream.life ≡ life.Live �
 live_lacks stream call live (inl stops) = absurd (let through : true ≡ false = sym (ap (λ (current : Life). lets_through current (buffering_of stream.buffer) call) live) ∙ stops in cc)
 live_lacks stream call live (inr lacking) = lacking
 
--- a stream that doesn't live refuses it by its life
+-- a stream that doesn't live refuses a call by its life
 pub alone_by_life : (before after : Stream) (call : FileCall) (why : IoFault) → IsPlaced before → RefusesAlone before call → life_fault before.life ≡ Some why → after ≡ record before { short = false } → Answers before call (Refused why) after
 alone_by_life before after call why is alone fails same = refused_by_life before after call why is alone.0 alone.1 (dead_stops before call why fails alone.2) fails same
 
--- and a live one as a call that it lacks
+-- a live stream refuses a call that it lacks as unsupported
 pub alone_by_ability : (before after : Stream) (call : FileCall) → IsPlaced before → RefusesAlone before call → before.life ≡ life.Live → after ≡ record before { short = false } → Answers before call (Refused fault.Unsupported) after
 alone_by_ability before after call is alone live same = refused_by_ability before after call is alone.0 alone.1 live (live_lacks before call live alone.2) same
 
 -- How a call begins.
 
--- the life refuses it, or lets it go on, and no answer is short yet
+-- a call begins: the life refuses it, or lets it go on, and no answer is short yet
 abbrev pub Begins : Stream → Result (Unit {0}) IoFault → Stream → Type 0
 Begins before (Ok done) after = (before.life ≡ life.Live) × (after ≡ record before { short = false })
 Begins before (Err why) after = (life_fault before.life ≡ Some why) × (after ≡ record before { short = false })
 
--- a call that this refuses
+-- a call that a stream refuses as it begins is answered by that refusal
 pub begins_in_vain : (before after : Stream) (call : FileCall) (why : IoFault) → IsPlaced before → is_getter call ≡ false → is_other_getter call ≡ false → is_close call ≡ false → detaches (buffering_of before.buffer) call ≡ false → Begins before (Err why) after → Answers before call (Refused why) after
 begins_in_vain before after call why is works own close detach begins = refused_by_life before after call why is works own (shut_by_life before.life (buffering_of before.buffer) call why close detach begins.0) begins.0 begins.1
 
--- of a stream that has just begun: it doesn't live, and refuses by its life
+-- a stream that has just begun a call, and doesn't live, refuses the call by its life
 pub refuses_by_life : (before after : Stream) (why : IoFault) → IsPlaced before → Begins before (Err why) after → (call : FileCall) → RefusesAlone before call → Answers before call (Refused why) after
 refuses_by_life before after why is begins call alone = alone_by_life before after call why is alone begins.0 begins.1
 
--- or it lives, and lacks what the call needs
+-- a live stream that has just begun a call which it lacks refuses it as unsupported
 pub refuses_by_ability : (before after : Stream) → IsPlaced before → Begins before (Ok tt) after → (call : FileCall) → RefusesAlone before call → Answers before call (Refused fault.Unsupported) after
 refuses_by_ability before after is begins call alone = alone_by_ability before after call is alone begins.0 begins.1

@@ -15,7 +15,7 @@ use Rattle.py_stream.specs.Answers.{Answers, AnswersWith, Leaves, SeeksTo, Seeks
 abbrev pub seen : Bool → Stream → Stream
 seen short stream = record stream { short = short }
 
--- one whose last answer wasn't
+-- a stream whose last answer wasn't short
 abbrev pub whole : Stream → Stream
 whole stream = seen false stream
 
@@ -135,6 +135,7 @@ module _ (short : Bool) where
     hides = answers.hides;
   }
 
+-- what a call does with the bytes of a stream doesn't hang on whether the last answer before it was short
 pub writes_whole : (before after : Stream) (call : FileCall) (reply : FileReply) → Writes (whole before) call reply after → Writes before call reply after
 writes_whole before after call reply written = writes_seen false before after call reply written
 
@@ -142,11 +143,11 @@ writes_whole before after call reply written = writes_seen false before after ca
 pub answers_whole : (before after : Stream) (call : FileCall) (reply : FileReply) → Answers (whole before) call reply after → Answers before call reply after
 answers_whole before after call reply answers = answers_as false has_room before after call reply answers
 
--- and the other way, as of one whose last answer was short, or wasn't
+-- an answer of a stream is also that of the same stream with any other note of whether its last answer was short
 pub answers_seen : (short : Bool) (room : FileCall → Bool) (before after : Stream) (call : FileCall) (reply : FileReply) → AnswersWith room before call reply after → AnswersWith room (seen short before) call reply after
 answers_seen short room before after call reply answers = answers_as before.short room (seen short before) after call reply answers
 
--- where fewer calls are said to have their room
+-- an answer of a stream is one also where fewer calls are said to have their room
 pub answers_with : (room less : FileCall → Bool) (before after : Stream) (call : FileCall) (reply : FileReply) → (IsTrue (less call) → IsTrue (room call)) → AnswersWith room before call reply after → AnswersWith less before call reply after
 answers_with room less before after call reply fewer answers = record {
   keeps = answers.keeps;

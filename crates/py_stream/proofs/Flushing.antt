@@ -1,89 +1,66 @@
 -- Flushing a stream that owes nothing: there is nothing to pass on.
-use Rattle.std.proofs.Common.{◌≡◌, ℕ, Bool, true, false, List, [], Option, Some, None, Result, Ok, Err, if◌then◌else◌, refl, sym, ap, ◌∙◌, subst, arith}
+use Rattle.std.proofs.Common.{◌≡◌, true, false, Option, None, Result, Ok, Err, if◌then◌else◌, refl, sym, ap, subst, arith}
 use Rattle.py_flat.specs.declared.fault.IoFault.{IoFault}
 use Rattle.py_flat.specs.declared.life.Life.{Life}
 use Rattle.py_flat.specs.declared.life.Life.TheVariants as life
 use Rattle.py_flat.specs.Bytes.{lay}
 use Rattle.py_flat.specs.Owed.{Owed}
-use Rattle.py_flat.specs.Calls.{FileCall, Flush, Done}
-use Rattle.py_flat.specs.FlatFile.{FlatFile}
+use Rattle.py_flat.specs.Calls.{Flush, Done}
 use Rattle.py_flat.specs.Refusals.{refusal, or_else, lets_through, life_fault}
 use Rattle.py_flat.specs.BinaryStep.{SettledBy}
 use Rattle.py_flat.specs.AllowedStep.{settled}
 use Rattle.py_raw.proofs.Telling.{keeps_same}
 use Rattle.py_stream.specs.Stream.{Stream, buffering_of, file_of, nothing_owed}
-use Rattle.py_stream.specs.Kinds.{asks_none, makes_one}
-use Rattle.py_stream.specs.Writing.{Writes}
 use Rattle.py_stream.specs.Answers.{Answers, refused_by}
 use Rattle.py_stream.specs.Replies.{done_reply}
 use Rattle.py_stream.proofs.Refusing.{IsPlaced}
 use Rattle.py_stream.proofs.Alone.{Begins, begins_in_vain}
+use Rattle.py_stream.proofs.Showing.{shows_answers, flush_moves_none, passing_writes}
 
 flush_passes : (before : Stream) → before.life ≡ life.Live → refusal (file_of before) Flush ≡ None
 flush_passes before live = ap (λ (current : Life). or_else (if lets_through current (buffering_of before.buffer) Flush then None else life_fault current) None) live
-
--- its raw stands at its place
-passes_nothing : (before : Stream) → before.owed ≡ nothing_owed before.place → before.raw_place ≡ before.place → Writes before Flush Done (record before { short = false })
-passes_nothing before none stands = record {
-  owes = λ writing. absurd (cc);
-  takes = λ writing. absurd (cc);
-  leaves = λ _. record { passed = 0; most = omega arith; answered = λ tells. refl; bytes = refl; place = λ _. omega arith };
-  lays = λ tells. record { count = 0; bytes = refl };
-  passes = (
-    record {
-      none = ap (λ (owed : Owed). owed.bytes) none;
-      holds = λ tells. sym (ap (λ (owed : Owed). lay before.raw.bytes owed.place owed.bytes) none);
-    },
-    stands,
-  );
-  full = tt;
-  starves = λ wants. absurd (cc);
-  straight = tt;
-  settles = λ at. at;
-  unclosed = λ _. refl;
-  rests = λ _. refl;
-}
-
-asks_some : (buffer : Option ℕ) → asks_none buffer Flush ≡ false
-asks_some (Some size) = refl
-asks_some None = refl
-
-moves_none : (buffer : Option ℕ) → makes_one buffer Flush ≡ false
-moves_none (Some size) = refl
-moves_none None = refl
 
 -- a stream that writes stands at its place with its raw
 pub flush_is_done : (before : Stream) → IsPlaced before → before.life ≡ life.Live → before.owed ≡ nothing_owed before.place → (before.can.writable ≡ true → before.raw_place ≡ before.place) → Answers before Flush Done (record before { short = false })
 flush_is_done before is live bare stands =
     let none : refused_by before Flush ≡ None = flush_passes before live in
-    record {
+    let after : Stream = record before { short = false } in
+    shows_answers before Flush Done after flush_moves_none (record {
       keeps = record { buffer = refl; can = refl; raw = keeps_same before.raw; bare = λ _ _. bare };
-      refused = λ why refused. absurd (let wrong : None ≡ Some why = sym none ∙ refused in cc);
+      passes = none;
       again = λ again. absurd (cc);
       shut = λ _ none shut. shut;
       causes = record { waits = λ short. absurd (cc); faults = λ faults. absurd (cc) };
       counted = λ _. record { faults = λ _. refl; waits = λ _ _. refl; once = λ short. absurd (cc) };
       shorts = refl;
-      moves = record { life_is = refl; place = refl; far = is.far; within = tt };
+      life_is = refl;
+      place = refl;
+      far = is.far;
       ends = tt;
       wants = λ wants. absurd (cc);
-      starves = λ wants. absurd (cc);
-      first = λ wants. absurd (cc);
-      nothing = λ asks. absurd (cc (asks_some before.buffer));
       idle = λ _. record { raw = refl; fault = refl; memory = refl };
-      single = λ single. absurd (cc (moves_none before.buffer));
       in_hand = λ has. absurd has.of;
-      needs = λ reads. absurd (cc);
       spares = λ _ _. record { bytes = λ _. refl; written = λ _. refl; owed = bare };
-      writes = λ can. passes_nothing before bare (stands can);
-      answer = λ _. tt;
+      writes = λ can. passing_writes before Flush Done after flush_moves_none (record {
+        leaves = record { passed = 0; most = omega arith; answered = λ tells. refl; bytes = refl; place = λ _. omega arith };
+        lays = λ tells. record { count = 0; bytes = refl };
+        passes = (
+          record {
+            none = ap (λ (owed : Owed). owed.bytes) bare;
+            holds = λ tells. sym (ap (λ (owed : Owed). lay before.raw.bytes owed.place owed.bytes) bare);
+          },
+          stands can,
+        );
+        full = tt;
+        settles = λ at. at;
+        unclosed = λ _. refl;
+        rests = λ _. refl;
+      });
       at_once = λ failed is. absurd (cc);
-      complete = λ _ _ _. (tt, refl);
+      answer = tt;
       told = λ _. settled (subst (λ (refused : Option IoFault). SettledBy (file_of before) Flush refused Done (file_of before)) (sym none) refl);
-      reach = λ reads. absurd (cc);
       near = λ lives. let near = is.near lives in record { after_first = near.after_first; before_end = near.before_end; fits = near.fits; read_ahead = near.read_ahead; ahead = near.ahead; behind = near.behind; stands = near.stands };
-      hides = λ short. absurd (cc);
-    }
+    })
 
 -- a `flush`, by what begins it
 pub flush_answers : (before after : Stream) (result : Result (Unit {0}) IoFault) → IsPlaced before → before.owed ≡ nothing_owed before.place → (before.can.writable ≡ true → before.raw_place ≡ before.place) → Begins before result after → Answers before Flush (done_reply result) after

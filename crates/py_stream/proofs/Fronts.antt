@@ -46,7 +46,7 @@ lays_by raw (byte ∷ old) own after start place owed more (inr ends) order is =
     let laid : after ≡ lay raw start (take front.0 (all ++ own)) = is ∙ ap (λ (p : ℕ). lay (lay raw start (take owed all)) p (take more own)) (sym ends) ∙ front.1 in
     (length (take front.0 (all ++ own)), rw first (front_laid raw (all ++ own) (lay (lay raw start all) place own) after start front.0 goal laid))
 
--- of a stream that owes up to its place
+-- a stream that owes up to its place has a front laid on
 pub lays_front : (before : Stream) (own after : List ℕ) → OwesUpTo before.owed before.place → LaidInOrder before own after → LaysFront before own after
 lays_front before own after up_to is =
     let front = lays_by before.raw.bytes before.owed.bytes own after before.owed.place before.place is.owed is.more up_to is.order is.bytes in

@@ -8,14 +8,14 @@ pub joined_behind : (first second : List (List ℕ)) → joined (first ++ second
 joined_behind [] second = refl
 joined_behind (line ∷ first) second = ap (λ bytes. line ++ bytes) (joined_behind first second) ∙ sym (append_assoc line (joined first) (joined second))
 
--- one more line
+-- lines joined up to one more are those so far, joined, then this line
 pub joined_more : (lines : List (List ℕ)) (i : ℕ) (line : List ℕ) → i < length lines → line ≡ get_or lines i line → joined (take (i + 1) lines) ≡ joined (take i lines) ++ line
 joined_more lines i line within is =
     ap joined (take_more lines i line within ∙ ap (λ more. take i lines ++ more ∷ []) (sym is))
     ∙ joined_behind (take i lines) (line ∷ [])
     ∙ ap (λ bytes. joined (take i lines) ++ bytes) (append-nil line)
 
--- the lines so far, the next, and those that are left
+-- all lines joined are the lines so far, the next, and those that are left
 pub joined_parts : (lines : List (List ℕ)) (i : ℕ) (line : List ℕ) → i < length lines → line ≡ get_or lines i line → joined lines ≡ joined (take i lines) ++ (line ++ joined (drop (i + 1) lines))
 joined_parts lines i line within is =
     ap joined (sym (take-append-drop (i + 1) lines))
@@ -27,7 +27,7 @@ joined_parts lines i line within is =
 pub length-joined_more : (lines : List (List ℕ)) (i : ℕ) (line : List ℕ) → i < length lines → line ≡ get_or lines i line → length (joined (take (i + 1) lines)) ≡ length (joined (take i lines)) + length line
 length-joined_more lines i line within is = ap length (joined_more lines i line within is) ∙ length-append (joined (take i lines)) line
 
--- all lines have as many at least
+-- all lines joined have at least as many bytes as the lines so far and the next
 pub length-joined_parts : (lines : List (List ℕ)) (i : ℕ) (line : List ℕ) → i < length lines → line ≡ get_or lines i line → length (joined (take i lines)) + length line ≤ length (joined lines)
 length-joined_parts lines i line within is =
     let all = ap length (joined_parts lines i line within is) in

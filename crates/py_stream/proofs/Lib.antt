@@ -1,4 +1,6 @@
 pub mod Owing
+pub mod Taking
+pub mod Flat
 pub mod Fronts
 pub mod Refused
 pub mod Refusing
@@ -12,4 +14,19 @@ pub mod Returning
 pub mod Joined
 pub mod Flushing
 pub mod Seeking
+pub mod Giving
+pub mod Given
+pub mod Putting
+pub mod Showing
+pub mod PassingOn
+pub mod Shutting
+pub mod Going
+pub mod Handing
 pub mod Smooth
+pub mod Buffering
+pub mod ReadingCalls
+pub mod ReadingSteps
+pub mod ReadingAnswers
+pub mod ReadingStops
+pub mod ReadingOn
+pub mod SingleReading

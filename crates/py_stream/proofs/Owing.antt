@@ -18,7 +18,7 @@ has_front part more begins place before =
     let none : place - begins ≡ 0 = omega arith in
     rw none (take_at (drop (begins - place) part) more (length part - (begins - place)) (length-drop (begins - place) part))
 
--- and one that has a part further on
+-- a list has the part that stands behind a front of it, at the place after that front
 has_behind : (front part : List ℕ) (begins place : ℕ) → place ≡ begins + length front → HasAt (front ++ part) begins part place
 has_behind front part begins place is =
     let far : place - begins ≡ length front = omega (arith, is) in
@@ -27,7 +27,7 @@ has_behind front part begins place is =
     let zero_more : length front + 0 ≡ length front = omega arith in
     rw (far, none) (ap (take (length part - 0)) (rw zero_more at all) ∙ take_all (length part - 0) part (omega arith))
 
--- and one that begins behind a part
+-- a list that begins after the end of a part has what reaches into it of that part: none
 has_past : (whole : List ℕ) (begins : ℕ) (part : List ℕ) (place : ℕ) → place + length part ≤ begins → HasAt whole begins part place
 has_past whole begins part place past =
     let none : length part - (begins - place) ≡ 0 = omega (arith, past) in
@@ -43,7 +43,7 @@ module _ (old taken : List ℕ) (start place passed at : ℕ) (new : List ℕ) (
   in_old : passed ≤ length old → (new ≡ drop passed old ++ taken) × (place ≡ at + length (drop passed old))
   in_old early = (is ∙ drop-append-le passed old taken early, omega (arith, many, ends, length-drop passed old))
 
-  -- or behind it
+  -- once all that was owed is passed on, what is left is the end of what was taken
   in_taken : length old ≤ passed → (new ≡ drop (passed - length old) taken) × (at ≡ place + (passed - length old))
   in_taken late =
       let split : length old + (passed - length old) ≡ passed = omega (arith, late) in
@@ -71,7 +71,7 @@ begins_by [] start place at up_to reach = omega (arith, reach)
 begins_by (byte ∷ more) start place at (inl none) reach = absurd (cc)
 begins_by (byte ∷ more) start place at (inr ends) reach = omega (arith, reach, ends)
 
--- and the place after the last
+-- the end of what was owed up to the place, and of n bytes taken from there, is n bytes after that place
 ends_by : (old : List ℕ) (start place count : ℕ) → (old ≡ []) ⊎ (start + length old ≡ place) → 0 < length old + count → end_of_both old start place count ≡ place + count
 ends_by [] start place zero up_to some = absurd (omega (arith, some))
 ends_by [] start place (suc count) up_to some = refl
@@ -139,6 +139,7 @@ has_part whole begins part place behind is =
 front_of_all : (count : ℕ) (whole : List ℕ) → take (length (take count whole)) whole ≡ take count whole
 front_of_all count whole = ap (λ (n : ℕ). take n whole) (length-take count whole) ∙ take_min count whole
 
+-- a call that took nothing, and left what was owed, owes what is owed after a write of none
 pub owes_as_before : (before after : Stream) (bytes : List ℕ) → after.place ≡ before.place → after.owed ≡ before.owed → OwesBoth before bytes after
 owes_as_before before after bytes place same =
     let owed : Owed = before.owed in

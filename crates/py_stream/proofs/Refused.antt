@@ -29,6 +29,7 @@ nothing_laid : (before : Stream) (call : FileCall) → LaysInOrder before call b
 nothing_laid before (Truncate size) = record { between = before.raw.bytes; lays = record { count = 0; bytes = refl }; cuts = inl refl }
 nothing_laid before call = record { count = 0; bytes = refl }
 
+-- a refused call need not have passed anything on
 pub nothing_passed : (before after : Stream) (call : FileCall) (why : IoFault) → PassesOn before call (Refused why) after
 nothing_passed before after Flush why = tt
 nothing_passed before after Close why = tt
@@ -112,7 +113,7 @@ refuses_all can buffer call asks known =
     let refused : Bool → Bool → Option IoFault = λ (getter other : Bool). if getter then None else or_else (refused_if other fault.Unsupported) (Some fault.Detached) in
     ap (λ (getter : Bool). refused getter (is_other_getter call)) asks ∙ ap (refused false) known
 
--- a call of such a stream: it is refused, and the stream stays as it is
+-- a call of a detached stream is refused, and leaves the stream as it is
 pub detached_answers : (can : Abilities) (buffer : Option ℕ) (call : FileCall) → is_getter call ≡ false → is_other_getter call ≡ false → Answers (detached_stream can buffer) call (Refused fault.Detached) (detached_stream can buffer)
 detached_answers can buffer call asks known =
     let stream : Stream = detached_stream can buffer in

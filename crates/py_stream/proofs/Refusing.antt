@@ -58,7 +58,7 @@ no_end : (before : Stream) (call : FileCall) (reply : FileReply) (after : Stream
 no_end before (Seek offset (pos (suc (suc zero)))) reply after none = λ asks. absurd (cc)
 no_end before call reply after none = tt
 
--- what isn't asked of the end is refused as the model says
+-- a call that doesn't ask for the end is refused as the model says
 pub refused_alone : (before : Stream) (call : FileCall) → asks_end (file_of before) call ≡ false → refused_by before call ≡ refusal (file_of before) call
 refused_alone before call none = ap (λ (asks : Bool). if asks then None else refusal (file_of before) call) none
 
@@ -164,6 +164,7 @@ lacks_no_end : (file : FlatFile) (call : FileCall) → lacks file call ≡ true 
 lacks_no_end file (Seek offset (pos (suc (suc zero)))) wants = ap (λ (lacking : Bool). is_live file.life && not lacking) wants ∙ and-false (is_live file.life)
 lacks_no_end file call wants = refl
 
+-- no call closes a live stream again
 pub live_not_closed : (stream : Stream) (call : FileCall) → stream.life ≡ life.Live → closes_again stream call ≡ false
 live_not_closed stream Close live = ap is_closed live
 live_not_closed stream call live = refl

@@ -36,6 +36,7 @@ moved_leaves file told back waited faulted after (waited_for rose part) = let wr
 moved_leaves file told back waited faulted after (raw_faulted rose said left) = let wrong : Place back ≡ Refused fault.RawFault = said in absurd (cc)
 moved_leaves file told back waited faulted after (out_of_memory said left) = let wrong : Place back ≡ Refused fault.NoMemory = said in absurd (cc)
 
+-- a stream that is moved to the place that it told stands where it stood
 pub comes_back : (before mid : Stream) (told back : ℕ) (after : Stream) → Answers before Tell (Place told) mid → Answers mid (Seek (pos told) (pos 0)) (Place back) after → ComesBack before told back after
 comes_back before mid told back after tells seeks =
     let there : told ≡ before.place = tells.moves.place.0 in

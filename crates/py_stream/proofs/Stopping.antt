@@ -15,6 +15,7 @@ use Rattle.py_stream.proofs.Refused.{is_own}
 
 -- A call that gives no bytes.
 
+-- what a call that gives no bytes isn't, and that no answer of it gives too much
 pub record GivesNone (call : FileCall) : Type 0 where
   pub going_on : reads_on call ≡ false
   pub first : takes_space_first call ≡ false
@@ -22,6 +23,7 @@ pub record GivesNone (call : FileCall) : Type 0 where
   pub single : is_single call ≡ false
   pub within : (size : ℕ) (reply : FileReply) → GivesWithin size call reply
 
+-- each call that doesn't read is one that gives no bytes
 pub gives_none : (call : FileCall) → is_reading call ≡ false → GivesNone call
 gives_none (Read size) reads = absurd (cc)
 gives_none (Read1 size) reads = absurd (cc)
@@ -34,12 +36,12 @@ gives_none call reads = record { going_on = refl; first = refl; nothing = refl; 
 
 -- Whatever stops a call.
 
--- it is short where it says so
+-- a refusal is short where it says that the raw would have blocked
 pub says_short : (call : FileCall) (why : IoFault) → IsShort call (Refused why) (says_would_block (Refused why))
 says_short (Read1 size) why = refl
 says_short call why = refl
 
--- and needs no end of the file
+-- a call that the raw or memory stops needs no end of the file
 pub needs_no_end : (before : Stream) (call : FileCall) (why : IoFault) (after : Stream) → is_own why ≡ false → SeeksByEnd before call (Refused why) after
 needs_no_end before (Seek offset (pos (suc (suc zero)))) fault.RawFault after raws = λ _. tt
 needs_no_end before (Seek offset (pos (suc (suc zero)))) fault.NoMemory after raws = λ _. tt
@@ -49,21 +51,25 @@ needs_no_end before call why after raws = tt
 
 -- The raw would have blocked, and nothing was given or taken.
 
+-- a wait leaves the life as it was
 pub waits_alive : (buffer : Option ℕ) (call : FileCall) (current : Life) → LifeMoves buffer call (Refused (fault.WouldBlock 0)) current current
 waits_alive buffer Close current = refl
 waits_alive buffer Detach current = refl
 waits_alive buffer call current = refl
 
+-- a wait of a call that gives no bytes to the stream leaves the place as it was
 pub waits_there : (buffer : Option ℕ) (call : FileCall) (current : Life) (place : ℕ) → is_writing call ≡ false → PlaceMoves buffer call (Refused (fault.WouldBlock 0)) current place place
 waits_there buffer (Write bytes) current place writing = absurd (cc)
 waits_there buffer (WriteLines lines) current place writing = absurd (cc)
 waits_there buffer call current place writing = refl
 
+-- a call that gives no bytes to the stream took none where it had to wait
 pub waits_with_none : (call : FileCall) (after : Stream) → is_writing call ≡ false → BlocksFull call (Refused (fault.WouldBlock 0)) after
 waits_with_none (Write bytes) after writing = absurd (cc)
 waits_with_none (WriteLines lines) after writing = absurd (cc)
 waits_with_none call after writing = refl
 
+-- a call that doesn't read may answer a wait with a refusal
 pub waits_answer : (size : ℕ) (call : FileCall) → is_reading call ≡ false → is_tell call ≡ false → IsReplyTo (Some size) true call (Refused (fault.WouldBlock 0))
 waits_answer size Tell reads tells = absurd (cc)
 waits_answer size call reads tells = ap not reads
@@ -78,11 +84,13 @@ fails_where : (goes : Bool) (most : Option ℕ) (place : ℕ) → PlaceFails goe
 fails_where true most place = stays_forth most place
 fails_where false most place = refl
 
+-- a fault may leave the place
 pub fails_there : (buffer : Option ℕ) (call : FileCall) (current : Life) (place : ℕ) → PlaceMoves buffer call (Refused fault.RawFault) current place place
 fails_there buffer (Write bytes) current place = fails_where (goes_on buffer (Write bytes)) (Some (length bytes)) place
 fails_there buffer (WriteLines lines) current place = fails_where (goes_on buffer (WriteLines lines)) (Some (length (joined lines))) place
 fails_there buffer call current place = fails_where (goes_on buffer call) (moves_most call) place
 
+-- every call but a `tell` may answer a fault
 pub fault_answers : (buffer : Option ℕ) (writes : Bool) (call : FileCall) → is_tell call ≡ false → IsReplyTo buffer writes call (Refused fault.RawFault)
 fault_answers buffer writes Tell tells = absurd (cc)
 fault_answers buffer writes call tells = tt
@@ -93,6 +101,7 @@ starves_so : (goes : Bool) (current : Life) → StarvesTo goes current current
 starves_so true current = inl refl
 starves_so false current = refl
 
+-- running out of memory may leave the life
 pub starves_alive : (buffer : Option ℕ) (call : FileCall) (current : Life) → LifeMoves buffer call (Refused fault.NoMemory) current current
 starves_alive buffer Close current = starves_so (goes_on buffer Close) current
 starves_alive buffer Detach current = starves_so (goes_on buffer Detach) current
@@ -102,11 +111,13 @@ starves_where : (current : Life) (most : Option ℕ) (place : ℕ) → PlaceStar
 starves_where life.Live most place = refl
 starves_where current most place = stays_forth most place
 
+-- running out of memory may leave the place
 pub starves_there : (buffer : Option ℕ) (call : FileCall) (current : Life) (place : ℕ) → PlaceMoves buffer call (Refused fault.NoMemory) current place place
 starves_there buffer (Write bytes) current place = starves_where current (Some (length bytes)) place
 starves_there buffer (WriteLines lines) current place = starves_where current (Some (length (joined lines))) place
 starves_there buffer call current place = starves_where current (moves_most call) place
 
+-- every call but a `tell` may answer that memory ran out
 pub starve_answers : (buffer : Option ℕ) (writes : Bool) (call : FileCall) → is_tell call ≡ false → IsReplyTo buffer writes call (Refused fault.NoMemory)
 starve_answers buffer writes Tell tells = absurd (cc)
 starve_answers buffer writes (Seek offset (pos (suc (suc zero)))) tells = tt

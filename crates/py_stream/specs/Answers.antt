@@ -72,7 +72,7 @@ IsAnswerTo Tell (Refused fault.NoMemory) = ⊥
 IsAnswerTo call (Refused fault.NoMemory) = Unit {0}
 IsAnswerTo call reply = ⊥
 
--- and where its raw would have blocked, or failed, which stop no `tell`
+-- the replies of an accepted call, also of one whose raw would have blocked or failed, which stop no `tell`
 abbrev pub IsReplyTo : Option ℕ → Bool → FileCall → FileReply → Type 0
 IsReplyTo buffer writes call NotReady = IsTrue (waits_unready buffer call)
 IsReplyTo buffer writes Tell (Refused (fault.WouldBlock taken)) = ⊥
@@ -111,6 +111,7 @@ abbrev pub StarvesTo : Bool → Life → Life → Type 0
 StarvesTo true before after = (after ≡ before) ⊎ (after ≡ life.Failed)
 StarvesTo false before after = after ≡ before
 
+-- the life after an answer: closed by a close, detached by a detach, failed by a fault or by want of memory, else as it was
 abbrev pub LifeMoves : Option ℕ → FileCall → FileReply → Life → Life → Type 0
 LifeMoves buffer Close Done before after = after ≡ life.Closed
 LifeMoves buffer Close (Refused fault.RawFault) before after = after ≡ life.Closed
@@ -154,6 +155,7 @@ abbrev pub TakesOf : Option ℕ → List ℕ → ℕ → Type 0
 TakesOf (Some size) bytes count = count ≡ length bytes
 TakesOf None bytes count = (count ≤ length bytes) × (count ≡ 0 → bytes ≡ [])
 
+-- the place after an answer: past the bytes given or taken, or where a seek went; else as it was, or further on after a fault
 abbrev pub PlaceMoves : Option ℕ → FileCall → FileReply → Life → ℕ → ℕ → Type 0
 PlaceMoves buffer Peek (Bytes part) current before after = after ≡ before
 PlaceMoves buffer call (Bytes part) current before after = after ≡ before + length part
@@ -173,6 +175,7 @@ abbrev pub Within : Option ℕ → List ℕ → Type 0
 Within None part = Unit {0}
 Within (Some size) part = length part ≤ size
 
+-- an answer gives no more than its call asks for, and without a size no more than the buffer holds
 abbrev pub GivesWithin : ℕ → FileCall → FileReply → Type 0
 GivesWithin buffer (Read size) (Bytes part) = Within size part
 GivesWithin buffer (Read1 None) (Bytes part) = length part ≤ buffer
@@ -193,6 +196,7 @@ pub record Moves (before : Stream) (call : FileCall) (reply : FileReply) (after 
 
 -- What refuses a call, as far as the stream itself can tell: a seek from the end has to ask the raw where that is.
 
+-- what refuses a call before the raw is asked for the end
 abbrev pub refused_by : Stream → FileCall → Option IoFault
 refused_by stream call = if asks_end (file_of stream) call then None else refusal (file_of stream) call
 
@@ -206,13 +210,14 @@ SeeksTo before (Some target) None reply after = reply ≡ Place target
 SeeksTo before target (Some why) reply after = Leaves before (Refused why) reply (record after { raw = before.raw })
 SeeksTo before None None reply after = ⊥
 
--- some end that the raw answered; told its bytes, the end of the flat file
+-- a seek from the end goes from some end that the raw answered; told its bytes, from the end of the flat file
 pub record SeeksFromEnd (before : Stream) (offset : ℤ) (reply : FileReply) (after : Stream) : Type 0 where
   pub end : ℕ
   pub within : end ≤ greatest_place
   pub told : WhereBytes before.raw (end ≡ length (file_of before).bytes)
   pub target : SeeksTo before (moved_by end offset) (target_refusal (moved_by end offset)) reply after
 
+-- a seek from the end goes by what the raw answered, unless asking the raw failed
 abbrev pub EndMoves : Stream → ℤ → FileReply → Stream → Type 0
 EndMoves before offset (Refused fault.RawFault) after = Unit {0}
 EndMoves before offset (Refused fault.NoMemory) after = Unit {0}
@@ -254,7 +259,7 @@ pub record AsksNothing (before : Stream) (reply : FileReply) (after : Stream) : 
   pub raw : after.raw ≡ before.raw
   pub fault : says_fault reply ≡ false
 
--- at most one is made, where they are told
+-- at most one transfer is made, where the raw tells its transfers
 abbrev pub AtMostOne : Stream → Stream → Type 0
 AtMostOne before after = WhereTransfers before.raw (after.raw.transfers ≤ before.raw.transfers + 1)
 
@@ -352,9 +357,9 @@ pub record AnswersWith (room : FileCall → Bool) (before : Stream) (call : File
   pub starves : IsTrue (says_no_memory reply) → IsTrue (reads_on call) → Starves before after
   -- a call that takes its space first leaves all as it was where there is none
   pub first : StarvesFirst before call reply after
-  -- calls that ask no raw: it is as it was, and gives no fault
+  -- calls that ask no raw leave the raw as it was, and answer no fault
   pub nothing : IsTrue (asks_none before.buffer call) → AsksNothing before reply after
-  -- calls that call no raw at all: neither it nor running out of memory refuses them
+  -- calls that call no raw at all: neither a raw nor running out of memory refuses them
   pub idle : IsTrue (calls_none before.buffer before.can.writable call) → IsIdle before reply after
   -- calls that make at most one transfer, where nothing was owed
   pub single : IsTrue (makes_one before.buffer call) → before.owed.bytes ≡ [] → AtMostOne before after

@@ -84,7 +84,7 @@ goes_on None (ReadInto size) = false
 goes_on None (Write bytes) = false
 goes_on None call = reads_on call || is_writing call
 
--- calls that make at most one
+-- calls that make at most one transfer, with a buffer or without
 abbrev pub makes_one : Option ℕ → FileCall → Bool
 makes_one (Some size) call = is_single call
 makes_one None (Read (Some size)) = true
@@ -92,7 +92,7 @@ makes_one None (ReadInto size) = true
 makes_one None (Write bytes) = true
 makes_one None call = is_single call
 
--- calls that make none, as they ask for no byte
+-- calls that make no transfer, as they ask for no byte
 abbrev pub asks_none : Option ℕ → FileCall → Bool
 asks_none (Some size) call = asks_nothing call
 asks_none None (ReadLine (Some zero)) = true
@@ -116,6 +116,7 @@ outlasts None call = false
 
 -- Replies.
 
+-- the raw would have blocked, and the call was refused
 abbrev pub says_would_block : FileReply → Bool
 says_would_block (Refused (fault.WouldBlock taken)) = true
 says_would_block reply = false
@@ -130,6 +131,7 @@ abbrev pub says_fault : FileReply → Bool
 says_fault (Refused fault.RawFault) = true
 says_fault reply = false
 
+-- memory ran out
 abbrev pub says_no_memory : FileReply → Bool
 says_no_memory (Refused fault.NoMemory) = true
 says_no_memory reply = false

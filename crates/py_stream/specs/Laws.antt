@@ -32,14 +32,14 @@ pub record AnswersJust (expected : FileReply) (left : FlatFile) (reply : FileRep
   pub says : reply ≡ expected
   pub leaves : file_of after ≡ left
 
--- it gives just these bytes, and the place moves past them
+-- a call gives just these bytes, and the place moves past them
 abbrev pub GivesJust : Stream → List ℕ → FileReply → Stream → Type 0
 GivesJust before bytes reply after = AnswersJust (Bytes bytes) (after_read (file_of before) (length bytes)) reply after
 
--- just these lines
+-- a call gives just these lines, and the place moves past them
 abbrev pub GivesJustLines : Stream → List (List ℕ) → FileReply → Stream → Type 0
 GivesJustLines before lines reply after = AnswersJust (Lines lines) (after_read (file_of before) (length (joined lines))) reply after
 
--- it takes all of these bytes, and lays them at the place
+-- a call takes all of these bytes, and lays them at the place
 abbrev pub TakesJust : Stream → FileReply → List ℕ → FileReply → Stream → Type 0
 TakesJust before expected bytes reply after = AnswersJust expected (after_write (file_of before) bytes) reply after

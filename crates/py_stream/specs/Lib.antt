@@ -1,9 +1,15 @@
 pub mod Stream
+pub mod Access
 pub mod Kinds
 pub mod Writing
 pub mod Answers
+pub mod Keeping
+pub mod Taking
+pub mod Reading
 pub mod Replies
 pub mod Opening
 pub mod Handing
-pub mod Laws
 pub mod Moving
+pub mod Ending
+pub mod Buffer
+pub mod Laws

@@ -1,6 +1,13 @@
--- A place moved by an offset, or by lines.
-use Rattle.std.specs.Prelude.{◌≡◌, ℕ, ◌<◌, ◌≤◌, ℤ, Option, Some, None, Result, Ok, Err}
+-- A place moved by an offset, or by lines; and the steps of moving a stream.
+use Rattle.std.specs.Prelude.{◌≡◌, ℕ, ◌+◌, ◌<◌, ◌≤◌, max, nat_eq, ℤ, pos, suc, zero, true, IsTrue, length, Option, Some, None, IsSome, Result, Ok, Err, if◌then◌else◌}
 use Rattle.py_flat.specs.declared.fault.IoFault.{IoFault}
+use Rattle.py_flat.specs.declared.fault.IoFault.TheVariants as fault
+use Rattle.py_flat.specs.declared.life.Life.TheVariants as life
+use Rattle.py_flat.specs.Causes.{Rose}
+use Rattle.py_flat.specs.Owed.{Owed}
+use Rattle.py_raw.specs.RawStream.{WhereBytes, KeepsBytes, NoWait, LeavesCounts, AnswersFor}
+use Rattle.py_stream.specs.Stream.{Span, Stream, nothing_owed}
+use Rattle.py_stream.specs.Keeping.{KeepsOn}
 use Rattle.py_flat.specs.Limits.{greatest_place}
 use Rattle.py_flat.specs.Refusals.{moved_by, target_refusal}
 
@@ -13,3 +20,80 @@ MovedBy base offset (Err why) = target_refusal (moved_by base offset) ≡ Some w
 abbrev pub EndsWithin : ℕ → Option ℕ → Type 0
 EndsWithin end (Some place) = (place ≡ end) × (end ≤ greatest_place)
 EndsWithin end None = greatest_place < end
+
+-- Moving a stream.
+
+-- the end of the flat file, by where the raw ends: with what is owed
+abbrev pub end_with : Owed → ℕ → ℕ
+end_with owed end = if nat_eq (length owed.bytes) 0 then end else max end (owed.place + length owed.bytes)
+
+-- the stream stands as it stood, and holds and owes what it did
+pub record StandsAsBefore (old new : Stream) : Type 0 where
+  pub kept : KeepsOn old new
+  pub bytes : KeepsBytes old.raw new.raw
+  pub answered : AnswersFor 0 old.raw new.raw
+  pub place : new.place ≡ old.place
+  pub raw_place : new.raw_place ≡ old.raw_place
+  pub owed : new.owed ≡ old.owed
+  pub held : new.held ≡ old.held
+
+-- the raw was asked where it ends: the stream is as it was, but for the raw's counts
+pub record AsksEnd (old : Stream) (end : ℕ) (new : Stream) : Type 0 where
+  pub stands : StandsAsBefore old new
+  pub counts : LeavesCounts old.raw new.raw
+  pub life_is : new.life ≡ old.life
+  pub within : end ≤ greatest_place
+  pub told : WhereBytes old.raw (end ≡ end_with old.owed (length old.raw.bytes))
+
+-- what asking the raw where it ends, or moving it, leaves where it failed
+pub record FailsMoving (old new : Stream) : Type 0 where
+  pub stands : StandsAsBefore old new
+  pub cause : Rose old.raw.faults new.raw.faults
+  pub no_wait : NoWait old.raw new.raw
+  pub failed : new.life ≡ life.Failed
+
+-- the raw was asked where it ends: it answered, failed, or wanted memory
+abbrev pub EndOutcome : Stream → Result ℕ IoFault → Stream → Type 0
+EndOutcome old (Ok end) new = AsksEnd old end new
+EndOutcome old (Err fault.RawFault) new = FailsMoving old new
+EndOutcome old (Err fault.NoMemory) new = IsTrue old.raw.takes_memory × (new ≡ old)
+EndOutcome old (Err other) new = ⊥
+
+-- a seek from a place that is known finds its target: nothing changes
+abbrev pub TargetFrom : ℕ → ℤ → Stream → Result ℕ IoFault → Stream → Type 0
+TargetFrom base offset old result new = MovedBy base offset result × (new ≡ old)
+
+-- a seek from the end finds its target: some end was answered, or the asking failed
+abbrev pub TargetFromEnd : ℤ → Stream → Result ℕ IoFault → Stream → Type 0
+TargetFromEnd offset old (Err fault.RawFault) new = FailsMoving old new
+TargetFromEnd offset old (Err fault.NoMemory) new = IsTrue old.raw.takes_memory × (new ≡ old)
+TargetFromEnd offset old result new = (end : ℕ) × AsksEnd old end new × MovedBy end offset result
+
+-- a seek looks for its target, from the start, from the place or from the end; no other whence is known
+abbrev pub TargetOutcome : Stream → ℤ → ℤ → Result ℕ IoFault → Stream → Type 0
+TargetOutcome old offset (pos zero) result new = TargetFrom 0 offset old result new
+TargetOutcome old offset (pos (suc zero)) result new = TargetFrom old.place offset old result new
+TargetOutcome old offset (pos (suc (suc zero))) result new = TargetFromEnd offset old result new
+TargetOutcome old offset whence result new = (result ≡ Err fault.BadWhence) × (new ≡ old)
+
+-- a target lies among the bytes held, or right after them
+abbrev pub IsHeld : Span → ℕ → Type 0
+IsHeld held target = (held.from ≤ target) × (target ≤ held.to)
+
+-- the stream stands at the target, with nothing owed; one that reads doesn't move its raw for a target among the bytes held
+pub record GoesTo (old : Stream) (target : ℕ) (new : Stream) : Type 0 where
+  pub kept : KeepsOn old new
+  pub counts : LeavesCounts old.raw new.raw
+  pub answered : AnswersFor 0 old.raw new.raw
+  pub bytes : KeepsBytes old.raw new.raw
+  pub live : new.life ≡ life.Live
+  pub place : new.place ≡ target
+  pub owed : new.owed ≡ nothing_owed target
+  pub still : old.can.readable ≡ true → IsSome old.buffer → IsHeld old.held target → new.raw ≡ old.raw
+
+-- a stream is moved to a target: it stands there, or its raw failed, which none does that needn't be moved, or wanted memory
+abbrev pub GoOutcome : Stream → ℕ → Result (Unit {0}) IoFault → Stream → Type 0
+GoOutcome old target (Ok done) new = GoesTo old target new
+GoOutcome old target (Err fault.RawFault) new = FailsMoving old new × (old.can.readable ≡ true → IsSome old.buffer → IsHeld old.held target → ⊥)
+GoOutcome old target (Err fault.NoMemory) new = IsTrue old.raw.takes_memory × (new ≡ old)
+GoOutcome old target (Err other) new = ⊥

@@ -26,7 +26,7 @@ pub record Untouched (old new : Raw) : Type 0 where
   pub transfers : WhereTransfers old (new.transfers ≤ old.transfers)
   pub written : AnswersFor 0 old new
 
--- it stands where it stood
+-- the raw stands where it stood
 abbrev pub StandsWhereItStood : Raw → Raw → Type 0
 StandsWhereItStood old new = WherePlace old (new.place ≡ old.place)
 
@@ -35,7 +35,7 @@ abbrev pub begins_at : Bool → Raw → ℕ
 begins_at true raw = if raw.seekable then length raw.bytes else raw.place
 begins_at false raw = raw.place
 
--- whether the raw tells that: its place; its bytes, of a stream that begins at their end
+-- whether the raw tells where a stream begins: its place; its bytes, of a stream that begins at their end
 abbrev pub tells_start : Bool → Raw → Bool
 tells_start true raw = if raw.seekable then raw.tells_bytes else raw.tells_place
 tells_start false raw = raw.tells_place
@@ -90,6 +90,7 @@ abbrev pub Lacking : Bool → Raw → Raw → Type 0
 Lacking true raw back = Untouched raw back × LeavesCounts raw back × StandsWhereItStood raw back
 Lacking false raw back = back ≡ raw
 
+-- a raw is asked where a stream begins: it answers, fails, or wants memory
 abbrev pub PlaceOutcome : Bool → Raw → Result ℕ RawError → Raw → Type 0
 PlaceOutcome appends old (Ok place) new = PlaceOf appends old place new
 PlaceOutcome appends old (Err raw_error.Fault) new = IsTrue old.seekable × Rose old.faults new.faults × Untouched old new
@@ -105,6 +106,7 @@ RefusesRaw able appends raw buffer fault.NoMemory back = MayOpen able raw buffer
 RefusesRaw able appends raw buffer fault.RawFault back = MayOpen able raw buffer × IsTrue raw.seekable × Rose raw.faults back.faults × Untouched raw back
 RefusesRaw able appends raw buffer other back = ⊥
 
+-- a raw is opened as a stream, or handed back with why it was refused
 abbrev pub NewOutcome : {R : Type 0} → (R → Raw) → (Raw → Bool) → (Bool → Abilities) → R → Option ℕ → Result Stream (NewRefused R) → Type 0
 NewOutcome shows able can raw buffer (Ok stream) = Opens able can (shows raw) buffer stream
 NewOutcome shows able can raw buffer (Err refused) = RefusesRaw able (can (shows raw).seekable).appending (shows raw) buffer refused.fault (shows refused.raw)

@@ -6,13 +6,13 @@ use Rattle.py_flat.specs.declared.fault.IoFault.{IoFault}
 use Rattle.py_flat.specs.declared.fault.IoFault.TheVariants as fault
 use Rattle.py_flat.specs.Calls.{FileReply, Bytes, Lines as LinesReply, Count, Place, Done, NotReady, Refused}
 
--- of a reading that gives bytes
+-- the reply of a reading that gives bytes
 abbrev pub bytes_reply : Result (Option (Vec ℕ Global)) IoFault → FileReply
 bytes_reply (Ok (Some part)) = Bytes part.items
 bytes_reply (Ok None) = NotReady
 bytes_reply (Err why) = Refused why
 
--- of one into a buffer, by what the buffer has then
+-- the reply of a reading into a buffer, by what the buffer has then
 abbrev pub into_reply : Result (Option ℕ) IoFault → List ℕ → FileReply
 into_reply (Ok (Some count)) buffer = Bytes (take count buffer)
 into_reply (Ok None) buffer = NotReady
@@ -36,38 +36,41 @@ abbrev pub KeepsUnread : Result (Option ℕ) IoFault → List ℕ → List ℕ �
 KeepsUnread (Ok (Some count)) before after = drop count after ≡ drop count before
 KeepsUnread result before after = after ≡ before
 
--- of one that lends bytes
+-- the reply of a call that lends bytes
 abbrev pub lent_reply : Result (Option (Bor (List ℕ))) IoFault → FileReply
 lent_reply (Ok (Some part)) = Bytes part.now
 lent_reply (Ok None) = NotReady
 lent_reply (Err why) = Refused why
 
--- of one that says only whether bytes are held that may be lent
+-- the reply of a call that says only whether bytes are held that may be lent
 abbrev pub look_reply : Result Bool IoFault → List ℕ → FileReply
 look_reply (Ok true) held = Bytes held
 look_reply (Ok false) held = NotReady
 look_reply (Err why) held = Refused why
 
+-- the reply of a reading that gives lines
 abbrev pub lines_reply : Result (Option (List (List ℕ))) IoFault → FileReply
 lines_reply (Ok (Some lines)) = LinesReply lines
 lines_reply (Ok None) = NotReady
 lines_reply (Err why) = Refused why
 
--- of one that counts the bytes that it took
+-- the reply of a call that counts the bytes that it took
 abbrev pub count_reply : Result ℕ IoFault → FileReply
 count_reply (Ok count) = Count count
 count_reply (Err why) = Refused why
 
--- of one transfer that counts the bytes that it took, or waits
+-- the reply of one transfer that counts the bytes that it took, or waits
 abbrev pub taken_reply : Result (Option ℕ) IoFault → FileReply
 taken_reply (Ok (Some count)) = Count count
 taken_reply (Ok None) = NotReady
 taken_reply (Err why) = Refused why
 
+-- the reply of a call that answers a place
 abbrev pub place_reply : Result ℕ IoFault → FileReply
 place_reply (Ok place) = Place place
 place_reply (Err why) = Refused why
 
+-- the reply of a call that answers nothing but that it was done
 abbrev pub done_reply : Result (Unit {0}) IoFault → FileReply
 done_reply (Ok done) = Done
 done_reply (Err why) = Refused why

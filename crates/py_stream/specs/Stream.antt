@@ -12,7 +12,7 @@ pub record Span : Type 0 where
   pub from : ℕ
   pub to : ℕ
 
--- what the raw under it shows; its own place; where the raw stands, as the stream itself counts while it lives; what it can
+-- what a stream shows: what its raw shows; its place; where the raw stands, as the stream itself counts while it lives; what it can
 -- do; its life; the size of its buffer in bytes, none of a stream that has no buffer; whether a wait of the raw cut the last
 -- answer short; the bytes that it has taken from callers and not passed on; and where the bytes lie that its buffer holds, read ahead
 -- and owed ones alike: while it lives its place is among them, or right after them, so that without a buffer both ends are the place
@@ -27,10 +27,11 @@ pub record Stream : Type 0 where
   pub owed : Owed
   pub held : Span
 
--- how many bytes its buffer holds: without one, none
+-- how many bytes a stream's buffer holds: without a buffer, none
 abbrev pub size_of : Stream → ℕ
 size_of stream = unwrap_or stream.buffer 0
 
+-- how a stream is buffered, by the size of its buffer
 abbrev pub buffering_of : Option ℕ → Buffering
 buffering_of (Some size) = Buffered size
 buffering_of None = Unbuffered

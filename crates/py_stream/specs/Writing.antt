@@ -15,7 +15,7 @@ use Rattle.py_stream.specs.Kinds.{is_writing, says_no_memory}
 abbrev pub OwesUpTo : Owed → ℕ → Type 0
 OwesUpTo owed place = (owed.bytes ≡ []) ⊎ (owed.place + length owed.bytes ≡ place)
 
--- where nothing is owed, that is said of the place
+-- where nothing is owed, the place of the owed bytes is the stream's
 abbrev pub NoneAtPlace : Stream → Type 0
 NoneAtPlace stream = stream.owed.bytes ≡ [] → stream.owed.place ≡ stream.place
 
@@ -33,7 +33,7 @@ pub record Takes (before : Stream) (bytes : List ℕ) (after : Stream) : Type 0 
   pub up_to : OwesUpTo after.owed after.place
   pub told : WhereTold before.raw ((count : ℕ) × (taken ≤ count) × (count ≤ length bytes) × ((file_of after).bytes ≡ lay (file_of before).bytes before.place (take count bytes)))
 
--- what is left of what was owed is a suffix, where that stood
+-- what is left of the owed bytes is a suffix of them, at the place where it stood
 pub record OwesRest (before after : Owed) : Type 0 where
   pub passed : ℕ
   pub bytes : after.bytes ≡ drop passed before.bytes
@@ -52,6 +52,7 @@ abbrev pub first_of_both : (owed : List ℕ) (start place : ℕ) → ℕ
 first_of_both [] start place = place
 first_of_both (byte ∷ more) start place = min start place
 
+-- the place of the first of the bytes that were owed and of those that a write gives at a place
 abbrev pub first_place : Owed → ℕ → ℕ
 first_place owed place = first_of_both owed.bytes owed.place place
 
@@ -62,6 +63,7 @@ end_of_both owed start place zero = start + length owed
 end_of_both [] start place (suc count) = place + suc count
 end_of_both owed start place (suc count) = max (start + length owed) (place + suc count)
 
+-- the place after the last of the bytes that were owed and of n that a write gives at a place
 abbrev pub last_place : Owed → ℕ → ℕ → ℕ
 last_place owed place count = end_of_both owed.bytes owed.place place count
 
@@ -98,6 +100,7 @@ pub record LaysThenCuts (before : Stream) (size : ℕ) (after : List ℕ) : Type
   pub lays : LaysFront before [] between
   pub cuts : (after ≡ between) ⊎ (after ≡ resized between size)
 
+-- the raw's bytes after a call: a front laid on of what is owed and given; of a truncation, then cut to its size
 abbrev pub LaysInOrder : Stream → FileCall → List ℕ → Type 0
 LaysInOrder before (Truncate size) after = LaysThenCuts before (size_asked before size) after
 LaysInOrder before call after = LaysFront before (payload call) after
@@ -153,21 +156,21 @@ pub record TookOwn (before after : Stream) : Type 0 where
 pub record Writes (before : Stream) (call : FileCall) (reply : FileReply) (after : Stream) : Type 0 where
   -- what is owed after a write, wherever it was made
   pub owes : IsTrue (is_writing call) → OwesBoth before (payload call) after
-  -- where what was owed ended at the place, how much a write passed on, too
+  -- where what was owed ended at the place, also how much a write passed on
   pub takes : IsTrue (is_writing call) → OwesUpTo before.owed before.place → Takes before (payload call) after
-  -- every other call owes what is left of what was owed, where that stood
+  -- a call that gives no bytes owes what is left of what was owed, where it stood
   pub leaves : is_writing call ≡ false → PassesFront before after
-  -- what the raw's bytes are
+  -- what the raw's bytes are after a call
   pub lays : WhereTold before.raw (LaysInOrder before call after.raw.bytes)
   -- what is passed on of a live stream
   pub passes : PassesOn before call reply after
-  -- where it had to wait
+  -- what a call leaves that had to wait
   pub full : BlocksFull call reply after
   -- running out of memory fails a write only once the raw took some of its own bytes
   pub starves : IsTrue (says_no_memory reply) → IsTrue (is_writing call) → after.life ≡ life.Failed → TookOwn before after
   -- what went straight to the raw isn't owed
   pub straight : OwesNoneOfIts before call reply after
-  -- where nothing is owed, that is said of the place
+  -- where nothing is owed, the place of the owed bytes stays the stream's
   pub settles : NoneAtPlace before → NoneAtPlace after
   -- a raw is closed only where nothing is owed
   pub unclosed : after.owed.bytes ≢ [] → after.raw.closed ≡ before.raw.closed

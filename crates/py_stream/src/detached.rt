@@ -7,7 +7,7 @@ pub struct Detached<R> {
     pub raw: R,
     /// The bytes that were taken from callers and that the raw isn't known to have taken.
     pub unwritten: Vec<u8>,
-    /// The place of the first of them, in bytes from the start; with none unwritten the stream's own place, where the raw
+    /// The place of the first unwritten byte, in bytes from the start; with none unwritten the stream's own place, where the raw
     /// needn't stand. `None` where the raw can't seek.
     pub place: Option<u64>,
 }

@@ -3,15 +3,16 @@
 //! then.
 //!
 //! No function here does anything; what each ensures is the law.
-ghost use Rattle.std.specs.Prelude.{◌≡◌, ◌+◌, ◌≤◌, ℕ, pos, true, List, length, Option, Some};
+ghost use Rattle.std.specs.Prelude.{◌≡◌, ◌+◌, ◌≤◌, ℕ, pos, true, IsTrue, List, length, Option, Some, IsSome};
 ghost use Rattle.py_flat.specs.Limits.{greatest_place};
 ghost use Rattle.py_flat.specs.Bytes.{first_of};
 ghost use Rattle.py_flat.specs.Lines.{Lf, first_line, lines_within, joined};
-ghost use Rattle.py_flat.specs.Calls.{Read, Read1, ReadLine, ReadLines, Peek, ReadInto, ReadInto1, Write, WriteLines, Seek, Tell, FileReply, Count, Done, Place};
+ghost use Rattle.py_flat.specs.Calls.{FileCall, Read, Read1, ReadLine, ReadLines, Peek, ReadInto, ReadInto1, Write, WriteLines, Seek, Tell, FileReply, Count, Done, Place};
 ghost use Rattle.py_flat.specs.ExactStep.{rest, one_transfer, buffer_full};
 ghost use Rattle.py_flat.specs.BinaryStep.{Transfers};
 ghost use Rattle.py_stream.specs.Stream.{Stream, file_of};
 ghost use Rattle.py_stream.specs.Answers.{Answers};
+ghost use Rattle.py_stream.specs.Buffer.{buffer_of, OwesAsItCan, is_made, AnswersAsBuffer};
 ghost use Rattle.py_stream.specs.Laws.{ComesBack, GoesSmoothly, GivesJust, GivesJustLines, TakesJust};
 
 /// A stream that told its place, and was then moved there from its start, stands where it stood. Over a raw that tells, its
@@ -49,4 +50,10 @@ pub fn a_smooth_single_transfer_gives_a_front()
 pub fn a_smooth_write_takes_all()
     ensures write { (before : Stream) (bytes : List ℕ) (reply : FileReply) (after : Stream) → Answers before (Write bytes) reply after → before.can.writable ≡ true → before.place + length bytes ≤ greatest_place → GoesSmoothly before reply after → TakesJust before (Count (length bytes)) bytes reply after }
     ensures writelines { (before : Stream) (lines : List (List ℕ)) (reply : FileReply) (after : Stream) → Answers before (WriteLines lines) reply after → before.can.writable ≡ true → before.place + length (joined lines) ≤ greatest_place → GoesSmoothly before reply after → TakesJust before Done (joined lines) reply after }
+{}
+
+/// What a stream with a buffer answers to a `read1`, `write`, `seek`, `flush` or `close` is what the layer above asks of every buffered
+/// stream, over a raw stream or in memory. The stream owes nothing where it doesn't write, as every one of the library does.
+pub fn a_stream_answers_as_a_buffered_one()
+    ensures { (before : Stream) (call : FileCall) (reply : FileReply) (after : Stream) → Answers before call reply after → IsTrue (is_made call) → IsSome before.buffer → OwesAsItCan (buffer_of before) → AnswersAsBuffer (buffer_of before) call reply (buffer_of after) }
 {}

@@ -2,19 +2,23 @@
 //! back.
 #![tactic(auto)]
 
+mod access;
 mod detached;
 mod laws;
 mod moving;
 mod new_refused;
 mod opening;
+mod stop;
 
+pub use access::Access;
 pub use detached::Detached;
 pub use laws::{
     a_seek_to_the_told_place_keeps_all, a_smooth_line_is_the_first_that_is_left,
     a_smooth_read_gives_what_comes_next, a_smooth_single_transfer_gives_a_front,
-    a_smooth_write_takes_all,
+    a_smooth_write_takes_all, a_stream_answers_as_a_buffered_one,
 };
 pub use moving::{end_of_lines, life_fault, moved_by};
 pub use new_refused::NewRefused;
 pub use opening::{first_place, refused_at_first};
 pub use py_flat::Whence;
+pub use stop::Stop;

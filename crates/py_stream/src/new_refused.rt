@@ -1,4 +1,4 @@
-//! The refusal of a stream over a raw one, which hands that back.
+//! The refusal of a stream over a raw one, which hands the raw back.
 ghost use Rattle.std.specs.Prelude.{◌≡◌};
 ghost use Rattle.std.specs.IoError.{error_kind};
 ghost use Rattle.py_flat.specs.Conversions.{kind_of};
@@ -14,7 +14,7 @@ use thiserror::Error;
 pub struct NewRefused<R> {
     /// The raw stream, with nothing read from it, and open or closed as it came.
     pub raw: R,
-    /// Why it was refused.
+    /// Why the raw stream was refused.
     pub fault: IoFault,
 }
 

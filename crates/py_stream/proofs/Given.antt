@@ -1,0 +1,349 @@
+-- The answers of the calls that give bytes to a stream, by what their steps came to.
+use Rattle.std.proofs.Common.{◌≡◌, ℕ, ◌+◌, ◌-◌, ◌<◌, ◌≤◌, inl, inr, Bool, true, false, IsTrue, List, [], ◌++◌, length, take, drop, Option, Result, Ok, Err, refl, sym, ap, ◌∙◌, subst, arith}
+use Rattle.std.proofs.Math.Seq.{take-append_seam}
+use Rattle.std.proofs.lemmas.List.{length-take-le, take_all, take-append-le, append-nil, drop-take}
+use Rattle.py_flat.specs.declared.fault.IoFault.{IoFault}
+use Rattle.py_flat.specs.declared.fault.IoFault.TheVariants as fault
+use Rattle.py_flat.specs.declared.life.Life.{Life}
+use Rattle.py_flat.specs.declared.life.Life.TheVariants as life
+use Rattle.py_flat.specs.Bytes.{lay}
+use Rattle.py_flat.specs.Causes.{Rose}
+use Rattle.py_flat.specs.Calls.{FileCall, FileReply, Write, Refused}
+use Rattle.py_flat.specs.ExactStep.{is_closed}
+use Rattle.py_flat.specs.AllowedStep.{settled, waited_for, raw_faulted, out_of_memory}
+use Rattle.py_flat.specs.BinaryStep.{payload, SettledBy, BinaryStep}
+use Rattle.py_raw.specs.RawStream.{Raw, Keeps, NoFault, AnswersFor, WhereTransfers}
+use Rattle.py_stream.specs.Stream.{Stream, size_of, file_of}
+use Rattle.py_stream.specs.Kinds.{is_writing, goes_on, makes_one}
+use Rattle.py_stream.specs.Writing.{Takes, OwesOld, OwesNoneOfIts, TookOwn}
+use Rattle.py_stream.specs.Answers.{Answers, LifeMoves, PlaceMoves}
+use Rattle.py_stream.specs.Keeping.{KeepsOn}
+use Rattle.py_stream.specs.Taking.{Took, TookAll, FailsTaking, Calm, WaitsAsOne, CutsBack, Starved, StarvesTaking, FillsUp, PutOutcome, PutsOutcome}
+use Rattle.py_stream.proofs.Begun.{answers_whole}
+use Rattle.py_stream.proofs.Accepting.{work_reaches}
+use Rattle.py_stream.proofs.Alone.{Begins}
+use Rattle.py_stream.proofs.Refused.{nothing_blocked}
+use Rattle.py_stream.proofs.Stopping.{says_short, fault_answers, starves_alive, starves_there, starve_answers}
+use Rattle.py_stream.proofs.Taking.{fails_sound}
+use Rattle.py_stream.proofs.Flat.{took_ends, fails_ends, took_bytes, took_file, took_none_ends, took_none_file, failed_file, fails_bytes, lays_taken, fails_lays}
+use Rattle.py_stream.proofs.Giving.{of_all, MayWrite, answers_coming, accepted, works, no_tell, calm_counts, one_counts, TakesCount, taken_reply, is_taken, WaitsCount, waited_reply, is_blocked, FailsCount, is_faulted}
+
+-- at most one transfer was made, where the call makes no more
+abbrev pub OneTransfer : Stream → FileCall → Stream → Type 0
+OneTransfer old call new = IsTrue (makes_one old.buffer call) → WhereTransfers old.raw (new.raw.transfers ≤ old.raw.transfers + 1)
+
+-- the first n of a call's own bytes were taken
+takes_front : (old new : Stream) (own : List ℕ) (taken : ℕ) (current : Life) (short : Bool) → taken ≤ length own → Took old (take taken own) new → Takes old own (record new { life = current; short = short })
+takes_front old new own taken current short fits took = record {
+  taken = taken;
+  within = fits;
+  place = omega (arith, took_ends old new (take taken own) took, length-take-le taken own fits);
+  passed = took.passed;
+  most = omega (arith, took.within, length-take-le taken own fits);
+  answered = took.answered;
+  owed = took.owed;
+  up_to = inr took.behind.ends;
+  told = λ tells. (taken, omega arith, fits, took_bytes old new (take taken own) took tells);
+}
+
+-- Some were taken.
+pub takes_answers : (old new : Stream) (call : FileCall) (count : ℕ) → MayWrite old call → count ≤ length (payload call) → TakesCount old.buffer call count → Took old (take count (payload call)) new → Calm old.buffer old.raw new.raw → OneTransfer old call new → Answers old call (taken_reply call count) (record new { short = false })
+takes_answers old new call count may fits counts took calm one =
+    let own : List ℕ = payload call in
+    let is = is_taken old count old.buffer call may.writing in
+    let left : Stream = record new { short = false } in
+    answers_coming old new call (taken_reply call count) false may (record {
+      kept = took.kept;
+      behind = took.behind;
+      is_open = ap is_closed took.live;
+      causes = record { waits = λ short. absurd (cc); faults = λ faulted. absurd (cc (is.no_fault)) };
+      counted = λ exact. record { faults = λ _. took.no_fault exact; waits = λ _ ends. calm_counts old.buffer call old.raw new.raw may.writing calm ends exact; once = λ short. absurd (cc) };
+      shorts = is.shorts;
+      life_is = is.life_is old.life new.life (took.live ∙ sym may.live);
+      place = is.place new.life old.place new.place fits counts (omega (arith, took_ends old new (take count own) took, length-take-le count own fits));
+      wants = λ wanting. absurd (cc (is.no_want));
+      one = one;
+      takes = takes_front old new own count new.life false fits took;
+      lays = lays_taken old new own count fits took;
+      full = is.full left;
+      straight = is.straight left;
+      starves = λ wanting. absurd (cc (is.no_want));
+      answers = is.answers;
+      told = λ tells. subst (λ (faulted : Bool). BinaryStep (file_of old) call (taken_reply call count) false faulted (file_of new)) (sym is.no_fault) (settled (subst (λ (refused : Option IoFault). SettledBy (file_of old) call refused (taken_reply call count) (file_of new)) (sym (accepted old call may))
+          (is.carried (file_of new) fits counts (took_file old new (take count own) may.live took tells))));
+    })
+
+-- The raw would have blocked.
+pub waits_answers : (old new : Stream) (call : FileCall) (taken : ℕ) → MayWrite old call → taken ≤ length (payload call) → WaitsCount old.buffer call taken → Took old (take taken (payload call)) new → length new.owed.bytes ≡ size_of new → Rose old.raw.waits new.raw.waits → WaitsAsOne old.buffer old.raw new.raw → OneTransfer old call new → Answers old call (waited_reply old.buffer call taken) (record new { short = true })
+waits_answers old new call taken may fits counts took full waited once one =
+    let own : List ℕ = payload call in
+    let is = is_blocked old taken old.buffer call may.writing in
+    let left : Stream = record new { short = true } in
+    answers_coming old new call (waited_reply old.buffer call taken) true may (record {
+      kept = took.kept;
+      behind = took.behind;
+      is_open = ap is_closed took.live;
+      causes = record { waits = λ short. waited; faults = λ faulted. absurd (cc (is.no_fault)) };
+      counted = λ exact. record { faults = λ _. took.no_fault exact; waits = λ whole. absurd (cc); once = λ _ ends. one_counts old.buffer call old.raw new.raw may.writing once ends exact };
+      shorts = is.shorts;
+      life_is = is.life_is old.life new.life (took.live ∙ sym may.live);
+      place = is.place new.life old.place new.place counts (omega (arith, took_ends old new (take taken own) took, length-take-le taken own fits));
+      wants = λ wanting. absurd (cc (is.no_want));
+      one = one;
+      takes = takes_front old new own taken new.life true fits took;
+      lays = lays_taken old new own taken fits took;
+      full = is.full left full;
+      straight = is.straight left;
+      starves = λ wanting. absurd (cc (is.no_want));
+      answers = is.answers;
+      told = λ tells. waited_for refl (works old call may, is.waited (file_of new) counts (took_file old new (take taken own) may.live took tells));
+    })
+
+-- The raw failed.
+pub faults_answers : (old new : Stream) (call : FileCall) → MayWrite old call → (fails : FailsTaking old (payload call) new) → FailsCount old.buffer call fails.taken → OneTransfer old call new → OwesNoneOfIts old call (Refused fault.RawFault) (record new { short = false }) → Answers old call (Refused fault.RawFault) (record new { short = false })
+faults_answers old new call may fails counts one straight =
+    let own : List ℕ = payload call in
+    let is = is_faulted old fails.taken old.buffer call may.writing in
+    let left : Stream = record new { short = false } in
+    let ends : new.place ≡ old.place + fails.taken = fails_ends old new own fails in
+    answers_coming old new call (Refused fault.RawFault) false may (record {
+      kept = fails.kept;
+      behind = fails.behind;
+      is_open = ap is_closed fails.failed;
+      causes = record { waits = λ short. absurd (cc); faults = λ faulted. fails.cause };
+      counted = λ exact. record { faults = λ sound. absurd (cc); waits = λ _ ends. calm_counts old.buffer call old.raw new.raw may.writing fails.calm ends exact; once = λ short. absurd (cc) };
+      shorts = says_short call fault.RawFault;
+      life_is = subst (LifeMoves old.buffer call (Refused fault.RawFault) old.life) (sym fails.failed) (is.life_is old.life);
+      place = is.place new.life old.place new.place counts ends;
+      wants = λ wanting. absurd (cc);
+      one = one;
+      takes = record {
+        taken = fails.taken;
+        within = fails.fits;
+        place = ends;
+        passed = fails.passed;
+        most = fails.within;
+        answered = fails.answered;
+        owed = fails.owed;
+        up_to = inr fails.behind.ends;
+        told = λ tells. let laid = fails_bytes old new own fails tells in (laid.count, laid.least_is, laid.fits, laid.bytes);
+      };
+      lays = fails_lays old new own fails;
+      full = nothing_blocked left call fault.RawFault refl;
+      straight = straight;
+      starves = λ wanting. absurd (cc);
+      answers = fault_answers old.buffer true call (no_tell call may.writing);
+      told = λ tells.
+          let laid = fails_bytes old new own fails tells in
+          raw_faulted refl refl (
+            work_reaches (file_of old) call (works old call may),
+            is.faulted (file_of new) (laid.count, laid.fits, failed_file old new life.Failed (lay (file_of old).bytes old.place (take laid.count own)) fails.kept fails.failed laid.bytes),
+          );
+    })
+
+-- Memory ran out.
+
+-- memory ran out before any of the call's own bytes went to the raw
+pub wants_answers : (old new : Stream) (call : FileCall) → MayWrite old call → IsTrue old.raw.takes_memory → Took old [] new → Calm old.buffer old.raw new.raw → OneTransfer old call new → OwesNoneOfIts old call (Refused fault.NoMemory) (record new { short = false }) → Answers old call (Refused fault.NoMemory) (record new { short = false })
+wants_answers old new call may takes took calm one straight =
+    let own : List ℕ = payload call in
+    let is = is_faulted old 0 old.buffer call may.writing in
+    let left : Stream = record new { short = false } in
+    let same : new.life ≡ old.life = took.live ∙ sym may.live in
+    let ends : new.place ≡ old.place = took_none_ends old new took in
+    answers_coming old new call (Refused fault.NoMemory) false may (record {
+      kept = took.kept;
+      behind = took.behind;
+      is_open = ap is_closed took.live;
+      causes = record { waits = λ short. absurd (cc); faults = λ faulted. absurd (cc) };
+      counted = λ exact. record { faults = λ _. took.no_fault exact; waits = λ _ ends. calm_counts old.buffer call old.raw new.raw may.writing calm ends exact; once = λ short. absurd (cc) };
+      shorts = says_short call fault.NoMemory;
+      life_is = subst (LifeMoves old.buffer call (Refused fault.NoMemory) old.life) (sym same) (starves_alive old.buffer call old.life);
+      place = subst (PlaceMoves old.buffer call (Refused fault.NoMemory) new.life old.place) (sym ends) (starves_there old.buffer call new.life old.place);
+      wants = λ wanting. takes;
+      one = one;
+      takes = takes_front old new own 0 new.life false (omega arith) took;
+      lays = lays_taken old new own 0 (omega arith) took;
+      full = nothing_blocked left call fault.NoMemory refl;
+      straight = straight;
+      starves = λ wanting failed. absurd (let wrong : life.Live ≡ life.Failed = sym took.live ∙ failed in cc);
+      answers = starve_answers old.buffer true call (no_tell call may.writing);
+      told = λ tells. out_of_memory refl (work_reaches (file_of old) call (works old call may), is.same (file_of new) (took_none_file old new may.live took tells));
+    })
+
+-- a raw stands where what is owed belongs, and past the place of a call it took some of that call's own bytes
+took_own : (old new : Stream) (bytes : List ℕ) → Took old bytes new → old.place < new.owed.place → TookOwn old (record new { life = life.Failed; short = false })
+took_own old new bytes took past = record {
+  further = omega (arith, past, took.behind.stands);
+  stands = λ tells. omega (arith, past, took.behind.stands, (took.kept.sound.near took.live).stands (took.kept.raw.tells_place ∙ tells));
+  answered = λ _ tells. omega (arith, past, took.place, took.was.ends, took.answered tells);
+}
+
+-- memory ran out after the raw took some of the call's own bytes: the stream fails
+pub midway_answers : (old between : Stream) (call : FileCall) (taken : ℕ) → MayWrite old call → goes_on old.buffer call ≡ true → taken ≤ length (payload call) → IsTrue old.raw.takes_memory → Took old (take taken (payload call)) between → Calm old.buffer old.raw between.raw → OneTransfer old call between → old.place < between.owed.place → OwesNoneOfIts old call (Refused fault.NoMemory) (record between { life = life.Failed; short = false }) → Answers old call (Refused fault.NoMemory) (record between { life = life.Failed; short = false })
+midway_answers old between call taken may goes fits takes took calm one past straight =
+    let own : List ℕ = payload call in
+    let is = is_faulted old taken old.buffer call may.writing in
+    let new : Stream = record between { life = life.Failed } in
+    let kept : KeepsOn old new = record { raw = took.kept.raw; stays = took.kept.stays; buffer = took.kept.buffer; can = took.kept.can; short = took.kept.short; sound = fails_sound between took.kept.sound } in
+    let long : length (take taken own) ≡ taken = length-take-le taken own fits in
+    let ends : between.place ≡ old.place + taken = omega (arith, took_ends old between (take taken own) took, long) in
+    let some : 0 < taken = omega (arith, past, took.place, took.was.ends, took.within, long) in
+    answers_coming old new call (Refused fault.NoMemory) false may (record {
+      kept = kept;
+      behind = record { ends = took.behind.ends; stands = took.behind.stands };
+      is_open = refl;
+      causes = record { waits = λ short. absurd (cc); faults = λ faulted. absurd (cc) };
+      counted = λ exact. record { faults = λ _. took.no_fault exact; waits = λ _ ends. calm_counts old.buffer call old.raw between.raw may.writing calm ends exact; once = λ short. absurd (cc) };
+      shorts = says_short call fault.NoMemory;
+      life_is = is.starved_life old.life goes;
+      place = is.starved_place old.place between.place fits ends;
+      wants = λ wanting. takes;
+      one = one;
+      takes = takes_front old between own taken life.Failed false fits took;
+      lays = lays_taken old between own taken fits took;
+      full = nothing_blocked (record new { short = false }) call fault.NoMemory refl;
+      straight = straight;
+      starves = λ wanting failed. took_own old between (take taken own) took past;
+      answers = starve_answers old.buffer true call (no_tell call may.writing);
+      told = λ tells. out_of_memory refl (
+        work_reaches (file_of old) call (works old call may),
+        is.starved (file_of new) (taken, some, fits, failed_file old new life.Failed (lay (file_of old).bytes old.place (take taken own)) kept refl (took_bytes old between (take taken own) took tells)),
+      );
+    })
+
+-- up to where the call began all bytes are as they were
+cut_bytes : (owed front : List ℕ) (passed most : ℕ) → passed ≤ length owed → most ≡ length owed - passed → take most (drop passed (owed ++ front)) ≡ drop passed (owed ++ [])
+cut_bytes owed front passed most within is =
+    let parts : passed + most ≡ length owed = omega (arith, is) in
+    sym (drop-take passed most (owed ++ front))
+    ∙ ap (λ (n : ℕ). drop passed (take n (owed ++ front))) parts
+    ∙ ap (drop passed) (take-append_seam owed front ∙ sym (append-nil owed))
+
+-- a stream that goes back to the place where the call began has taken nothing
+lets_go : (old between new : Stream) (front : List ℕ) → between.owed.place ≤ old.place → Took old front between → CutsBack old.place between new → Took old [] new
+lets_go old between new front before took cut =
+    let owed : List ℕ = old.owed.bytes in
+    let within : took.passed ≤ length owed = omega (arith, before, took.place, took.was.ends) in
+    record {
+      kept = record { raw = subst (Keeps old.raw) (sym cut.raw) took.kept.raw; stays = cut.kept.stays ∙ took.kept.stays; buffer = cut.kept.buffer ∙ took.kept.buffer; can = cut.kept.can ∙ took.kept.can; short = cut.kept.short ∙ took.kept.short; sound = cut.kept.sound };
+      was = took.was;
+      behind = cut.behind;
+      live = cut.life_is ∙ took.live;
+      no_fault = subst (NoFault old.raw) (sym cut.raw) took.no_fault;
+      passed = took.passed;
+      within = omega (arith, within);
+      answered = subst (AnswersFor took.passed old.raw) (sym cut.raw) took.answered;
+      place = cut.place ∙ took.place;
+      owed = cut.owed ∙ ap (take (old.place - between.owed.place)) took.owed ∙ cut_bytes owed front took.passed (old.place - between.owed.place) within (omega (arith, took.place, took.was.ends));
+      told = λ tells. ap (λ (raw : Raw). raw.bytes) cut.raw ∙ took.told tells ∙ ap (lay old.raw.bytes old.owed.place) (take-append-le took.passed owed front within ∙ sym (take-append-le took.passed owed [] within));
+    }
+
+-- a stream whose last answer is known to be short or not
+said_short : (stream : Stream) (short : Bool) → stream.short ≡ short → record stream { short = short } ≡ stream
+said_short stream short is = ap (λ (said : Bool). let left : Stream = record stream { short = said } in left) (sym is)
+
+-- what is owed doesn't hang on whether the answer is short
+owes_rest : (old new : Stream) (short : Bool) → OwesOld old new → OwesOld old (record new { short = short })
+owes_rest old new short owes = record { rest = owes.rest; stands = owes.stands; moved = owes.moved }
+
+-- a `write` owes none of its own bytes once the raw failed, nor where running out of memory fails the stream
+pub one_write : (old new : Stream) (bytes : List ℕ) (start : ℕ) (why : IoFault) → PutOutcome old bytes start (Err why) new → OwesNoneOfIts old (Write bytes) (Refused why) (record new { short = false })
+one_write old new bytes start fault.RawFault put = owes_rest old new false put.1
+one_write old new bytes start fault.NoMemory put = λ failed. owes_rest old new false (put.1 failed)
+one_write old new bytes start why put = tt
+
+-- what one piece answers is what several do
+pub puts_one : (old new : Stream) (bytes : List ℕ) (start : ℕ) (result : Result Bool IoFault) → PutOutcome old bytes start result new → PutsOutcome old bytes start result new
+puts_one old new bytes start (Err fault.RawFault) put = put.0
+puts_one old new bytes start (Err fault.NoMemory) put = put.0
+puts_one old new bytes start result put = put
+
+-- As the steps of `write` and `writelines` come.
+
+-- what is known once a call began that gives bytes, and its bytes have a place; and that it goes on until all are taken
+pub record Begun (first old : Stream) (call : FileCall) : Type 0 where
+  pub began : Begins first (Ok tt) old
+  pub may : MayWrite old call
+  pub many : makes_one old.buffer call ≡ false
+  pub goes : goes_on old.buffer call ≡ true
+
+whole : (first old : Stream) → Begins first (Ok tt) old → old.short ≡ false
+whole first old began = ap (λ (stream : Stream). stream.short) began.1
+
+-- a call is answered as from the stream that it came to
+pub from_first : (first old : Stream) (call : FileCall) (reply : FileReply) (after : Stream) → Begins first (Ok tt) old → Answers old call reply after → Answers first call reply after
+from_first first old call reply after began answers = answers_whole first after call reply (subst (λ (stream : Stream). Answers stream call reply after) began.1 answers)
+
+-- where the answer isn't short, the stream is as its steps left it
+pub as_left : (first old new : Stream) (call : FileCall) (reply : FileReply) → Begins first (Ok tt) old → KeepsOn old new → Answers old call reply (record new { short = false }) → Answers first call reply new
+as_left first old new call reply began kept answers =
+    from_first first old call reply new began
+    (subst (λ (left : Stream). Answers old call reply left) (said_short new false (kept.short ∙ whole first old began)) answers)
+
+no_one : (old new : Stream) (call : FileCall) → makes_one old.buffer call ≡ false → OneTransfer old call new
+no_one old new call many one = absurd (cc)
+
+took_all : (old new : Stream) (own : List ℕ) → Took old own new → Took old (take (length own) own) new
+took_all old new own took = subst (λ (bytes : List ℕ). Took old bytes new) (sym (take_all (length own) own (omega arith))) took
+
+-- a call that goes on until all bytes are taken has no other count
+pub record GoesOn (buffer : Option ℕ) (call : FileCall) : Type 0 where
+  pub all : TakesCount buffer call (length (payload call))
+  pub waits : (taken : ℕ) → taken < length (payload call) → WaitsCount buffer call taken
+  pub says : (taken : ℕ) → waited_reply buffer call taken ≡ Refused (fault.WouldBlock taken)
+  pub fails : (taken : ℕ) → taken ≤ length (payload call) → FailsCount buffer call taken
+
+goes_on_all : (buffer : Option ℕ) (call : FileCall) → is_writing call ≡ true → goes_on buffer call ≡ true → GoesOn buffer call
+goes_on_all buffer call writing = of_all (λ (buffer : Option ℕ) (call : FileCall). goes_on buffer call ≡ true → GoesOn buffer call)
+    (λ size bytes goes. record { all = refl; waits = λ taken less. less; says = λ taken. refl; fails = λ taken fits. fits })
+    (λ bytes goes. absurd (cc))
+    (λ size lines goes. record { all = refl; waits = λ taken less. less; says = λ taken. refl; fails = λ taken fits. fits })
+    (λ lines goes. record { all = refl; waits = λ taken less. less; says = λ taken. refl; fails = λ taken fits. fits })
+    buffer call writing
+
+-- a call that took all of its bytes
+pub giving_takes : (first old new : Stream) (call : FileCall) → Begun first old call → TookAll old (payload call) new → Answers first call (taken_reply call (length (payload call))) new
+giving_takes first old new call begun took =
+    as_left first old new call (taken_reply call (length (payload call))) begun.began took.took.kept
+    (takes_answers old new call (length (payload call)) begun.may (omega arith) (goes_on_all old.buffer call begun.may.writing begun.goes).all (took_all old new (payload call) took.took) took.calm (no_one old new call begun.many))
+
+-- the raw would have blocked, and the call is refused by how many were taken
+pub giving_blocks : (first old new left : Stream) (call : FileCall) (start : ℕ) (why : IoFault) → Begun first old call → start ≡ old.place → FillsUp old (payload call) new → why ≡ fault.WouldBlock (new.place - start) → left ≡ record new { short = true } → Answers first call (Refused why) left
+giving_blocks first old new left call start why begun begins fills says short =
+    let fits : fills.taken ≤ length (payload call) = omega (arith, fills.less) in
+    let on : GoesOn old.buffer call = goes_on_all old.buffer call begun.may.writing begun.goes in
+    let count : new.place - start ≡ fills.taken = omega (arith, begins, took_ends old new (take fills.taken (payload call)) fills.took, length-take-le fills.taken (payload call) fits) in
+    let is : Refused (fault.WouldBlock fills.taken) ≡ Refused why = ap (λ (taken : ℕ). Refused (fault.WouldBlock taken)) (sym count) ∙ ap (λ (fault : IoFault). Refused fault) (sym says) in
+    from_first first old call (Refused why) left begun.began
+    (subst (λ (after : Stream). Answers old call (Refused why) after) (sym short)
+    (subst (λ (reply : FileReply). Answers old call reply (record new { short = true })) (on.says fills.taken ∙ is)
+    (waits_answers old new call fills.taken begun.may fits (on.waits fills.taken fills.less) fills.took fills.full fills.waited fills.once (no_one old new call begun.many))))
+
+starves : (first old new : Stream) (call : FileCall) → Begun first old call → StarvesTaking old (payload call) old.place new → OwesNoneOfIts old call (Refused fault.NoMemory) (record new { short = false }) → Answers first call (Refused fault.NoMemory) new
+starves first old new call begun lack straight = go lack.starved where
+  between : Stream
+  between = lack.between
+
+  took : Took old (take lack.taken (payload call)) between
+  took = lack.lacks.took
+
+  go : Starved old.place between new → Answers first call (Refused fault.NoMemory) new
+  go (inl before) =
+      let back : Took old [] new = lets_go old between new (take lack.taken (payload call)) before.0 took before.1 in
+      as_left first old new call (Refused fault.NoMemory) begun.began back.kept
+      (wants_answers old new call begun.may lack.lacks.takes back (subst (Calm old.buffer old.raw) (sym before.1.raw) lack.calm) (no_one old new call begun.many) straight)
+  go (inr past) =
+      let failed : Stream = record between { life = life.Failed } in
+      let sound : failed.short ≡ false = took.kept.short ∙ whole first old begun.began in
+      from_first first old call (Refused fault.NoMemory) new begun.began
+      (subst (λ (left : Stream). Answers old call (Refused fault.NoMemory) left) (said_short failed false sound ∙ sym past.1)
+      (midway_answers old between call lack.taken begun.may begun.goes lack.fits lack.lacks.takes took lack.calm (no_one old between call begun.many) past.0 (subst (λ (left : Stream). OwesNoneOfIts old call (Refused fault.NoMemory) (record left { short = false })) past.1 straight)))
+
+-- the raw refused
+pub giving_fails : (first old new : Stream) (call : FileCall) (start : ℕ) (why : IoFault) → Begun first old call → start ≡ old.place → PutsOutcome old (payload call) start (Err why) new → OwesNoneOfIts old call (Refused why) (record new { short = false }) → Answers first call (Refused why) new
+giving_fails first old new call start fault.RawFault begun begins fails straight =
+    as_left first old new call (Refused fault.RawFault) begun.began fails.kept
+    (faults_answers old new call begun.may fails ((goes_on_all old.buffer call begun.may.writing begun.goes).fails fails.taken fails.fits) (no_one old new call begun.many) straight)
+giving_fails first old new call start fault.NoMemory begun begins wants straight = starves first old new call begun (subst (λ (at : ℕ). StarvesTaking old (payload call) at new) begins wants) straight
+giving_fails first old new call start why begun begins never straight = absurd never

@@ -1,0 +1,345 @@
+-- A call that gives bytes to a stream: what it is, whichever of the two it is, with a buffer or without, and what makes its answer.
+use Rattle.std.proofs.Common.{◌≡◌, ℕ, ◌+◌, ◌<◌, ◌≤◌, inl, inr, Bool, true, false, not, ◌||◌, IsTrue, List, [], length, take, drop, Option, Some, None, Ok, Err, is_some, if◌then◌else◌, refl, sym, ap, ◌∙◌, subst, le-ltb, lt-ltb, arith, add-zero}
+use Rattle.std.proofs.lemmas.List.{take_all, length-take-le, take-append-drop}
+use Rattle.py_flat.specs.declared.fault.IoFault.{IoFault}
+use Rattle.py_flat.specs.declared.fault.IoFault.TheVariants as fault
+use Rattle.py_flat.specs.declared.life.Life.{Life}
+use Rattle.py_flat.specs.declared.life.Life.TheVariants as life
+use Rattle.py_flat.specs.Limits.{greatest_place}
+use Rattle.py_flat.specs.Lines.{joined}
+use Rattle.py_flat.specs.FlatFile.{FlatFile}
+use Rattle.py_flat.specs.Calls.{FileCall, Write, WriteLines, FileReply, Count, Done, NotReady, Refused}
+use Rattle.py_flat.specs.Refusals.{refusal, is_getter, is_other_getter, lets_through, life_fault, life_refusal, or_else, refused_if, too_far}
+use Rattle.py_flat.specs.ExactStep.{is_closed, after_write}
+use Rattle.py_flat.specs.BinaryStep.{BinaryStep, payload, asks_end, does_work, is_tell, Accepted, WaitedBy, FaultedBy, StarvedBy, FailsWriting, FailsMidway}
+use Rattle.py_raw.specs.RawStream.{Raw, WhereTold, WhereTransfers, NoWait, WaitsOnce}
+use Rattle.py_stream.specs.Stream.{Stream, buffering_of, size_of, file_of}
+use Rattle.py_stream.specs.Moving.{EndsWithin}
+use Rattle.py_stream.specs.Kinds.{is_reading, is_writing, goes_on, asks_none, calls_none, makes_one, outlasts, says_fault, says_no_memory}
+use Rattle.py_stream.specs.Writing.{OwesUpTo, Takes, LaysFront, LaysInOrder, PassesOn, BlocksFull, OwesNoneOfIts, TookOwn, Writes}
+use Rattle.py_stream.specs.Answers.{Answers, HasCauses, IsCounted, InHandOf, IsShort, LifeMoves, PlaceMoves, SeeksByEnd, IsReplyTo, closes_again, refused_by}
+use Rattle.py_stream.specs.Keeping.{IsSound, KeepsOn, OwesBehind}
+use Rattle.py_stream.specs.Taking.{Calm, WaitsAsOne}
+use Rattle.py_stream.proofs.Completing.{completes}
+use Rattle.py_stream.proofs.Accepting.{works_unrefused}
+use Rattle.py_stream.proofs.Alone.{Begins, begins_in_vain}
+use Rattle.py_stream.proofs.Stopping.{GivesNone, gives_none}
+use Rattle.py_stream.proofs.Fronts.{LaidInOrder, lays_front}
+use Rattle.py_stream.proofs.Owing.{owes_both}
+use Rattle.py_stream.proofs.Refusing.{IsPlaced, refused_alone, refused_with}
+
+-- The calls.
+
+-- what holds of both holds of each call that gives bytes
+pub of_both : (Fact : FileCall → Type 0) → ((bytes : List ℕ) → Fact (Write bytes)) → ((lines : List (List ℕ)) → Fact (WriteLines lines)) → (call : FileCall) → is_writing call ≡ true → Fact call
+of_both Fact one many (Write bytes) writing = one bytes
+of_both Fact one many (WriteLines lines) writing = many lines
+of_both Fact one many call writing = absurd (cc)
+
+-- what holds of each call that gives bytes, with a buffer and without, holds of all
+pub of_all : (Fact : Option ℕ → FileCall → Type 0) → ((size : ℕ) (bytes : List ℕ) → Fact (Some size) (Write bytes)) → ((bytes : List ℕ) → Fact None (Write bytes)) → ((size : ℕ) (lines : List (List ℕ)) → Fact (Some size) (WriteLines lines)) → ((lines : List (List ℕ)) → Fact None (WriteLines lines)) → (buffer : Option ℕ) (call : FileCall) → is_writing call ≡ true → Fact buffer call
+of_all Fact one bare many lone (Some size) call writing = of_both (Fact (Some size)) (one size) (many size) call writing
+of_all Fact one bare many lone None call writing = of_both (Fact None) bare lone call writing
+
+-- What a call that gives bytes is.
+
+-- what is alike of both calls, whatever the stream
+pub record IsGiving (call : FileCall) : Type 0 where
+  pub closes : (stream : Stream) → closes_again stream call ≡ false
+  pub asks : (file : FlatFile) → asks_end file call ≡ false
+  pub refuses : (file : FlatFile) → refusal file call ≡ or_else (life_refusal file call) (or_else (refused_if (not file.can.writable) fault.Unsupported) (too_far (file.place + length (payload call))))
+  pub getter : is_getter call ≡ false
+  pub other : is_other_getter call ≡ false
+  pub tells : (is_getter call || is_tell call) ≡ false
+  pub begins_in_vain : (before after : Stream) (why : IoFault) → IsPlaced before → Begins before (Err why) after → Answers before call (Refused why) after
+  pub ends : (before : Stream) (reply : FileReply) (after : Stream) → SeeksByEnd before call reply after
+  pub passes : (before : Stream) (reply : FileReply) (after : Stream) → PassesOn before call reply after
+  pub lays : (before : Stream) (after : List ℕ) → LaysFront before (payload call) after → LaysInOrder before call after
+  pub reads : is_reading call ≡ false
+  pub unheld : (before : Stream) → InHandOf before call → ⊥
+
+-- what is alike of both calls holds of each call that gives bytes
+pub is_giving : (call : FileCall) → is_writing call ≡ true → IsGiving call
+is_giving call writing = of_both IsGiving
+    (λ bytes. record { closes = λ stream. refl; asks = λ file. refl; refuses = λ file. refl; getter = refl; other = refl; tells = refl; begins_in_vain = λ before after why placed begins. begins_in_vain before after (Write bytes) why placed refl refl refl refl begins; ends = λ before reply after. tt; passes = λ before reply after. tt; lays = λ before after laid. laid; reads = refl; unheld = λ before never. never })
+    (λ lines. record { closes = λ stream. refl; asks = λ file. refl; refuses = λ file. refl; getter = refl; other = refl; tells = refl; begins_in_vain = λ before after why placed begins. begins_in_vain before after (WriteLines lines) why placed refl refl refl refl begins; ends = λ before reply after. tt; passes = λ before reply after. tt; lays = λ before after laid. laid; reads = refl; unheld = λ before never. never })
+    call writing
+
+-- a call that gives bytes asks for them to be moved, whatever the buffer, and without one each wait ends the call
+record Works (buffer : Option ℕ) (call : FileCall) : Type 0 where
+  pub some : asks_none buffer call ≡ false
+  pub calls : (writes : Bool) → calls_none buffer writes call ≡ false
+  pub calm : (old new : Raw) → outlasts buffer call ≡ false → Calm buffer old new → NoWait old new
+  pub once : (old new : Raw) → outlasts buffer call ≡ false → WaitsAsOne buffer old new → WaitsOnce old new
+
+works_all : (buffer : Option ℕ) (call : FileCall) → is_writing call ≡ true → Works buffer call
+works_all buffer call writing = of_all Works
+    (λ size bytes. record { some = refl; calls = λ writes. refl; calm = λ old new ends. absurd (cc); once = λ old new ends. absurd (cc) })
+    (λ bytes. record { some = refl; calls = λ writes. refl; calm = λ old new ends calm. calm; once = λ old new ends once. once })
+    (λ size lines. record { some = refl; calls = λ writes. refl; calm = λ old new ends. absurd (cc); once = λ old new ends. absurd (cc) })
+    (λ lines. record { some = refl; calls = λ writes. refl; calm = λ old new ends calm. calm; once = λ old new ends once. once })
+    buffer call writing
+
+-- What refuses a call that gives bytes.
+
+-- a live stream that takes bytes refuses a call only for the place of the bytes
+live_refusal : (stream : Stream) (call : FileCall) → is_writing call ≡ true → stream.life ≡ life.Live → stream.can.writable ≡ true → refusal (file_of stream) call ≡ too_far (stream.place + length (payload call))
+live_refusal stream call writing live can =
+    let far : Option IoFault = too_far (stream.place + length (payload call)) in
+    (is_giving call writing).refuses (file_of stream)
+    ∙ ap (λ (current : Life). or_else (if lets_through current (buffering_of stream.buffer) call then None else life_fault current) (or_else (refused_if (not stream.can.writable) fault.Unsupported) far)) live
+    ∙ ap (λ (writes : Bool). or_else (refused_if (not writes) fault.Unsupported) far) can
+
+-- a live stream refuses what would go past the greatest place
+pub writing_too_far : (before after : Stream) (call : FileCall) → is_writing call ≡ true → IsPlaced before → before.can.writable ≡ true → Begins before (Ok tt) after → greatest_place < before.place + length (payload call) → Answers before call (Refused fault.TooFar) after
+writing_too_far before after call writing placed can begins past =
+    let giving : IsGiving call = is_giving call writing in
+    refused_with before after call fault.TooFar placed
+    (live_refusal before call writing begins.0 can ∙ ap (λ (beyond : Bool). refused_if beyond fault.TooFar) (lt-ltb greatest_place (before.place + length (payload call)) past))
+    (giving.asks (file_of before)) refl (giving.closes before) begins.1
+
+-- whether lines have a place that ends within the greatest
+pub lines_fit : (end : ℕ) (found : Option ℕ) → EndsWithin end found → is_some found ≡ true → end ≤ greatest_place
+lines_fit end (Some place) ends some = ends.1
+lines_fit end None ends some = absurd (cc)
+
+-- lines that have no place end past the greatest
+pub lines_too_far : (end : ℕ) (found : Option ℕ) → EndsWithin end found → is_some found ≡ false → greatest_place < end
+lines_too_far end (Some place) ends none = absurd (cc)
+lines_too_far end None ends none = ends
+
+-- What is accepted.
+
+-- a call that gives bytes, of a live stream that may place them
+pub record MayWrite (old : Stream) (call : FileCall) : Type 0 where
+  pub writing : is_writing call ≡ true
+  pub sound : IsSound old
+  pub behind : OwesBehind old
+  pub live : old.life ≡ life.Live
+  pub can : old.can.writable ≡ true
+  pub within : old.place + length (payload call) ≤ greatest_place
+
+-- a stream that may place a call's bytes doesn't refuse the call
+pub accepted : (old : Stream) (call : FileCall) → MayWrite old call → refusal (file_of old) call ≡ None
+accepted old call may = live_refusal old call may.writing may.live may.can
+    ∙ ap (λ (beyond : Bool). refused_if beyond fault.TooFar) (le-ltb greatest_place (old.place + length (payload call)) may.within)
+
+-- the raw may be called
+pub works : (old : Stream) (call : FileCall) → MayWrite old call → IsTrue (does_work (file_of old) call)
+works old call may = works_unrefused (file_of old) call may.live (accepted old call may) (is_giving call may.writing).tells
+
+-- what a call that gives bytes left, but for whether a wait cut it short
+pub record Comes (old : Stream) (call : FileCall) (reply : FileReply) (short : Bool) (new : Stream) : Type 0 where
+  pub kept : KeepsOn old new
+  pub behind : OwesBehind new
+  pub is_open : is_closed new.life ≡ false
+  pub causes : HasCauses old.raw reply new.raw short
+  pub counted : IsTrue old.raw.counts_exactly → IsCounted old.buffer old.raw call reply new.raw short
+  pub shorts : IsShort call reply short
+  pub life_is : LifeMoves old.buffer call reply old.life new.life
+  pub place : PlaceMoves old.buffer call reply new.life old.place new.place
+  pub wants : IsTrue (says_no_memory reply) → IsTrue old.raw.takes_memory
+  pub one : IsTrue (makes_one old.buffer call) → WhereTransfers old.raw (new.raw.transfers ≤ old.raw.transfers + 1)
+  pub takes : Takes old (payload call) (record new { short = short })
+  pub lays : WhereTold old.raw (LaidInOrder old (payload call) new.raw.bytes)
+  pub full : BlocksFull call reply (record new { short = short })
+  pub straight : OwesNoneOfIts old call reply (record new { short = short })
+  pub starves : IsTrue (says_no_memory reply) → new.life ≡ life.Failed → TookOwn old (record new { short = short })
+  pub answers : IsReplyTo old.buffer true call reply
+  pub told : WhereTold old.raw (BinaryStep (file_of old) call reply short (says_fault reply) (file_of new))
+
+-- what a call that gives bytes did with them
+coming_writes : (old new : Stream) (call : FileCall) (reply : FileReply) (short : Bool) → MayWrite old call → Comes old call reply short new → Writes old call reply (record new { short = short })
+coming_writes old new call reply short may comes =
+    let left : Stream = record new { short = short } in
+    let giving : IsGiving call = is_giving call may.writing in
+    let up_to : OwesUpTo old.owed old.place = inr may.behind.ends in
+    record {
+      owes = λ writing. owes_both old (payload call) left up_to comes.takes;
+      takes = λ writing up_to. comes.takes;
+      leaves = λ other. absurd (cc (may.writing));
+      lays = λ tells. giving.lays old new.raw.bytes (lays_front old (payload call) new.raw.bytes up_to (comes.lays tells));
+      passes = giving.passes old reply left;
+      full = comes.full;
+      starves = λ wanting writing. comes.starves wanting;
+      straight = comes.straight;
+      settles = λ at none. omega (arith, ap length none, comes.behind.ends);
+      unclosed = λ owing. comes.kept.stays;
+      rests = λ dead. absurd (dead may.live);
+    }
+
+-- what a call that gives bytes left answers it
+pub answers_coming : (old new : Stream) (call : FileCall) (reply : FileReply) (short : Bool) → MayWrite old call → Comes old call reply short new → Answers old call reply (record new { short = short })
+answers_coming old new call reply short may comes =
+    let left : Stream = record new { short = short } in
+    let giving : IsGiving call = is_giving call may.writing in
+    let all : Works old.buffer call = works_all old.buffer call may.writing in
+    let gives : GivesNone call = gives_none call giving.reads in
+    let unrefused : refused_by old call ≡ None = refused_alone old call (giving.asks (file_of old)) ∙ accepted old call may in
+    let answers : IsReplyTo old.buffer old.can.writable call reply = subst (λ (writes : Bool). IsReplyTo old.buffer writes call reply) (sym may.can) comes.answers in
+    record {
+      keeps = record { buffer = comes.kept.buffer; can = comes.kept.can; raw = comes.kept.raw; bare = λ bare _. comes.kept.sound.bare (comes.kept.buffer ∙ bare) };
+      refused = λ why refuses. absurd (let wrong : None ≡ Some why = sym unrefused ∙ refuses in cc);
+      again = λ closes. absurd (cc (giving.closes old));
+      shut = λ _ none closed. comes.kept.stays ∙ closed ∙ ap is_closed may.live ∙ sym comes.is_open;
+      causes = comes.causes;
+      counted = comes.counted;
+      shorts = comes.shorts;
+      moves = record { life_is = comes.life_is; place = comes.place; far = comes.kept.sound.far; within = gives.within (size_of old) reply };
+      ends = giving.ends old reply left;
+      wants = λ wanting room. comes.wants wanting;
+      starves = λ wanting reads. absurd (cc (gives.going_on));
+      first = λ wanting first. absurd (cc (gives.first));
+      nothing = λ asks. absurd (cc (all.some));
+      idle = λ keeps. absurd (cc (all.calls old.can.writable));
+      single = λ single none. comes.one single;
+      in_hand = λ has. absurd (giving.unheld old has.of);
+      needs = λ reads. absurd (cc (gives.going_on));
+      spares = λ reads. absurd (cc (may.can));
+      writes = λ can. coming_writes old new call reply short may comes;
+      answer = λ accepts. answers;
+      at_once = λ failed. absurd (cc (may.live));
+      complete = λ accepts calm sound. completes old.raw new.raw old.buffer old.can.writable call reply short comes.causes comes.shorts answers calm sound;
+      told = comes.told;
+      reach = λ reads. absurd (cc (giving.reads));
+      near = λ lives. let near = comes.kept.sound.near lives in record { after_first = near.after_first; before_end = near.before_end; fits = near.fits; read_ahead = near.read_ahead; ahead = near.ahead; behind = near.behind; stands = near.stands };
+      hides = λ shortened reads. absurd (cc (giving.reads));
+    }
+
+-- no wait ends a call but where it is counted
+pub calm_counts : (buffer : Option ℕ) (call : FileCall) (old new : Raw) → is_writing call ≡ true → Calm buffer old new → outlasts buffer call ≡ false → NoWait old new
+calm_counts buffer call old new writing calm ends = (works_all buffer call writing).calm old new ends calm
+
+-- one wait is counted of a call that each wait ends
+pub one_counts : (buffer : Option ℕ) (call : FileCall) (old new : Raw) → is_writing call ≡ true → WaitsAsOne buffer old new → outlasts buffer call ≡ false → WaitsOnce old new
+one_counts buffer call old new writing once ends = (works_all buffer call writing).once old new ends once
+
+-- a call that gives bytes isn't a `tell`
+pub no_tell : (call : FileCall) → is_writing call ≡ true → is_tell call ≡ false
+no_tell call writing = of_both (λ (call : FileCall). is_tell call ≡ false) (λ bytes. refl) (λ lines. refl) call writing
+
+-- What a call that gives bytes answers, by what came of it.
+
+-- n bytes were taken: all of them, but by one transfer of a `write` without a buffer
+abbrev pub TakesCount : Option ℕ → FileCall → ℕ → Type 0
+TakesCount None (Write bytes) count = count ≡ 0 → bytes ≡ []
+TakesCount buffer call count = count ≡ length (payload call)
+
+-- what a call answers that took bytes
+abbrev pub taken_reply : FileCall → ℕ → FileReply
+taken_reply (Write bytes) count = Count count
+taken_reply call count = Done
+
+-- an answer of a call that took n bytes
+pub record IsTaken (old : Stream) (count : ℕ) (buffer : Option ℕ) (call : FileCall) : Type 0 where
+  pub no_fault : says_fault (taken_reply call count) ≡ false
+  pub no_want : says_no_memory (taken_reply call count) ≡ false
+  pub shorts : IsShort call (taken_reply call count) false
+  pub life_is : (before after : Life) → after ≡ before → LifeMoves buffer call (taken_reply call count) before after
+  pub place : (current : Life) (before after : ℕ) → count ≤ length (payload call) → TakesCount buffer call count → after ≡ before + count → PlaceMoves buffer call (taken_reply call count) current before after
+  pub full : (after : Stream) → BlocksFull call (taken_reply call count) after
+  pub straight : (after : Stream) → OwesNoneOfIts old call (taken_reply call count) after
+  pub answers : IsReplyTo buffer true call (taken_reply call count)
+  pub carried : (after : FlatFile) → count ≤ length (payload call) → TakesCount buffer call count → after ≡ after_write (file_of (record old { buffer = buffer })) (take count (payload call)) → Accepted (file_of (record old { buffer = buffer })) call (taken_reply call count) after
+
+all_taken : (bytes : List ℕ) (count : ℕ) → count ≡ length bytes → take count bytes ≡ bytes
+all_taken bytes count all = take_all count bytes (omega (arith, all))
+
+lines_taken : (old : Stream) (count : ℕ) (buffer : Option ℕ) (lines : List (List ℕ)) (after : FlatFile) → count ≡ length (joined lines) → after ≡ after_write (file_of (record old { buffer = buffer })) (take count (joined lines)) → after ≡ after_write (file_of (record old { buffer = buffer })) (joined lines)
+lines_taken old count buffer lines after all is = is ∙ ap (after_write (file_of (record old { buffer = buffer }))) (all_taken (joined lines) count all)
+
+-- each call that gives bytes has the answer of one that took n bytes
+pub is_taken : (old : Stream) (count : ℕ) (buffer : Option ℕ) (call : FileCall) → is_writing call ≡ true → IsTaken old count buffer call
+is_taken old count buffer call writing = of_all (IsTaken old count)
+    (λ size bytes. record {
+      no_fault = refl;
+      no_want = refl;
+      shorts = refl;
+      life_is = λ before after same. same;
+      place = λ current before after fits all at. (all, at);
+      full = λ after. tt;
+      straight = λ after. tt;
+      answers = tt;
+      carried = λ after fits all is.
+          let file : FlatFile = file_of (record old { buffer = Some size }) in
+          ap (λ (left : FlatFile). (Count count, left)) (is ∙ ap (after_write file) (all_taken bytes count all)) ∙ ap (λ (n : ℕ). (Count n, after_write file bytes)) all;
+    })
+    (λ bytes. record {
+      no_fault = refl;
+      no_want = refl;
+      shorts = refl;
+      life_is = λ before after same. same;
+      place = λ current before after fits some at. ((fits, some), at);
+      full = λ after. tt;
+      straight = λ after. tt;
+      answers = tt;
+      carried = λ after fits some is. record {
+        part = take count bytes;
+        front = (drop count bytes, take-append-drop count bytes);
+        some = λ nothing. some (omega (arith, ap length nothing, length-take-le count bytes fits));
+        outcome =
+            ap (λ (left : FlatFile). (Count count, left)) is
+            ∙ ap (λ (taken : ℕ). (Count taken, after_write (file_of (record old { buffer = None })) (take count bytes))) (sym (length-take-le count bytes fits));
+      };
+    })
+    (λ size lines. record { no_fault = refl; no_want = refl; shorts = refl; life_is = λ before after same. same; place = λ current before after fits all at. omega (arith, all, at); full = λ after. tt; straight = λ after. tt; answers = tt; carried = λ after fits all is. ap (λ (left : FlatFile). (Done, left)) (lines_taken old count (Some size) lines after all is) })
+    (λ lines. record { no_fault = refl; no_want = refl; shorts = refl; life_is = λ before after same. same; place = λ current before after fits all at. omega (arith, all, at); full = λ after. tt; straight = λ after. tt; answers = tt; carried = λ after fits all is. ap (λ (left : FlatFile). (Done, left)) (lines_taken old count None lines after all is) })
+    buffer call writing
+
+-- the raw would have blocked: n bytes were taken, fewer than all, and none of a `write` without a buffer, which says that it isn't ready
+abbrev pub WaitsCount : Option ℕ → FileCall → ℕ → Type 0
+WaitsCount None (Write bytes) taken = taken ≡ 0
+WaitsCount buffer call taken = taken < length (payload call)
+
+-- what a call answers that had to wait
+abbrev pub waited_reply : Option ℕ → FileCall → ℕ → FileReply
+waited_reply None (Write bytes) taken = NotReady
+waited_reply buffer call taken = Refused (fault.WouldBlock taken)
+
+-- an answer of a call that had to wait after n bytes
+pub record IsBlocked (old : Stream) (taken : ℕ) (buffer : Option ℕ) (call : FileCall) : Type 0 where
+  pub no_fault : says_fault (waited_reply buffer call taken) ≡ false
+  pub no_want : says_no_memory (waited_reply buffer call taken) ≡ false
+  pub shorts : IsShort call (waited_reply buffer call taken) true
+  pub life_is : (before after : Life) → after ≡ before → LifeMoves buffer call (waited_reply buffer call taken) before after
+  pub place : (current : Life) (before after : ℕ) → WaitsCount buffer call taken → after ≡ before + taken → PlaceMoves buffer call (waited_reply buffer call taken) current before after
+  pub full : (after : Stream) → length after.owed.bytes ≡ size_of after → BlocksFull call (waited_reply buffer call taken) after
+  pub straight : (after : Stream) → OwesNoneOfIts old call (waited_reply buffer call taken) after
+  pub answers : IsReplyTo buffer true call (waited_reply buffer call taken)
+  pub waited : (after : FlatFile) → WaitsCount buffer call taken → after ≡ after_write (file_of (record old { buffer = buffer })) (take taken (payload call)) → WaitedBy (file_of (record old { buffer = buffer })) call (waited_reply buffer call taken) after
+
+none_written : (file : FlatFile) (bytes : List ℕ) (taken : ℕ) → taken ≡ 0 → after_write file (take taken bytes) ≡ file
+none_written file bytes taken none = ap (λ (n : ℕ). after_write file (take n bytes)) none ∙ ap (λ (place : ℕ). record file { place = place }) (add-zero file.place)
+
+-- each call that gives bytes has the answer of one that had to wait
+pub is_blocked : (old : Stream) (taken : ℕ) (buffer : Option ℕ) (call : FileCall) → is_writing call ≡ true → IsBlocked old taken buffer call
+is_blocked old taken buffer call writing = of_all (IsBlocked old taken)
+    (λ size bytes. record { no_fault = refl; no_want = refl; shorts = refl; life_is = λ before after same. same; place = λ current before after less at. (less, at); full = λ after is. is; straight = λ after. tt; answers = refl; waited = λ after less is. record { taken = taken; less = less; says = refl; leaves = is } })
+    (λ bytes. record { no_fault = refl; no_want = refl; shorts = refl; life_is = λ before after same. same; place = λ current before after none at. omega (arith, none, at); full = λ after is. tt; straight = λ after. tt; answers = refl; waited = λ after none is. (refl, is ∙ none_written (file_of (record old { buffer = None })) bytes taken none) })
+    (λ size lines. record { no_fault = refl; no_want = refl; shorts = refl; life_is = λ before after same. same; place = λ current before after less at. (less, at); full = λ after is. is; straight = λ after. tt; answers = refl; waited = λ after less is. record { taken = taken; less = less; says = refl; leaves = is } })
+    (λ lines. record { no_fault = refl; no_want = refl; shorts = refl; life_is = λ before after same. same; place = λ current before after less at. (less, at); full = λ after is. is; straight = λ after. tt; answers = refl; waited = λ after less is. record { taken = taken; less = less; says = refl; leaves = is } })
+    buffer call writing
+
+-- the raw failed, or memory ran out once it took some: no byte is counted of a `write` without a buffer
+abbrev pub FailsCount : Option ℕ → FileCall → ℕ → Type 0
+FailsCount None (Write bytes) taken = taken ≡ 0
+FailsCount buffer call taken = taken ≤ length (payload call)
+
+-- an answer of a call that the raw failed, or that ran out of memory, after n bytes
+pub record IsFaulted (old : Stream) (taken : ℕ) (buffer : Option ℕ) (call : FileCall) : Type 0 where
+  pub life_is : (before : Life) → LifeMoves buffer call (Refused fault.RawFault) before life.Failed
+  pub place : (current : Life) (before after : ℕ) → FailsCount buffer call taken → after ≡ before + taken → PlaceMoves buffer call (Refused fault.RawFault) current before after
+  pub faulted : (after : FlatFile) → FailsWriting (file_of old) call life.Failed after → FaultedBy (file_of old) call after
+  pub starved_life : (before : Life) → goes_on buffer call ≡ true → LifeMoves buffer call (Refused fault.NoMemory) before life.Failed
+  pub starved_place : (before after : ℕ) → taken ≤ length (payload call) → after ≡ before + taken → PlaceMoves buffer call (Refused fault.NoMemory) life.Failed before after
+  pub starved : (after : FlatFile) → FailsMidway (file_of old) call after → StarvedBy (file_of old) call after
+  pub same : (after : FlatFile) → after ≡ file_of old → StarvedBy (file_of old) call after
+
+-- each call that gives bytes has the answer of one that was stopped
+pub is_faulted : (old : Stream) (taken : ℕ) (buffer : Option ℕ) (call : FileCall) → is_writing call ≡ true → IsFaulted old taken buffer call
+is_faulted old taken buffer call writing = of_all (IsFaulted old taken)
+    (λ size bytes. record { life_is = λ before. refl; place = λ current before after fits at. (omega (arith, at), omega (arith, at, fits)); faulted = λ after fails. fails; starved_life = λ before goes. inr refl; starved_place = λ before after fits at. (omega (arith, at), omega (arith, at, fits)); starved = λ after fails. inr fails; same = λ after is. inl is })
+    (λ bytes. record { life_is = λ before. refl; place = λ current before after none at. omega (arith, at, none); faulted = λ after fails. fails; starved_life = λ before goes. absurd (cc); starved_place = λ before after fits at. (omega (arith, at), omega (arith, at, fits)); starved = λ after fails. inr fails; same = λ after is. inl is })
+    (λ size lines. record { life_is = λ before. refl; place = λ current before after fits at. (omega (arith, at), omega (arith, at, fits)); faulted = λ after fails. fails; starved_life = λ before goes. inr refl; starved_place = λ before after fits at. (omega (arith, at), omega (arith, at, fits)); starved = λ after fails. inr fails; same = λ after is. inl is })
+    (λ lines. record { life_is = λ before. refl; place = λ current before after fits at. (omega (arith, at), omega (arith, at, fits)); faulted = λ after fails. fails; starved_life = λ before goes. inr refl; starved_place = λ before after fits at. (omega (arith, at), omega (arith, at, fits)); starved = λ after fails. inr fails; same = λ after is. inl is })
+    buffer call writing

@@ -1,0 +1,438 @@
+-- The answers of `seek`, as its steps come: where it goes, what is passed on before, and the moving.
+use Rattle.std.proofs.Common.{◌≡◌, ℕ, ◌+◌, suc, zero, ℤ, pos, max, nat_eq, Bool, true, false, List, [], ◌∷◌, length, Option, Some, None, IsSome, Result, Ok, Err, ne_eqb, if◌then◌else◌, refl, sym, ap, ◌∙◌, subst, subst₂, arith, zero-le}
+use Rattle.std.proofs.lemmas.List.{append-nil}
+use Rattle.py_flat.specs.declared.fault.IoFault.{IoFault}
+use Rattle.py_flat.specs.declared.fault.IoFault.TheVariants as fault
+use Rattle.py_flat.specs.declared.life.Life.{Life}
+use Rattle.py_flat.specs.declared.life.Life.TheVariants as life
+use Rattle.py_flat.specs.Bytes.{lay}
+use Rattle.py_flat.specs.Owed.{Owed}
+use Rattle.py_flat.specs.Calls.{FileCall, Seek, Place, Refused}
+use Rattle.py_flat.specs.FlatFile.{FlatFile, Abilities}
+use Rattle.py_flat.specs.Refusals.{moved_by, refusal, target_refusal}
+use Rattle.py_flat.specs.ExactStep.{is_closed, seek_target}
+use Rattle.py_flat.specs.AllowedStep.{settled}
+use Rattle.py_flat.specs.BinaryStep.{BinaryStep, SettledBy}
+use Rattle.py_flat.proofs.Laying.{length-lay}
+use Rattle.py_raw.specs.RawStream.{NoFault, Raw, WhereTold, NoWait, LeavesCounts}
+use Rattle.py_raw.proofs.Telling.{tells_its_bytes}
+use Rattle.py_raw.proofs.ReadingOn.{no_fault_then, no_wait_then}
+use Rattle.py_stream.specs.Stream.{Span, Stream, file_of, nothing_owed}
+use Rattle.py_stream.specs.Writing.{LaysFront}
+use Rattle.py_stream.specs.Kinds.{calls_none}
+use Rattle.py_stream.specs.Answers.{Answers, Leaves, SeekGoes, SeeksTo, SeeksFromEnd, IsShort, LifeMoves, PlaceMoves, Covers, InHandOf, InHand, SparesBytes}
+use Rattle.py_stream.specs.Keeping.{KeepsOn, OwesBehind}
+use Rattle.py_stream.specs.Taking.{Took, PassAllOutcome}
+use Rattle.py_stream.specs.Moving.{StandsAsBefore, AsksEnd, TargetFromEnd, TargetOutcome, IsHeld, GoesTo, GoOutcome}
+use Rattle.py_stream.proofs.Begun.{answers_whole}
+use Rattle.py_stream.proofs.Alone.{Begins}
+use Rattle.py_stream.proofs.Taking.{keeps_then, waits_once_then, waited_then, faulted_then, answers_still, took_on, fails_on, lacks_on, calm_of}
+use Rattle.py_stream.proofs.Flat.{flat_of, file_now}
+use Rattle.py_stream.proofs.Showing.{Asked, Accepts, Beside, beside_writing, shows_answers, passing_writes, seek_moves_none}
+use Rattle.py_stream.proofs.PassingOn.{begun, PassesSome, stands_itself, passes_nothing, FaultLeaves, took_passes, passed_all, passing_front, passing_keeps, passing_file, stays_open, lacking_answers, lacks_refuse, fault_fails, pass_all_refuses}
+use Rattle.py_stream.proofs.Refused.{is_own}
+use Rattle.py_stream.proofs.Seeking.{MaySeek, seek_refusal_is, target_why, bad_place_is_own, RefusesPlace, refuses_place, ReachesRaw, end_reaches, AnswersEnd, TargetOf, Goes, goes, seeks_nowhere, argument_refuses}
+
+-- Where the stream ends.
+
+ends_at : (raw : List ℕ) (place : ℕ) (bytes : List ℕ) → length (lay raw place bytes) ≡ (if nat_eq (length bytes) 0 then length raw else max (length raw) (place + length bytes))
+ends_at raw place [] = refl
+ends_at raw place (byte ∷ more) =
+    let bytes : List ℕ = byte ∷ more in
+    let some : nat_eq (length bytes) 0 ≡ false = ne_eqb (length bytes) 0 (λ none. absurd (omega (arith, none))) in
+    length-lay raw place bytes (omega arith) ∙ sym (ap (λ (none : Bool). if none then length raw else max (length raw) (place + length bytes)) some)
+
+answers_end : (old new : Stream) (end : ℕ) → AsksEnd old end new → AnswersEnd old end
+answers_end old new end asks = record { within = asks.within; told = λ tells. asks.told tells ∙ sym (ends_at old.raw.bytes old.owed.place old.owed.bytes) }
+
+-- Where the raw was asked, or failed.
+
+-- a stream by its parts
+made : Raw → ℕ → ℕ → Abilities → Life → Option ℕ → Bool → Owed → Span → Stream
+made raw place raw_place can current buffer short owed held = record { raw = raw; place = place; raw_place = raw_place; can = can; life = current; buffer = buffer; short = short; owed = owed; held = held }
+
+-- the stream is as it was, but for its raw and its life
+same_stream : (old new : Stream) (left : Life) → StandsAsBefore old new → new.life ≡ left → new ≡ record old { raw = new.raw; life = left }
+unfolding made
+same_stream old new left stands is =
+    let all : made new.raw new.place new.raw_place new.can new.life new.buffer new.short new.owed new.held ≡ made new.raw old.place old.raw_place old.can left old.buffer old.short old.owed old.held = cc (is, stands.place, stands.raw_place, stands.owed, stands.held, stands.kept.buffer, stands.kept.can, stands.kept.short) in
+    all
+
+stands_then : (old mid new : Stream) → StandsAsBefore old mid → StandsAsBefore mid new → StandsAsBefore old new
+stands_then old mid new first second = record {
+  kept = keeps_then old mid new first.kept second.kept;
+  bytes = λ tells. second.bytes (first.kept.raw.tells_bytes ∙ tells) ∙ first.bytes tells;
+  answered = answers_still old.raw mid.raw new.raw 0 first.kept.raw first.answered second.answered;
+  place = second.place ∙ first.place;
+  raw_place = second.raw_place ∙ first.raw_place;
+  owed = second.owed ∙ first.owed;
+  held = second.held ∙ first.held;
+}
+
+-- what was found out before the stream is moved leaves it as it was
+pub record FoundOut (old found : Stream) : Type 0 where
+  pub stands : StandsAsBefore old found
+  pub counts : LeavesCounts old.raw found.raw
+  pub life_is : found.life ≡ old.life
+
+found_nothing : (old found : Stream) → MaySeek old → found ≡ old → FoundOut old found
+found_nothing old found may same = subst (FoundOut old) (sym same) (record {
+  stands = stands_itself old may.sound;
+  counts = record { no_fault = λ _. refl; no_wait = λ _. refl };
+  life_is = refl;
+})
+
+found_end : (old found : Stream) (end : ℕ) → AsksEnd old end found → FoundOut old found
+found_end old found end asks = record { stands = asks.stands; counts = asks.counts; life_is = asks.life_is }
+
+-- a stream that stands as before, and owed nothing, spares the bytes
+spared : (old new : Stream) (left : Life) → StandsAsBefore old new → old.owed ≡ nothing_owed old.place → SparesBytes old (record new { life = left })
+spared old new left stands bare = record { bytes = stands.bytes; written = stands.answered; owed = stands.owed ∙ bare ∙ ap nothing_owed (sym stands.place) }
+
+-- a seek goes to the raw, whatever the buffer
+seek_busy : (buffer : Option ℕ) (writes : Bool) (offset whence : ℤ) → calls_none buffer writes (Seek offset whence) ≡ false
+seek_busy (Some size) writes offset whence = refl
+seek_busy None writes offset whence = refl
+
+-- a seek that goes to the raw is asked of it
+reaching : (old : Stream) (offset whence : ℤ) → MaySeek old → ReachesRaw old offset whence → Asked old (Seek offset whence)
+reaching old offset whence may to = record {
+  sound = may.sound;
+  live = may.live;
+  whole = may.whole;
+  none = seek_moves_none offset whence;
+  passes = to.passes;
+  again = refl;
+  busy = seek_busy old.buffer old.can.writable offset whence;
+  reaches = to.reaches;
+}
+
+-- a raw that failed to say where it ends, or to move, fails the stream
+pub fault_fails_seek : (offset whence : ℤ) → FaultLeaves (Seek offset whence) life.Failed
+fault_fails_seek offset whence = record { dead = refl; life_is = λ buffer current. refl; step = λ file after fails. (0, zero-le, fails) }
+
+-- A seek whose target is refused, or isn't found.
+
+-- the raw answered where it ends, and the target doesn't lie in the stream
+end_refuses : (old new : Stream) (offset : ℤ) (why : IoFault) (end : ℕ) → MaySeek old → AsksEnd old end new → target_refusal (moved_by end offset) ≡ Some why → Answers old (Seek offset (pos 2)) (Refused why) new
+end_refuses old new offset why end may asks refuses =
+    let call : FileCall = Seek offset (pos 2) in
+    let answered : AnswersEnd old end = answers_end old new end asks in
+    let passes : PassesSome old new = passes_nothing old new asks.stands in
+    let at : RefusesPlace offset why = refuses_place offset why (target_why (moved_by end offset) why refuses) in
+    let short : new.short ≡ false = asks.stands.kept.short ∙ may.whole in
+    let left : Leaves old (Refused why) (Refused why) (record new { raw = old.raw }) = record {
+      says = refl;
+      same = ap (λ (stream : Stream). record stream { raw = old.raw }) (same_stream old new old.life asks.stands asks.life_is) ∙ ap (λ (said : Bool). record old { short = said }) may.whole;
+    } in
+    let seeks : SeeksFromEnd old offset (Refused why) new = record {
+      end = end;
+      within = answered.within;
+      told = answered.told;
+      target = subst (λ (refused : Option IoFault). SeeksTo old (moved_by end offset) refused (Refused why) new) (sym refuses) (seeks_nowhere old (moved_by end offset) why new left);
+    } in
+    shows_answers old call (Refused why) new (seek_moves_none offset (pos 2)) (record {
+      keeps = passing_keeps old new new.life new.short passes;
+      passes = (end_reaches old offset may).passes;
+      again = λ closes. absurd (cc);
+      shut = λ _ none closed. asks.stands.kept.stays ∙ stays_open old new.life may.live (ap is_closed (asks.life_is ∙ may.live)) closed;
+      causes = record { waits = λ waited. absurd (cc (short)); faults = λ faults. absurd (cc (at.no_fault)) };
+      counted = λ exact. record { faults = λ _. asks.counts.no_fault exact; waits = λ _ _. asks.counts.no_wait exact; once = λ waited. absurd (cc (short)) };
+      shorts = subst (IsShort call (Refused why)) (sym short) at.short;
+      life_is = subst (LifeMoves old.buffer call (Refused why) old.life) (sym asks.life_is) (at.life_is old.buffer old.life);
+      place = subst (PlaceMoves old.buffer call (Refused why) new.life old.place) (sym asks.stands.place) (at.place old.buffer new.life old.place);
+      far = asks.stands.kept.sound.far;
+      ends = at.ends old new seeks;
+      wants = λ wants. absurd (cc (at.no_want));
+      idle = λ idle. absurd (cc (seek_busy old.buffer old.can.writable offset (pos 2)));
+      in_hand = λ has. absurd has.of;
+      spares = λ _. spared old new new.life asks.stands;
+      writes = λ _. passing_writes old call (Refused why) new (seek_moves_none offset (pos 2)) (record {
+        leaves = passing_front old new new.life new.short passes;
+        lays = passes.lays;
+        passes = at.passes old new;
+        full = at.full new;
+        settles = passes.at;
+        unclosed = λ _. asks.stands.kept.stays;
+        rests = λ dead. absurd (dead may.live);
+      });
+      at_once = λ failed. absurd (cc (may.live));
+      answer = at.answer old.buffer old.can.writable;
+      told = λ tell.
+          let by : refusal (file_of old) call ≡ Some why = seek_refusal_is old offset (pos 2) may ∙ ap (λ (base : ℕ). target_refusal (moved_by base offset)) (sym (answered.told (tells_its_bytes old.raw tell))) ∙ refuses in
+          subst₂ (λ (said faulted : Bool). BinaryStep (file_of old) call (Refused why) said faulted (file_of new)) (sym short) (sym at.no_fault)
+          (settled (subst (λ (refused : Option IoFault). SettledBy (file_of old) call refused (Refused why) (file_of new)) (sym by) (refl, passing_file old new passes asks.life_is tell)));
+      near = λ lives. asks.stands.kept.sound.near lives;
+    })
+
+from_end_refuses : (old new : Stream) (offset : ℤ) (why : IoFault) → MaySeek old → TargetFromEnd offset old (Err why) new → Answers old (Seek offset (pos 2)) (Refused why) new
+from_end_refuses old new offset fault.RawFault may fails =
+    fault_fails old new (Seek offset (pos 2)) (reaching old offset (pos 2) may (end_reaches old offset may)) (record { in_hand = λ has. absurd has.of; spares = λ _. spared old new life.Failed fails.stands })
+    (fault_fails_seek offset (pos 2)) (passes_nothing old new fails.stands) fails.failed fails.cause fails.no_wait
+from_end_refuses old new offset fault.NoMemory may wants =
+    let out : FoundOut old new = found_nothing old new may wants.1 in
+    lacking_answers old new (Seek offset (pos 2)) (reaching old offset (pos 2) may (end_reaches old offset may)) (record { in_hand = λ has. absurd has.of; spares = λ _. spared old new new.life out.stands }) wants.0
+    (passes_nothing old new out.stands) (out.life_is ∙ may.live) out.counts.no_fault out.counts.no_wait
+from_end_refuses old new offset why may asked = end_refuses old new offset why asked.0 may asked.1 asked.2
+
+target_refuses : (old new : Stream) (offset whence : ℤ) (why : IoFault) → MaySeek old → TargetOutcome old offset whence (Err why) new → Answers old (Seek offset whence) (Refused why) new
+target_refuses old new offset (pos zero) why may found = argument_refuses old new offset (pos zero) why may refl found.0 (bad_place_is_own why (target_why (moved_by 0 offset) why found.0)) found.1
+target_refuses old new offset (pos (suc zero)) why may found = argument_refuses old new offset (pos (suc zero)) why may refl found.0 (bad_place_is_own why (target_why (moved_by old.place offset) why found.0)) found.1
+target_refuses old new offset (pos (suc (suc zero))) why may found = from_end_refuses old new offset why may found
+target_refuses old new offset whence why may found =
+    let own : why ≡ fault.BadWhence = let same : Err why ≡ Err fault.BadWhence = found.0 in cc in
+    argument_refuses old new offset whence why may refl (ap (λ (fault : IoFault). Some fault) (sym own)) (ap is_own own) found.1
+
+-- a seek that found no target
+pub seek_finds_nothing : (old started new : Stream) (offset whence : ℤ) (why : IoFault) → MaySeek (begun old) → Begins old (Ok tt) started → TargetOutcome started offset whence (Err why) new → Answers old (Seek offset whence) (Refused why) new
+seek_finds_nothing old started new offset whence why may begins found =
+    answers_whole old new (Seek offset whence) (Refused why)
+    (target_refuses (begun old) new offset whence why may (subst (λ (stream : Stream). TargetOutcome stream offset whence (Err why) new) begins.1 found))
+
+-- A seek whose target is found.
+
+-- a target that the bytes held cover, by the place that it was found to be
+covered_at : (held : Span) (target_is : Option ℕ) (target : ℕ) → target_is ≡ Some target → Covers held target_is → IsHeld held target
+covered_at held (Some place) target is has = let same : place ≡ target = cc in (omega (arith, has.0, same), omega (arith, has.1, same))
+covered_at held None target is has = absurd has
+
+covers_target : (old : Stream) (offset whence : ℤ) (target : ℕ) → SeekGoes old.place offset whence target → InHandOf old (Seek offset whence) → (old.can.readable ≡ true) × IsHeld old.held target
+covers_target old offset (pos zero) target to has = (has.0, covered_at old.held (moved_by 0 offset) target to has.1)
+covers_target old offset (pos (suc zero)) target to has = (has.0, covered_at old.held (moved_by old.place offset) target to has.1)
+covers_target old offset whence target to has = absurd has
+
+-- what was found out before the stream is moved, and where it goes
+pub record Finds (old : Stream) (offset whence : ℤ) (target : ℕ) (found : Stream) : Type 0 where
+  pub out : FoundOut old found
+  pub still : InHandOf old (Seek offset whence) → found.raw ≡ old.raw
+  pub to : Goes old offset whence target
+
+finds_target : (old found : Stream) (offset whence : ℤ) (target : ℕ) → MaySeek old → TargetOutcome old offset whence (Ok target) found → FoundOut old found × (InHandOf old (Seek offset whence) → found.raw ≡ old.raw) × TargetOf old offset whence (Ok target)
+finds_target old found offset (pos zero) target may moved = (found_nothing old found may moved.1, λ _. ap (λ (stream : Stream). stream.raw) moved.1, moved.0)
+finds_target old found offset (pos (suc zero)) target may moved = (found_nothing old found may moved.1, λ _. ap (λ (stream : Stream). stream.raw) moved.1, moved.0)
+finds_target old found offset (pos (suc (suc zero))) target may asked = (found_end old found asked.0 asked.1, λ has. absurd has, (asked.0, answers_end old found asked.0 asked.1, asked.2))
+finds_target old found offset whence target may wrong = let never : Ok target ≡ Err fault.BadWhence = wrong.0 in absurd (cc)
+
+-- a seek that found its target
+pub seek_finds : (old started found : Stream) (offset whence : ℤ) (target : ℕ) → MaySeek (begun old) → Begins old (Ok tt) started → TargetOutcome started offset whence (Ok target) found → Finds (begun old) offset whence target found
+seek_finds old started found offset whence target may begins outcome =
+    let is = finds_target (begun old) found offset whence target may (subst (λ (stream : Stream). TargetOutcome stream offset whence (Ok target) found) begins.1 outcome) in
+    record { out = is.0; still = is.1; to = goes (begun old) offset whence target may is.2 }
+
+-- a seek that the bytes held answer by themselves goes to a place that they cover
+module _ (old found : Stream) (offset whence : ℤ) (target : ℕ) (finds : Finds old offset whence target found) (has : InHand old (Seek offset whence)) where
+  covers : (old.can.readable ≡ true) × IsHeld old.held target
+  covers = covers_target old offset whence target finds.to.to has.of
+
+  reads_still : found.can.readable ≡ true
+  reads_still = ap (λ (can : Abilities). can.readable) finds.out.stands.kept.can ∙ covers.0
+
+  buffered_still : IsSome found.buffer
+  buffered_still = subst (λ (buffer : Option ℕ). IsSome buffer) (sym finds.out.stands.kept.buffer) has.buffered
+
+  held_still : IsHeld found.held target
+  held_still = subst (λ (held : Span). IsHeld held target) (sym finds.out.stands.held) covers.1
+
+-- The raw is moved, once nothing is owed.
+
+-- the stream stands where it was to go
+gone : (old mid new : Stream) (offset whence : ℤ) (target : ℕ) → MaySeek old → Goes old offset whence target → Beside old (Seek offset whence) (Place target) new → PassesSome old mid → mid.owed.bytes ≡ [] → NoFault old.raw mid.raw → NoWait old.raw mid.raw → GoesTo mid target new → Answers old (Seek offset whence) (Place target) new
+gone old mid new offset whence target may to beside passes empty no_fault no_wait goes =
+    let call : FileCall = Seek offset whence in
+    let asked : Asked old call = reaching old offset whence may to.asks in
+    let kept : KeepsOn old new = keeps_then old mid new passes.kept goes.kept in
+    let none : new.owed.bytes ≡ [] = ap (λ (owed : Owed). owed.bytes) goes.owed in
+    let at : new.owed.place ≡ new.place = ap (λ (owed : Owed). owed.place) goes.owed ∙ sym goes.place in
+    let short : new.short ≡ false = kept.short ∙ may.whole in
+    let bytes : WhereTold old.raw (new.raw.bytes ≡ mid.raw.bytes) = λ tells. goes.bytes (passes.kept.raw.tells_bytes ∙ tells_its_bytes old.raw tells) in
+    shows_answers old call (Place target) new asked.none (record {
+      keeps = record { buffer = kept.buffer; can = kept.can; raw = kept.raw; bare = λ bare _. kept.sound.bare (kept.buffer ∙ bare) };
+      passes = asked.passes;
+      again = λ closes. absurd (cc);
+      shut = λ _ none closed. kept.stays ∙ stays_open old new.life may.live (ap is_closed goes.live) closed;
+      causes = record { waits = λ waited. absurd (cc); faults = λ faults. absurd (cc) };
+      counted = λ exact. record { faults = λ _. no_fault_then old.raw mid.raw new.raw passes.kept.raw no_fault goes.counts.no_fault exact; waits = λ _ _. no_wait_then old.raw mid.raw new.raw passes.kept.raw no_wait goes.counts.no_wait exact; once = λ waited. absurd (cc) };
+      shorts = short;
+      life_is = goes.live ∙ sym may.live;
+      place = (goes.place, to.to);
+      far = kept.sound.far;
+      ends = to.ends new;
+      wants = λ wanting. absurd (cc);
+      idle = λ idle. absurd (cc (asked.busy));
+      in_hand = beside.in_hand;
+      spares = beside.spares;
+      writes = λ _. passing_writes old call (Place target) new asked.none (record {
+        leaves = record {
+          passed = passes.passed;
+          most = passes.within;
+          answered = answers_still old.raw mid.raw new.raw passes.passed passes.kept.raw passes.answered goes.answered;
+          bytes = none ∙ sym empty ∙ passes.owed;
+          place = λ some. absurd (some none);
+        };
+        lays = λ tells. subst (LaysFront old []) (sym (bytes tells)) (passes.lays tells);
+        passes = λ _. none;
+        full = tt;
+        settles = λ _ _. at;
+        unclosed = λ some. absurd (some none);
+        rests = λ dead. absurd (dead may.live);
+      });
+      at_once = λ failed. absurd (cc (may.live));
+      answer = tt;
+      told = λ tells.
+          let lies : (seek_target (file_of old) offset whence ≡ target) × (refusal (file_of old) call ≡ None) = to.lies (tells_its_bytes old.raw tells) in
+          let flat : flat_of new ≡ flat_of old = ap (lay new.raw.bytes new.owed.place) none ∙ bytes tells ∙ passed_all old mid passes empty tells in
+          let file : file_of new ≡ record (file_of old) { place = target } =
+          file_now old new kept (goes.live ∙ sym may.live)
+          ∙ ap (λ (all : List ℕ). record (file_of old) { bytes = all; place = new.place }) flat
+          ∙ ap (λ (place : ℕ). record (file_of old) { place = place }) goes.place in
+          subst (λ (said : Bool). BinaryStep (file_of old) call (Place target) said false (file_of new)) (sym short)
+          (settled (subst (λ (refused : Option IoFault). SettledBy (file_of old) call refused (Place target) (file_of new)) (sym lies.1)
+          (ap (λ (after : FlatFile). (Place target, after)) file ∙ ap (λ (to : ℕ). (Place to, record (file_of old) { place = to })) (sym lies.0))));
+      near = λ lives. kept.sound.near lives;
+    })
+
+-- A stream that owes nothing is moved at once.
+
+-- the raw failed to move, or wanted memory
+going_refused : (old found new : Stream) (offset whence : ℤ) (target : ℕ) (why : IoFault) → MaySeek old → Finds old offset whence target found → GoOutcome found target (Err why) new → Answers old (Seek offset whence) (Refused why) new
+going_refused old found new offset whence target fault.RawFault may finds fails =
+    let out : StandsAsBefore old found = finds.out.stands in
+    let stands : StandsAsBefore old new = stands_then old found new out fails.0.stands in
+    fault_fails old new (Seek offset whence) (reaching old offset whence may finds.to.asks)
+    (record {
+      in_hand = λ has. absurd (fails.1 (reads_still old found offset whence target finds has) (buffered_still old found offset whence target finds has) (held_still old found offset whence target finds has));
+      spares = λ _. spared old new life.Failed stands;
+    })
+    (fault_fails_seek offset whence) (passes_nothing old new stands) fails.0.failed (faulted_then old.raw found.raw new.raw out.kept.raw fails.0.cause) (no_wait_then old.raw found.raw new.raw out.kept.raw finds.out.counts.no_wait fails.0.no_wait)
+going_refused old found new offset whence target fault.NoMemory may finds wants =
+    let out : FoundOut old found = finds.out in
+    subst (λ (after : Stream). Answers old (Seek offset whence) (Refused fault.NoMemory) after) (sym wants.1)
+    (lacking_answers old found (Seek offset whence) (reaching old offset whence may finds.to.asks) (record { in_hand = λ has. record { raw = finds.still has.of; fault = refl }; spares = λ _. spared old found found.life out.stands })
+    (sym out.stands.kept.raw.takes_memory ∙ wants.0) (passes_nothing old found out.stands) (out.life_is ∙ may.live) out.counts.no_fault out.counts.no_wait)
+going_refused old found new offset whence target why may finds never = absurd never
+
+-- a stream that owes nothing fails to move
+pub going_fails : (old found new : Stream) (offset whence : ℤ) (target : ℕ) (why : IoFault) → MaySeek (begun old) → Finds (begun old) offset whence target found → GoOutcome found target (Err why) new → Answers old (Seek offset whence) (Refused why) new
+going_fails old found new offset whence target why may finds fails = answers_whole old new (Seek offset whence) (Refused why) (going_refused (begun old) found new offset whence target why may finds fails)
+
+-- a stream that owes nothing stands where it was to go
+pub going_answers : (old found new : Stream) (offset whence : ℤ) (target : ℕ) → MaySeek (begun old) → old.owed ≡ nothing_owed old.place → Finds (begun old) offset whence target found → GoesTo found target new → Answers old (Seek offset whence) (Place target) new
+going_answers old found new offset whence target may none finds goes =
+    let out : FoundOut (begun old) found = finds.out in
+    answers_whole old new (Seek offset whence) (Place target)
+    (gone (begun old) found new offset whence target may finds.to
+    (record {
+      in_hand = λ has. record { raw = goes.still (reads_still (begun old) found offset whence target finds has) (buffered_still (begun old) found offset whence target finds has) (held_still (begun old) found offset whence target finds has) ∙ finds.still has.of; fault = refl };
+      spares = λ _ _. record {
+        bytes = λ tells. goes.bytes (out.stands.kept.raw.tells_bytes ∙ tells) ∙ out.stands.bytes tells;
+        written = answers_still old.raw found.raw new.raw 0 out.stands.kept.raw out.stands.answered goes.answered;
+        owed = goes.owed ∙ ap nothing_owed (sym goes.place);
+      };
+    })
+    (passes_nothing (begun old) found out.stands) (ap (λ (owed : Owed). owed.bytes) (out.stands.owed ∙ none)) out.counts.no_fault out.counts.no_wait goes)
+
+-- A stream that owes what lies right before its place passes this on before it is moved.
+
+-- a seek of a stream with a buffer that writes, and doesn't read
+pub record SeeksWriting (old : Stream) : Type 0 where
+  pub may : MaySeek old
+  pub behind : OwesBehind old
+  pub size : ℕ
+  pub buffered : old.buffer ≡ Some size
+  pub writes : old.can.writable ≡ true
+  pub reads : old.can.readable ≡ false
+
+-- a stream that doesn't read has no place in hand
+seeks_apart : (old : Stream) (offset whence : ℤ) → old.can.readable ≡ false → InHandOf old (Seek offset whence) → ⊥
+seeks_apart old offset (pos zero) reads has = absurd (cc (has.0, reads))
+seeks_apart old offset (pos (suc zero)) reads has = absurd (cc (has.0, reads))
+seeks_apart old offset whence reads never = never
+
+-- what a seek of a stream that writes asks of the raw may work
+accepts_seek : (old : Stream) (offset whence : ℤ) (target : ℕ) → SeeksWriting old → Goes old offset whence target → Accepts old (Seek offset whence)
+accepts_seek old offset whence target seeks to = record { asked = reaching old offset whence seeks.may to.asks; works = λ tells. to.works (tells_its_bytes old.raw tells) }
+
+-- no seek of a stream that writes is answered by the bytes held
+not_held : (old : Stream) (offset whence : ℤ) → SeeksWriting old → InHand old (Seek offset whence) → ⊥
+not_held old offset whence seeks has = seeks_apart old offset whence seeks.reads has.of
+
+-- the looking took nothing, and passed nothing on
+found_took : (old found : Stream) → SeeksWriting old → FoundOut old found → Took old [] found
+found_took old found seeks out = record {
+  kept = out.stands.kept;
+  was = seeks.behind;
+  behind = record { ends = ap (λ (owed : Owed). owed.place + length owed.bytes) out.stands.owed ∙ seeks.behind.ends ∙ sym out.stands.place; stands = out.stands.raw_place ∙ seeks.behind.stands ∙ sym (ap (λ (owed : Owed). owed.place) out.stands.owed) };
+  live = out.life_is ∙ seeks.may.live;
+  no_fault = out.counts.no_fault;
+  passed = 0;
+  within = omega arith;
+  answered = out.stands.answered;
+  place = omega (arith, ap (λ (owed : Owed). owed.place) out.stands.owed);
+  owed = ap (λ (owed : Owed). owed.bytes) out.stands.owed ∙ sym (append-nil old.owed.bytes);
+  told = λ tells. out.stands.bytes (tells_its_bytes old.raw tells);
+}
+
+passes_all_then : (old mid new : Stream) (result : Result (Unit {0}) IoFault) → Took old [] mid → NoWait old.raw mid.raw → PassAllOutcome mid result new → PassAllOutcome old result new
+passes_all_then old mid new (Ok done) took no_wait passed = (took_on old mid new [] took passed.0, no_wait_then old.raw mid.raw new.raw took.kept.raw no_wait passed.1, passed.2)
+passes_all_then old mid new (Err (fault.WouldBlock taken)) took no_wait waits = (
+  waits.0,
+  subst (λ (short : Bool). Took old [] (record new { short = short })) took.kept.short (took_on old mid (record new { short = mid.short }) [] took waits.1),
+  waits.2,
+  waited_then old.raw mid.raw new.raw took.kept.raw waits.3,
+  waits_once_then old.raw mid.raw new.raw took.kept.raw no_wait waits.4,
+)
+passes_all_then old mid new (Err fault.RawFault) took no_wait fails = (fails_on old mid new [] (record { took = took; calm = calm_of old.buffer old.raw mid.raw no_wait }) fails.0, no_wait_then old.raw mid.raw new.raw took.kept.raw no_wait fails.1, fails.2)
+passes_all_then old mid new (Err fault.NoMemory) took no_wait lacks = (lacks_on old mid new [] took lacks.0, no_wait_then old.raw mid.raw new.raw took.kept.raw no_wait lacks.1)
+passes_all_then old mid new (Err why) took no_wait never = absurd never
+
+-- the raw was left alone after some was passed on
+passes_still : (old mid new : Stream) → PassesSome old mid → StandsAsBefore mid new → PassesSome old new
+passes_still old mid new passes stands =
+    let bytes : WhereTold old.raw (new.raw.bytes ≡ mid.raw.bytes) = λ tells. stands.bytes (passes.kept.raw.tells_bytes ∙ tells_its_bytes old.raw tells) in
+    record {
+      kept = keeps_then old mid new passes.kept stands.kept;
+      passed = passes.passed;
+      within = passes.within;
+      answered = answers_still old.raw mid.raw new.raw passes.passed passes.kept.raw passes.answered stands.answered;
+      place = ap (λ (owed : Owed). owed.place) stands.owed ∙ passes.place;
+      owed = ap (λ (owed : Owed). owed.bytes) stands.owed ∙ passes.owed;
+      still = stands.place ∙ passes.still;
+      at = λ at none. ap (λ (owed : Owed). owed.place) stands.owed ∙ passes.at at (sym (ap (λ (owed : Owed). owed.bytes) stands.owed) ∙ none) ∙ sym stands.place;
+      lays = λ tells. subst (LaysFront old []) (sym (bytes tells)) (passes.lays tells);
+      told = λ tells. let laid = passes.told tells in (laid.0, laid.1, laid.2, bytes tells ∙ laid.3);
+    }
+
+-- the raw failed to move, or wanted memory
+moving_fails : (old mid new : Stream) (offset whence : ℤ) (target : ℕ) (why : IoFault) → SeeksWriting old → Goes old offset whence target → PassAllOutcome old (Ok tt) mid → GoOutcome mid target (Err why) new → Answers old (Seek offset whence) (Refused why) new
+moving_fails old mid new offset whence target fault.RawFault seeks to passed fails =
+    let took : Took old [] mid = passed.0 in
+    fault_fails old new (Seek offset whence) (reaching old offset whence seeks.may to.asks) (beside_writing old (Seek offset whence) (Refused fault.RawFault) (record new { life = life.Failed }) seeks.writes (not_held old offset whence seeks)) (fault_fails_seek offset whence)
+    (passes_still old mid new (took_passes old mid took) fails.0.stands) fails.0.failed (faulted_then old.raw mid.raw new.raw took.kept.raw fails.0.cause) (no_wait_then old.raw mid.raw new.raw took.kept.raw passed.1 fails.0.no_wait)
+moving_fails old mid new offset whence target fault.NoMemory seeks to passed wants =
+    let took : Took old [] mid = passed.0 in
+    subst (λ (after : Stream). Answers old (Seek offset whence) (Refused fault.NoMemory) after) (sym wants.1)
+    (lacks_refuse old mid (Seek offset whence) (reaching old offset whence seeks.may to.asks) seeks.writes (not_held old offset whence seeks) (record { takes = sym took.kept.raw.takes_memory ∙ wants.0; took = took }) passed.1)
+moving_fails old mid new offset whence target why seeks to passed never = absurd never
+
+-- As the steps come.
+
+-- a stop of the passing on answers the seek
+pub seek_stops : (old found new : Stream) (offset whence : ℤ) (target : ℕ) (why : IoFault) → SeeksWriting (begun old) → Finds (begun old) offset whence target found → PassAllOutcome found (Err why) new → Answers old (Seek offset whence) (Refused why) new
+seek_stops old found new offset whence target why seeks finds stops =
+    answers_whole old new (Seek offset whence) (Refused why)
+    (pass_all_refuses (begun old) new (Seek offset whence) seeks.size why (accepts_seek (begun old) offset whence target seeks finds.to) seeks.buffered seeks.writes (not_held (begun old) offset whence seeks) (fault_fails_seek offset whence)
+    (passes_all_then (begun old) found new (Err why) (found_took (begun old) found seeks finds.out) finds.out.counts.no_wait stops))
+
+-- a failing of the moving answers the seek
+pub seek_fails : (old found mid new : Stream) (offset whence : ℤ) (target : ℕ) (why : IoFault) → SeeksWriting (begun old) → Finds (begun old) offset whence target found → PassAllOutcome found (Ok tt) mid → GoOutcome mid target (Err why) new → Answers old (Seek offset whence) (Refused why) new
+seek_fails old found mid new offset whence target why seeks finds passed fails =
+    answers_whole old new (Seek offset whence) (Refused why)
+    (moving_fails (begun old) mid new offset whence target why seeks finds.to (passes_all_then (begun old) found mid (Ok tt) (found_took (begun old) found seeks finds.out) finds.out.counts.no_wait passed) fails)
+
+-- a stream that writes stands where it was to go
+pub seek_answers : (old found mid new : Stream) (offset whence : ℤ) (target : ℕ) → SeeksWriting (begun old) → Finds (begun old) offset whence target found → PassAllOutcome found (Ok tt) mid → GoesTo mid target new → Answers old (Seek offset whence) (Place target) new
+seek_answers old found mid new offset whence target seeks finds passed goes =
+    let all : PassAllOutcome (begun old) (Ok tt) mid = passes_all_then (begun old) found mid (Ok tt) (found_took (begun old) found seeks finds.out) finds.out.counts.no_wait passed in
+    let took : Took (begun old) [] mid = all.0 in
+    answers_whole old new (Seek offset whence) (Place target)
+    (gone (begun old) mid new offset whence target seeks.may finds.to (beside_writing (begun old) (Seek offset whence) (Place target) new seeks.writes (not_held (begun old) offset whence seeks)) (took_passes (begun old) mid took) all.2 took.no_fault all.1 goes)

@@ -1,0 +1,311 @@
+-- A call that passes on what is owed, and what stops it.
+use Rattle.py_flat.specs.Owed.{Owed}
+use Rattle.py_raw.proofs.Telling.{tells_its_bytes}
+use Rattle.py_stream.proofs.Taking.{keeps_itself}
+use Rattle.py_stream.specs.Moving.{StandsAsBefore}
+use Rattle.std.proofs.Common.{IsTrue, ◌≡◌, ℕ, suc, zero, ◌+◌, ◌≤◌, inr, Bool, true, false, List, [], ◌++◌, length, take, drop, Option, Some, Err, refl, sym, ap, ◌∙◌, subst, arith, length-drop}
+use Rattle.std.proofs.lemmas.List.{append-nil}
+use Rattle.py_flat.specs.declared.fault.IoFault.{IoFault}
+use Rattle.py_flat.specs.declared.fault.IoFault.TheVariants as fault
+use Rattle.py_flat.specs.declared.life.Life.{Life}
+use Rattle.py_flat.specs.declared.life.Life.TheVariants as life
+use Rattle.py_flat.specs.Bytes.{lay}
+use Rattle.py_flat.specs.Causes.{Rose}
+use Rattle.py_flat.specs.Calls.{FileCall, Refused}
+use Rattle.py_flat.specs.FlatFile.{FlatFile}
+use Rattle.py_flat.specs.ExactStep.{is_closed}
+use Rattle.py_flat.specs.AllowedStep.{waited_for, raw_faulted, out_of_memory}
+use Rattle.py_flat.specs.BinaryStep.{is_live, Fails, WaitedBy, FaultedBy, StarvedBy}
+use Rattle.py_flat.proofs.Laying.{lay_resumes}
+use Rattle.py_raw.specs.RawStream.{NoFault, WhereTold, NoWait, WaitsOnce, AnswersFor}
+use Rattle.py_stream.specs.Stream.{Stream, buffering_of, file_of}
+use Rattle.py_stream.specs.Writing.{OwesUpTo, NoneAtPlace, PassesFront, LaysFront}
+use Rattle.py_stream.specs.Answers.{Answers, KeepsStream, ClosedWith, InHand, IsShort, LifeMoves, PlaceMoves, IsReplyTo}
+use Rattle.py_stream.specs.Keeping.{KeepsOn, IsSound}
+use Rattle.py_stream.specs.Taking.{Took, FailsTaking, Lacks, PassAllOutcome}
+use Rattle.py_stream.proofs.Fronts.{lays_front}
+use Rattle.py_stream.proofs.Refused.{nothing_passed, nothing_blocked}
+use Rattle.py_stream.proofs.Stopping.{says_short, needs_no_end, waits_alive, waits_there, waits_with_none, waits_answer, fails_there, fault_answers, starves_alive, starves_there, starve_answers}
+use Rattle.py_stream.proofs.Flat.{flat_of, file_now}
+use Rattle.py_stream.proofs.Showing.{Asked, Accepts, Beside, beside_writing, shows_answers, passing_writes}
+
+-- a stream of which a call was begun
+abbrev pub begun : Stream → Stream
+begun stream = record stream { short = false }
+
+-- the first n of the bytes that were owed are passed on, wherever they belong; told, these were laid on, and maybe more of them
+pub record PassesSome (old new : Stream) : Type 0 where
+  pub kept : KeepsOn old new
+  pub passed : ℕ
+  pub within : passed ≤ length old.owed.bytes
+  pub answered : AnswersFor passed old.raw new.raw
+  pub place : new.owed.place ≡ old.owed.place + passed
+  pub owed : new.owed.bytes ≡ drop passed old.owed.bytes
+  pub still : new.place ≡ old.place
+  pub at : NoneAtPlace old → NoneAtPlace new
+  pub lays : WhereTold old.raw (LaysFront old [] new.raw.bytes)
+  pub told : WhereTold old.raw ((laid : ℕ) × (passed ≤ laid) × (laid ≤ length old.owed.bytes) × (new.raw.bytes ≡ lay old.raw.bytes old.owed.place (take laid old.owed.bytes)))
+
+-- a stream stands as it stood
+pub stands_itself : (stream : Stream) → IsSound stream → StandsAsBefore stream stream
+stands_itself stream sound = record { kept = keeps_itself stream sound; bytes = λ _. refl; answered = λ tells. refl; place = refl; raw_place = refl; owed = refl; held = refl }
+
+-- a stream that stands as it stood passed nothing on
+pub passes_nothing : (old new : Stream) → StandsAsBefore old new → PassesSome old new
+passes_nothing old new stands =
+    let bytes : WhereTold old.raw (new.raw.bytes ≡ old.raw.bytes) = λ tells. stands.bytes (tells_its_bytes old.raw tells) in
+    let place : new.owed.place ≡ old.owed.place = ap (λ (owed : Owed). owed.place) stands.owed in
+    let owed : new.owed.bytes ≡ old.owed.bytes = ap (λ (owed : Owed). owed.bytes) stands.owed in
+    record {
+      kept = stands.kept;
+      passed = 0;
+      within = omega arith;
+      answered = stands.answered;
+      place = omega (arith, place);
+      owed = owed;
+      still = stands.place;
+      at = λ at none. place ∙ at (sym owed ∙ none) ∙ sym stands.place;
+      lays = λ tells. record { count = 0; bytes = bytes tells };
+      told = λ tells. (0, omega arith, omega arith, bytes tells);
+    }
+
+-- a stream itself passed nothing on
+pub passes_itself : (stream : Stream) → IsSound stream → PassesSome stream stream
+passes_itself stream sound = passes_nothing stream stream (stands_itself stream sound)
+
+-- A stream that owes what lies right before its place.
+
+-- where what is owed ends at the place, and is nothing, its place is the stream's
+pub none_owed_at : (new : Stream) → new.owed.place + length new.owed.bytes ≡ new.place → NoneAtPlace new
+none_owed_at new ends none = omega (arith, ends, ap length none)
+
+lays_some : (old new : Stream) → OwesUpTo old.owed old.place → WhereTold old.raw ((laid : ℕ) × (new.raw.bytes ≡ lay old.raw.bytes old.owed.place (take laid old.owed.bytes))) → WhereTold old.raw (LaysFront old [] new.raw.bytes)
+lays_some old new up_to laid tells = lays_front old [] new.raw.bytes up_to (record { owed = (laid tells).0; more = 0; order = λ some. absurd (some refl); bytes = (laid tells).1 })
+
+-- a step that took nothing passed on a front
+pub took_passes : (old new : Stream) → Took old [] new → PassesSome old new
+took_passes old new took =
+    let all : old.owed.bytes ++ [] ≡ old.owed.bytes = append-nil old.owed.bytes in
+    let within : took.passed ≤ length old.owed.bytes = omega (arith, took.within) in
+    let owed : new.owed.bytes ≡ drop took.passed old.owed.bytes = took.owed ∙ ap (drop took.passed) all in
+    let told : WhereTold old.raw (new.raw.bytes ≡ lay old.raw.bytes old.owed.place (take took.passed old.owed.bytes)) = λ tells. took.told tells ∙ ap (λ (bytes : List ℕ). lay old.raw.bytes old.owed.place (take took.passed bytes)) all in
+    record {
+      kept = took.kept;
+      passed = took.passed;
+      within = within;
+      answered = took.answered;
+      place = took.place;
+      owed = owed;
+      still = omega (arith, took.was.ends, took.behind.ends, took.place, within, ap length owed, length-drop took.passed old.owed.bytes);
+      at = λ _. none_owed_at new took.behind.ends;
+      lays = lays_some old new (inr took.was.ends) (λ tells. (took.passed, told tells));
+      told = λ tells. (took.passed, omega arith, within, told tells);
+    }
+
+take_of_none : (count : ℕ) (bytes : List ℕ) → bytes ≡ [] → take count bytes ≡ []
+take_of_none zero bytes none = refl
+take_of_none (suc count) bytes none = ap (take (suc count)) none
+
+-- a failing that had nothing of its own to take passed on a front
+pub failing_passes : (old new : Stream) → FailsTaking old [] new → PassesSome old new
+failing_passes old new fails =
+    let all : old.owed.bytes ++ [] ≡ old.owed.bytes = append-nil old.owed.bytes in
+    let none : take fails.taken (let no : List ℕ = [] in no) ≡ [] = take_of_none fails.taken [] refl in
+    let taken : fails.taken ≡ 0 = omega (arith, fails.fits) in
+    let within : fails.passed ≤ length old.owed.bytes = omega (arith, fails.within, taken) in
+    let owed : new.owed.bytes ≡ drop fails.passed old.owed.bytes = fails.owed ∙ ap (λ (more : List ℕ). drop fails.passed (old.owed.bytes ++ more)) none ∙ ap (drop fails.passed) all in
+    let told : WhereTold old.raw ((laid : ℕ) × (fails.passed ≤ laid) × (laid ≤ length old.owed.bytes) × (new.raw.bytes ≡ lay old.raw.bytes old.owed.place (take laid old.owed.bytes))) = λ tells.
+    let laid = fails.told tells in
+    (laid.laid, laid.least_is, omega (arith, laid.most, ap length all), laid.bytes ∙ ap (λ (bytes : List ℕ). lay old.raw.bytes old.owed.place (take laid.laid bytes)) all) in
+    record {
+      kept = fails.kept;
+      passed = fails.passed;
+      within = within;
+      answered = fails.answered;
+      place = fails.place;
+      owed = owed;
+      still = omega (arith, fails.was.ends, fails.behind.ends, fails.place, within, ap length owed, length-drop fails.passed old.owed.bytes);
+      at = λ _. none_owed_at new fails.behind.ends;
+      lays = lays_some old new (inr fails.was.ends) (λ tells. let laid = told tells in (laid.0, laid.3));
+      told = told;
+    }
+
+-- What passing on leaves.
+
+-- the flat file's bytes are as they were
+pub passing_keeps_bytes : (old new : Stream) → PassesSome old new → WhereTold old.raw (flat_of new ≡ flat_of old)
+passing_keeps_bytes old new passes tells =
+    let laid = passes.told tells in
+    rw (passes.place, passes.owed, laid.3) (lay_resumes old.raw.bytes old.owed.place old.owed.bytes passes.passed laid.0 laid.1 laid.2)
+
+-- told, the raw has all flat bytes once nothing is owed
+pub passed_all : (old new : Stream) → PassesSome old new → new.owed.bytes ≡ [] → WhereTold old.raw (new.raw.bytes ≡ flat_of old)
+passed_all old new passes none tells = ap (lay new.raw.bytes new.owed.place) (sym none) ∙ passing_keeps_bytes old new passes tells
+
+-- whatever became of the stream, it passed on a front
+pub passing_front : (old new : Stream) (left : Life) (short : Bool) → PassesSome old new → PassesFront old (record new { life = left; short = short })
+passing_front old new left short passes = record { passed = passes.passed; most = passes.within; answered = passes.answered; bytes = passes.owed; place = λ some. passes.place }
+
+-- what a call keeps, it keeps where a front was passed on
+pub passing_keeps : (old new : Stream) (left : Life) (short : Bool) → PassesSome old new → KeepsStream old (record new { life = left; short = short })
+passing_keeps old new left short passes = record { buffer = passes.kept.buffer; can = passes.kept.can; raw = passes.kept.raw; bare = λ bare _. passes.kept.sound.bare (passes.kept.buffer ∙ bare) }
+
+-- the flat file is as it was, where a front was passed on
+pub passing_file : (old new : Stream) → PassesSome old new → new.life ≡ old.life → WhereTold old.raw (file_of new ≡ file_of old)
+passing_file old new passes same tells =
+    file_now old new passes.kept same
+    ∙ ap (λ (all : List ℕ). record (file_of old) { bytes = all; place = new.place }) (passing_keeps_bytes old new passes tells)
+    ∙ ap (λ (at : ℕ). record (file_of old) { place = at }) passes.still
+
+-- What stops a call that passes on.
+
+-- a raw that was open with a live stream is open still
+pub stays_open : (old : Stream) (left : Life) → old.life ≡ life.Live → is_closed left ≡ false → ClosedWith old.life old.raw → old.raw.closed ≡ is_closed left
+stays_open old left live alive closed = closed ∙ ap is_closed live ∙ sym alive
+
+-- the raw would have blocked
+pub waiting_answers : (old new : Stream) (call : FileCall) (size : ℕ) → Accepts old call → old.buffer ≡ Some size → old.can.writable ≡ true → (InHand old call → ⊥) → Took old [] (record new { short = old.short }) → new.short ≡ true → Rose old.raw.waits new.raw.waits → WaitsOnce old.raw new.raw → Answers old call (Refused (fault.WouldBlock 0)) new
+waiting_answers old new call size accepts buffered can apart took short rose once =
+    let asked : Asked old call = accepts.asked in
+    let left : Stream = record new { short = old.short } in
+    let passes : PassesSome old left = took_passes old left took in
+    let same : new.life ≡ old.life = took.live ∙ sym asked.live in
+    shows_answers old call (Refused (fault.WouldBlock 0)) new asked.none (record {
+      keeps = passing_keeps old left new.life new.short passes;
+      passes = asked.passes;
+      again = λ closes. absurd (cc (asked.again));
+      shut = λ _ none closed. took.kept.stays ∙ stays_open old new.life asked.live (ap is_closed took.live) closed;
+      causes = record { waits = λ _. rose; faults = λ faults. absurd (cc) };
+      counted = λ exact. record { faults = λ _. took.no_fault exact; waits = λ whole. absurd (cc); once = λ _ _. once exact };
+      shorts = subst (IsShort call (Refused (fault.WouldBlock 0))) (sym short) (says_short call (fault.WouldBlock 0));
+      life_is = subst (LifeMoves old.buffer call (Refused (fault.WouldBlock 0)) old.life) (sym same) (waits_alive old.buffer call old.life);
+      place = subst (PlaceMoves old.buffer call (Refused (fault.WouldBlock 0)) new.life old.place) (sym passes.still) (waits_there old.buffer call new.life old.place asked.none.writing);
+      far = took.kept.sound.far;
+      ends = needs_no_end old call (fault.WouldBlock 0) new refl;
+      wants = λ wanting. absurd (cc);
+      idle = λ idle. absurd (cc (asked.busy));
+      in_hand = λ has. absurd (apart has);
+      spares = λ reads. absurd (cc (can));
+      writes = λ _. passing_writes old call (Refused (fault.WouldBlock 0)) new asked.none (record {
+        leaves = passing_front old left new.life new.short passes;
+        lays = passes.lays;
+        passes = nothing_passed old new call (fault.WouldBlock 0);
+        full = waits_with_none call new asked.none.writing;
+        settles = passes.at;
+        unclosed = λ some. took.kept.stays;
+        rests = λ dead. absurd (dead asked.live);
+      });
+      at_once = λ failed. absurd (cc (asked.live));
+      answer = subst (λ (does : Bool). IsReplyTo old.buffer does call (Refused (fault.WouldBlock 0))) (sym can) (subst (λ (buffer : Option ℕ). IsReplyTo buffer true call (Refused (fault.WouldBlock 0))) (sym buffered) (waits_answer size call asked.none.reading asked.none.telling));
+      told = λ tells. waited_for short (accepts.works tells, subst (λ (file : FlatFile). WaitedBy (file_of old) call (Refused (fault.WouldBlock 0)) file) (sym (passing_file old left passes same tells)) (asked.none.waits (file_of old)));
+      near = λ lives. let near = took.kept.sound.near lives in record { after_first = near.after_first; before_end = near.before_end; fits = near.fits; read_ahead = near.read_ahead; ahead = near.ahead; behind = near.behind; stands = near.stands };
+    })
+
+-- memory ran out, after some was passed on, or none
+pub lacking_answers : (old new : Stream) (call : FileCall) → Asked old call → Beside old call (Refused fault.NoMemory) new → IsTrue old.raw.takes_memory → PassesSome old new → new.life ≡ life.Live → NoFault old.raw new.raw → NoWait old.raw new.raw → Answers old call (Refused fault.NoMemory) new
+lacking_answers old new call asked beside takes passes live no_fault no_wait =
+    let same : new.life ≡ old.life = live ∙ sym asked.live in
+    let short : new.short ≡ false = passes.kept.short ∙ asked.whole in
+    shows_answers old call (Refused fault.NoMemory) new asked.none (record {
+      keeps = passing_keeps old new new.life new.short passes;
+      passes = asked.passes;
+      again = λ closes. absurd (cc (asked.again));
+      shut = λ _ none closed. passes.kept.stays ∙ stays_open old new.life asked.live (ap is_closed live) closed;
+      causes = record { waits = λ waited. absurd (cc); faults = λ faults. absurd (cc) };
+      counted = λ exact. record { faults = λ _. no_fault exact; waits = λ _ _. no_wait exact; once = λ waited. absurd (cc) };
+      shorts = subst (IsShort call (Refused fault.NoMemory)) (sym short) (says_short call fault.NoMemory);
+      life_is = subst (LifeMoves old.buffer call (Refused fault.NoMemory) old.life) (sym same) (starves_alive old.buffer call old.life);
+      place = subst (PlaceMoves old.buffer call (Refused fault.NoMemory) new.life old.place) (sym passes.still) (starves_there old.buffer call new.life old.place);
+      far = passes.kept.sound.far;
+      ends = needs_no_end old call fault.NoMemory new refl;
+      wants = λ _. takes;
+      idle = λ idle. absurd (cc (asked.busy));
+      in_hand = beside.in_hand;
+      spares = beside.spares;
+      writes = λ _. passing_writes old call (Refused fault.NoMemory) new asked.none (record {
+        leaves = passing_front old new new.life new.short passes;
+        lays = passes.lays;
+        passes = nothing_passed old new call fault.NoMemory;
+        full = nothing_blocked new call fault.NoMemory refl;
+        settles = passes.at;
+        unclosed = λ some. passes.kept.stays;
+        rests = λ dead. absurd (dead asked.live);
+      });
+      at_once = λ failed. absurd (cc (asked.live));
+      answer = starve_answers old.buffer old.can.writable call asked.none.telling;
+      told = λ tells. out_of_memory refl (asked.reaches, subst (λ (file : FlatFile). StarvedBy (file_of old) call file) (sym (passing_file old new passes same tells)) (asked.none.starves (file_of old)));
+      near = passes.kept.sound.near;
+    })
+
+-- the life in which a fault leaves the stream
+pub record FaultLeaves (call : FileCall) (left : Life) : Type 0 where
+  pub dead : is_live left ≡ false
+  pub life_is : (buffer : Option ℕ) (current : Life) → LifeMoves buffer call (Refused fault.RawFault) current left
+  pub step : (file after : FlatFile) → Fails file left file.bytes after → FaultedBy file call after
+
+-- the raw failed
+pub failing_answers : (old failed : Stream) (call : FileCall) (left : Life) → Asked old call → Beside old call (Refused fault.RawFault) (record failed { life = left }) → FaultLeaves call left → PassesSome old failed → Rose old.raw.faults failed.raw.faults → NoWait old.raw failed.raw → (failed.owed.bytes ≡ [] → is_closed left ≡ false) → Answers old call (Refused fault.RawFault) (record failed { life = left })
+failing_answers old failed call left asked beside leaves passes cause no_wait alive =
+    let new : Stream = record failed { life = left } in
+    let short : failed.short ≡ false = passes.kept.short ∙ asked.whole in
+    shows_answers old call (Refused fault.RawFault) new asked.none (record {
+      keeps = passing_keeps old failed left failed.short passes;
+      passes = asked.passes;
+      again = λ closes. absurd (cc (asked.again));
+      shut = λ _ none closed. passes.kept.stays ∙ stays_open old left asked.live (alive none) closed;
+      causes = record { waits = λ waited. absurd (cc); faults = λ _. cause };
+      counted = λ exact. record { faults = λ sound. absurd (cc); waits = λ _ _. no_wait exact; once = λ waited. absurd (cc) };
+      shorts = subst (IsShort call (Refused fault.RawFault)) (sym short) (says_short call fault.RawFault);
+      life_is = leaves.life_is old.buffer old.life;
+      place = subst (PlaceMoves old.buffer call (Refused fault.RawFault) left old.place) (sym passes.still) (fails_there old.buffer call left old.place);
+      far = passes.kept.sound.far;
+      ends = needs_no_end old call fault.RawFault new refl;
+      wants = λ wanting. absurd (cc);
+      idle = λ idle. absurd (cc (asked.busy));
+      in_hand = beside.in_hand;
+      spares = beside.spares;
+      writes = λ _. passing_writes old call (Refused fault.RawFault) new asked.none (record {
+        leaves = passing_front old failed left failed.short passes;
+        lays = passes.lays;
+        passes = nothing_passed old new call fault.RawFault;
+        full = nothing_blocked new call fault.RawFault refl;
+        settles = passes.at;
+        unclosed = λ some. passes.kept.stays;
+        rests = λ dead. absurd (dead asked.live);
+      });
+      at_once = λ failed. absurd (cc (asked.live));
+      answer = fault_answers old.buffer old.can.writable call asked.none.telling;
+      told = λ tells. raw_faulted refl refl (asked.reaches, leaves.step (file_of old) (file_of new) (record { life_is = refl; bytes_are = passing_keeps_bytes old failed passes tells; can = passes.kept.can; buffering = ap buffering_of passes.kept.buffer }));
+      near = λ live. absurd (let dead : is_live left ≡ false = leaves.dead in let alive : is_live left ≡ true = ap is_live live in cc);
+    })
+
+-- What stops a passing on of all stops the call.
+
+failed_itself : (failed : Stream) → failed.life ≡ life.Failed → failed ≡ record failed { life = life.Failed }
+failed_itself failed is = ap (λ (current : Life). record failed { life = current }) is
+
+-- a raw that failed fails the stream
+pub fault_fails : (old failed : Stream) (call : FileCall) → Asked old call → Beside old call (Refused fault.RawFault) (record failed { life = life.Failed }) → FaultLeaves call life.Failed → PassesSome old failed → failed.life ≡ life.Failed → Rose old.raw.faults failed.raw.faults → NoWait old.raw failed.raw → Answers old call (Refused fault.RawFault) failed
+fault_fails old failed call asked beside leaves passes is cause no_wait =
+    subst (λ (new : Stream). Answers old call (Refused fault.RawFault) new) (sym (failed_itself failed is))
+    (failing_answers old failed call life.Failed asked beside leaves passes cause no_wait (λ _. refl))
+
+-- a wait refuses the call, of a stream with a buffer that writes
+pub waits_refuse : (old new : Stream) (call : FileCall) (size taken : ℕ) → Accepts old call → old.buffer ≡ Some size → old.can.writable ≡ true → (InHand old call → ⊥) → PassAllOutcome old (Err (fault.WouldBlock taken)) new → Answers old call (Refused (fault.WouldBlock taken)) new
+waits_refuse old new call size taken accepts buffered can apart waits =
+    subst (λ (count : ℕ). Answers old call (Refused (fault.WouldBlock count)) new) (sym waits.0)
+    (waiting_answers old new call size accepts buffered can apart waits.1 waits.2 waits.3 waits.4)
+
+-- running out of memory refuses a call that passes on, after a step of its stream
+pub lacks_refuse : (old new : Stream) (call : FileCall) → Asked old call → old.can.writable ≡ true → (InHand old call → ⊥) → Lacks old [] new → NoWait old.raw new.raw → Answers old call (Refused fault.NoMemory) new
+lacks_refuse old new call asked can apart lacks no_wait =
+    let took : Took old [] new = lacks.took in
+    lacking_answers old new call asked (beside_writing old call (Refused fault.NoMemory) new can apart) lacks.takes (took_passes old new took) took.live took.no_fault no_wait
+
+-- whatever stops the passing on refuses the call
+pub pass_all_refuses : (old new : Stream) (call : FileCall) (size : ℕ) (why : IoFault) → Accepts old call → old.buffer ≡ Some size → old.can.writable ≡ true → (InHand old call → ⊥) → FaultLeaves call life.Failed → PassAllOutcome old (Err why) new → Answers old call (Refused why) new
+pass_all_refuses old new call size (fault.WouldBlock taken) accepts buffered can apart leaves waits = waits_refuse old new call size taken accepts buffered can apart waits
+pass_all_refuses old new call size fault.RawFault accepts buffered can apart leaves fails =
+    fault_fails old new call accepts.asked (beside_writing old call (Refused fault.RawFault) (record new { life = life.Failed }) can apart) leaves (failing_passes old new fails.0) fails.0.failed fails.0.cause fails.1
+pass_all_refuses old new call size fault.NoMemory accepts buffered can apart leaves lacks = lacks_refuse old new call accepts.asked can apart lacks.0 lacks.1
+pass_all_refuses old new call size why accepts buffered can apart leaves never = absurd never

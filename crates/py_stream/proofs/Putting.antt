@@ -1,0 +1,81 @@
+-- Taking all bytes of a call, piece by piece and line by line.
+use Rattle.std.proofs.Common.{◌≡◌, ◌≢◌, ℕ, ◌+◌, ◌≤◌, ◌<◌, Bool, true, false, List, [], ◌++◌, length, take, drop, get_or, Result, Ok, Err, refl, sym, ap, subst, arith, length-drop}
+use Rattle.std.proofs.Math.Seq.{take-add}
+use Rattle.std.proofs.lemmas.List.{length-take-le, take-append-drop}
+use Rattle.py_flat.specs.declared.fault.IoFault.{IoFault}
+use Rattle.py_flat.specs.declared.fault.IoFault.TheVariants as fault
+use Rattle.py_flat.specs.declared.life.Life.TheVariants as life
+use Rattle.py_flat.specs.Limits.{greatest_place}
+use Rattle.py_flat.specs.Lines.{joined}
+use Rattle.py_stream.specs.Stream.{Stream}
+use Rattle.py_stream.specs.Keeping.{IsSound, OwesBehind}
+use Rattle.py_stream.specs.Taking.{Took, TookAll, PutsOutcome}
+use Rattle.py_stream.proofs.Joined.{joined_more, joined_parts, length-joined_parts}
+use Rattle.py_stream.proofs.Taking.{calm_of, calm_then, took_none, took_then, fails_then, fails_more, starves_then, starves_more, fills_then, fills_more}
+use Rattle.py_stream.proofs.Flat.{took_ends}
+
+-- a live stream took nothing before any piece
+pub takes_nothing : (stream : Stream) → IsSound stream → OwesBehind stream → stream.life ≡ life.Live → TookAll stream [] stream
+takes_nothing stream sound behind live = record { took = took_none stream sound behind live; calm = calm_of stream.buffer stream.raw stream.raw (λ exact. refl) }
+
+-- a piece that was taken after others is taken with them
+pub takes_then : (old mid new : Stream) (front more : List ℕ) → TookAll old front mid → TookAll mid more new → TookAll old (front ++ more) new
+takes_then old mid new front more first second = record {
+  took = took_then old mid new front more first.took second.took;
+  calm = calm_then old.buffer mid.buffer old.raw mid.raw new.raw first.took.kept.buffer first.took.kept.raw first.calm second.calm;
+}
+
+-- an answer of a front of the bytes, but that all of it was taken, is one of all of them
+pub put_more : (old new : Stream) (bytes more : List ℕ) (start : ℕ) (result : Result Bool IoFault) → PutsOutcome old bytes start result new → (result ≢ Ok true) → PutsOutcome old (bytes ++ more) start result new
+put_more old new bytes more start (Ok true) put stops = absurd (stops refl)
+put_more old new bytes more start (Ok false) put stops = fills_more old new bytes more put
+put_more old new bytes more start (Err fault.RawFault) put stops = fails_more old new bytes more put
+put_more old new bytes more start (Err fault.NoMemory) put stops = starves_more old new bytes more start put
+put_more old new bytes more start (Err why) put stops = absurd put
+
+-- what a piece comes to after others were taken is what all of them come to
+pub put_then : (old mid new : Stream) (front more : List ℕ) (start : ℕ) (result : Result Bool IoFault) → TookAll old front mid → PutsOutcome mid more start result new → PutsOutcome old (front ++ more) start result new
+put_then old mid new front more start (Ok true) first put = takes_then old mid new front more first put
+put_then old mid new front more start (Ok false) first put = fills_then old mid new front more first put
+put_then old mid new front more start (Err fault.RawFault) first put = fails_then old mid new front more first put
+put_then old mid new front more start (Err fault.NoMemory) first put = starves_then old mid new front more start first put
+put_then old mid new front more start (Err why) first put = absurd put
+
+-- Pieces of one list.
+
+-- a front, and what is left, are all
+pub all_of : (bytes : List ℕ) (taken : ℕ) → take taken bytes ++ drop taken bytes ≡ bytes
+all_of bytes taken = take-append-drop taken bytes
+
+-- some more bytes of a list were taken after the first ones
+pub takes_more : (old now new : Stream) (bytes : List ℕ) (taken count : ℕ) → TookAll old (take taken bytes) now → TookAll now (take count (drop taken bytes)) new → TookAll old (take (taken + count) bytes) new
+takes_more old now new bytes taken count first second = subst (λ (some : List ℕ). TookAll old some new) (sym (take-add taken count bytes)) (takes_then old now new (take taken bytes) (take count (drop taken bytes)) first second)
+
+-- what comes of the bytes that are left comes of all
+pub put_rest : (old now new : Stream) (bytes : List ℕ) (taken start : ℕ) (result : Result Bool IoFault) → TookAll old (take taken bytes) now → PutsOutcome now (drop taken bytes) start result new → PutsOutcome old bytes start result new
+put_rest old now new bytes taken start result first put = subst (λ (all : List ℕ). PutsOutcome old all start result new) (all_of bytes taken) (put_then old now new (take taken bytes) (drop taken bytes) start result first put)
+
+-- the last of the bytes that are left has a place that a stream can have
+pub rest_within : (old now : Stream) (bytes : List ℕ) (taken : ℕ) → taken ≤ length bytes → Took old (take taken bytes) now → old.place + length bytes ≤ greatest_place → now.place + length (drop taken bytes) ≤ greatest_place
+rest_within old now bytes taken fits took within = omega (arith, within, took_ends old now (take taken bytes) took, length-take-le taken bytes fits, length-drop taken bytes)
+
+-- Line by line.
+
+-- an answer of one line, but that it was taken, is one of all lines
+pub lines_stopped : (old now new : Stream) (lines : List (List ℕ)) (i : ℕ) (line piece : List ℕ) (start : ℕ) (result : Result Bool IoFault) → i < length lines → line ≡ get_or lines i line → piece ≡ line → TookAll old (joined (take i lines)) now → PutsOutcome now piece start result new → (result ≢ Ok true) → PutsOutcome old (joined lines) start result new
+lines_stopped old now new lines i line piece start result within is same took put stops =
+    let rest : List ℕ = joined (drop (i + 1) lines) in
+    subst (λ (all : List ℕ). PutsOutcome old all start result new) (sym (joined_parts lines i line within is))
+    (put_then old now new (joined (take i lines)) (line ++ rest) start result took
+    (put_more now new line rest start result (subst (λ (some : List ℕ). PutsOutcome now some start result new) same put) stops))
+
+-- one more line was taken after those so far
+pub lines_taken : (old now new : Stream) (lines : List (List ℕ)) (i : ℕ) (line piece : List ℕ) → i < length lines → line ≡ get_or lines i line → piece ≡ line → TookAll old (joined (take i lines)) now → TookAll now piece new → TookAll old (joined (take (i + 1) lines)) new
+lines_taken old now new lines i line piece within is same took more =
+    subst (λ (all : List ℕ). TookAll old all new) (sym (joined_more lines i line within is))
+    (takes_then old now new (joined (take i lines)) line took (subst (λ (some : List ℕ). TookAll now some new) same more))
+
+-- the next line has an end that a stream can have
+pub line_within : (old now : Stream) (lines all : List (List ℕ)) (i start : ℕ) (line piece : List ℕ) → lines ≡ all → i < length lines → line ≡ get_or lines i line → piece ≡ line → Took old (joined (take i lines)) now → start ≡ old.place → start + length (joined all) ≤ greatest_place → now.place + length piece ≤ greatest_place
+line_within old now lines all i start line piece given within is same took at fits =
+    omega (arith, at, fits, ap (λ (some : List (List ℕ)). length (joined some)) given, ap length same, length-joined_parts lines i line within is, took_ends old now (joined (take i lines)) took)

@@ -1,0 +1,138 @@
+-- What an accepted reading answers, however it came out.
+use Rattle.std.proofs.Common.{◌≡◌, Bool, true, false, ◌&&◌, IsTrue, [], Some, None, IsSome, Err, sym, ap, ◌∙◌, subst, arith}
+use Rattle.py_flat.specs.declared.fault.IoFault.{IoFault}
+use Rattle.py_flat.specs.declared.life.Life.TheVariants as life
+use Rattle.py_flat.specs.Calls.{FileCall, FileReply, Refused}
+use Rattle.py_flat.specs.Owed.{Owed}
+use Rattle.py_flat.specs.Refusals.{refusal, lacks, is_buffered}
+use Rattle.py_flat.specs.ExactStep.{is_closed}
+use Rattle.py_flat.specs.BinaryStep.{BinaryStep, does_work}
+use Rattle.py_raw.specs.RawStream.{WhereTold}
+use Rattle.py_raw.proofs.Telling.{tells_its_bytes}
+use Rattle.py_stream.specs.Stream.{Stream, size_of, buffering_of, file_of, nothing_owed}
+use Rattle.py_stream.specs.Kinds.{is_reading, reads_on, makes_one, has_room, asks_none, says_fault, says_no_memory}
+use Rattle.py_stream.specs.Writing.{Writes}
+use Rattle.py_stream.specs.Answers.{Answers, IsReplyTo, IsShort, LifeMoves, PlaceMoves, GivesWithin, WantsMemory, Starves, HasCauses, IsCounted, StarvesFirst, InHandOf, AsksNoMore, refused_by}
+use Rattle.py_stream.specs.Reading.{KeepsReading, OneTransfer, Reaches}
+use Rattle.py_stream.proofs.Accepting.{works_unrefused}
+use Rattle.py_stream.proofs.Begun.{answers_whole}
+use Rattle.py_stream.proofs.Completing.{completes}
+use Rattle.py_stream.proofs.Refusing.{IsPlaced, refused_alone}
+use Rattle.py_stream.proofs.Alone.{Begins, begins_in_vain}
+use Rattle.py_stream.proofs.ReadingCalls.{IsReadingCall, reading_call, uses_raw, never_blocks, by_several}
+use Rattle.py_stream.proofs.ReadingSteps.{near_seen}
+
+-- How a reading begins.
+
+-- what is known of a live stream with which a reading begins: it reads, and owes nothing
+pub record Reads (before : Stream) : Type 0 where
+  pub live : before.life ≡ life.Live
+  pub whole : before.short ≡ false
+  pub readable : before.can.readable ≡ true
+  pub bare : before.owed ≡ nothing_owed before.place
+  pub placed : IsPlaced before
+
+-- no reading that the stream has the abilities for is refused
+pub accepted : (before : Stream) (call : FileCall) → is_reading call ≡ true → lacks (file_of before) call ≡ false → before.life ≡ life.Live → refusal (file_of before) call ≡ None
+accepted before call reads has live = (reading_call call reads).accepts (file_of before) live has
+
+-- the raw may be called for a reading that isn't refused
+pub works : (before : Stream) (call : FileCall) → is_reading call ≡ true → lacks (file_of before) call ≡ false → before.life ≡ life.Live → IsTrue (does_work (file_of before) call)
+works before call reads has live = works_unrefused (file_of before) call live (accepted before call reads has live) (reading_call call reads).tells
+
+-- the stream that a reading came to, and that with which it begins: its last answer is forgotten
+pub record ReadingBegins (first before : Stream) : Type 0 where
+  pub reads : Reads before
+  pub from : before ≡ record first { short = false }
+
+-- what answers the stream with which a reading begins answers the one that the reading came to
+pub answers_begun : (first before : Stream) (call : FileCall) (reply : FileReply) (after : Stream) → before ≡ record first { short = false } → Answers before call reply after → Answers first call reply after
+answers_begun first before call reply after is answers = answers_whole first after call reply (subst (λ (stream : Stream). Answers stream call reply after) is answers)
+
+-- the life refuses a reading
+pub reading_refused : (before after : Stream) (call : FileCall) (why : IoFault) → is_reading call ≡ true → IsPlaced before → Begins before (Err why) after → Answers before call (Refused why) after
+reading_refused before after call why reads placed begins =
+    let is : IsReadingCall call = reading_call call reads in
+    begins_in_vain before after call why placed is.getter is.other is.closes (ap (λ (detaches : Bool). detaches && is_buffered (buffering_of before.buffer)) is.detaches) begins
+
+-- What a reading comes to.
+
+-- a stream that writes passes nothing on in a reading, as it owes nothing
+passes_nothing : (before mid : Stream) (short : Bool) (call : FileCall) (reply : FileReply) → is_reading call ≡ true → Reads before → KeepsReading before mid → IsReplyTo before.buffer before.can.writable call reply → Writes before call reply (record mid { short = short })
+passes_nothing before mid short call reply reads begun kept answers =
+    let is : IsReadingCall call = reading_call call reads in
+    let after : Stream = record mid { short = short } in
+    let none : mid.owed.bytes ≡ [] = ap (λ (owed : Owed). owed.bytes) kept.owed in
+    record {
+      owes = λ writing. absurd (let never = is.writing in cc);
+      takes = λ writing. absurd (let never = is.writing in cc);
+      leaves = λ _. record { passed = 0; most = omega arith; answered = kept.written; bytes = none ∙ sym (ap (λ (owed : Owed). owed.bytes) begun.bare); place = λ some. absurd (some none) };
+      lays = λ tells. is.lays before after.raw.bytes (kept.bytes (tells_its_bytes before.raw tells));
+      passes = is.passes before reply after;
+      full = never_blocks before.buffer before.can.writable call reply after reads answers;
+      starves = λ wants writing. absurd (let never = is.writing in cc);
+      straight = is.straight before reply after;
+      settles = λ _ _. ap (λ (owed : Owed). owed.place) kept.owed;
+      unclosed = λ some. absurd (some none);
+      rests = λ dead. absurd (dead begun.live);
+    }
+
+-- a reading that was answered, and what it left, but for whether a wait cut it short
+pub record Comes (before : Stream) (call : FileCall) (reply : FileReply) (short : Bool) (mid : Stream) : Type 0 where
+  pub kept : KeepsReading before mid
+  pub is_open : is_closed mid.life ≡ false
+  pub causes : HasCauses before.raw reply mid.raw short
+  pub counted : IsTrue before.raw.counts_exactly → IsCounted before.buffer before.raw call reply mid.raw short
+  pub shorts : IsShort call reply short
+  pub life_is : LifeMoves before.buffer call reply before.life mid.life
+  pub place : PlaceMoves before.buffer call reply mid.life before.place mid.place
+  pub within : GivesWithin (size_of before) call reply
+  pub wants : WantsMemory (has_room call) reply before.raw
+  pub starves : IsTrue (says_no_memory reply) → IsTrue (reads_on call) → Starves before (record mid { short = short })
+  pub first : StarvesFirst before call reply (record mid { short = short })
+  pub sound : IsTrue (asks_none before.buffer call) → says_fault reply ≡ false
+  pub nothing : IsTrue (asks_none before.buffer call) → mid.raw ≡ before.raw
+  pub one : IsTrue (makes_one before.buffer call) → OneTransfer before mid
+  pub ready : IsSome before.buffer → InHandOf before call → says_fault reply ≡ false
+  pub in_hand : IsSome before.buffer → InHandOf before call → mid.raw ≡ before.raw
+  pub needs : IsTrue (by_several before.buffer call) → AsksNoMore before call reply (record mid { short = short })
+  pub answers : IsReplyTo before.buffer before.can.writable call reply
+  pub told : WhereTold before.raw (BinaryStep (file_of before) call reply short (says_fault reply) (file_of mid))
+  pub reach : Reaches before mid
+  pub hides : IsTrue short → mid.raw_place ≡ mid.place
+
+-- what a reading left answers the call
+pub answers_coming : (before mid : Stream) (call : FileCall) (reply : FileReply) (short : Bool) → is_reading call ≡ true → lacks (file_of before) call ≡ false → Reads before → Comes before call reply short mid → Answers before call reply (record mid { short = short })
+answers_coming before mid call reply short reads has begun comes =
+    let is : IsReadingCall call = reading_call call reads in
+    let unrefused : refused_by before call ≡ None = refused_alone before call (is.unended (file_of before)) ∙ accepted before call reads has begun.live in
+    let after : Stream = record mid { short = short } in
+    let kept : KeepsReading before mid = comes.kept in
+    record {
+      keeps = record { buffer = kept.buffer; can = kept.can; raw = kept.raw; bare = λ _ _. kept.owed };
+      refused = λ why refuses. absurd (let wrong : None ≡ Some why = sym unrefused ∙ refuses in cc);
+      again = λ closes. absurd (let never = is.again before in cc);
+      shut = λ _ none closed. kept.stays ∙ closed ∙ ap is_closed begun.live ∙ sym comes.is_open;
+      causes = comes.causes;
+      counted = comes.counted;
+      shorts = comes.shorts;
+      moves = record { life_is = comes.life_is; place = comes.place; far = kept.far; within = comes.within };
+      ends = is.ends before reply after;
+      wants = comes.wants;
+      starves = comes.starves;
+      first = comes.first;
+      nothing = λ asks. record { raw = comes.nothing asks; fault = comes.sound asks };
+      idle = λ keeps. absurd (let never = uses_raw before.buffer before.can.writable call reads in cc);
+      single = λ one none. comes.one one;
+      in_hand = λ in_hand. record { raw = comes.in_hand in_hand.buffered in_hand.of; fault = comes.ready in_hand.buffered in_hand.of };
+      needs = λ on none. comes.needs on;
+      spares = λ _ _. record { bytes = kept.bytes; written = kept.written; owed = kept.owed };
+      writes = λ can. passes_nothing before mid short call reply reads begun kept comes.answers;
+      answer = λ _. comes.answers;
+      at_once = λ failed. absurd (let live = begun.live in cc);
+      complete = λ _ calm sound. completes before.raw mid.raw before.buffer before.can.writable call reply short comes.causes comes.shorts comes.answers calm sound;
+      told = comes.told;
+      reach = λ _. comes.reach;
+      near = λ lives. near_seen mid short (kept.near lives);
+      hides = λ shortened _ _. comes.hides shortened;
+    }

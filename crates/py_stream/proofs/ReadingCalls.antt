@@ -1,0 +1,260 @@
+-- Facts about the calls that read, each proved by going over the calls.
+use Rattle.std.proofs.Common.{◌≡◌, ◌≢◌, ℕ, zero, ◌≤◌, inl, inr, Bool, true, false, ◌&&◌, ◌||◌, not, IsTrue, List, [], length, Option, Some, None, if◌then◌else◌, refl, ap, ◌∙◌, arith}
+use Rattle.std.proofs.lemmas.List.{length-take}
+use Rattle.py_flat.specs.declared.fault.IoFault.{IoFault}
+use Rattle.py_flat.specs.declared.fault.IoFault.TheVariants as fault
+use Rattle.py_flat.specs.declared.life.Life.{Life}
+use Rattle.py_flat.specs.declared.life.Life.TheVariants as life
+use Rattle.py_flat.specs.Lines.{Lf, line_after}
+use Rattle.py_flat.specs.Calls.{FileCall, Read, Read1, ReadLine, ReadLines, Peek, ReadInto, ReadInto1, Write, WriteLines, Seek, Tell, Truncate, Flush, Close, Detach, Readable, Writable, Seekable, Closed, OtherKind, OtherGetter, FileReply, NotReady, Refused}
+use Rattle.py_flat.specs.FlatFile.{FlatFile}
+use Rattle.py_flat.specs.Refusals.{refusal, is_getter, is_other_getter, is_close, is_detach, lets_through, life_fault, lacks, or_else, refused_if}
+use Rattle.py_flat.specs.ExactStep.{rest}
+use Rattle.py_flat.specs.BinaryStep.{asks_end, is_tell, Fails, FaultedBy, WaitedBy, StarvedBy}
+use Rattle.py_stream.specs.Stream.{Stream}
+use Rattle.py_stream.specs.Kinds.{is_reading, reads_on, goes_on, makes_one, is_writing, takes_space_first, asks_none, asks_nothing, keeps_raw, calls_none, waits_unready, says_fault, says_no_memory}
+use Rattle.py_stream.specs.Writing.{LaysInOrder, PassesOn, BlocksFull, OwesNoneOfIts}
+use Rattle.py_stream.specs.Answers.{IsReplyTo, IsShort, LifeMoves, PlaceMoves, PlaceFails, PlaceStarves, moves_most, StarvesTo, GivesWithin, SeeksByEnd, InHandOf, IsWhole, closes_again}
+use Rattle.py_stream.specs.Reading.{wanted_by, reply_by, WantsHeld}
+
+-- What holds of every call that reads.
+
+-- what a call that reads is, and what its refusals and its want of an answer say, whatever stream it is made of
+pub record IsReadingCall (call : FileCall) : Type 0 where
+  pub getter : is_getter call ≡ false
+  pub tells : (is_getter call || is_tell call) ≡ false
+  pub other : is_other_getter call ≡ false
+  pub closes : is_close call ≡ false
+  pub detaches : is_detach call ≡ false
+  pub writing : is_writing call ≡ false
+  pub kept : (writes : Bool) → keeps_raw writes call ≡ false
+  pub unended : (file : FlatFile) → asks_end file call ≡ false
+  pub ends : (before : Stream) (reply : FileReply) (after : Stream) → SeeksByEnd before call reply after
+  pub again : (stream : Stream) → closes_again stream call ≡ false
+  pub accepts : (file : FlatFile) → file.life ≡ life.Live → lacks file call ≡ false → refusal file call ≡ None
+  pub lays : (before : Stream) (bytes : List ℕ) → bytes ≡ before.raw.bytes → LaysInOrder before call bytes
+  pub passes : (before : Stream) (reply : FileReply) (after : Stream) → PassesOn before call reply after
+  pub straight : (before : Stream) (reply : FileReply) (after : Stream) → OwesNoneOfIts before call reply after
+  pub said : (part : List ℕ) → says_fault (reply_by call part) ≡ false
+  pub gave : (part : List ℕ) → says_no_memory (reply_by call part) ≡ false
+  pub part_lives : (buffer : Option ℕ) (part : List ℕ) (before after : Life) → after ≡ before → LifeMoves buffer call (reply_by call part) before after
+  pub part_answers : (buffer : Option ℕ) (writes : Bool) (part : List ℕ) → IsReplyTo buffer writes call (reply_by call part)
+  pub unready_short : IsShort call NotReady true
+  pub unready_lives : (buffer : Option ℕ) (before after : Life) → after ≡ before → LifeMoves buffer call NotReady before after
+  pub unready_stays : (buffer : Option ℕ) (current : Life) (before after : ℕ) → after ≡ before → PlaceMoves buffer call NotReady current before after
+  pub unready_whole : IsWhole call NotReady → ⊥
+  pub refused_whole : (why : IoFault) → IsWhole call (Refused why) → ⊥
+  pub fault_short : IsShort call (Refused fault.RawFault) false
+  pub fault_fails : (buffer : Option ℕ) (before after : Life) → after ≡ life.Failed → LifeMoves buffer call (Refused fault.RawFault) before after
+  pub fault_moves : (buffer : Option ℕ) (current : Life) (before after : ℕ) → PlaceFails (goes_on buffer call) (moves_most call) before after → PlaceMoves buffer call (Refused fault.RawFault) current before after
+  pub fault_answers : (buffer : Option ℕ) (writes : Bool) → IsReplyTo buffer writes call (Refused fault.RawFault)
+  pub faulted_by : (file after : FlatFile) → Fails file life.Failed file.bytes after → FaultedBy file call after
+  pub want_short : IsShort call (Refused fault.NoMemory) false
+  pub want_lives : (buffer : Option ℕ) (before after : Life) → StarvesTo (goes_on buffer call) before after → LifeMoves buffer call (Refused fault.NoMemory) before after
+  pub want_moves : (buffer : Option ℕ) (current : Life) (before after : ℕ) → PlaceStarves current (moves_most call) before after → PlaceMoves buffer call (Refused fault.NoMemory) current before after
+  pub want_answers : (buffer : Option ℕ) (writes : Bool) → IsReplyTo buffer writes call (Refused fault.NoMemory)
+
+-- what holds of every call that reads holds of each
+pub reading_call : (call : FileCall) → is_reading call ≡ true → IsReadingCall call
+reading_call (Write bytes) reads = absurd (cc)
+reading_call (WriteLines lines) reads = absurd (cc)
+reading_call (Seek offset whence) reads = absurd (cc)
+reading_call Tell reads = absurd (cc)
+reading_call (Truncate size) reads = absurd (cc)
+reading_call Flush reads = absurd (cc)
+reading_call Close reads = absurd (cc)
+reading_call Detach reads = absurd (cc)
+reading_call Readable reads = absurd (cc)
+reading_call Writable reads = absurd (cc)
+reading_call Seekable reads = absurd (cc)
+reading_call Closed reads = absurd (cc)
+reading_call OtherKind reads = absurd (cc)
+reading_call OtherGetter reads = absurd (cc)
+reading_call call reads = record {
+  getter = refl;
+  tells = refl;
+  other = refl;
+  closes = refl;
+  detaches = refl;
+  writing = refl;
+  kept = λ writes. refl;
+  unended = λ file. refl;
+  ends = λ before reply after. tt;
+  again = λ stream. refl;
+  accepts = λ file live has.
+      ap (λ (current : Life). or_else (if lets_through current file.buffering call then None else life_fault current) (or_else (refused_if (lacks file call) fault.Unsupported) None)) live
+      ∙ ap (λ (lacking : Bool). or_else (refused_if lacking fault.Unsupported) None) has;
+  lays = λ before bytes same. record { count = 0; bytes = same };
+  passes = λ before reply after. tt;
+  straight = λ before reply after. tt;
+  said = λ part. refl;
+  gave = λ part. refl;
+  part_lives = λ buffer part before after same. same;
+  part_answers = λ buffer writes part. tt;
+  unready_short = refl;
+  unready_lives = λ buffer before after same. same;
+  unready_stays = λ buffer current before after same. same;
+  unready_whole = λ whole. whole;
+  refused_whole = λ why whole. whole;
+  fault_short = refl;
+  fault_fails = λ buffer before after failed. failed;
+  fault_moves = λ buffer current before after goes. goes;
+  fault_answers = λ buffer writes. tt;
+  faulted_by = λ file after fails. (0, omega arith, fails);
+  want_short = refl;
+  want_lives = λ buffer before after starves. starves;
+  want_moves = λ buffer current before after starves. starves;
+  want_answers = λ buffer writes. tt;
+}
+
+-- a call that reads calls the raw
+pub uses_raw : (buffer : Option ℕ) (writes : Bool) (call : FileCall) → is_reading call ≡ true → calls_none buffer writes call ≡ false
+uses_raw (Some size) writes call reads = (reading_call call reads).kept writes
+uses_raw None writes call reads = (reading_call call reads).kept false
+
+-- a call that reads answers a wait with not ready
+pub waits_so : (buffer : Option ℕ) (call : FileCall) → is_reading call ≡ true → waits_unready buffer call ≡ true
+waits_so (Some size) call reads = reads
+waits_so None (Write bytes) reads = absurd (cc)
+waits_so None call reads = reads
+
+-- no answer of a call that reads says how much was taken
+pub never_blocks : (buffer : Option ℕ) (writes : Bool) (call : FileCall) (reply : FileReply) (after : Stream) → is_reading call ≡ true → IsReplyTo buffer writes call reply → BlocksFull call reply after
+never_blocks buffer writes (Write bytes) reply after reads answers = absurd (cc)
+never_blocks buffer writes (WriteLines lines) reply after reads answers = absurd (cc)
+never_blocks buffer writes Tell reply after reads answers = absurd (cc)
+never_blocks buffer true call (Refused (fault.WouldBlock taken)) after reads answers = absurd (let waits = waits_so buffer call reads in cc)
+never_blocks buffer false call (Refused (fault.WouldBlock taken)) after reads answers = absurd (cc)
+never_blocks buffer writes call reply after reads answers = tt
+
+-- without an answer a reading gives no more than is asked for
+pub unready_within : (size : ℕ) (call : FileCall) → GivesWithin size call NotReady
+unready_within size (Read1 None) = tt
+unready_within size (Read1 (Some bytes)) = tt
+unready_within size call = tt
+
+-- a reading that was refused gives nothing
+pub refused_within : (size : ℕ) (call : FileCall) (why : IoFault) → GivesWithin size call (Refused why)
+refused_within size (Read1 None) why = tt
+refused_within size (Read1 (Some bytes)) why = tt
+refused_within size call why = tt
+
+-- a wait allows no answer, with the file as it was
+pub unready_waited : (file : FlatFile) (call : FileCall) (after : FlatFile) → is_reading call ≡ true → after ≡ file → WaitedBy file call NotReady after
+unready_waited file (Read size) after reads same = inl (refl, same)
+unready_waited file (ReadLine limit) after reads same = inl (refl, same)
+unready_waited file (ReadLines hint) after reads same = inl (refl, same)
+unready_waited file (ReadInto size) after reads same = inl (refl, same)
+unready_waited file (Read1 size) after reads same = (refl, same)
+unready_waited file (ReadInto1 size) after reads same = (refl, same)
+unready_waited file Peek after reads same = (refl, same)
+unready_waited file call after reads same = absurd (cc)
+
+-- running out of memory may leave the file as it was
+pub starved_by_none : (file : FlatFile) (call : FileCall) (after : FlatFile) → is_reading call ≡ true → after ≡ file → StarvedBy file call after
+starved_by_none file (Read size) after reads same = inl same
+starved_by_none file (ReadInto size) after reads same = inl same
+starved_by_none file (ReadLine limit) after reads same = inl same
+starved_by_none file (ReadLines hint) after reads same = inl same
+starved_by_none file (Write bytes) after reads same = absurd (cc)
+starved_by_none file (WriteLines lines) after reads same = absurd (cc)
+starved_by_none file call after reads same = same
+
+-- only a reading that goes on takes its space first
+pub space_first : (call : FileCall) → IsTrue (takes_space_first call) → IsTrue (reads_on call)
+space_first (Read size) takes = refl
+space_first call takes = absurd (cc)
+
+-- Readings that go on.
+
+-- each reading that goes on is a call that reads
+pub reading_on : (call : FileCall) → reads_on call ≡ true → is_reading call ≡ true
+reading_on (Read size) on = refl
+reading_on (ReadLine limit) on = refl
+reading_on (ReadLines hint) on = refl
+reading_on (ReadInto size) on = refl
+reading_on call on = absurd (cc)
+
+-- whether a reading goes on by several transfers: without a buffer one of a size makes a single one
+abbrev pub by_several : Option ℕ → FileCall → Bool
+by_several buffer call = reads_on call && goes_on buffer call
+
+and_left : (first second : Bool) → (first && second) ≡ true → first ≡ true
+and_left true second both = refl
+and_left false second both = absurd (cc)
+
+and_right : (first second : Bool) → (first && second) ≡ true → second ≡ true
+and_right true second both = both
+and_right false second both = absurd (cc)
+
+-- a reading by several transfers is one that goes on
+pub several_on : (buffer : Option ℕ) (call : FileCall) → by_several buffer call ≡ true → reads_on call ≡ true
+several_on buffer call several = and_left (reads_on call) (goes_on buffer call) several
+
+-- a reading by several transfers may make several
+pub several_goes : (buffer : Option ℕ) (call : FileCall) → by_several buffer call ≡ true → goes_on buffer call ≡ true
+several_goes buffer call several = and_right (reads_on call) (goes_on buffer call) several
+
+-- a reading by several transfers isn't one of a single transfer
+pub many : (buffer : Option ℕ) (call : FileCall) → by_several buffer call ≡ true → makes_one buffer call ≡ false
+many (Some size) (Read bytes) several = refl
+many (Some size) (ReadLine limit) several = refl
+many (Some size) (ReadLines hint) several = refl
+many (Some size) (ReadInto bytes) several = refl
+many None (Read None) several = refl
+many None (ReadLine limit) several = refl
+many None (ReadLines hint) several = refl
+many buffer call several = absurd (cc)
+
+-- a stream that reads has what a reading that goes on needs
+pub on_suits : (file : FlatFile) (call : FileCall) → reads_on call ≡ true → file.can.readable ≡ true → lacks file call ≡ false
+on_suits file (Read size) on reads = ap not reads
+on_suits file (ReadLine limit) on reads = ap not reads
+on_suits file (ReadLines hint) on reads = ap not reads
+on_suits file (ReadInto size) on reads = ap not reads
+on_suits file call on reads = absurd (cc)
+
+none_asked : (buffer : Option ℕ) (call : FileCall) → IsTrue (asks_none buffer call) → IsTrue (asks_nothing call)
+none_asked (Some size) call asks = asks
+none_asked None (ReadLine (Some zero)) asks = refl
+none_asked None call asks = absurd (cc)
+
+-- a reading that asks for no byte wants none of what is left
+wants_nothing : (call : FileCall) → reads_on call ≡ true → IsTrue (asks_nothing call) → (left : List ℕ) → wanted_by call left ≡ []
+wants_nothing (Read (Some zero)) on asks left = refl
+wants_nothing (ReadInto zero) on asks left = refl
+wants_nothing (ReadLine (Some zero)) on asks left = refl
+wants_nothing call on asks left = absurd (cc)
+
+-- a reading that asks for nothing over a buffer, or without one, wants none of what is left
+pub wants_none : (buffer : Option ℕ) (call : FileCall) → reads_on call ≡ true → IsTrue (asks_none buffer call) → (left : List ℕ) → wanted_by call left ≡ []
+wants_none buffer call on asks left = wants_nothing call on (none_asked buffer call asks) left
+
+-- a reading that asks for nothing wants no more than is held
+pub nothing_held : (before : Stream) (call : FileCall) → reads_on call ≡ true → IsTrue (asks_none before.buffer call) → WantsHeld (wanted_by call) before
+nothing_held before call on asks left = omega (arith, ap length (wants_none before.buffer call on asks left))
+
+-- a reading that the bytes held answer by themselves wants no more than these
+pub in_hand_held : (before : Stream) (call : FileCall) → reads_on call ≡ true → InHandOf before call → WantsHeld (wanted_by call) before
+in_hand_held before (Read (Some size)) on has left = omega (arith, has, length-take size left)
+in_hand_held before (ReadInto size) on has left = omega (arith, has, length-take size left)
+in_hand_held before (ReadLine (Some limit)) on has left = omega (arith, has, length-take limit (line_after Lf false left))
+in_hand_held before (Read None) on has left = absurd has
+in_hand_held before (ReadLine None) on has left = absurd has
+in_hand_held before (ReadLines hint) on has left = absurd has
+in_hand_held before call on has left = absurd (cc)
+
+-- no more is wanted than the call says
+pub wanted_within : (call : FileCall) (most : ℕ) → reads_on call ≡ true → moves_most call ≡ Some most → (bytes : List ℕ) → length (wanted_by call bytes) ≤ most
+wanted_within (Read (Some size)) most on is bytes = let same : size ≡ most = cc in omega (arith, same, length-take size bytes)
+wanted_within (ReadInto size) most on is bytes = let same : size ≡ most = cc in omega (arith, same, length-take size bytes)
+wanted_within (ReadLine (Some limit)) most on is bytes = let same : limit ≡ most = cc in omega (arith, same, length-take limit (line_after Lf false bytes))
+wanted_within call most on is bytes = absurd (cc)
+
+-- running out of memory may fail a reading that goes on, where some bytes are wanted
+pub starved_by_failing : (file : FlatFile) (call : FileCall) (after : FlatFile) → reads_on call ≡ true → wanted_by call (rest file) ≢ [] → Fails file life.Failed file.bytes after → StarvedBy file call after
+starved_by_failing file (Read size) after on some fails = inr (some, fails)
+starved_by_failing file (ReadInto size) after on some fails = inr (some, fails)
+starved_by_failing file (ReadLine limit) after on some fails = inr (some, fails)
+starved_by_failing file (ReadLines hint) after on some fails = inr (some, fails)
+starved_by_failing file call after on some fails = absurd (cc)

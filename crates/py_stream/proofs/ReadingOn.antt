@@ -1,0 +1,275 @@
+-- What a reading that goes on answers, by where it stopped: of all that is left, of a size, of a line, of lines.
+use Rattle.std.proofs.Common.{◌≡◌, ◌≢◌, ℕ, zero, suc, ◌+◌, ◌<◌, ◌≤◌, inl, inr, Bool, true, false, ◌||◌, IsTrue, List, [], ◌∷◌, ◌++◌, length, take, drop, replicate, Option, None, Result, Ok, Err, refl, sym, ap, ◌∙◌, subst, arith}
+use Rattle.std.proofs.lemmas.List.{append-nil, nil_from_length, length-append, length-replicate, take_all, take-take, take-append-drop}
+use Rattle.std.proofs.Math.ListN.{drop_of_length-le}
+use Rattle.std.proofs.Math.Seq.{take-append_seam}
+use Rattle.std.proofs.lemmas.Bool.{eqb-true}
+use Rattle.std.specs.Bool.{◌==◌}
+use Rattle.py_flat.specs.declared.fault.IoFault.{IoFault}
+use Rattle.py_flat.specs.declared.fault.IoFault.TheVariants as fault
+use Rattle.py_flat.specs.declared.life.Life.TheVariants as life
+use Rattle.py_flat.specs.Bytes.{left_at}
+use Rattle.py_flat.specs.Lines.{lines_of, joined}
+use Rattle.py_flat.specs.Calls.{FileCall, Read, ReadLine, ReadLines, NotReady, Refused}
+use Rattle.py_flat.specs.ExactStep.{rest}
+use Rattle.py_flat.specs.BinaryStep.{IsFrontOf}
+use Rattle.py_lines.specs.Collecting.{LineView, LinesView, line_wanted, lines_wanted}
+use Rattle.py_raw.specs.RawStream.{WhereTold}
+use Rattle.py_stream.specs.declared.stop.Stop.{Stop}
+use Rattle.py_stream.specs.declared.stop.Stop.TheVariants as stops
+use Rattle.py_stream.specs.Stream.{Stream, file_of}
+use Rattle.py_stream.specs.Kinds.{goes_on, has_room, takes_space_first, asks_none}
+use Rattle.py_stream.specs.Answers.{Answers, ahead}
+use Rattle.py_stream.specs.Reading.{ComesNext, Gives, StarvesReading, StopOutcome, RestOutcome, has_answer, answered_at, wanted_by, reply_by, GathersEnough, GathersFront, Gathers, IsOpen, WantsHeld, GatherOutcome}
+use Rattle.py_stream.proofs.ReadingCalls.{reading_on, by_several, several_on, several_goes, many, on_suits, nothing_held, in_hand_held, wanted_within}
+use Rattle.py_stream.proofs.ReadingSteps.{next_parts}
+use Rattle.py_stream.proofs.ReadingAnswers.{Reads, ReadingBegins, answers_begun}
+use Rattle.py_stream.proofs.ReadingStops.{needs_enough, needs_open, answers_all, answers_part, answers_unready, several_asks, answers_faulted, unmoved, answers_failing}
+
+-- By where the reading stopped.
+
+-- a reading with an answer
+pub answers_stopped : (before mid after : Stream) (call : FileCall) (part : List ℕ) (stop : Stop) (empty : Bool) → by_several before.buffer call ≡ true → Reads before → GatherOutcome (wanted_by call) before (Ok stop) part mid → (empty ≡ false → part ≢ []) → has_answer stop empty ≡ true → after ≡ answered_at stop mid → Answers before call (reply_by call part) after
+answers_stopped before mid after call part stops.Enough empty several begun outcome some answered is =
+    let stopped = outcome.stops in
+    subst (Answers before call (reply_by call part)) (sym is) (answers_all before mid call part several begun stopped.0 stopped.1 (λ held. (outcome.idle held).0) (needs_enough (wanted_by call) before part mid stopped.2 stopped.3) outcome.gathers)
+answers_stopped before mid after call part stops.End empty several begun outcome some answered is =
+    let stopped = outcome.stops in
+    let gathered = outcome.gathers in
+    subst (Answers before call (reply_by call part)) (sym is) (answers_all before mid call part several begun stopped.0 stopped.1 (λ held. (outcome.idle held).0) (needs_open (wanted_by call) before part mid stopped.3 gathered.1) gathered.0)
+answers_stopped before mid after call part stops.Waits true several begun outcome some answered is = absurd (cc)
+answers_stopped before mid after call part stops.Waits false several begun outcome some answered is =
+    let stopped = outcome.stops in
+    let gathered = outcome.gathers in
+    subst (Answers before call (reply_by call part)) (sym is) (answers_part before mid call part several begun stopped.0 stopped.1 stopped.2 stopped.3 (λ held. (outcome.idle held).0) (needs_open (wanted_by call) before part mid stopped.4 gathered.1) (some refl) gathered.0)
+
+-- a reading that stopped without an answer
+pub unready_stopped : (before mid after : Stream) (call : FileCall) (part : List ℕ) (stop : Stop) (empty : Bool) → by_several before.buffer call ≡ true → Reads before → GatherOutcome (wanted_by call) before (Ok stop) part mid → (empty ≡ true → part ≡ []) → has_answer stop empty ≡ false → after ≡ answered_at stop mid → Answers before call NotReady after
+unready_stopped before mid after call part stops.Enough empty several begun outcome none unready is = absurd (cc)
+unready_stopped before mid after call part stops.End empty several begun outcome none unready is = absurd (cc)
+unready_stopped before mid after call part stops.Waits false several begun outcome none unready is = absurd (cc)
+unready_stopped before mid after call part stops.Waits true several begun outcome none unready is =
+    let stopped = outcome.stops in
+    let on = several_on before.buffer call several in
+    let given : Gives before [] mid = subst (λ (bytes : List ℕ). Gives before bytes mid) (none refl) stopped.0 in
+    subst (Answers before call NotReady) (sym is) (answers_unready before mid call (reading_on call on) (on_suits (file_of before) call on begun.readable) begun given stopped.1 stopped.2 stopped.3 (several_asks before mid call several (λ held. (outcome.idle held).0) stopped.4))
+
+not_asked : (asks : Bool) → (IsTrue asks → ⊥) → asks ≡ false
+not_asked true none = absurd (none refl)
+not_asked false none = refl
+
+or_right : (first second : Bool) → IsTrue second → IsTrue (first || second)
+or_right true second is = refl
+or_right false second is = is
+
+-- where memory ran out, before anything moved or after bytes had left the raw
+starved : (before after : Stream) (call : FileCall) (part : List ℕ) → by_several before.buffer call ≡ true → Reads before → StarvesReading before after → GatherOutcome (wanted_by call) before (Err fault.NoMemory) part after → (IsTrue (has_room call || takes_space_first call) → IsTrue before.raw.takes_memory) → Answers before call (Refused fault.NoMemory) after
+starved before after call part several begun (inl same) outcome takes =
+    let on = several_on before.buffer call several in
+    subst (Answers before call (Refused fault.NoMemory)) (sym same) (unmoved before call (reading_on call on) (on_suits (file_of before) call on begun.readable) begun (λ room. takes (ap (λ (has : Bool). has || takes_space_first call) room)))
+starved before after call part several begun (inr fails) outcome takes =
+    answers_failing before after call several begun fails (λ bound is. outcome.within bound (wanted_within call bound (several_on before.buffer call several) is)) (λ room. takes (ap (λ (has : Bool). has || takes_space_first call) room)) (λ first. takes (or_right (has_room call) (takes_space_first call) first)) (λ held. (outcome.idle held).0) (outcome.starves fails.failed)
+
+-- a reading that was refused once it had begun
+pub refused_stop : (before after : Stream) (call : FileCall) (part : List ℕ) (why : IoFault) → by_several before.buffer call ≡ true → Reads before → GatherOutcome (wanted_by call) before (Err why) part after → (why ≡ fault.NoMemory → IsTrue (has_room call || takes_space_first call) → IsTrue before.raw.takes_memory) → Answers before call (Refused why) after
+refused_stop before after call part fault.RawFault several begun outcome takes =
+    let on = several_on before.buffer call several in
+    answers_faulted before after call (reading_on call on) (on_suits (file_of before) call on begun.readable) begun outcome.stops (λ bound is. outcome.within bound (wanted_within call bound on is)) (λ stays. absurd (let goes = several_goes before.buffer call several in cc)) (not_asked (asks_none before.buffer call) (λ asks. (outcome.idle (nothing_held before call on asks)).1 refl)) (λ single. absurd (let never = many before.buffer call several in cc)) (λ buffered has. (outcome.idle (in_hand_held before call on has)).1 refl)
+refused_stop before after call part fault.NoMemory several begun outcome takes = starved before after call part several begun outcome.stops outcome (takes refl)
+refused_stop before after call part why several begun outcome takes = absurd outcome.stops
+
+-- By the stream that a reading came to.
+
+-- a reading with an answer
+pub answered_from : (first before mid after : Stream) (call : FileCall) (part : List ℕ) (stop : Stop) (empty : Bool) → by_several before.buffer call ≡ true → ReadingBegins first before → GatherOutcome (wanted_by call) before (Ok stop) part mid → (empty ≡ false → part ≢ []) → has_answer stop empty ≡ true → after ≡ answered_at stop mid → Answers first call (reply_by call part) after
+answered_from first before mid after call part stop empty several begun outcome some answered is = answers_begun first before call (reply_by call part) after begun.from (answers_stopped before mid after call part stop empty several begun.reads outcome some answered is)
+
+-- a reading without an answer, by the stream that it came to
+pub unready_from : (first before mid after : Stream) (call : FileCall) (part : List ℕ) (stop : Stop) (empty : Bool) → by_several before.buffer call ≡ true → ReadingBegins first before → GatherOutcome (wanted_by call) before (Ok stop) part mid → (empty ≡ true → part ≡ []) → has_answer stop empty ≡ false → after ≡ answered_at stop mid → Answers first call NotReady after
+unready_from first before mid after call part stop empty several begun outcome none unready is = answers_begun first before call NotReady after begun.from (unready_stopped before mid after call part stop empty several begun.reads outcome none unready is)
+
+-- a reading of lines that was refused once it had begun
+pub refused_from : (first before after : Stream) (call : FileCall) (part : List ℕ) (why : IoFault) → by_several before.buffer call ≡ true → (has_room call || takes_space_first call) ≡ false → ReadingBegins first before → GatherOutcome (wanted_by call) before (Err why) part after → Answers first call (Refused why) after
+refused_from first before after call part why several roomless begun outcome = answers_begun first before call (Refused why) after begun.from (refused_stop before after call part why several begun.reads outcome (λ wants takes. absurd (cc)))
+
+-- What was gathered.
+
+-- bytes that come next are a front of what is left
+pub comes_front : (left part : List ℕ) → take (length part) left ≡ part → IsFrontOf part left
+comes_front left part next = (drop (length part) left, ap (λ (front : List ℕ). front ++ drop (length part) left) (sym next) ∙ take-append-drop (length part) left)
+
+-- nothing comes any more: all that is wanted came
+pub gathers_at_end : (wanted : List ℕ → List ℕ) (before : Stream) (part : List ℕ) → wanted part ≡ part → WhereTold before.raw (ComesNext before part) → WhereTold before.raw (length (file_of before).bytes ≤ before.place + length part) → GathersEnough wanted before part
+gathers_at_end wanted before part alone told last = record {
+  alone = alone;
+  exact = λ tells.
+      let behind : left_at (file_of before).bytes (before.place + length part) ≡ [] = drop_of_length-le (file_of before).bytes (last tells) in
+      ap wanted (next_parts (file_of before).bytes part before.place (told tells) ∙ (ap (λ (xs : List ℕ). part ++ xs) behind ∙ append-nil part)) ∙ alone;
+}
+
+-- more may come: what came is a front of what is wanted
+pub gathers_waiting : (wanted : List ℕ → List ℕ) (before : Stream) (part : List ℕ) → wanted part ≡ part → ((more : List ℕ) → IsFrontOf part (wanted (part ++ more))) → WhereTold before.raw (ComesNext before part) → GathersFront wanted before part
+gathers_waiting wanted before part alone goes_on told = record {
+  alone = alone;
+  front = λ tells. subst (λ (whole : List ℕ). IsFrontOf part (wanted whole)) (sym (next_parts (file_of before).bytes part before.place (told tells))) (goes_on (left_at (file_of before).bytes (before.place + length part)));
+}
+
+-- some of whatever comes after bytes is wanted
+abbrev pub WantsOn : (List ℕ → List ℕ) → List ℕ → Type 0
+WantsOn wanted part = (more : List ℕ) → more ≢ [] → length part < length (wanted (part ++ more))
+
+-- bytes after which some more is wanted aren't all
+pub open_asking : (wanted : List ℕ → List ℕ) (part : List ℕ) → WantsOn wanted part → IsOpen wanted part
+open_asking wanted part asks whole = omega (arith, asks (0 ∷ []) (λ none. cc), ap length (whole (0 ∷ [])))
+
+-- where a part has all bytes held, and some more is wanted after it, more is wanted than is held
+pub wants_past : (wanted : List ℕ → List ℕ) (before : Stream) (part : List ℕ) → WantsOn wanted part → ahead before ≤ length part → WantsHeld wanted before → ⊥
+wants_past wanted before part asks long held = omega (arith, asks (0 ∷ []) (λ none. cc), held (part ++ (0 ∷ [])))
+
+-- a reading that wasn't refused
+pub gathers_ok : (wanted : List ℕ → List ℕ) (before : Stream) (stop : Stop) (part : List ℕ) (after : Stream) → StopOutcome before part (Ok stop) after → Gathers wanted before part (Ok stop) → (WantsHeld wanted before → after.raw ≡ before.raw) → GatherOutcome wanted before (Ok stop) part after
+gathers_ok wanted before stop part after stopped gathered idle = record { stops = stopped; gathers = gathered; starves = tt; idle = λ held. (idle held, λ fails. absurd (cc)); within = tt }
+
+-- Readings of all that is left.
+
+-- all that is left isn't known to be held
+rest_not_held : (before : Stream) → WantsHeld (wanted_by (Read None)) before → ⊥
+rest_not_held before held = omega (arith, held (replicate (ahead before + 1) 0), length-replicate {A = ℕ} (ahead before + 1) 0)
+
+-- some more may always come
+open_rest : (part : List ℕ) → IsOpen (wanted_by (Read None)) part
+open_rest part whole = omega (arith, ap length (whole (0 ∷ [])), length-append part (0 ∷ []))
+
+starves_wanting_rest : (before after : Stream) → before.life ≡ life.Live → StarvesReading before after → after.life ≡ life.Failed → WhereTold before.raw (rest (file_of before) ≢ [])
+starves_wanting_rest before after live (inl same) failed = absurd (let both : life.Failed ≡ life.Live = sym failed ∙ ap (λ (stream : Stream). stream.life) same ∙ live in cc)
+starves_wanting_rest before after live (inr fails) failed = fails.some
+
+-- a reading of all that is left
+pub rest_gathers : (before after : Stream) (part : List ℕ) (result : Result Stop IoFault) → before.life ≡ life.Live → RestOutcome before result part after → GatherOutcome (wanted_by (Read None)) before result part after
+rest_gathers before after part (Ok stops.Enough) live outcome = absurd outcome
+rest_gathers before after part (Ok stops.End) live outcome = gathers_ok (wanted_by (Read None)) before stops.End part after outcome (gathers_at_end (wanted_by (Read None)) before part refl outcome.0.told (λ tells. let place = outcome.0.place in omega (arith, place, outcome.2 tells)), open_rest part) (λ held. absurd (rest_not_held before held))
+rest_gathers before after part (Ok stops.Waits) live outcome = gathers_ok (wanted_by (Read None)) before stops.Waits part after outcome (gathers_waiting (wanted_by (Read None)) before part refl (λ more. (more, refl)) outcome.0.told, open_rest part) (λ held. absurd (rest_not_held before held))
+rest_gathers before after part (Err fault.RawFault) live outcome = record {
+  stops = outcome;
+  gathers = tt;
+  starves = tt;
+  idle = λ held. absurd (rest_not_held before held);
+  within = λ most bound. absurd (omega (arith, bound (replicate (most + 1) 0), length-replicate {A = ℕ} (most + 1) 0));
+}
+rest_gathers before after part (Err fault.NoMemory) live outcome = record {
+  stops = outcome;
+  gathers = tt;
+  starves = starves_wanting_rest before after live outcome;
+  idle = λ held. absurd (rest_not_held before held);
+  within = λ most bound. absurd (omega (arith, bound (replicate (most + 1) 0), length-replicate {A = ℕ} (most + 1) 0));
+}
+rest_gathers before after part (Err why) live outcome = absurd outcome
+
+-- Of a size.
+
+-- a call that wants n bytes
+abbrev pub WantsSize : FileCall → ℕ → Type 0
+WantsSize call size = (left : List ℕ) → wanted_by call left ≡ take size left
+
+-- less than a call wants isn't all of it
+open_size : (call : FileCall) (size : ℕ) (part : List ℕ) → WantsSize call size → length part < size → IsOpen (wanted_by call) part
+open_size call size part wants less whole =
+    let longer : List ℕ = part ++ (0 ∷ []) in
+    omega (arith, ap length (sym (take_all size longer (omega (arith, length-append part (0 ∷ [])))) ∙ sym (wants longer) ∙ whole (0 ∷ [])), length-append part (0 ∷ []))
+
+-- what bounds all that a call wants bounds its size
+size_bound : (call : FileCall) (size most : ℕ) → WantsSize call size → ((bytes : List ℕ) → length (wanted_by call bytes) ≤ most) → size ≤ most
+size_bound call size most wants bound =
+    let zeros : List ℕ = replicate size 0 in
+    omega (arith, bound zeros, ap length (wants zeros ∙ take_all size zeros (omega (arith, length-replicate {A = ℕ} size 0))), length-replicate {A = ℕ} size 0)
+
+-- more than is held is wanted
+past_held : (before : Stream) (call : FileCall) (size : ℕ) → WantsSize call size → ahead before < size → WantsHeld (wanted_by call) before → ⊥
+past_held before call size wants past held = omega (arith, past, size_bound call size (ahead before) wants held)
+
+-- no more is wanted than is held: the raw wasn't called
+idle_size : (before after : Stream) (call : FileCall) (size : ℕ) → WantsSize call size → (size ≤ ahead before → after.raw ≡ before.raw) → WantsHeld (wanted_by call) before → after.raw ≡ before.raw
+idle_size before after call size wants idle held = idle (size_bound call size (ahead before) wants held)
+
+-- a reading of n bytes
+pub gathers_size : (before after : Stream) (call : FileCall) (size : ℕ) (part : List ℕ) (stop : Stop) → WantsSize call size → length part ≤ size → (stop ≡ stops.Enough → length part ≡ size) → (stop ≢ stops.Enough → length part < size) → StopOutcome before part (Ok stop) after → (size ≤ ahead before → after.raw ≡ before.raw) → GatherOutcome (wanted_by call) before (Ok stop) part after
+gathers_size before after call size part stops.Enough wants fits full less outcome idle =
+    gathers_ok (wanted_by call) before stops.Enough part after outcome (record {
+      alone = wants part ∙ take_all size part fits;
+      exact = λ tells. wants (rest (file_of before)) ∙ ap (λ (n : ℕ). take n (rest (file_of before))) (sym (full refl)) ∙ outcome.0.told tells;
+    }) (idle_size before after call size wants idle)
+gathers_size before after call size part stops.End wants fits full less outcome idle =
+    gathers_ok (wanted_by call) before stops.End part after outcome (
+      gathers_at_end (wanted_by call) before part (wants part ∙ take_all size part fits) outcome.0.told (λ tells. let place = outcome.0.place in omega (arith, place, outcome.2 tells)),
+      open_size call size part wants (less (λ same. cc)),
+    ) (idle_size before after call size wants idle)
+gathers_size before after call size part stops.Waits wants fits full less outcome idle =
+    gathers_ok (wanted_by call) before stops.Waits part after outcome (
+      record {
+        alone = wants part ∙ take_all size part fits;
+        front = λ tells. subst (IsFrontOf part) (sym (wants (rest (file_of before)))) (comes_front (take size (rest (file_of before))) part (take-take (length part) size (rest (file_of before)) fits ∙ outcome.0.told tells));
+      },
+      open_size call size part wants (less (λ same. cc)),
+    ) (idle_size before after call size wants idle)
+
+some_taken : (size : ℕ) (left : List ℕ) → 0 < size → left ≢ [] → take size left ≢ []
+some_taken size [] asks some = absurd (some refl)
+some_taken zero (byte ∷ more) asks some = absurd (omega arith)
+some_taken (suc size) (byte ∷ more) asks some = λ none. cc
+
+-- a reading that was refused, for which more is wanted than was held
+pub refuses_size : (before after : Stream) (call : FileCall) (size : ℕ) (part : List ℕ) (why : IoFault) → WantsSize call size → ahead before < size → before.life ≡ life.Live → after.place ≤ before.place + size → StopOutcome before part (Err why) after → GatherOutcome (wanted_by call) before (Err why) part after
+refuses_size before after call size part fault.RawFault wants past live within outcome = record {
+  stops = outcome;
+  gathers = tt;
+  starves = tt;
+  idle = λ held. absurd (past_held before call size wants past held);
+  within = λ most bound. omega (arith, within, size_bound call size most wants bound);
+}
+refuses_size before after call size part fault.NoMemory wants past live within outcome = record {
+  stops = outcome;
+  gathers = tt;
+  starves = λ failed tells. subst (λ (bytes : List ℕ). bytes ≢ []) (sym (wants (rest (file_of before)))) (some_taken size (rest (file_of before)) (omega (arith, past)) (starves_wanting_rest before after live outcome failed tells));
+  idle = λ held. absurd (past_held before call size wants past held);
+  within = λ most bound. omega (arith, within, size_bound call size most wants bound);
+}
+refuses_size before after call size part why wants past live within outcome = absurd outcome
+
+-- what a vector has whose front was read into, and which was cut to what came
+pub cut_to : (buffer more : List ℕ) (count size : ℕ) → length buffer ≡ size → take count (take size (buffer ++ more)) ≡ take count buffer
+cut_to buffer more count size long = ap (λ (n : ℕ). take count (take n (buffer ++ more))) (sym long) ∙ ap (take count) (take-append_seam buffer more)
+
+-- Of a line, or lines.
+
+-- what a line was gathered by
+pub line_gathered : (view : LineView) (limit : Option ℕ) (before after : Stream) (result : Result Stop IoFault) (part : List ℕ) → view ≡ record { line = []; limit = limit } → GatherOutcome (line_wanted view) before result part after → GatherOutcome (wanted_by (ReadLine limit)) before result part after
+line_gathered view limit before after result part is outcome = subst (λ (seen : LineView). GatherOutcome (line_wanted seen) before result part after) is outcome
+
+-- what lines were gathered by
+pub lines_gathered : (view : LinesView) (hint : Option ℕ) (before after : Stream) (result : Result Stop IoFault) (part : List ℕ) → view.hint ≡ hint → GatherOutcome (lines_wanted view) before result part after → GatherOutcome (wanted_by (ReadLines hint)) before result part after
+lines_gathered view hint before after result part is outcome = subst (λ (some : Option ℕ). GatherOutcome (wanted_by (ReadLines some)) before result part after) is outcome
+
+-- lines that are told by their bytes
+pub lines_are : (lines : List (List ℕ)) (part : List ℕ) → joined lines ≡ part → lines_of (joined lines) ≡ lines → lines ≡ lines_of part
+lines_are lines part all cut = sym cut ∙ ap lines_of all
+
+-- no lines have no bytes
+pub none_joined : (lines : List (List ℕ)) (part : List ℕ) → joined lines ≡ part → lines ≡ [] → part ≡ []
+none_joined lines part all none = sym all ∙ ap joined none
+
+-- lines have some
+pub some_joined : (lines : List (List ℕ)) (part : List ℕ) → joined lines ≡ part → lines_of (joined lines) ≡ lines → lines ≢ [] → part ≢ []
+some_joined lines part all cut some none = some (lines_are lines part all cut ∙ ap lines_of none)
+
+-- Whether there are any items.
+
+-- items of which none are counted are none
+pub none_counted : {A : Type 0} → (items : List A) (count : ℕ) (empty : Bool) → count ≡ length items → empty ≡ (count == 0) → empty ≡ true → items ≡ []
+none_counted items count empty size is none = nil_from_length items (sym size ∙ eqb-true count 0 (sym is ∙ none))
+
+-- where some items are counted, there are some
+pub some_counted : {A : Type 0} → (items : List A) (count : ℕ) (empty : Bool) → count ≡ length items → empty ≡ (count == 0) → empty ≡ false → items ≢ []
+some_counted items count empty size is some none =
+    let zeros : count ≡ 0 = size ∙ ap length none in
+    let tested : empty ≡ true = is ∙ ap (λ (n : ℕ). n == 0) zeros in
+    absurd (cc)

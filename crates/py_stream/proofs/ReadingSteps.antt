@@ -1,0 +1,168 @@
+-- What stays of a stream from step to step of a reading.
+use Rattle.std.proofs.Common.{◌≡◌, ℕ, ◌+◌, ◌≤◌, Bool, IsTrue, List, ◌++◌, length, take, drop, max, refl, sym, ap, ◌∙◌, arith}
+use Rattle.std.proofs.lemmas.List.{length-take, length-drop, length-append, take_all, take-append-drop, drop-drop}
+use Rattle.std.proofs.Math.Seq.{take-append-add}
+use Rattle.py_flat.specs.declared.life.Life.{Life}
+use Rattle.py_flat.specs.declared.life.Life.TheVariants as life
+use Rattle.py_flat.specs.Bytes.{left_at, lay}
+use Rattle.py_flat.specs.Causes.{counted}
+use Rattle.py_flat.specs.Owed.{Owed}
+use Rattle.py_flat.specs.FlatFile.{FlatFile, Buffering, Abilities}
+use Rattle.py_flat.specs.ExactStep.{rest, after_read}
+use Rattle.py_flat.specs.BinaryStep.{Fails}
+use Rattle.py_raw.specs.RawStream.{Raw, tells, WhereTold, NoWait, WaitsOnce, LeavesCounts}
+use Rattle.py_raw.proofs.Telling.{tells_its_bytes, tells_still, keeps_same}
+use Rattle.py_raw.proofs.ReadingOn.{Keeps-then, no_fault_then}
+use Rattle.py_stream.specs.Stream.{Stream, buffering_of, file_of, nothing_owed}
+use Rattle.py_stream.specs.Answers.{IsNear}
+use Rattle.py_stream.specs.Reading.{KeepsReading, EachBrings, ComesNext, Reaches, Gives}
+use Rattle.py_stream.proofs.Refusing.{IsPlaced}
+
+-- Bytes that come next.
+
+-- the front of a list after another
+pub more_taken : (n m : ℕ) (front rest : List ℕ) → length front ≡ n → take (n + m) (front ++ rest) ≡ front ++ take m rest
+more_taken n m front rest long = ap (λ (k : ℕ). take (k + m) (front ++ rest)) (sym long) ∙ take-append-add front rest m
+
+-- what came next, and what came next after it
+pub next_behind : (bytes front rest : List ℕ) (place n m : ℕ) → length front ≡ n → take n (left_at bytes place) ≡ front → take m (left_at bytes (place + n)) ≡ take m rest → take (n + m) (left_at bytes place) ≡ front ++ take m rest
+next_behind bytes front rest place n m long next behind =
+    let left : List ℕ = left_at bytes place in
+    ap (take (n + m)) (sym (take-append-drop n left) ∙ ap (λ (xs : List ℕ). xs ++ drop n left) next)
+    ∙ (more_taken n m front (drop n left) long
+    ∙ (ap (λ (xs : List ℕ). front ++ take m xs) (drop-drop n place bytes)
+    ∙ ap (λ (xs : List ℕ). front ++ xs) behind))
+
+-- what came next, and all after it
+pub next_parts : (bytes part : List ℕ) (place : ℕ) → take (length part) (left_at bytes place) ≡ part → left_at bytes place ≡ part ++ left_at bytes (place + length part)
+next_parts bytes part place next =
+    sym (take-append-drop (length part) (left_at bytes place))
+    ∙ (ap (λ (t : List ℕ). t ++ drop (length part) (left_at bytes place)) next
+    ∙ ap (λ (t : List ℕ). part ++ t) (drop-drop (length part) place bytes))
+
+-- n bytes that came next lie before the end
+pub within_end : (bytes part : List ℕ) (place count : ℕ) → take count (left_at bytes place) ≡ part → length part ≡ count → place + count ≤ max place (length bytes)
+within_end bytes part place count next long = omega (arith, length-take count (left_at bytes place), length-drop place bytes, ap length next, long)
+
+-- Steps.
+
+-- where a stream's raw stands doesn't hang on whether its last answer was short
+pub near_seen : (stream : Stream) (short : Bool) → IsNear stream → IsNear (record stream { short = short })
+near_seen stream short near = record { after_first = near.after_first; before_end = near.before_end; fits = near.fits; read_ahead = near.read_ahead; ahead = near.ahead; behind = near.behind; stands = near.stands }
+
+-- a stream by itself
+pub keeps_self : (stream : Stream) → stream.owed ≡ nothing_owed stream.place → IsPlaced stream → KeepsReading stream stream
+keeps_self stream bare is = record {
+  raw = keeps_same stream.raw;
+  stays = refl;
+  bytes = λ tells. refl;
+  written = λ tells. refl;
+  can = refl;
+  buffer = refl;
+  short = refl;
+  owed = bare;
+  far = is.far;
+  near = is.near;
+}
+
+-- two steps, one after the other
+pub keeps_then : (before mid after : Stream) → KeepsReading before mid → KeepsReading mid after → KeepsReading before after
+keeps_then before mid after first second = record {
+  raw = Keeps-then before.raw mid.raw after.raw first.raw second.raw;
+  stays = second.stays ∙ first.stays;
+  bytes = λ tells. second.bytes (first.raw.tells_bytes ∙ tells) ∙ first.bytes tells;
+  written = λ tells. second.written (first.raw.tells_transfers ∙ tells) ∙ first.written tells;
+  can = second.can ∙ first.can;
+  buffer = second.buffer ∙ first.buffer;
+  short = second.short ∙ first.short;
+  owed = second.owed;
+  far = second.far;
+  near = second.near;
+}
+
+-- a stream that failed
+pub keeps_failed : (stream : Stream) → stream.owed ≡ nothing_owed stream.place → IsPlaced stream → KeepsReading stream (record stream { life = life.Failed })
+keeps_failed stream bare is = record {
+  raw = keeps_same stream.raw;
+  stays = refl;
+  bytes = λ tells. refl;
+  written = λ tells. refl;
+  can = refl;
+  buffer = refl;
+  short = refl;
+  owed = bare;
+  far = is.far;
+  near = λ lives. absurd (cc);
+}
+
+-- a raw that isn't called counts nothing
+pub uncounted : (old new : Raw) → new ≡ old → LeavesCounts old new
+uncounted old new same = record { no_fault = λ exact. ap (λ (raw : Raw). raw.faults) same; no_wait = λ exact. ap (λ (raw : Raw). raw.waits) same }
+
+-- a wait after steps that counted none is the only one
+pub waits_once_then : (before mid after : Stream) → KeepsReading before mid → NoWait before.raw mid.raw → WaitsOnce mid.raw after.raw → WaitsOnce before.raw after.raw
+waits_once_then before mid after kept first second exact = second (kept.raw.counts_exactly ∙ exact) ∙ ap (λ (waits : ℕ). counted waits 1) (first exact)
+
+-- transfers in two steps
+pub each_then : (before mid after : Stream) (others : ℕ) → KeepsReading before mid → EachBrings 0 before mid → EachBrings others mid after → EachBrings others before after
+each_then before mid after others kept first second tells = omega (arith, first tells, second (kept.raw.tells_transfers ∙ tells))
+
+-- a raw that told its bytes and its place before a step tells both after it
+pub still_tells : (before after : Stream) → KeepsReading before after → WhereTold before.raw (IsTrue (tells after.raw))
+still_tells before after kept told = tells_still before.raw after.raw kept.raw ∙ told
+
+-- The flat file.
+
+-- a stream that owes nothing stands for its raw's bytes
+pub bare_bytes : (stream : Stream) → stream.owed ≡ nothing_owed stream.place → (file_of stream).bytes ≡ stream.raw.bytes
+bare_bytes stream bare = ap (λ (owed : Owed). lay stream.raw.bytes owed.place owed.bytes) bare
+
+-- a reading leaves the flat bytes
+pub same_bytes : (before after : Stream) → before.owed ≡ nothing_owed before.place → KeepsReading before after → WhereTold before.raw ((file_of after).bytes ≡ (file_of before).bytes)
+same_bytes before after bare kept tells = bare_bytes after kept.owed ∙ (kept.bytes (tells_its_bytes before.raw tells) ∙ sym (bare_bytes before bare))
+
+-- files that have the same of all are the same
+same_file : (first second : FlatFile) → first.bytes ≡ second.bytes → first.place ≡ second.place → first.can ≡ second.can → first.buffering ≡ second.buffering → first.life ≡ second.life → first ≡ second
+same_file first second bytes place can buffering current =
+    let of : List ℕ → ℕ → Abilities → Buffering → Life → FlatFile = λ xs at may by now. record { bytes = xs; place = at; can = may; buffering = by; life = now } in
+    let same : of first.bytes first.place first.can first.buffering first.life ≡ of second.bytes second.place second.can second.buffering second.life = rw (bytes, place, can, buffering, current) refl in
+    same
+
+-- the file of a stream that gave some bytes
+pub file_after : (before after : Stream) (count : ℕ) → before.owed ≡ nothing_owed before.place → KeepsReading before after → after.life ≡ before.life → after.place ≡ before.place + count → WhereTold before.raw (file_of after ≡ after_read (file_of before) count)
+file_after before after count bare kept same place tells = same_file (file_of after) (after_read (file_of before) count) (same_bytes before after bare kept tells) place kept.can (ap buffering_of kept.buffer) same
+
+-- the file of a stream that gave none
+pub file_same : (before after : Stream) → before.owed ≡ nothing_owed before.place → KeepsReading before after → after.life ≡ before.life → after.place ≡ before.place → WhereTold before.raw (file_of after ≡ file_of before)
+file_same before after bare kept same place tells = same_file (file_of after) (file_of before) (same_bytes before after bare kept tells) place kept.can (ap buffering_of kept.buffer) same
+
+-- the file of a stream that failed
+pub file_fails : (before after : Stream) → before.owed ≡ nothing_owed before.place → KeepsReading before after → after.life ≡ life.Failed → WhereTold before.raw (Fails (file_of before) life.Failed (file_of before).bytes (file_of after))
+file_fails before after bare kept failed tells = record {
+  life_is = failed;
+  bytes_are = same_bytes before after bare kept tells;
+  can = kept.can;
+  buffering = ap buffering_of kept.buffer;
+}
+
+-- Bytes that are given.
+
+-- told, the bytes that came next move the place no further than the end
+pub next_reaches : (before after : Stream) (part : List ℕ) → after.place ≡ before.place + length part → WhereTold before.raw (ComesNext before part) → Reaches before after
+next_reaches before after part place next tells = omega (arith, place, within_end (file_of before).bytes part before.place (length part) (next tells) refl)
+
+-- what was given, and what was given after it
+pub gives_then : (before mid after : Stream) (first second : List ℕ) → before.owed ≡ nothing_owed before.place → Gives before first mid → Gives mid second after → Gives before (first ++ second) after
+gives_then before mid after first second bare one behind =
+    let long : length (first ++ second) ≡ length first + length second = length-append first second in
+    record {
+      kept = keeps_then before mid after one.kept behind.kept;
+      no_fault = no_fault_then before.raw mid.raw after.raw one.kept.raw one.no_fault behind.no_fault;
+      live = behind.live;
+      place = omega (arith, one.place, behind.place, long);
+      told = λ tells.
+          let bytes : (file_of mid).bytes ≡ (file_of before).bytes = same_bytes before mid bare one.kept tells in
+          let next : take (length second) (left_at (file_of before).bytes (before.place + length first)) ≡ second = rw (← bytes, ← one.place) (behind.told (still_tells before mid one.kept tells)) in
+          let all : take (length second) second ≡ second = take_all (length second) second (omega arith) in
+          rw long (next_behind (file_of before).bytes first second before.place (length first) (length second) refl (one.told tells) (next ∙ sym all) ∙ ap (λ (xs : List ℕ). first ++ xs) all);
+    }

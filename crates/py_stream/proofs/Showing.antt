@@ -1,0 +1,242 @@
+-- A call that moves no bytes to its caller or from it: a seek, a flush, a close, a detaching. What makes its answer.
+use Rattle.std.proofs.Common.{◌≡◌, ◌≢◌, ℕ, ℤ, ◌≤◌, Bool, true, false, ◌||◌, IsTrue, List, [], Option, Some, None, if◌then◌else◌, refl, sym, ap, ◌∙◌}
+use Rattle.py_flat.specs.declared.fault.IoFault.{IoFault}
+use Rattle.py_flat.specs.declared.fault.IoFault.TheVariants as fault
+use Rattle.py_flat.specs.declared.life.Life.{Life}
+use Rattle.py_flat.specs.declared.life.Life.TheVariants as life
+use Rattle.py_flat.specs.Limits.{greatest_place}
+use Rattle.py_flat.specs.FlatFile.{FlatFile}
+use Rattle.py_flat.specs.Calls.{FileCall, Read, ReadLine, ReadInto, Write, Seek, Flush, Close, Detach, FileReply, Done, Unwritten, Refused}
+use Rattle.py_flat.specs.Refusals.{refusal, is_getter, or_else, lets_through, life_fault, life_refusal}
+use Rattle.py_flat.specs.ExactStep.{is_closed}
+use Rattle.py_flat.specs.BinaryStep.{BinaryStep, asks_end, reaches_raw, does_work, is_tell, WaitedBy, StarvedBy}
+use Rattle.py_raw.specs.RawStream.{WhereTold}
+use Rattle.py_stream.specs.Stream.{Stream, size_of, buffering_of, file_of, nothing_owed}
+use Rattle.py_stream.specs.Kinds.{is_reading, is_writing, asks_none, calls_none, makes_one, says_fault, says_no_memory}
+use Rattle.py_stream.specs.Writing.{NoneAtPlace, PassesFront, LaysFront, LaysInOrder, PassesOn, BlocksFull, OwesNoneOfIts, Writes}
+use Rattle.py_stream.specs.Answers.{Answers, KeepsStream, Leaves, ClosedWith, parts_at_close, closes_again, IsReplyTo, HasCauses, IsCounted, InHand, AsksNothing, IsIdle, IsShort, LifeMoves, PlaceMoves, refused_by, SeeksByEnd, SparesBytes, IsNear}
+use Rattle.py_stream.specs.Keeping.{IsSound}
+use Rattle.py_stream.proofs.Completing.{completes}
+use Rattle.py_stream.proofs.Accepting.{works_unrefused, work_reaches}
+use Rattle.py_stream.proofs.Refusing.{refused_alone}
+use Rattle.py_stream.proofs.Stopping.{GivesNone, gives_none}
+
+-- Kinds of calls.
+
+-- what a call that moves no bytes isn't, and what a wait and running out of memory mean for it
+pub record MovesNone (call : FileCall) : Type 0 where
+  pub writing : is_writing call ≡ false
+  pub reading : is_reading call ≡ false
+  pub telling : is_tell call ≡ false
+  pub lays : (before : Stream) (after : List ℕ) → LaysFront before [] after → LaysInOrder before call after
+  pub waits : (file : FlatFile) → WaitedBy file call (Refused (fault.WouldBlock 0)) file
+  pub starves : (file : FlatFile) → StarvedBy file call file
+
+-- a seek moves no bytes to or from its caller
+pub seek_moves_none : (offset whence : ℤ) → MovesNone (Seek offset whence)
+seek_moves_none offset whence = record { writing = refl; reading = refl; telling = refl; lays = λ before after is. is; waits = λ file. (refl, refl); starves = λ file. refl }
+
+-- a `flush` moves none
+pub flush_moves_none : MovesNone Flush
+flush_moves_none = record { writing = refl; reading = refl; telling = refl; lays = λ before after is. is; waits = λ file. (refl, refl); starves = λ file. refl }
+
+-- a `close` moves none
+pub close_moves_none : MovesNone Close
+close_moves_none = record { writing = refl; reading = refl; telling = refl; lays = λ before after is. is; waits = λ file. (refl, refl); starves = λ file. refl }
+
+-- a `detach` moves none
+pub detach_moves_none : MovesNone Detach
+detach_moves_none = record { writing = refl; reading = refl; telling = refl; lays = λ before after is. is; waits = λ file. (refl, refl); starves = λ file. refl }
+
+-- a call that doesn't read isn't a reading that asks for no byte, whatever the buffer
+asks_some : (buffer : Option ℕ) (call : FileCall) → is_reading call ≡ false → asks_none buffer call ≡ false
+asks_some (Some size) call reads = (gives_none call reads).nothing
+asks_some None (ReadLine limit) reads = absurd (cc)
+asks_some None call reads = refl
+
+makes_none : (buffer : Option ℕ) (call : FileCall) → is_reading call ≡ false → is_writing call ≡ false → makes_one buffer call ≡ false
+makes_none (Some size) call reads writes = (gives_none call reads).single
+makes_none None (Read size) reads writes = absurd (cc)
+makes_none None (ReadInto size) reads writes = absurd (cc)
+makes_none None (Write bytes) reads writes = absurd (cc)
+makes_none None call reads writes = (gives_none call reads).single
+
+-- What a call that moves no bytes answers.
+
+-- what an answer of a call that moves no bytes has of its own
+pub record Shows (before : Stream) (call : FileCall) (reply : FileReply) (after : Stream) : Type 0 where
+  pub keeps : KeepsStream before after
+  pub passes : refused_by before call ≡ None
+  pub again : closes_again before call ≡ true → Leaves before Done reply after
+  pub shut : parts_at_close before call reply ≡ false → after.owed.bytes ≡ [] → ClosedWith before.life before.raw → ClosedWith after.life after.raw
+  pub causes : HasCauses before.raw reply after.raw after.short
+  pub counted : IsTrue before.raw.counts_exactly → IsCounted before.buffer before.raw call reply after.raw after.short
+  pub shorts : IsShort call reply after.short
+  pub life_is : LifeMoves before.buffer call reply before.life after.life
+  pub place : PlaceMoves before.buffer call reply after.life before.place after.place
+  pub far : after.place ≤ greatest_place
+  pub ends : SeeksByEnd before call reply after
+  pub wants : IsTrue (says_no_memory reply) → IsTrue before.raw.takes_memory
+  pub idle : IsTrue (calls_none before.buffer before.can.writable call) → IsIdle before reply after
+  pub in_hand : InHand before call → AsksNothing before reply after
+  pub spares : before.can.writable ≡ false → before.owed ≡ nothing_owed before.place → SparesBytes before after
+  pub writes : before.can.writable ≡ true → Writes before call reply after
+  pub at_once : before.life ≡ life.Failed → call ≡ Detach → (bytes : List ℕ) × (place : Option ℕ) × (reply ≡ Unwritten bytes place)
+  pub answer : IsReplyTo before.buffer before.can.writable call reply
+  pub told : WhereTold before.raw (BinaryStep (file_of before) call reply after.short (says_fault reply) (file_of after))
+  pub near : after.life ≡ life.Live → IsNear after
+
+-- a call that is let through isn't refused
+not_refused : (before : Stream) (call : FileCall) (expected reply : FileReply) (after : Stream) (why : IoFault) → refused_by before call ≡ None → refused_by before call ≡ Some why → Leaves before expected reply after
+not_refused before call expected reply after why none some = let wrong : None ≡ Some why = sym none ∙ some in absurd (cc)
+
+-- what a call has of its own answers it
+pub shows_answers : (before : Stream) (call : FileCall) (reply : FileReply) (after : Stream) → MovesNone call → Shows before call reply after → Answers before call reply after
+shows_answers before call reply after none shows =
+    let gives : GivesNone call = gives_none call none.reading in
+    record {
+      keeps = shows.keeps;
+      refused = λ why refused. not_refused before call (Refused why) reply after why shows.passes refused;
+      again = shows.again;
+      shut = shows.shut;
+      causes = shows.causes;
+      counted = shows.counted;
+      shorts = shows.shorts;
+      moves = record { life_is = shows.life_is; place = shows.place; far = shows.far; within = gives.within (size_of before) reply };
+      ends = shows.ends;
+      wants = λ wanting room. shows.wants wanting;
+      starves = λ _ reads. absurd (cc (gives.going_on));
+      first = λ _ takes. absurd (cc (gives.first));
+      nothing = λ asks. absurd (cc (asks_some before.buffer call none.reading));
+      idle = shows.idle;
+      single = λ single. absurd (cc (makes_none before.buffer call none.reading none.writing));
+      in_hand = shows.in_hand;
+      needs = λ reads. absurd (cc (gives.going_on));
+      spares = shows.spares;
+      writes = shows.writes;
+      answer = λ _. shows.answer;
+      at_once = λ failed is _. shows.at_once failed is;
+      complete = λ _ calm sound. completes before.raw after.raw before.buffer before.can.writable call reply after.short shows.causes shows.shorts shows.answer calm sound;
+      told = shows.told;
+      reach = λ reads. absurd (cc (none.reading));
+      near = shows.near;
+      hides = λ _ reads. absurd (cc (none.reading));
+    }
+
+-- Writing: what a call that moves no bytes does with what is owed.
+
+-- a call that isn't one `write`
+not_one_write : (before after : Stream) (call : FileCall) (reply : FileReply) → is_writing call ≡ false → OwesNoneOfIts before call reply after
+not_one_write before after (Write bytes) reply other = absurd (cc)
+not_one_write before after call reply other = tt
+
+-- a call passes on a front of what is owed
+pub record PassesBytes (before : Stream) (call : FileCall) (reply : FileReply) (after : Stream) : Type 0 where
+  pub leaves : PassesFront before after
+  pub lays : WhereTold before.raw (LaysFront before [] after.raw.bytes)
+  pub passes : PassesOn before call reply after
+  pub full : BlocksFull call reply after
+  pub settles : NoneAtPlace before → NoneAtPlace after
+  pub unclosed : after.owed.bytes ≢ [] → after.raw.closed ≡ before.raw.closed
+  pub rests : before.life ≢ life.Live → after.raw ≡ before.raw
+
+-- a call that passes on a front of what is owed writes just so
+pub passing_writes : (before : Stream) (call : FileCall) (reply : FileReply) (after : Stream) → MovesNone call → PassesBytes before call reply after → Writes before call reply after
+passing_writes before call reply after none is = record {
+  owes = λ writing. absurd (cc (none.writing));
+  takes = λ writing. absurd (cc (none.writing));
+  leaves = λ other. is.leaves;
+  lays = λ tells. none.lays before after.raw.bytes (is.lays tells);
+  passes = is.passes;
+  full = is.full;
+  starves = λ wanting writing. absurd (cc (none.writing));
+  straight = not_one_write before after call reply none.writing;
+  settles = is.settles;
+  unclosed = is.unclosed;
+  rests = is.rests;
+}
+
+-- What is accepted.
+
+-- a call of a live stream that goes to the raw
+pub record Asked (old : Stream) (call : FileCall) : Type 0 where
+  pub sound : IsSound old
+  pub live : old.life ≡ life.Live
+  pub whole : old.short ≡ false
+  pub none : MovesNone call
+  pub passes : refused_by old call ≡ None
+  pub again : closes_again old call ≡ false
+  pub busy : calls_none old.buffer old.can.writable call ≡ false
+  pub reaches : IsTrue (reaches_raw (file_of old) call)
+
+-- a call of a live stream that goes to the raw, and that no argument refuses, where the raw tells
+pub record Accepts (old : Stream) (call : FileCall) : Type 0 where
+  pub asked : Asked old call
+  pub works : WhereTold old.raw (IsTrue (does_work (file_of old) call))
+
+-- what an answer says of a stream that reads, or that doesn't write
+pub record Beside (old : Stream) (call : FileCall) (reply : FileReply) (new : Stream) : Type 0 where
+  pub in_hand : InHand old call → AsksNothing old reply new
+  pub spares : old.can.writable ≡ false → old.owed ≡ nothing_owed old.place → SparesBytes old new
+
+-- an answer has nothing more to say of a stream that writes, where the bytes held don't answer the call
+pub beside_writing : (old : Stream) (call : FileCall) (reply : FileReply) (new : Stream) → old.can.writable ≡ true → (InHand old call → ⊥) → Beside old call reply new
+beside_writing old call reply new can apart = record { in_hand = λ has. absurd (apart has); spares = λ reads. absurd (cc (can)) }
+
+-- a call that a live stream doesn't refuse is accepted
+pub asked_unrefused : (old : Stream) (call : FileCall) → IsSound old → old.life ≡ life.Live → old.short ≡ false → MovesNone call → closes_again old call ≡ false → calls_none old.buffer old.can.writable call ≡ false → asks_end (file_of old) call ≡ false → (is_getter call || is_tell call) ≡ false → refusal (file_of old) call ≡ None → Accepts old call
+asked_unrefused old call sound live whole none again busy alone asks unrefused =
+    let work : IsTrue (does_work (file_of old) call) = works_unrefused (file_of old) call live unrefused asks in
+    record {
+      asked = record {
+        sound = sound;
+        live = live;
+        whole = whole;
+        none = none;
+        passes = refused_alone old call alone ∙ unrefused;
+        again = again;
+        busy = busy;
+        reaches = work_reaches (file_of old) call work;
+      };
+      works = λ _. work;
+    }
+
+-- a call that a life lets through isn't refused by it
+pub let_through : (old : Stream) (call : FileCall) → lets_through old.life (buffering_of old.buffer) call ≡ true → or_else (life_refusal (file_of old) call) None ≡ None
+let_through old call through = ap (λ (passes : Bool). or_else (if passes then None else life_fault old.life) None) through
+
+lives_through : (old : Stream) (call : FileCall) → old.life ≡ life.Live → or_else (life_refusal (file_of old) call) None ≡ None
+lives_through old call live = let_through old call (ap (λ (current : Life). lets_through current (buffering_of old.buffer) call) live)
+
+-- a stream with a buffer that writes may have to pass something on for a call
+pub busy_writing : (buffer : Option ℕ) (size : ℕ) (writes : Bool) (call : FileCall) → buffer ≡ Some size → writes ≡ true → calls_none (Some size) true call ≡ false → calls_none buffer writes call ≡ false
+busy_writing buffer size writes call buffered can busy = ap (λ (some : Option ℕ). calls_none some writes call) buffered ∙ ap (λ (does : Bool). calls_none (Some size) does call) can ∙ busy
+
+-- a live stream with a buffer that writes
+pub record IsWriting (old : Stream) : Type 0 where
+  pub sound : IsSound old
+  pub live : old.life ≡ life.Live
+  pub whole : old.short ≡ false
+  pub size : ℕ
+  pub buffered : old.buffer ≡ Some size
+  pub writes : old.can.writable ≡ true
+
+-- a `flush` of a live stream with a buffer that writes is accepted
+pub flush_asked : (old : Stream) → IsWriting old → Accepts old Flush
+flush_asked old is = asked_unrefused old Flush is.sound is.live is.whole flush_moves_none refl (busy_writing old.buffer is.size old.can.writable Flush is.buffered is.writes refl) refl refl (lives_through old Flush is.live)
+
+-- a `close` of a live stream is accepted, whatever it can do
+busy_closing : (buffer : Option ℕ) (writes : Bool) → calls_none buffer writes Close ≡ false
+busy_closing (Some size) writes = refl
+busy_closing None writes = refl
+
+-- a `close` of a live stream is accepted
+pub close_asked : (old : Stream) → IsSound old → old.life ≡ life.Live → old.short ≡ false → Accepts old Close
+close_asked old sound live whole = asked_unrefused old Close sound live whole close_moves_none (ap is_closed live) (busy_closing old.buffer old.can.writable) refl refl (lives_through old Close live)
+
+detach_unrefused : (old : Stream) (size : ℕ) → old.buffer ≡ Some size → old.life ≡ life.Live → refusal (file_of old) Detach ≡ None
+detach_unrefused old size buffered live = ap (λ (current : Life). refusal (file_of (record old { life = current })) Detach) live ∙ ap (λ (buffer : Option ℕ). refusal (file_of (record old { life = life.Live; buffer = buffer })) Detach) buffered
+
+-- a `detach` of a live stream with a buffer that writes is accepted
+pub detach_asked : (old : Stream) → IsWriting old → Accepts old Detach
+detach_asked old is = asked_unrefused old Detach is.sound is.live is.whole detach_moves_none refl (busy_writing old.buffer is.size old.can.writable Detach is.buffered is.writes refl) refl refl (detach_unrefused old is.size is.buffered is.live)

@@ -1,0 +1,282 @@
+-- The answers of `flush` and `close` of a stream with a buffer that writes.
+use Rattle.py_stream.specs.Keeping.{IsSound, KeepsOn}
+use Rattle.std.proofs.Common.{◌≡◌, ℕ, ◌≤◌, IsTrue, Bool, true, false, [], length, Option, Result, Ok, Err, refl, sym, ap, ◌∙◌, subst, arith, zero-le}
+use Rattle.py_flat.specs.declared.fault.IoFault.{IoFault}
+use Rattle.py_flat.specs.declared.fault.IoFault.TheVariants as fault
+use Rattle.py_flat.specs.declared.life.Life.{Life}
+use Rattle.py_flat.specs.declared.life.Life.TheVariants as life
+use Rattle.py_flat.specs.Bytes.{lay}
+use Rattle.py_flat.specs.Owed.{Owed}
+use Rattle.py_flat.specs.Limits.{greatest_place}
+use Rattle.py_flat.specs.Calls.{Flush, Close, FileReply, Done, Refused}
+use Rattle.py_flat.specs.FlatFile.{FlatFile}
+use Rattle.py_flat.specs.ExactStep.{is_closed, in_life}
+use Rattle.py_flat.specs.AllowedStep.{settled, raw_faulted}
+use Rattle.py_flat.specs.BinaryStep.{BinaryStep, SettledBy}
+use Rattle.py_raw.specs.RawStream.{WhereTold, NoWait, NoFault}
+use Rattle.py_raw.proofs.Telling.{tells_its_bytes}
+use Rattle.py_raw.proofs.ReadingOn.{Keeps-then, no_fault_then, no_wait_then}
+use Rattle.py_stream.specs.Stream.{Stream, buffering_of, file_of, nothing_owed}
+use Rattle.py_stream.specs.Kinds.{says_fault, says_no_memory}
+use Rattle.py_stream.specs.Replies.{done_reply}
+use Rattle.py_stream.specs.Writing.{NoneAtPlace, PassesFront, LaysFront, PassedOn, PassesOn, BlocksFull}
+use Rattle.py_stream.specs.Answers.{Answers, KeepsStream, HasCauses, IsCounted, IsShort, LifeMoves, PlaceMoves, IsReplyTo, SparesBytes}
+use Rattle.py_stream.specs.Taking.{Took, PassAllOutcome}
+use Rattle.py_stream.specs.Ending.{ClosingOutcome, ClosesRaw, CloseRawOutcome}
+use Rattle.py_stream.proofs.Begun.{answers_whole}
+use Rattle.py_stream.proofs.Alone.{Begins}
+use Rattle.py_stream.proofs.Stopping.{fails_there}
+use Rattle.py_stream.proofs.Taking.{answers_still}
+use Rattle.py_stream.proofs.Flat.{flat_of}
+use Rattle.py_stream.proofs.Showing.{Asked, beside_writing, shows_answers, passing_writes, IsWriting, flush_asked, close_asked}
+use Rattle.py_stream.proofs.PassingOn.{begun, PassesSome, FaultLeaves, took_passes, failing_passes, passed_all, passing_front, passing_keeps, passing_file, stays_open, failing_answers, lacks_refuse, waits_refuse, pass_all_refuses, lacking_answers, passes_itself}
+
+-- Flushing.
+
+-- a fault of the raw fails a stream that flushes
+pub fault_fails_flush : FaultLeaves Flush life.Failed
+fault_fails_flush = record { dead = refl; life_is = λ buffer current. refl; step = λ file after fails. (0, zero-le, fails) }
+
+-- a `flush` that passed all on, with the raw at the place
+flushed : (old new : Stream) → IsWriting old → PassAllOutcome old (Ok tt) new → Answers old Flush Done new
+flushed old new is passed =
+    let asked : Asked old Flush = (flush_asked old is).asked in
+    let took : Took old [] new = passed.0 in
+    let passes : PassesSome old new = took_passes old new took in
+    let same : new.life ≡ old.life = took.live ∙ sym is.live in
+    let short : new.short ≡ false = took.kept.short ∙ is.whole in
+    shows_answers old Flush Done new asked.none (record {
+      keeps = passing_keeps old new new.life new.short passes;
+      passes = asked.passes;
+      again = λ closes. absurd (cc);
+      shut = λ _ none closed. took.kept.stays ∙ stays_open old new.life is.live (ap is_closed took.live) closed;
+      causes = record { waits = λ waited. absurd (cc); faults = λ faults. absurd (cc) };
+      counted = λ exact. record { faults = λ _. took.no_fault exact; waits = λ _ _. passed.1 exact; once = λ waited. absurd (cc) };
+      shorts = short;
+      life_is = same;
+      place = passes.still;
+      far = took.kept.sound.far;
+      ends = tt;
+      wants = λ wanting. absurd (cc);
+      idle = λ idle. absurd (cc (asked.busy));
+      in_hand = λ has. absurd has.of;
+      spares = λ reads. absurd (cc (is.writes));
+      writes = λ _. passing_writes old Flush Done new asked.none (record {
+        leaves = passing_front old new new.life new.short passes;
+        lays = passes.lays;
+        passes = (record { none = passed.2; holds = passed_all old new passes passed.2 }, omega (arith, took.behind.ends, took.behind.stands, ap length passed.2));
+        full = tt;
+        settles = passes.at;
+        unclosed = λ some. took.kept.stays;
+        rests = λ dead. absurd (dead is.live);
+      });
+      at_once = λ failed is. absurd (cc);
+      answer = tt;
+      told = λ tells. settled (subst (λ (refused : Option IoFault). SettledBy (file_of old) Flush refused Done (file_of new)) (sym asked.passes) (ap (λ (file : FlatFile). (Done, file)) (passing_file old new passes same tells)));
+      near = took.kept.sound.near;
+    })
+
+flush_ends : (old new : Stream) (result : Result (Unit {0}) IoFault) → IsWriting old → PassAllOutcome old result new → Answers old Flush (done_reply result) new
+flush_ends old new (Ok done) is passed = flushed old new is passed
+flush_ends old new (Err why) is stops = pass_all_refuses old new Flush is.size why (flush_asked old is) is.buffered is.writes (λ has. has.of) fault_fails_flush stops
+
+-- a `flush` is answered by the passing on of all
+pub flush_passes_on : (old started new : Stream) (result : Result (Unit {0}) IoFault) → IsWriting (begun old) → Begins old (Ok tt) started → PassAllOutcome started result new → Answers old Flush (done_reply result) new
+flush_passes_on old started new result is begins passed =
+    answers_whole old new Flush (done_reply result) (flush_ends (begun old) new result is (subst (λ (stream : Stream). PassAllOutcome stream result new) begins.1 passed))
+
+-- Closing.
+
+-- a fault of the raw closes a stream that closes
+pub fault_closes : FaultLeaves Close life.Closed
+fault_closes = record { dead = refl; life_is = λ buffer current. refl; step = λ file after fails. fails }
+
+-- what stops the passing on refuses a `close`
+closing_refuses : (old new : Stream) (why : IoFault) → IsWriting old → ClosingOutcome old (Err why) new → Answers old Close (Refused why) new
+closing_refuses old new (fault.WouldBlock taken) is waits = waits_refuse old new Close is.size taken (close_asked old is.sound is.live is.whole) is.buffered is.writes (λ has. has.of) waits
+closing_refuses old new fault.RawFault is fails =
+    subst (λ (after : Stream). Answers old Close (Refused fault.RawFault) after) (sym fails.4)
+    (failing_answers old fails.0 Close life.Closed (close_asked old is.sound is.live is.whole).asked (beside_writing old Close (Refused fault.RawFault) (record fails.0 { life = life.Closed }) is.writes (λ has. has.of)) fault_closes (failing_passes old fails.0 fails.1) fails.1.cause fails.2 (λ none. absurd (omega (arith, fails.3, ap length none))))
+closing_refuses old new fault.NoMemory is lacks = lacks_refuse old new Close (close_asked old is.sound is.live is.whole).asked is.writes (λ has. has.of) lacks.0 lacks.1
+closing_refuses old new why is never = absurd never
+
+-- a live stream that is to be closed, once all was passed on, or nothing was owed
+record ReadyToClose (old mid : Stream) : Type 0 where
+  pub asked : Asked old Close
+  pub passes : PassesSome old mid
+  pub none : mid.owed.bytes ≡ []
+  pub live : mid.life ≡ life.Live
+  pub no_fault : NoFault old.raw mid.raw
+  pub no_wait : NoWait old.raw mid.raw
+  pub spares : old.can.writable ≡ false → SparesBytes old mid
+
+-- a stream whose raw was closed once nothing was owed
+record ShutsDown (old new : Stream) : Type 0 where
+  pub keeps : KeepsStream old new
+  pub closed : new.raw.closed ≡ true
+  pub no_wait : NoWait old.raw new.raw
+  pub life_is : new.life ≡ life.Closed
+  pub none : new.owed.bytes ≡ []
+  pub at : NoneAtPlace old → new.owed.place ≡ new.place
+  pub place : new.place ≡ old.place
+  pub far : new.place ≤ greatest_place
+  pub short : new.short ≡ false
+  pub leaves : PassesFront old new
+  pub lays : WhereTold old.raw (LaysFront old [] new.raw.bytes)
+  pub holds : WhereTold old.raw (new.raw.bytes ≡ flat_of old)
+  pub spares : old.can.writable ≡ false → SparesBytes old new
+
+shuts_down : (old mid new : Stream) → ReadyToClose old mid → ClosesRaw mid new → ShutsDown old new
+shuts_down old mid new ready closes =
+    let passes : PassesSome old mid = ready.passes in
+    let kept : KeepsOn old mid = passes.kept in
+    let bytes : WhereTold old.raw (new.raw.bytes ≡ mid.raw.bytes) = λ tells. closes.bytes (kept.raw.tells_bytes ∙ tells_its_bytes old.raw tells) in
+    record {
+      keeps = record {
+        buffer = closes.buffer ∙ kept.buffer;
+        can = closes.can ∙ kept.can;
+        raw = Keeps-then old.raw mid.raw new.raw kept.raw closes.raw;
+        bare = λ bare _. closes.owed ∙ kept.sound.bare (kept.buffer ∙ bare) ∙ ap nothing_owed (sym closes.place);
+      };
+      closed = closes.closed;
+      no_wait = no_wait_then old.raw mid.raw new.raw kept.raw ready.no_wait closes.no_wait;
+      life_is = closes.life_is;
+      none = ap (λ (owed : Owed). owed.bytes) closes.owed ∙ ready.none;
+      at = λ held. ap (λ (owed : Owed). owed.place) closes.owed ∙ passes.at held ready.none ∙ sym closes.place;
+      place = closes.place ∙ passes.still;
+      far = closes.far;
+      short = closes.short ∙ kept.short ∙ ready.asked.whole;
+      leaves = record {
+        passed = passes.passed;
+        most = passes.within;
+        answered = answers_still old.raw mid.raw new.raw passes.passed kept.raw passes.answered closes.answered;
+        bytes = ap (λ (owed : Owed). owed.bytes) closes.owed ∙ passes.owed;
+        place = λ some. ap (λ (owed : Owed). owed.place) closes.owed ∙ passes.place;
+      };
+      lays = λ tells. subst (LaysFront old []) (sym (bytes tells)) (passes.lays tells);
+      holds = λ tells. bytes tells ∙ passed_all old mid passes ready.none tells;
+      spares = λ reads. let spared : SparesBytes old mid = ready.spares reads in record {
+        bytes = λ tells. closes.bytes (kept.raw.tells_bytes ∙ tells) ∙ spared.bytes tells;
+        written = answers_still old.raw mid.raw new.raw 0 kept.raw spared.written closes.answered;
+        owed = closes.owed ∙ spared.owed ∙ ap nothing_owed (sym closes.place);
+      };
+    }
+
+-- the flat bytes of a stream that was shut down
+shut_bytes : (old new : Stream) → ShutsDown old new → WhereTold old.raw (flat_of new ≡ flat_of old)
+shut_bytes old new shuts tells = ap (lay new.raw.bytes new.owed.place) shuts.none ∙ shuts.holds tells
+
+closed_file : (old new : Stream) → ShutsDown old new → WhereTold old.raw (file_of new ≡ in_life (file_of old) life.Closed)
+closed_file old new shuts tells =
+    let bytes : flat_of new ≡ flat_of old = shut_bytes old new shuts tells in
+    let place : new.place ≡ old.place = shuts.place in
+    let can : new.can ≡ old.can = shuts.keeps.can in
+    let buffering : buffering_of new.buffer ≡ buffering_of old.buffer = ap buffering_of shuts.keeps.buffer in
+    let dead : new.life ≡ life.Closed = shuts.life_is in
+    cc
+
+-- what the closing of the raw answers: the raw closed, or failed
+record ClosesWith (old new : Stream) (reply : FileReply) : Type 0 where
+  pub causes : HasCauses old.raw reply new.raw new.short
+  pub counted : IsTrue old.raw.counts_exactly → IsCounted old.buffer old.raw Close reply new.raw new.short
+  pub told : WhereTold old.raw (BinaryStep (file_of old) Close reply new.short (says_fault reply) (file_of new))
+
+-- a reply of a `close` that shut the stream down
+pub record IsShutting (reply : FileReply) : Type 0 where
+  pub shorts : (short : Bool) → short ≡ false → IsShort Close reply short
+  pub life_is : (buffer : Option ℕ) (current : Life) → LifeMoves buffer Close reply current life.Closed
+  pub place : (buffer : Option ℕ) (current : Life) (place : ℕ) → PlaceMoves buffer Close reply current place place
+  pub no_want : says_no_memory reply ≡ false
+  pub passes : (before after : Stream) → PassedOn before after → PassesOn before Close reply after
+  pub full : (after : Stream) → BlocksFull Close reply after
+  pub answer : (buffer : Option ℕ) (writes : Bool) → IsReplyTo buffer writes Close reply
+
+done_shuts : IsShutting Done
+done_shuts = record { shorts = λ short whole. whole; life_is = λ buffer current. refl; place = λ buffer current place. refl; no_want = refl; passes = λ before after passed _. passed; full = λ after. tt; answer = λ buffer writes. tt }
+
+fault_shuts : IsShutting (Refused fault.RawFault)
+fault_shuts = record { shorts = λ short whole. whole; life_is = λ buffer current. refl; place = λ buffer current place. fails_there buffer Close current place; no_want = refl; passes = λ before after passed. tt; full = λ after. tt; answer = λ buffer writes. tt }
+
+shut_answers : (old new : Stream) (reply : FileReply) → Asked old Close → IsShutting reply → ShutsDown old new → ClosesWith old new reply → Answers old Close reply new
+shut_answers old new reply asked shutting shuts closes =
+    shows_answers old Close reply new asked.none (record {
+      keeps = shuts.keeps;
+      passes = asked.passes;
+      again = λ closes. absurd (cc (asked.again));
+      shut = λ _ none shut. shuts.closed ∙ sym (ap is_closed shuts.life_is);
+      causes = closes.causes;
+      counted = closes.counted;
+      shorts = shutting.shorts new.short shuts.short;
+      life_is = subst (LifeMoves old.buffer Close reply old.life) (sym shuts.life_is) (shutting.life_is old.buffer old.life);
+      place = subst (PlaceMoves old.buffer Close reply new.life old.place) (sym shuts.place) (shutting.place old.buffer new.life old.place);
+      far = shuts.far;
+      ends = tt;
+      wants = λ wanting. absurd (cc (shutting.no_want));
+      idle = λ idle. absurd (cc (asked.busy));
+      in_hand = λ has. absurd has.of;
+      spares = λ reads _. shuts.spares reads;
+      writes = λ _. passing_writes old Close reply new asked.none (record {
+        leaves = shuts.leaves;
+        lays = shuts.lays;
+        passes = shutting.passes old new (record { none = shuts.none; holds = shuts.holds });
+        full = shutting.full new;
+        settles = λ held _. shuts.at held;
+        unclosed = λ some. absurd (some shuts.none);
+        rests = λ dead. absurd (dead asked.live);
+      });
+      at_once = λ failed is. absurd (cc);
+      answer = shutting.answer old.buffer old.can.writable;
+      told = closes.told;
+      near = λ lives. absurd (let dead : life.Closed ≡ life.Live = sym shuts.life_is ∙ lives in cc);
+    })
+
+closes_raw : (old mid new : Stream) (result : Result (Unit {0}) IoFault) → ReadyToClose old mid → CloseRawOutcome mid result new → Answers old Close (done_reply result) new
+closes_raw old mid new (Ok done) ready closes =
+    let asked : Asked old Close = ready.asked in
+    let shuts : ShutsDown old new = shuts_down old mid new ready closes.0 in
+    shut_answers old new Done asked done_shuts shuts (record {
+      causes = record { waits = λ waited. absurd (cc (shuts.short)); faults = λ faults. absurd (cc) };
+      counted = λ exact. record { faults = λ _. no_fault_then old.raw mid.raw new.raw ready.passes.kept.raw ready.no_fault closes.1 exact; waits = λ _ _. shuts.no_wait exact; once = λ waited. absurd (cc (shuts.short)) };
+      told = λ tells. settled (subst (λ (refused : Option IoFault). SettledBy (file_of old) Close refused Done (file_of new)) (sym asked.passes) (ap (λ (file : FlatFile). (Done, file)) (closed_file old new shuts tells)));
+    })
+closes_raw old mid new (Err fault.RawFault) ready closes =
+    let asked : Asked old Close = ready.asked in
+    let shuts : ShutsDown old new = shuts_down old mid new ready closes.0 in
+    shut_answers old new (Refused fault.RawFault) asked fault_shuts shuts (record {
+      causes = record { waits = λ waited. absurd (cc (shuts.short)); faults = λ _. omega (arith, ready.passes.kept.raw.faults, closes.1) };
+      counted = λ exact. record { faults = λ sound. absurd (cc); waits = λ _ _. shuts.no_wait exact; once = λ waited. absurd (cc (shuts.short)) };
+      told = λ tells. raw_faulted refl refl (asked.reaches, record { life_is = shuts.life_is; bytes_are = shut_bytes old new shuts tells; can = shuts.keeps.can; buffering = ap buffering_of shuts.keeps.buffer });
+    })
+closes_raw old mid new (Err fault.NoMemory) ready wants =
+    subst (λ (after : Stream). Answers old Close (Refused fault.NoMemory) after) (sym wants.1)
+    (lacking_answers old mid Close ready.asked (record { in_hand = λ has. absurd has.of; spares = λ reads _. ready.spares reads }) (sym ready.passes.kept.raw.takes_memory ∙ wants.0) ready.passes ready.live ready.no_fault ready.no_wait)
+closes_raw old mid new (Err why) ready never = absurd never
+
+-- As the steps of `close` come.
+
+-- a `close` is answered by what stops the passing on
+pub close_stops : (old started new : Stream) (why : IoFault) → IsWriting (begun old) → Begins old (Ok tt) started → ClosingOutcome started (Err why) new → Answers old Close (Refused why) new
+close_stops old started new why is begins stops = answers_whole old new Close (Refused why) (closing_refuses (begun old) new why is (subst (λ (stream : Stream). ClosingOutcome stream (Err why) new) begins.1 stops))
+
+ready_writing : (old mid : Stream) → IsWriting old → PassAllOutcome old (Ok tt) mid → ReadyToClose old mid
+ready_writing old mid is passed = record { asked = (close_asked old is.sound is.live is.whole).asked; passes = took_passes old mid passed.0; none = passed.2; live = passed.0.live; no_fault = passed.0.no_fault; no_wait = passed.1; spares = λ reads. absurd (cc (is.writes)) }
+
+-- a `close` is answered by the closing of the raw, once all was passed on
+pub close_answers : (old started mid new : Stream) (result : Result (Unit {0}) IoFault) → IsWriting (begun old) → Begins old (Ok tt) started → ClosingOutcome started (Ok tt) mid → CloseRawOutcome mid result new → Answers old Close (done_reply result) new
+close_answers old started mid new result is begins passed closes = answers_whole old new Close (done_reply result) (closes_raw (begun old) mid new result (ready_writing (begun old) mid is (subst (λ (stream : Stream). PassAllOutcome stream (Ok tt) mid) begins.1 passed)) closes)
+
+ready_at_once : (old : Stream) → IsSound old → old.life ≡ life.Live → old.short ≡ false → old.owed ≡ nothing_owed old.place → ReadyToClose old old
+ready_at_once old sound live whole none = record {
+  asked = (close_asked old sound live whole).asked;
+  passes = passes_itself old sound;
+  none = ap (λ (owed : Owed). owed.bytes) none;
+  live = live;
+  no_fault = λ _. refl;
+  no_wait = λ _. refl;
+  spares = λ reads. record { bytes = λ tells. refl; written = λ tells. refl; owed = none };
+}
+
+-- a `close` of a stream that owes nothing is answered by the closing of the raw
+pub close_answers_at_once : (old started new : Stream) (result : Result (Unit {0}) IoFault) → IsSound (begun old) → old.owed ≡ nothing_owed old.place → Begins old (Ok tt) started → CloseRawOutcome started result new → Answers old Close (done_reply result) new
+close_answers_at_once old started new result sound none begins closes =
+    answers_whole old new Close (done_reply result) (closes_raw (begun old) (begun old) new result (ready_at_once (begun old) sound begins.0 refl none) (subst (λ (stream : Stream). CloseRawOutcome stream result new) begins.1 closes))

@@ -1,0 +1,198 @@
+-- What a reading by at most one transfer answers.
+use Rattle.std.proofs.Common.{◌≡◌, ◌≢◌, ℕ, suc, zero, ◌+◌, ◌<◌, ◌≤◌, Bool, true, false, ◌||◌, not, IsTrue, List, [], length, take, max, Option, Some, None, IsSome, unwrap_or, if◌then◌else◌, refl, sym, ap, ◌∙◌, subst, arith}
+use Rattle.std.proofs.lemmas.Bool.{ne_eqb}
+use Rattle.std.proofs.lemmas.List.{length-append, length-take, length-drop}
+use Rattle.py_flat.specs.declared.fault.IoFault.{IoFault}
+use Rattle.py_flat.specs.declared.fault.IoFault.TheVariants as fault
+use Rattle.py_flat.specs.declared.life.Life.{Life}
+use Rattle.py_flat.specs.declared.life.Life.TheVariants as life
+use Rattle.py_flat.specs.Bytes.{left_at, first_or_all}
+use Rattle.py_flat.specs.Causes.{Rose}
+use Rattle.py_flat.specs.Calls.{FileCall, Read, Read1, Peek, ReadInto, ReadInto1, Bytes, NotReady, Refused}
+use Rattle.py_flat.specs.FlatFile.{FlatFile}
+use Rattle.py_flat.specs.Refusals.{lacks}
+use Rattle.py_flat.specs.ExactStep.{is_closed, rest, after_read}
+use Rattle.py_flat.specs.AllowedStep.{settled}
+use Rattle.py_flat.specs.BinaryStep.{IsFrontOf, Transfers, Accepted, SettledBy}
+use Rattle.py_raw.specs.RawStream.{WhereTold, WaitsOnce, LeavesCounts}
+use Rattle.py_stream.specs.Stream.{Stream, size_of, buffering_of, file_of}
+use Rattle.py_stream.specs.Kinds.{is_reading, reads_on, is_single, goes_on, has_room, asks_none}
+use Rattle.py_stream.specs.Answers.{Answers, IsReplyTo, IsShort, LifeMoves, PlaceMoves, GivesWithin, InHandOf, ahead}
+use Rattle.py_stream.specs.Reading.{KeepsReading, OneTransfer, Gives, FailsReading}
+use Rattle.py_stream.proofs.ReadingCalls.{by_several}
+use Rattle.py_stream.proofs.ReadingSteps.{file_after}
+use Rattle.py_stream.proofs.ReadingAnswers.{accepted, Reads, answers_coming}
+use Rattle.py_stream.proofs.ReadingStops.{answers_unready, answers_faulted, answers_wanting, unmoved}
+
+-- The calls.
+
+-- readings by at most one transfer: without a buffer those of a size
+abbrev pub reads_once : Option ℕ → FileCall → Bool
+reads_once (Some size) call = is_single call
+reads_once None (Read (Some size)) = true
+reads_once None (ReadInto size) = true
+reads_once None call = false
+
+-- how many bytes a call asks for, over a buffer of a size
+abbrev pub asks_for : ℕ → FileCall → ℕ
+asks_for size (Read bytes) = unwrap_or bytes size
+asks_for size (ReadInto bytes) = bytes
+asks_for size (Read1 bytes) = unwrap_or bytes size
+asks_for size (ReadInto1 bytes) = bytes
+asks_for size call = size
+
+-- how far n bytes that a call gives move the place
+abbrev pub moves_by : FileCall → ℕ → ℕ
+moves_by Peek count = 0
+moves_by call count = count
+
+-- n bytes that a call gives move the place by n at most
+pub moves_within : (call : FileCall) (count : ℕ) → moves_by call count ≤ count
+moves_within Peek count = omega arith
+moves_within call count = omega arith
+
+-- what a reading by one transfer is, and what its bytes say
+pub record IsSingleCall (buffer : Option ℕ) (call : FileCall) : Type 0 where
+  pub reads : is_reading call ≡ true
+  pub stops : by_several buffer call ≡ false
+  pub stays : goes_on buffer call ≡ false
+  pub suits : (file : FlatFile) → file.can.readable ≡ true → lacks (record file { buffering = buffering_of buffer }) call ≡ false
+  pub some : asks_for (unwrap_or buffer 0) call ≢ 0 → asks_none buffer call ≡ false
+  pub ahead_is : (before : Stream) → IsSome buffer → InHandOf before call → 0 < ahead before
+  pub short : (part : List ℕ) → IsShort call (Bytes part) false
+  pub lives : (part : List ℕ) (before after : Life) → after ≡ before → LifeMoves buffer call (Bytes part) before after
+  pub moves : (part : List ℕ) (current : Life) (before after : ℕ) → after ≡ before + moves_by call (length part) → PlaceMoves buffer call (Bytes part) current before after
+  pub within : (part : List ℕ) → length part ≤ asks_for (unwrap_or buffer 0) call → GivesWithin (unwrap_or buffer 0) call (Bytes part)
+  pub answers : (writes : Bool) (part : List ℕ) → IsReplyTo buffer writes call (Bytes part)
+
+-- a readable stream with a buffer lacks nothing
+readable_lacks : (readable : Bool) → readable ≡ true → (not readable || false) ≡ false
+readable_lacks readable reads = ap (λ (can : Bool). not can || false) reads
+
+-- what holds of every reading by one transfer holds of each
+pub single_call : (buffer : Option ℕ) (call : FileCall) → reads_once buffer call ≡ true → IsSingleCall buffer call
+single_call (Some size) (Read1 None) once = record { reads = refl; stops = refl; stays = refl; suits = λ file reads. readable_lacks file.can.readable reads; some = λ some. refl; ahead_is = λ before buffered has. has; short = λ part. refl; lives = λ part before after same. same; moves = λ part current before after is. is; within = λ part most. most; answers = λ writes part. tt }
+single_call (Some size) (Read1 (Some zero)) once = record { reads = refl; stops = refl; stays = refl; suits = λ file reads. readable_lacks file.can.readable reads; some = λ some. absurd (some refl); ahead_is = λ before buffered has. has; short = λ part. refl; lives = λ part before after same. same; moves = λ part current before after is. is; within = λ part most. most; answers = λ writes part. tt }
+single_call (Some size) (Read1 (Some (suc bytes))) once = record { reads = refl; stops = refl; stays = refl; suits = λ file reads. readable_lacks file.can.readable reads; some = λ some. refl; ahead_is = λ before buffered has. has; short = λ part. refl; lives = λ part before after same. same; moves = λ part current before after is. is; within = λ part most. most; answers = λ writes part. tt }
+single_call (Some size) (ReadInto1 zero) once = record { reads = refl; stops = refl; stays = refl; suits = λ file reads. readable_lacks file.can.readable reads; some = λ some. absurd (some refl); ahead_is = λ before buffered has. has; short = λ part. refl; lives = λ part before after same. same; moves = λ part current before after is. is; within = λ part most. most; answers = λ writes part. tt }
+single_call (Some size) (ReadInto1 (suc bytes)) once = record { reads = refl; stops = refl; stays = refl; suits = λ file reads. readable_lacks file.can.readable reads; some = λ some. refl; ahead_is = λ before buffered has. has; short = λ part. refl; lives = λ part before after same. same; moves = λ part current before after is. is; within = λ part most. most; answers = λ writes part. tt }
+single_call (Some size) Peek once = record { reads = refl; stops = refl; stays = refl; suits = λ file reads. readable_lacks file.can.readable reads; some = λ some. refl; ahead_is = λ before buffered has. has; short = λ part. refl; lives = λ part before after same. same; moves = λ part current before after is. omega (arith, is); within = λ part most. most; answers = λ writes part. tt }
+single_call None (Read (Some bytes)) once = record { reads = refl; stops = refl; stays = refl; suits = λ file reads. ap not reads; some = λ some. refl; ahead_is = λ before buffered has. absurd (cc); short = λ part short. absurd (cc); lives = λ part before after same. same; moves = λ part current before after is. is; within = λ part most. most; answers = λ writes part. tt }
+single_call None (ReadInto bytes) once = record { reads = refl; stops = refl; stays = refl; suits = λ file reads. ap not reads; some = λ some. refl; ahead_is = λ before buffered has. absurd (cc); short = λ part short. absurd (cc); lives = λ part before after same. same; moves = λ part current before after is. is; within = λ part most. most; answers = λ writes part. tt }
+single_call buffer call once = absurd (cc)
+
+-- What is given.
+
+-- a front of what is asked, and nothing only where nothing is asked or left
+pub record IsPartOf (part wanted : List ℕ) : Type 0 where
+  pub front : IsFrontOf part wanted
+  pub some : part ≡ [] → wanted ≡ []
+
+-- what a buffer that has a size is filled from
+buffer_of : (size : ℕ) (bytes : List ℕ) → 0 < size → take size bytes ≡ first_or_all size bytes
+buffer_of size bytes some = ap (λ (none : Bool). if none then bytes else take size bytes) (sym (ne_eqb size 0 (λ none. omega arith)))
+
+-- the flat file gives a first part by one transfer
+once_carried : (buffer : Option ℕ) (file : FlatFile) (call : FileCall) (part : List ℕ) (after : FlatFile) → reads_once buffer call ≡ true → ((size : ℕ) → buffer ≡ Some size → 0 < size) → IsPartOf part (take (asks_for (unwrap_or buffer 0) call) (rest file)) → after ≡ after_read (record file { buffering = buffering_of buffer }) (moves_by call (length part)) → Accepted (record file { buffering = buffering_of buffer }) call (Bytes part) after
+once_carried (Some size) file (Read1 None) part after once some is leaves =
+    let of : FlatFile = record file { buffering = buffering_of (Some size) } in
+    subst (λ (wanted : List ℕ). Transfers of (Read1 None) wanted (Bytes part) after) (buffer_of size (rest file) (some size refl)) (record { part = part; front = is.front; some = is.some; outcome = ap (λ (left : FlatFile). (Bytes part, left)) leaves })
+once_carried (Some size) file (Read1 (Some bytes)) part after once some is leaves = record { part = part; front = is.front; some = is.some; outcome = ap (λ (left : FlatFile). (Bytes part, left)) leaves }
+once_carried (Some size) file (ReadInto1 bytes) part after once some is leaves = record { part = part; front = is.front; some = is.some; outcome = ap (λ (left : FlatFile). (Bytes part, left)) leaves }
+once_carried (Some size) file Peek part after once some is leaves =
+    let of : FlatFile = record file { buffering = buffering_of (Some size) } in
+    let stays : after_read of 0 ≡ of = ap (λ (at : ℕ). let left : FlatFile = record of { place = at } in left) (let same : file.place + 0 ≡ file.place = omega arith in same) in
+    subst (λ (wanted : List ℕ). Transfers of Peek wanted (Bytes part) after) (buffer_of size (rest file) (some size refl)) (record { part = part; front = is.front; some = is.some; outcome = ap (λ (left : FlatFile). (Bytes part, left)) (leaves ∙ stays) })
+once_carried None file (Read (Some bytes)) part after once some is leaves = record { part = part; front = is.front; some = is.some; outcome = ap (λ (left : FlatFile). (Bytes part, left)) leaves }
+once_carried None file (ReadInto bytes) part after once some is leaves = record { part = part; front = is.front; some = is.some; outcome = ap (λ (left : FlatFile). (Bytes part, left)) leaves }
+once_carried buffer file call part after once some is leaves = absurd (cc)
+
+-- some first part of what is asked was given: nothing only where nothing is asked or left
+pub record GivesOnce (before : Stream) (call : FileCall) (part : List ℕ) (after : Stream) : Type 0 where
+  pub kept : KeepsReading before after
+  pub counts : LeavesCounts before.raw after.raw
+  pub sized : (size : ℕ) → before.buffer ≡ Some size → 0 < size
+  pub idle : IsTrue (asks_none before.buffer call) → after.raw ≡ before.raw
+  pub still : IsSome before.buffer → 0 < ahead before → after.raw ≡ before.raw
+  pub live : after.life ≡ life.Live
+  pub place : after.place ≡ before.place + moves_by call (length part)
+  pub most : length part ≤ asks_for (size_of before) call
+  pub one : OneTransfer before after
+  pub is : WhereTold before.raw (IsPartOf part (take (asks_for (size_of before) call) (rest (file_of before))))
+
+-- a front of what is left moves the place no further than the end
+front_reaches : (wanted part bytes : List ℕ) (before after : ℕ) → length wanted ≤ length (left_at bytes before) → IsFrontOf part wanted → after ≤ before + length part → after ≤ max before (length bytes)
+front_reaches wanted part bytes before after left front moved =
+    omega (arith, moved, left, length-drop before bytes, ap length front.1, length-append part front.0)
+
+-- a reading by one transfer that gave bytes
+pub answers_once : (before mid : Stream) (call : FileCall) (part : List ℕ) → reads_once before.buffer call ≡ true → Reads before → GivesOnce before call part mid → Answers before call (Bytes part) (record mid { short = false })
+answers_once before mid call part once begun gives =
+    let file : FlatFile = file_of before in
+    let is : IsSingleCall before.buffer call = single_call before.buffer call once in
+    let has : lacks file call ≡ false = is.suits file begun.readable in
+    let same : mid.life ≡ before.life = gives.live ∙ sym begun.live in
+    let asked : ℕ = asks_for (size_of before) call in
+    answers_coming before mid call (Bytes part) false is.reads has begun (record {
+      kept = gives.kept;
+      is_open = ap is_closed gives.live;
+      causes = record { waits = λ short. absurd (cc); faults = λ faulted. absurd (cc) };
+      counted = λ exact. record { faults = λ sound. gives.counts.no_fault exact; waits = λ whole writes. gives.counts.no_wait exact; once = λ short. absurd (cc) };
+      shorts = is.short part;
+      life_is = is.lives part before.life mid.life same;
+      place = is.moves part mid.life before.place mid.place gives.place;
+      within = is.within part gives.most;
+      wants = λ wanting room. absurd (cc);
+      starves = λ wanting goes. absurd (cc);
+      first = λ wanting takes none. absurd (cc);
+      sound = λ _. refl;
+      nothing = gives.idle;
+      one = λ _. gives.one;
+      ready = λ _ _. refl;
+      in_hand = λ buffered in_hand. gives.still buffered (is.ahead_is before buffered in_hand);
+      needs = λ several. absurd (let never = is.stops in cc);
+      answers = is.answers before.can.writable part;
+      told = λ tells. settled (subst (λ (refused : Option IoFault). SettledBy file call refused (Bytes part) (file_of mid)) (sym (accepted before call is.reads has begun.live))
+          (once_carried before.buffer file call part (file_of mid) once gives.sized (gives.is tells) (file_after before mid (moves_by call (length part)) begun.bare gives.kept same gives.place tells)));
+      reach = λ tells. front_reaches (take asked (rest file)) part file.bytes before.place mid.place (omega (arith, length-take asked (rest file))) (gives.is tells).front (omega (arith, gives.place, moves_within call (length part)));
+      hides = λ short. absurd (cc);
+    })
+
+-- Where the raw stopped a reading.
+
+-- a reading that the raw made wait: its place stays
+pub unready_once : (before mid : Stream) (call : FileCall) → reads_once before.buffer call ≡ true → asks_none before.buffer call ≡ false → Reads before → Gives before [] mid → Rose before.raw.waits mid.raw.waits → mid.raw_place ≡ mid.place → WaitsOnce before.raw mid.raw → OneTransfer before mid → (IsSome before.buffer → 0 < ahead before → ⊥) → Answers before call NotReady (record mid { short = true })
+unready_once before mid call once asks begun given waits hides alone one none =
+    let is : IsSingleCall before.buffer call = single_call before.buffer call once in
+    answers_unready before mid call is.reads (is.suits (file_of before) begun.readable) begun given waits hides alone (record {
+      nothing = λ nothing. absurd (cc);
+      one = λ _. one;
+      in_hand = λ buffered has. absurd (none buffered (is.ahead_is before buffered has));
+      each = λ several. absurd (let never = is.stops in cc);
+    })
+
+-- a reading whose transfer failed
+pub faulted_once : (before after : Stream) (call : FileCall) → reads_once before.buffer call ≡ true → asks_none before.buffer call ≡ false → Reads before → FailsReading before after → after.place ≡ before.place → OneTransfer before after → (IsSome before.buffer → 0 < ahead before → ⊥) → Answers before call (Refused fault.RawFault) after
+faulted_once before after call once asks begun fails stays one none =
+    let is : IsSingleCall before.buffer call = single_call before.buffer call once in
+    answers_faulted before after call is.reads (is.suits (file_of before) begun.readable) begun fails (λ bound most. omega (arith, stays)) (λ _. stays) asks (λ _. one) (λ buffered has. none buffered (is.ahead_is before buffered has))
+
+-- a reading that wanted memory before anything moved
+pub unmoved_once : (before : Stream) (call : FileCall) → reads_once before.buffer call ≡ true → Reads before → IsTrue before.raw.takes_memory → Answers before call (Refused fault.NoMemory) before
+unmoved_once before call once begun takes =
+    let is : IsSingleCall before.buffer call = single_call before.buffer call once in
+    unmoved before call is.reads (is.suits (file_of before) begun.readable) begun (λ room. takes)
+
+-- a reading that wanted memory of its own once its transfer was made
+pub wanting_once : (before after : Stream) (call : FileCall) → reads_once before.buffer call ≡ true → asks_none before.buffer call ≡ false → Reads before → KeepsReading before after → LeavesCounts before.raw after.raw → after.life ≡ life.Live → after.place ≡ before.place → has_room call ≡ false → reads_on call ≡ false → OneTransfer before after → (IsSome before.buffer → 0 < ahead before → after.raw ≡ before.raw) → Answers before call (Refused fault.NoMemory) after
+wanting_once before after call once asks begun kept counts live place room ends one still =
+    let is : IsSingleCall before.buffer call = single_call before.buffer call once in
+    answers_wanting before after call is.reads (is.suits (file_of before) begun.readable) begun (record {
+      kept = kept;
+      counts = counts;
+      live = live;
+      place = place;
+      room = λ has. absurd (cc);
+      unmoved = λ on. absurd (cc);
+      asks = record { nothing = λ nothing. absurd (cc); one = λ _. one; in_hand = λ buffered has. still buffered (is.ahead_is before buffered has); each = λ several. absurd (let never = is.stops in cc) };
+    })

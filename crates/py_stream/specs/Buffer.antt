@@ -1,0 +1,259 @@
+-- The one contract of buffered streams for the layer above them: what such a stream shows, over a raw stream or in memory, and what a
+-- call of it may answer and leave.
+use Rattle.std.specs.Prelude.{◌≡◌, ℕ, ◌≤◌, ℤ, pos, suc, zero, Bool, true, false, ◌&&◌, IsTrue, List, [], length, take, max, Option, Some, None, if◌then◌else◌}
+use Rattle.py_flat.specs.declared.fault.IoFault.{IoFault}
+use Rattle.py_flat.specs.declared.fault.IoFault.TheVariants as fault
+use Rattle.py_flat.specs.declared.life.Life.{Life}
+use Rattle.py_flat.specs.declared.life.Life.TheVariants as life
+use Rattle.py_flat.specs.Limits.{greatest_place}
+use Rattle.py_flat.specs.Bytes.{left_at, lay}
+use Rattle.py_flat.specs.Owed.{Owed}
+use Rattle.py_flat.specs.Causes.{Rose, rose, counted}
+use Rattle.py_flat.specs.FlatFile.{Abilities, Buffering, Buffered, FlatFile}
+use Rattle.py_flat.specs.Calls.{FileCall, Read1, Write, Seek, Flush, Close, FileReply, Bytes, Place, Done, Refused}
+use Rattle.py_flat.specs.Refusals.{refusal, life_refusal, lacks, or_else, refused_if, moved_by, target_refusal}
+use Rattle.py_flat.specs.ExactStep.{is_closed}
+use Rattle.py_flat.specs.BinaryStep.{asks_end, payload, BinaryStep}
+use Rattle.py_raw.specs.RawStream.{tells}
+use Rattle.py_stream.specs.Stream.{Stream, buffering_of, nothing_owed}
+use Rattle.py_stream.specs.Kinds.{is_reading, has_room, outlasts, says_fault, says_no_memory}
+use Rattle.py_stream.specs.Writing.{OwesUpTo, OwesRest, first_place}
+use Rattle.py_stream.specs.Answers.{IsAnswerTo, IsReplyTo, IsShort, LifeMoves, PlaceMoves, Within}
+
+-- What a buffered stream shows: whether it tells its content; told, the raw's bytes; where the raw stands, as the stream counts; its
+-- own place; what it can do; its life; how large its buffer is, of 0 bytes in memory; whether a wait cut the last answer short; what
+-- it owes its raw; its raw's counts of faults and of waits, and whether these are exact; whether it takes memory; and whether bytes
+-- of it are lent out, so that its length has to stay. In memory its raw's bytes and place are its own, and it owes nothing
+pub record Buffer : Type 0 where
+  pub tells : Bool
+  pub raw_bytes : List ℕ
+  pub raw_place : ℕ
+  pub place : ℕ
+  pub can : Abilities
+  pub life : Life
+  pub buffering : Buffering
+  pub short : Bool
+  pub owed : Owed
+  pub faults : ℕ
+  pub waits : ℕ
+  pub counts_exactly : Bool
+  pub takes_memory : Bool
+  pub exported : Bool
+
+-- what a stream over a raw one shows as a buffered stream
+abbrev pub buffer_of : Stream → Buffer
+buffer_of stream = record {
+  tells = tells stream.raw;
+  raw_bytes = stream.raw.bytes;
+  raw_place = stream.raw_place;
+  place = stream.place;
+  can = stream.can;
+  life = stream.life;
+  buffering = buffering_of stream.buffer;
+  short = stream.short;
+  owed = stream.owed;
+  faults = stream.raw.faults;
+  waits = stream.raw.waits;
+  counts_exactly = stream.raw.counts_exactly;
+  takes_memory = stream.raw.takes_memory;
+  exported = false;
+}
+
+-- where a buffered stream tells its content
+abbrev pub WhereShown : Buffer → Type 0 → Type 0
+WhereShown buffer Fact = IsTrue buffer.tells → Fact
+
+-- the flat file that a buffered stream stands for: the raw's bytes, with the owed ones laid at their place
+abbrev pub flat_of : Buffer → FlatFile
+flat_of buffer = record {
+  bytes = lay buffer.raw_bytes buffer.owed.place buffer.owed.bytes;
+  place = buffer.place;
+  can = buffer.can;
+  buffering = buffer.buffering;
+  life = buffer.life;
+}
+
+-- the size that a buffered stream shows to its own calls
+abbrev pub size_shown : Buffering → Option ℕ
+size_shown (Buffered size) = Some size
+size_shown other = Some 0
+
+-- What refuses a call.
+
+-- calls that may change how many bytes there are, or let go of them
+abbrev pub changes_length : FileCall → Bool
+changes_length (Write bytes) = true
+changes_length Close = true
+changes_length call = false
+
+-- while bytes are lent out a call that changes their number is refused, after what the stream's life and its abilities refuse
+abbrev pub refusal_lent : FlatFile → FileCall → Option IoFault
+refusal_lent file call = or_else (life_refusal file call) (or_else (refused_if (lacks file call) fault.Unsupported) (Some fault.BufferError))
+
+-- a close of a closed stream is done again, and a seek from the end has to ask for it first
+abbrev pub refused_here : Buffer → FileCall → Option IoFault
+refused_here buffer call = if asks_end (flat_of buffer) call then None else (if buffer.exported && changes_length call then refusal_lent (flat_of buffer) call else refusal (flat_of buffer) call)
+
+-- What every call keeps.
+
+-- what every call keeps of a buffered stream: what it tells, can do and lends out, and how it is buffered; its counts never fall
+pub record KeepsBuffer (before after : Buffer) : Type 0 where
+  pub tells : after.tells ≡ before.tells
+  pub can : after.can ≡ before.can
+  pub buffering : after.buffering ≡ before.buffering
+  pub counts_exactly : after.counts_exactly ≡ before.counts_exactly
+  pub takes_memory : after.takes_memory ≡ before.takes_memory
+  pub exported : after.exported ≡ before.exported
+  pub faults : before.faults ≤ after.faults
+  pub waits : before.waits ≤ after.waits
+
+-- the call leaves all as it was, with this answer
+pub record LeavesBuffer (before : Buffer) (expected reply : FileReply) (after : Buffer) : Type 0 where
+  pub says : reply ≡ expected
+  pub same : after ≡ record before { short = false }
+
+-- whether a call closes a buffered stream that is closed
+abbrev pub closes_twice : Buffer → FileCall → Bool
+closes_twice buffer Close = is_closed buffer.life
+closes_twice buffer call = false
+
+-- Causes.
+
+-- a short answer comes only where the waits rose in this call, RawFault only where the faults did
+pub record BufferHasCauses (before : Buffer) (reply : FileReply) (after : Buffer) : Type 0 where
+  pub waits : IsTrue after.short → Rose before.waits after.waits
+  pub faults : IsTrue (says_fault reply) → Rose before.faults after.faults
+
+-- where the counts are exact: each fault is answered, and each wait ends the call, but of a write, which may have room for what is left
+pub record BufferIsCounted (before : Buffer) (call : FileCall) (reply : FileReply) (after : Buffer) : Type 0 where
+  pub faults : says_fault reply ≡ false → after.faults ≡ before.faults
+  pub waits : after.short ≡ false → outlasts (size_shown before.buffering) call ≡ false → after.waits ≡ before.waits
+  pub once : IsTrue after.short → outlasts (size_shown before.buffering) call ≡ false → after.waits ≡ counted before.waits 1
+
+-- Life and place.
+
+-- what a `read1` asks for: its size; without one as much as the buffer holds, and in memory all
+abbrev pub asks_for : Buffering → FileCall → Option ℕ
+asks_for (Buffered size) (Read1 None) = Some size
+asks_for buffering (Read1 size) = size
+asks_for buffering call = None
+
+-- no more is given than is asked for
+abbrev pub GivesAsked : Buffering → FileCall → FileReply → Type 0
+GivesAsked buffering (Read1 size) (Bytes part) = Within (asks_for buffering (Read1 size)) part
+GivesAsked buffering call reply = Unit {0}
+
+-- life and place of a buffered stream after a call, and that no more is given than was asked for
+pub record BufferMoves (before : Buffer) (call : FileCall) (reply : FileReply) (after : Buffer) : Type 0 where
+  pub life_is : LifeMoves (size_shown before.buffering) call reply before.life after.life
+  pub place : PlaceMoves (size_shown before.buffering) call reply after.life before.place after.place
+  pub far : after.place ≤ greatest_place
+  pub within : GivesAsked before.buffering call reply
+
+-- a refusal after the end was asked leaves the place, the life and what is owed
+pub record RefusesTarget (before : Buffer) (why : IoFault) (reply : FileReply) (after : Buffer) : Type 0 where
+  pub says : reply ≡ Refused why
+  pub place : after.place ≡ before.place
+  pub life_is : after.life ≡ before.life
+  pub owed : after.owed ≡ before.owed
+  pub whole : after.short ≡ false
+
+-- a seek whose end was answered goes to its target, or is refused
+abbrev pub GoesFromEnd : Buffer → Option ℕ → Option IoFault → FileReply → Buffer → Type 0
+GoesFromEnd before (Some target) None reply after = reply ≡ Place target
+GoesFromEnd before target (Some why) reply after = RefusesTarget before why reply after
+GoesFromEnd before None None reply after = ⊥
+
+-- an accepted seek from the end goes by some end that was answered; told, that of the flat bytes
+pub record BufferSeeksFromEnd (before : Buffer) (offset : ℤ) (reply : FileReply) (after : Buffer) : Type 0 where
+  pub end : ℕ
+  pub within : end ≤ greatest_place
+  pub told : WhereShown before (end ≡ length (flat_of before).bytes)
+  pub target : GoesFromEnd before (moved_by end offset) (target_refusal (moved_by end offset)) reply after
+
+-- a seek from the end goes by the end that was answered, unless asking for the end failed
+abbrev pub BufferEndMoves : Buffer → ℤ → FileReply → Buffer → Type 0
+BufferEndMoves before offset (Refused fault.RawFault) after = Unit {0}
+BufferEndMoves before offset (Refused fault.NoMemory) after = Unit {0}
+BufferEndMoves before offset (Refused (fault.WouldBlock taken)) after = Unit {0}
+BufferEndMoves before offset reply after = BufferSeeksFromEnd before offset reply after
+
+-- an accepted seek from the end goes by the end; of other calls nothing
+abbrev pub BufferSeeksByEnd : Buffer → FileCall → FileReply → Buffer → Type 0
+BufferSeeksByEnd before (Seek offset (pos (suc (suc zero)))) reply after = asks_end (flat_of before) (Seek offset (pos 2)) ≡ true → BufferEndMoves before offset reply after
+BufferSeeksByEnd before call reply after = Unit {0}
+
+-- What is owed.
+
+-- after a write before which nothing was owed, or what was owed ended at the place, that is so again: what is owed ends where the bytes
+-- end that were taken; every other call leaves the rest of what was owed, where that stood
+abbrev pub BufferOwes : Buffer → FileCall → Buffer → Type 0
+BufferOwes before (Write bytes) after = OwesUpTo before.owed before.place → OwesUpTo after.owed after.place
+BufferOwes before call after = OwesRest before.owed after.owed
+
+-- a done flush or close of a live stream leaves nothing owed, and told, the raw with the flat bytes
+pub record BufferPassedOn (before after : Buffer) : Type 0 where
+  pub none : after.owed.bytes ≡ []
+  pub holds : WhereShown before (after.raw_bytes ≡ (flat_of before).bytes)
+
+-- a flush that was done, and a close of a live stream, passed all on that was owed
+abbrev pub BufferPasses : Buffer → FileCall → FileReply → Buffer → Type 0
+BufferPasses before Flush Done after = BufferPassedOn before after
+BufferPasses before Close Done after = before.life ≡ life.Live → BufferPassedOn before after
+BufferPasses before call reply after = Unit {0}
+
+-- told, the raw's bytes are those before the call, with a front laid on of what was owed and what the call gives, in their order in
+-- the flat file
+pub record BufferLays (before : Buffer) (own after : List ℕ) : Type 0 where
+  pub count : ℕ
+  pub bytes : after ≡ lay before.raw_bytes (first_place before.owed before.place) (take count (left_at (lay (flat_of before).bytes before.place own) (first_place before.owed before.place)))
+
+-- a stream that doesn't write owes nothing
+abbrev pub OwesAsItCan : Buffer → Type 0
+OwesAsItCan buffer = buffer.can.writable ≡ false → buffer.owed ≡ nothing_owed buffer.place
+
+-- the calls that the layer above makes, besides asking for the end and getters
+abbrev pub is_made : FileCall → Bool
+is_made (Read1 size) = true
+is_made (Write bytes) = true
+is_made (Seek offset whence) = true
+is_made Flush = true
+is_made Close = true
+is_made call = false
+
+-- One call of a buffered stream.
+pub record AnswersAsBuffer (before : Buffer) (call : FileCall) (reply : FileReply) (after : Buffer) : Type 0 where
+  -- what the stream can do, how it is buffered and whether bytes are lent out stays; its counts never fall
+  pub keeps : KeepsBuffer before after
+  -- what is refused leaves all as it was
+  pub refused : (why : IoFault) → refused_here before call ≡ Some why → LeavesBuffer before (Refused why) reply after
+  -- a close of a closed stream is done, and leaves all as it was
+  pub again : closes_twice before call ≡ true → LeavesBuffer before Done reply after
+  -- the causes of short answers and of RawFault
+  pub causes : BufferHasCauses before reply after
+  -- no fault and no wait goes unanswered where the counts are exact
+  pub counted : IsTrue before.counts_exactly → BufferIsCounted before call reply after
+  -- which answers are short: those that say so
+  pub shorts : IsShort call reply after.short
+  -- life and place after the call
+  pub moves : BufferMoves before call reply after
+  -- a seek from the end goes by some end that was answered
+  pub ends : BufferSeeksByEnd before call reply after
+  -- a call that has its room lacks memory only where the stream takes some
+  pub wants : IsTrue (says_no_memory reply) → IsTrue (has_room call) → IsTrue before.takes_memory
+  -- which replies an accepted call may have
+  pub answer : refused_here before call ≡ None → IsReplyTo (size_shown before.buffering) before.can.writable call reply
+  -- where no count rose, an accepted call is answered in full, or lacks memory
+  pub complete : refused_here before call ≡ None → rose before.waits after.waits ≡ false → rose before.faults after.faults ≡ false → IsAnswerTo call reply × (after.short ≡ false)
+  -- told, the call is the step of the model from flat file to flat file
+  pub told : WhereShown before (BinaryStep (flat_of before) call reply after.short (says_fault reply) (flat_of after))
+  -- no reading moves the place past the end of the flat bytes
+  pub reach : IsTrue (is_reading call) → WhereShown before (after.place ≤ max before.place (length (flat_of before).bytes))
+  -- a wait hides nothing: the raw then stands at the place
+  pub hides : IsTrue after.short → IsTrue (is_reading call) → after.owed.bytes ≡ [] → after.raw_place ≡ after.place
+  -- what is owed after a call
+  pub owes : BufferOwes before call after
+  -- what the raw's bytes are after a call
+  pub lays : WhereShown before (BufferLays before (payload call) after.raw_bytes)
+  -- what a call passes on
+  pub passes : BufferPasses before call reply after

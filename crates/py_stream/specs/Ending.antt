@@ -1,0 +1,49 @@
+-- The steps of closing a stream, and of handing its raw back.
+use Rattle.std.specs.Prelude.{◌≡◌, ◌<◌, ◌≤◌, false, true, IsTrue, [], length, Result, Ok, Err}
+use Rattle.py_flat.specs.declared.fault.IoFault.{IoFault}
+use Rattle.py_flat.specs.declared.fault.IoFault.TheVariants as fault
+use Rattle.py_flat.specs.declared.life.Life.{Life}
+use Rattle.py_flat.specs.declared.life.Life.TheVariants as life
+use Rattle.py_flat.specs.Limits.{greatest_place}
+use Rattle.py_flat.specs.Causes.{Rose}
+use Rattle.py_raw.specs.RawStream.{Keeps, KeepsBytes, NoFault, NoWait, AnswersFor}
+use Rattle.py_stream.specs.Stream.{Stream}
+use Rattle.py_stream.specs.Taking.{FailsTaking, PassAllOutcome}
+
+-- all that is owed is passed on for a closing: a fault leaves the stream closed, and its raw open
+abbrev pub ClosingOutcome : Stream → Result (Unit {0}) IoFault → Stream → Type 0
+ClosingOutcome old (Err fault.RawFault) new = (failed : Stream) × FailsTaking old [] failed × NoWait old.raw failed.raw × (0 < length failed.owed.bytes) × (new ≡ record failed { life = life.Closed })
+ClosingOutcome old result new = PassAllOutcome old result new
+
+-- the raw was closed, and the stream with it
+pub record ClosesRaw (old new : Stream) : Type 0 where
+  pub raw : Keeps old.raw new.raw
+  pub closed : new.raw.closed ≡ true
+  pub no_wait : NoWait old.raw new.raw
+  pub answered : AnswersFor 0 old.raw new.raw
+  pub bytes : KeepsBytes old.raw new.raw
+  pub life_is : new.life ≡ life.Closed
+  pub buffer : new.buffer ≡ old.buffer
+  pub can : new.can ≡ old.can
+  pub short : new.short ≡ old.short
+  pub place : new.place ≡ old.place
+  pub owed : new.owed ≡ old.owed
+  pub far : new.place ≤ greatest_place
+
+-- the raw of a live stream is closed: it did, or failed, which closes the stream too; or it wanted memory
+abbrev pub CloseRawOutcome : Stream → Result (Unit {0}) IoFault → Stream → Type 0
+CloseRawOutcome old (Ok done) new = ClosesRaw old new × NoFault old.raw new.raw
+CloseRawOutcome old (Err fault.RawFault) new = ClosesRaw old new × Rose old.raw.faults new.raw.faults
+CloseRawOutcome old (Err fault.NoMemory) new = IsTrue old.raw.takes_memory × (new ≡ old)
+CloseRawOutcome old (Err other) new = ⊥
+
+-- a detaching begins where the raw may be handed back: of a live stream once nothing is owed, and of a failed one
+abbrev pub BeginDetachIn : Life → Stream → Result (Unit {0}) IoFault → Stream → Type 0
+BeginDetachIn life.Live old result new = PassAllOutcome old result new
+BeginDetachIn life.Failed old result new = (result ≡ Ok tt) × (new ≡ old)
+BeginDetachIn life.Closed old result new = (result ≡ Err fault.Closed) × (new ≡ old)
+BeginDetachIn life.Detached old result new = ⊥
+
+-- a detaching begins: no answer is short yet
+abbrev pub BeginDetach : Stream → Result (Unit {0}) IoFault → Stream → Type 0
+BeginDetach old result new = BeginDetachIn old.life (record old { short = false }) result new

@@ -1,0 +1,42 @@
+//! What a stream is opened for.
+ghost use Rattle.std.specs.Prelude.{◌≡◌};
+ghost use Rattle.py_stream.specs.Access.{is_able, is_read, is_appended};
+
+use py_raw::RawStream;
+
+/// What a stream is opened for: to be read, or written.
+#[derive(Clone, Copy, Debug, PartialEq, Eq)]
+pub enum Access {
+    /// The stream is read, from where its raw stands.
+    Read,
+    /// The stream is written, from where its raw stands.
+    Write,
+    /// The stream is written from the end on, and never moved.
+    Append,
+}
+
+impl Access {
+    /// Whether the stream is read.
+    pub fn reads(self) -> bool
+        ensures { result ≡ is_read self }
+    {
+        matches!(self, Access::Read)
+    }
+
+    /// Whether the stream is written from the end on, and never moved.
+    pub fn appends(self) -> bool
+        ensures { result ≡ is_appended self }
+    {
+        matches!(self, Access::Append)
+    }
+
+    /// Whether a raw is able to do what the stream is opened for.
+    pub fn suits<R: RawStream>(self, raw: &R) -> bool
+        ensures { result ≡ is_able self (R.shows raw.now) }
+    {
+        match self {
+            Access::Read => raw.readable(),
+            Access::Write | Access::Append => raw.writable(),
+        }
+    }
+}
