@@ -264,7 +264,7 @@ fn runs_are_given_to_a_handler_of_ones_own(rt: HostRuntime) -> Result<(), Fail> 
     encodes_to(&rt, alloc, byte, text, Ok((b"a\x80b", 4)));
     // within the run: what is left of it is a run of its own
     encodes_to(&rt, alloc, GivesForOne, text, Ok((b"a<><>b", 4)));
-    // and an answer to that which doesn't lie past its start gains nothing
+    // for what is left of a run, an answer that doesn't lie past the start of that is refused
     encodes_to(&rt, alloc, gives("<>", 2), text, Err(IoFault::BadRestart));
     // at its start, and past the end of the argument, whatever is given
     encodes_to(&rt, alloc, gives("<>", 1), text, Err(IoFault::BadRestart));

@@ -20,11 +20,11 @@ has_own_room call room = room
 pub with_reply_room : (old : Stream) (call : FileCall) (reply : FileReply) (new : Stream) → Answers old call reply new → AnswersWith has_reply_room old call reply new
 with_reply_room old call reply new answers = answers_with has_room has_reply_room old new call reply (has_own_room call) answers
 
--- the same of a reply that says it
+-- a call is answered, with room for the reply only, by any reply that says the same
 pub with_said : (old : Stream) (call : FileCall) (reply said : FileReply) (new : Stream) → said ≡ reply → Answers old call reply new → AnswersWith has_reply_room old call said new
 with_said old call reply said new is a = subst (λ (r : FileReply). AnswersWith has_reply_room old call r new) (sym is) (with_reply_room old call reply new a)
 
--- the same of a reading into a buffer of n bytes
+-- a reading into a buffer of n bytes is answered, with room for the reply only, by a reply that has the buffer's bytes
 pub into_answers : (old : Stream) (call : ℕ → FileCall) (size len : ℕ) (items before buffer : List ℕ) (answer : Result (Option ℕ) IoFault) (said : FileReply) (new : Stream) → length before ≡ len → len ≡ size → length buffer ≡ length before → said ≡ into_reply answer (take len (buffer ++ drop (length buffer) items)) → Answers old (call (length before)) (into_reply answer buffer) new → AnswersWith has_reply_room old (call size) said new
 into_answers old call size len items before buffer answer said new long sized kept is a =
     let all : length buffer ≡ len = kept ∙ long in

@@ -2,10 +2,9 @@
 ghost use Rattle.std.specs.Prelude.{◌≡◌, false};
 ghost use Rattle.py_binary.specs.Kinds.{shown, IsServed};
 
+use py_buffered::{BufferedReader, BufferedWriter};
 use py_raw::{Life, RawStream};
-use py_reader::BufferedReader;
 use py_unbuffered::UnbufferedStream;
-use py_writer::BufferedWriter;
 
 /// The stream of a session, by what it was opened for.
 #[derive(Debug, Drop)]

@@ -12,4 +12,4 @@ mod unbuffered_calls;
 mod writer_calls;
 
 pub use binary_session::BinarySession;
-pub use py_unbuffered::Access;
+pub use py_stream::Access;

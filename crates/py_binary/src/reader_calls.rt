@@ -8,9 +8,9 @@ ghost use Rattle.py_binary.specs.Binary.{has_reply_room};
 ghost use Rattle.py_binary.specs.Kinds.{IsReader};
 
 use crate::replies::{bytes_reply, done_reply, into_reply, lines_reply, place_reply};
+use py_buffered::BufferedReader;
 use py_calls::{Call, Reply};
 use py_raw::{Data, IoFault, Life, RawStream};
-use py_reader::BufferedReader;
 use std::alloc::Global;
 
 /// Makes a call that is no question and no `Detach`.

@@ -8,9 +8,9 @@ ghost use Rattle.py_binary.specs.Binary.{has_reply_room};
 ghost use Rattle.py_binary.specs.Kinds.{IsWriter};
 
 use crate::replies::{count_reply, done_reply, place_reply};
+use py_buffered::BufferedWriter;
 use py_calls::{Call, Reply};
 use py_raw::{IoFault, RawStream};
-use py_writer::BufferedWriter;
 
 /// Makes a call that is no question and no `Detach`.
 pub(crate) fn answer_writer<R: RawStream>(writer: &mut BufferedWriter<R>, call: &Call) -> Reply

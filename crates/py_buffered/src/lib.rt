@@ -1,6 +1,12 @@
-//! Buffered streams over raw ones, under one name: the reader, the writer, and what they share.
+//! Buffered streams over raw ones: one buffer, filled in one piece and given out bit by bit, or filled bit by bit and passed on.
 #![tactic(auto)]
 
-pub use py_reader::{BufferedLines, BufferedReader};
+mod buffered;
+mod buffered_reader;
+mod buffered_writer;
+mod lines;
+
+pub use buffered_reader::BufferedReader;
+pub use buffered_writer::BufferedWriter;
+pub use lines::BufferedLines;
 pub use py_stream::{Detached, NewRefused, Whence, a_seek_to_the_told_place_keeps_all};
-pub use py_writer::BufferedWriter;

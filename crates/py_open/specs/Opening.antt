@@ -4,9 +4,9 @@ use Rattle.py_flat.specs.declared.fault.IoFault.{IoFault}
 use Rattle.py_raw.specs.RawStream.{Raw}
 use Rattle.py_stream.specs.declared.new_refused.NewRefused.{NewRefused}
 use Rattle.py_stream.specs.Opening.{Opens, RefusesRaw}
-use Rattle.py_unbuffered.specs.declared.access.Access.{Access}
-use Rattle.py_unbuffered.specs.declared.access.Access.TheVariants as access
-use Rattle.py_unbuffered.specs.Unbuffered.{can_of, is_able}
+use Rattle.py_stream.specs.declared.access.Access.{Access}
+use Rattle.py_stream.specs.declared.access.Access.TheVariants as access
+use Rattle.py_stream.specs.Access.{can_of, is_able}
 use Rattle.py_mode.specs.declared.mode.FileMode.{FileMode}
 use Rattle.py_mode.specs.declared.mode.FileMode.TheVariants.{Read, Write, Exclusive, Append}
 use Rattle.py_mode.specs.declared.mode.EncodeMode.{EncodeMode}

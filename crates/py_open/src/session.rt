@@ -1,7 +1,7 @@
 //! Sessions: what a plan opens over a raw stream, and on which calls are made.
 ghost use Rattle.std.specs.Prelude.{◌≡◌};
 ghost use Rattle.py_stream.specs.Opening.{StandsAtStart, first_refusal};
-ghost use Rattle.py_unbuffered.specs.Unbuffered.{is_able};
+ghost use Rattle.py_stream.specs.Access.{is_able};
 ghost use Rattle.py_open.specs.Session.{Answers, life_of, short_of, raw_of, owed_of};
 ghost use Rattle.py_open.specs.Kinds.{IsPlanned};
 ghost use Rattle.py_open.specs.Opening.{SessionOutcome, access_of, place_handed};

@@ -120,7 +120,7 @@ step_enough old new asked count characters told is gave =
     let after : file_of new ≡ after_whole (file_of old) asked (take count old.pending) = gave_file old new count (asks_any (size_of asked)) characters gave ∙ sym (taking_whole old asked count (take count old.pending) (enough_sized asked old.pending count is) size) in
     settled (ap (λ (cs : List ℕ). (Text cs, file_of new)) gave.0 ∙ ap (λ (file : TextFile). (Text (take count old.pending), file)) after ∙ sym (exact_enough old asked count told ready))
 
--- The same by what becomes of the place.
+-- What becomes of the place.
 
 takes : (old new : TextView) (count : ℕ) (asks : Bool) (characters : List ℕ) → old.reader.life ≡ life.Live → count ≤ length old.pending → GiveOutcome old count asks (Ok characters) new → Takes old (length characters) asks new
 takes old new count asks characters live within gave =

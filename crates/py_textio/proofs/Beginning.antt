@@ -34,7 +34,7 @@ opened_new raw size stream opens = record {
 accepts_tell : (reader : Stream) → reader.life ≡ life.Live → reader.can.seekable ≡ true → refused_by reader Tell ≡ None
 accepts_tell reader live can = rw live (rw can refl)
 
--- so the asking is never refused
+-- a new seekable reader always tells its place
 pub tells_place : (old new : Stream) (result : Result ℕ IoFault) → IsNew old → old.can.seekable ≡ true → Answers old Tell (place_reply result) new → IsOk result
 tells_place old new (Ok place) is can answers = refl
 tells_place old new (Err (fault.WouldBlock taken)) is can answers = absurd (answers.answer (accepts_tell old is.live can))
@@ -45,7 +45,7 @@ tell_calls_none : (buffer : Option ℕ) (writes : Bool) → calls_none buffer wr
 tell_calls_none None writes = refl
 tell_calls_none (Some size) writes = refl
 
--- and answers the place, with all but what is owed as it was
+-- a `tell` of a new reader answers its place, and changes nothing of it but what it owes
 pub counts_told : (old new : Stream) (place : ℕ) → IsNew old → Answers old Tell (Place place) new → CountsPlace old place new
 counts_told old new place is answers = record {
   is = answers.moves.place.0;

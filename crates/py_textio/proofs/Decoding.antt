@@ -58,7 +58,7 @@ walk_character last place (byte ∷ rest) c (suc n) is =
     ∙ ap (λ (k : ℕ). onto_walk place (Given (c ∷ []) (suc n)) (walk_from Utf8 (treatment Strict Utf8) last Unknown (place + 1) k rest)) behind
     ∙ ap (onto_walk place (Given (c ∷ []) (suc n))) (walk-skip Utf8 (treatment Strict Utf8) last Unknown (place + 1) n rest ∙ ap (λ (p : ℕ). walk_by last p (drop n rest)) far)
 
--- or ends with the refused range that they begin with
+-- bytes that begin with a refused range, or are cut within a character, end a last walk at that range, with no characters
 pub walk_refused : (place : ℕ) (bytes : List ℕ) (n : ℕ) → utf8_unit bytes ≡ Some (Malformed n) → walk_at place bytes ≡ record { items = []; ending = AtRange place (place + n) }
 walk_refused place [] n is = absurd (cc)
 walk_refused place (byte ∷ rest) n is = ap (begun true place byte rest) is
@@ -99,7 +99,7 @@ walk_spelled last place c rest scalar =
     walk_character last place (encode_utf8 c ++ rest) c (len (encode_utf8 c)) (one_unit c rest scalar)
     ∙ ap (λ (bytes : List ℕ). onto_walk place (Given (c ∷ []) (len (encode_utf8 c))) (walk_by last (place + len (encode_utf8 c)) bytes)) (drop-append_seam (encode_utf8 c) rest)
 
--- the same of many
+-- a walk over the bytes of many characters gives these, then what comes after them
 pub walk_spelling : (last : Bool) (cs : List ℕ) (place : ℕ) (rest : List ℕ) → All IsScalar cs → Precedes cs (walk_by last place (encode_utf8_all cs ++ rest)) (walk_by last (place + len (encode_utf8_all cs)) rest)
 walk_spelling last [] place rest scalars = subst (λ (p : ℕ). Precedes [] (walk_by last place rest) (walk_by last p rest)) (omega arith) (record { characters_are = refl; refusal_is = refl })
 walk_spelling last (c ∷ cs) place rest scalars =

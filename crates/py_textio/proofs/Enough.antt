@@ -46,7 +46,7 @@ whole_at : (here behind : Bool) (c : ℕ) (cs line : List ℕ) → ((here || fal
 whole_at true behind c cs line none same = absurd (cc)
 whole_at false behind c cs line none same = ap (λ (t : List ℕ). c ∷ t) (same none)
 
--- and is all of its own line
+-- a list in which no line ends is all of its own line
 line_whole : (after_cr : Bool) (xs : List ℕ) → has_end_after Lf after_cr xs ≡ false → line_after Lf after_cr xs ≡ xs
 line_whole after_cr [] none = refl
 line_whole after_cr (c ∷ cs) none = whole_at (nat_eq c lf) (has_end_after Lf (nat_eq c cr) cs) c cs (line_after Lf (nat_eq c cr) cs) none (line_whole (nat_eq c cr) cs)

@@ -35,7 +35,7 @@ refuses_reading reader size life.Failed why is refuses = rw is refuses
 refuses_reading reader size life.Closed why is refuses = rw is refuses
 refuses_reading reader size life.Detached why is refuses = rw is refuses
 
--- and of one that is, nothing refuses a reading
+-- a live stream that can be read, with a buffer, refuses no `read1`
 pub accepts_reading : (reader : Stream) (size : Option ℕ) → reader.life ≡ life.Live → reader.can.readable ≡ true → ((holds : ℕ) × (reader.buffer ≡ Some holds)) → refused_by reader (Read1 size) ≡ None
 accepts_reading reader size live reads (holds, buffered) = rw live (rw reads (rw buffered refl))
 
@@ -85,7 +85,7 @@ counted_by result place = place
 none_owed : (reader : Stream) → reader.owed ≡ nothing_owed reader.place → reader.owed.bytes ≡ []
 none_owed reader none = ap (λ (owed : Owed). owed.bytes) none
 
--- so the flat bytes are the raw's
+-- where no byte is owed, the flat bytes are the raw's
 flat_bytes : (reader : Stream) → reader.owed.bytes ≡ [] → reader.raw.bytes ≡ (file_of reader).bytes
 flat_bytes reader none = sym (ap (λ (owed : List ℕ). lay reader.raw.bytes reader.owed.place owed) none)
 
@@ -203,7 +203,7 @@ reads_still old new place size result is answers = reads_still_in old new place 
 
 -- Closing.
 
--- nor does it a closing
+-- running out of memory never fails a closing
 closing_lives : (buffer : Option ℕ) (before after : Life) → StarvesTo (goes_on buffer Close) before after → after ≡ before
 closing_lives None before after starves = starves
 closing_lives (Some holds) before after starves = starves

@@ -17,7 +17,7 @@ use Rattle.py_textio.proofs.Decoding.{walk_at, Precedes, walk_spelling}
 
 -- What is known.
 
--- the same bytes and the same place
+-- what is known of a place in some bytes is known where the bytes and the place are the same
 pub known_at : (old new : List ℕ) (before after at taken : ℕ) (held pending : List ℕ) → new ≡ old → after ≡ before → KnowsTold old before at taken held pending → KnowsTold new after at taken held pending
 known_at old new before after at taken held pending bytes place told =
     subst (λ (p : ℕ). KnowsTold new p at taken held pending) (sym place) (subst (λ (all : List ℕ). KnowsTold all before at taken held pending) (sym bytes) told)

@@ -3,9 +3,9 @@ ghost use Rattle.std.specs.Prelude.{◌≡◌};
 ghost use Rattle.py_stream.specs.Opening.{StandsAtStart};
 ghost use Rattle.py_textio.specs.Reader.{IsNew, CountsPlace, OpenOutcome, KeepsReader, MovesForth, ChunkReadOutcome, CloseOutcome};
 
+use py_buffered::BufferedReader;
 use py_flat::{IoFault, Life};
 use py_raw::RawStream;
-use py_reader::BufferedReader;
 use py_stream::{Detached, NewRefused};
 use std::alloc::Global;
 use std::marker::Model;

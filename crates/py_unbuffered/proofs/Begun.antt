@@ -1,13 +1,12 @@
 -- The engine with which a call begins, and what a stream without a buffer refuses by itself.
-use Rattle.std.proofs.Common.{◌≡◌, true, false, Some, Err, Ok, refl, sym, ap, subst, arith, ℕ, None, IsSome, Option, Result}
-use Rattle.std.proofs.Math.Bool.{and-false}
+use Rattle.std.proofs.Common.{◌≡◌, true, false, Some, Err, Ok, refl, sym, ap, subst, arith, add-zero, ◌∙◌, ℕ, None, IsSome, Option, Result}
 use Rattle.py_flat.specs.declared.fault.IoFault.{IoFault}
 use Rattle.py_flat.specs.declared.fault.IoFault.TheVariants as fault
 use Rattle.py_flat.specs.declared.life.Life.{Life}
 use Rattle.py_flat.specs.declared.life.Life.TheVariants as life
 use Rattle.py_flat.specs.Calls.{FileCall, Close, FileReply, Refused}
 use Rattle.py_flat.specs.FlatFile.{Unbuffered}
-use Rattle.py_flat.specs.Refusals.{refusal, is_getter, is_other_getter, is_close, is_detach, lets_through, life_fault, lacks}
+use Rattle.py_flat.specs.Refusals.{refusal, is_getter, is_other_getter, is_close, lets_through, life_fault, lacks}
 use Rattle.py_flat.specs.BinaryStep.{asks_end}
 use Rattle.py_stream.specs.Stream.{Stream, file_of}
 use Rattle.py_stream.specs.Answers.{Answers, IsNear, closes_again}
@@ -15,7 +14,10 @@ use Rattle.py_stream.proofs.Begun.{answers_whole}
 use Rattle.py_stream.proofs.Refused.{is_own}
 use Rattle.py_stream.proofs.Alone.{detaches, Begins, begins_in_vain as stream_begins_in_vain}
 use Rattle.py_stream.proofs.Refusing.{IsPlaced, refused_with as stream_refuses, refused_by_life as life_refuses, refused_by_ability as ability_refuses}
-use Rattle.py_unbuffered.specs.Engine.{EngineView, stream_of, IsEngine, BeginOutcome}
+use Rattle.py_stream.specs.Keeping.{IsSound, KeepsOn, OwesBehind}
+use Rattle.py_stream.specs.declared.access.Access.{Access}
+use Rattle.py_stream.specs.Access.{can_of}
+use Rattle.py_unbuffered.specs.Engine.{EngineView, stream_of, IsEngine, KeepsEngine, BeginOutcome}
 
 -- what holds of every engine
 abbrev pub Stands : EngineView → Type 0
@@ -29,15 +31,34 @@ is_near engine stands live = record { after_first = omega arith; before_end = om
 pub is_placed : (engine : EngineView) → Stands engine → IsPlaced (stream_of engine)
 is_placed engine stands = record { far = stands.far; near = is_near engine stands }
 
+-- what holds of every engine holds of its stream
+pub is_sound : (engine : EngineView) → Stands engine → IsSound (stream_of engine)
+is_sound engine stands = record { far = stands.far; near = is_near engine stands; is_open = stands.is_open; bare = λ _. refl }
+
+-- the stream of an engine owes nothing, at its place
+pub owes_behind : (engine : EngineView) → OwesBehind (stream_of engine)
+owes_behind engine = record { ends = add-zero engine.place; stands = refl }
+
+-- what every step keeps of an engine it keeps of its stream
+pub keeps_on : (old new : EngineView) → KeepsEngine old new → KeepsOn (stream_of old) (stream_of new)
+keeps_on old new kept = record {
+  raw = kept.raw;
+  stays = kept.stays;
+  buffer = refl;
+  can = ap (λ (opened : Access). can_of opened new.raw.seekable) kept.access ∙ ap (can_of old.access) kept.raw.seekable;
+  short = kept.short;
+  sound = is_sound new kept.is;
+}
+
 -- the engine with which a call begins
 abbrev pub begun : EngineView → EngineView
 begun engine = record engine { short = false }
 
--- a call of it is one of the engine that it was
+-- a call of an engine that has begun the call is one of the engine that it was
 pub answers_begun : (first : EngineView) (call : FileCall) (reply : FileReply) (after : Stream) → Answers (stream_of (begun first)) call reply after → Answers (stream_of first) call reply after
 answers_begun first call reply after answers = answers_whole (stream_of first) after call reply answers
 
--- the same, for an engine that is known to be the begun one
+-- a call of an engine that is known to be the begun one is one of the engine that it was
 pub answers_from : (first now : EngineView) (call : FileCall) (reply : FileReply) (after : Stream) → now ≡ begun first → Answers (stream_of now) call reply after → Answers (stream_of first) call reply after
 answers_from first now call reply after is answers = answers_begun first call reply after (subst (λ (engine : EngineView). Answers (stream_of engine) call reply after) is answers)
 
@@ -54,11 +75,11 @@ pub begins : (old new : EngineView) (result : Result (Unit {0}) IoFault) → Beg
 begins old new (Ok done) began = (began.0, ap stream_of began.1)
 begins old new (Err why) began = (began.0, ap stream_of began.1)
 
--- and each but a close and a detaching that `begin` refuses
+-- each call but a close and a detaching that `begin` refuses is answered by the refusal
 pub begins_in_vain : (old new : EngineView) (call : FileCall) (why : IoFault) → Stands old → is_getter call ≡ false → is_other_getter call ≡ false → is_close call ≡ false → detaches Unbuffered call ≡ false → BeginOutcome old (Err why) new → Answers (stream_of old) call (Refused why) (stream_of new)
 begins_in_vain old new call why stands works own closes detaches began = stream_begins_in_vain (stream_of old) (stream_of new) call why (is_placed old stands) works own closes detaches (begins old new (Err why) began)
 
--- one that refuses anything, but of a closed stream, lets no close through either
+-- a life that refuses anything, but of a closed stream, lets no close through either
 unclosed_by_life : (current : Life) (why : IoFault) → (current ≡ life.Closed → ⊥) → life_fault current ≡ Some why → lets_through current Unbuffered Close ≡ false
 unclosed_by_life life.Live why unclosed by = absurd (cc)
 unclosed_by_life life.Failed why unclosed by = refl
@@ -73,7 +94,7 @@ closes_in_vain old new why stands unclosed began = refused_by_life old new Close
 pub refused_by_ability : (old new : EngineView) (call : FileCall) → Stands old → is_getter call ≡ false → is_other_getter call ≡ false → old.life ≡ life.Live → lacks (file_of (stream_of old)) call ≡ true → new ≡ begun old → Answers (stream_of old) call (Refused fault.Unsupported) (stream_of new)
 refused_by_ability old new call stands works own live wants same = ability_refuses (stream_of old) (stream_of new) call (is_placed old stands) works own live wants (ap stream_of same)
 
--- it has no buffer
+-- a stream without a buffer has none
 pub bufferless : (buffer : Option ℕ) → buffer ≡ None → IsSome buffer → ⊥
 bufferless (Some size) none some = cc
 bufferless None none some = cc
@@ -84,5 +105,6 @@ pub record Begun (engine : EngineView) : Type 0 where
   pub whole : engine.short ≡ false
   pub stands : Stands engine
 
+-- what is known of an engine with which a call begins holds where its life lets the call through
 pub begun_live : (first now : EngineView) → Stands first → BeginOutcome first (Ok tt) now → Begun now
 begun_live first now stands began = subst Begun (sym began.1) (record { live = began.0; whole = refl; stands = stands })

@@ -1,9 +1,7 @@
 pub mod Begun
 pub mod Steps
+pub mod ReadingSteps
 pub mod Reading
-pub mod Failing
-pub mod Once
-pub mod Several
 pub mod Gathering
 pub mod Putting
 pub mod Refused

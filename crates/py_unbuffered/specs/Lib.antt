@@ -1,2 +1,1 @@
-pub mod Unbuffered
 pub mod Engine

@@ -1,29 +1,18 @@
 //! The engine of the streams without a buffer: a raw stream, its place, and what became of the stream.
 ghost use Rattle.std.specs.Prelude.{◌≡◌, ◌≢◌, false, length, []};
-ghost use Rattle.py_unbuffered.specs.Engine.{IsEngine, BeginOutcome, StarvesWith, TransferOutcome, PutOutcome, has_answer, answered_at, stream_of};
-ghost use Rattle.py_unbuffered.specs.Unbuffered.{can_of};
-ghost use Rattle.py_unbuffered.specs.declared.access.Access.TheVariants.{Read};
+ghost use Rattle.py_stream.specs.Reading.{has_answer};
+ghost use Rattle.py_unbuffered.specs.Engine.{IsEngine, BeginOutcome, StarvesWith, TransferOutcome, PutOutcome, answered_at, stream_of};
+ghost use Rattle.py_stream.specs.Access.{can_of};
+ghost use Rattle.py_stream.specs.declared.access.Access.TheVariants.{Read};
 
 mod gathering;
 mod moving;
 mod reading;
 mod writing;
 
-use crate::access::Access;
 use py_raw::{GREATEST_PLACE, IoFault, Life, RawError, RawStream};
-use py_stream::life_fault;
+use py_stream::{Access, Stop, life_fault};
 use std::marker::Model;
-
-/// Where a reading stopped.
-#[derive(Clone, Copy)]
-pub(crate) enum Stop {
-    /// It has all that was asked for.
-    Enough,
-    /// Nothing comes any more.
-    End,
-    /// The raw would have blocked.
-    Waits,
-}
 
 /// The raw stands at the place, while the stream lives.
 #[derive(Debug, Drop)]
@@ -94,13 +83,10 @@ impl<R: RawStream> UnbufferedData<R> {
     pub fn reads(&self) -> bool
         ensures { result ≡ (can_of self.now.access self.now.raw.seekable).readable }
     {
-        match self.access {
-            Access::Read => true,
-            Access::Write | Access::Append => false,
-        }
+        self.access.reads()
     }
 
-    /// Whether its raw can be moved.
+    /// Whether the raw can be moved.
     pub fn seekable(&self) -> bool
         ensures { result ≡ self.now.raw.seekable }
     {
@@ -152,7 +138,7 @@ impl<R: RawStream> UnbufferedData<R> {
         }
     }
 
-    /// Whether there is an answer: none where the raw would have blocked before anything came. A wait is remembered.
+    /// Whether a reading has an answer: none where the raw would have blocked before anything came. A wait is remembered.
     fn answers(&mut self, stop: Stop, empty: bool) -> bool
         ensures answer { result ≡ has_answer stop empty }
         ensures stream { self.new ≡ answered_at stop self.old }

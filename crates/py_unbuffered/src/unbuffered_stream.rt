@@ -6,12 +6,11 @@ ghost use Rattle.py_stream.specs.Answers.{Answers, RefusesAlone};
 ghost use Rattle.py_stream.specs.Replies.{bytes_reply, into_reply, CountFits, KeepsBuffer, lines_reply, taken_reply, place_reply, done_reply};
 ghost use Rattle.py_stream.specs.Opening.{StandsAtStart, NewOutcome};
 ghost use Rattle.py_stream.specs.Handing.{HandsParts};
-ghost use Rattle.py_unbuffered.specs.Unbuffered.{can_of, is_able};
+ghost use Rattle.py_stream.specs.Access.{can_of, is_able};
 
-use crate::access::Access;
 use crate::data::UnbufferedData;
 use py_raw::{IoFault, Life, Lines, RawError, RawStream};
-use py_stream::{Detached, NewRefused, first_place, refused_at_first};
+use py_stream::{Access, Detached, NewRefused, first_place, refused_at_first};
 use std::alloc::Global;
 use std::marker::Model;
 
@@ -55,14 +54,10 @@ impl<R: RawStream> UnbufferedStream<R> {
         ensures memory { IfErr result (λ refused. refused.fault ≡ IoFault.NoMemory → IsTrue (R.shows raw).takes_memory) }
     {
         let mut raw = raw;
-        let able = match access {
-            Access::Read => raw.readable(),
-            Access::Write | Access::Append => raw.writable(),
-        };
-        if let Some(fault) = refused_at_first(&raw, able, None) {
+        if let Some(fault) = refused_at_first(&raw, access.suits(&raw), None) {
             return Err(NewRefused { raw, fault });
         }
-        match first_place(&mut raw, matches!(access, Access::Append)) {
+        match first_place(&mut raw, access.appends()) {
             Ok(place) => Ok(UnbufferedStream {
                 data: UnbufferedData::new(raw, place, access),
             }),
@@ -213,35 +208,35 @@ impl<R: RawStream> UnbufferedStream<R> {
         }
     }
 
-    /// Whether it reads: where it was opened for it.
+    /// Whether the stream reads: where it was opened for it.
     pub fn readable(&self) -> bool
         ensures { result ≡ self.now.can.readable }
     {
         self.data.reads()
     }
 
-    /// Whether it writes: where it was opened for it.
+    /// Whether the stream writes: where it was opened for it.
     pub fn writable(&self) -> bool
         ensures { result ≡ self.now.can.writable }
     {
         !self.data.reads()
     }
 
-    /// Whether its raw can be moved. A stream that appends isn't moved, whatever its raw can.
+    /// Whether the stream's raw can be moved. A stream that appends isn't moved, whatever its raw can.
     pub fn seekable(&self) -> bool
         ensures { result ≡ self.now.can.seekable }
     {
         self.data.seekable()
     }
 
-    /// Whether it was closed.
+    /// Whether the stream was closed.
     pub fn closed(&self) -> bool
         ensures { result ≡ is_closed self.now.life }
     {
         matches!(self.life(), Life::Closed)
     }
 
-    /// What became of it: live at first, failed by a fault, or closed.
+    /// What became of the stream: live at first, failed by a fault, or closed.
     pub fn life(&self) -> Life
         ensures { result ≡ self.now.life }
     {

@@ -3,13 +3,15 @@ ghost use Rattle.std.specs.Prelude.{◌≡◌, ◌≢◌, ℕ, List, [], false};
 ghost use Rattle.py_flat.specs.declared.life.Life.TheVariants.{Live};
 ghost use Rattle.py_flat.specs.Calls.{ReadLine, ReadLines};
 ghost use Rattle.py_stream.specs.Answers.{Answers};
+ghost use Rattle.py_stream.specs.Reading.{GatherOutcome};
 ghost use Rattle.py_stream.specs.Replies.{bytes_reply, lines_reply};
-ghost use Rattle.py_unbuffered.specs.declared.access.Access.TheVariants as access;
-ghost use Rattle.py_unbuffered.specs.Engine.{stream_of, GatherOutcome};
+ghost use Rattle.py_stream.specs.declared.access.Access.TheVariants as access;
+ghost use Rattle.py_unbuffered.specs.Engine.{stream_of};
 
-use super::{Stop, UnbufferedData};
+use super::UnbufferedData;
 use py_lines::{Collected, Collector, LineCollector, LinesCollector};
 use py_raw::{IoFault, Lines, RawStream};
+use py_stream::Stop;
 use std::alloc::Global;
 
 impl<R: RawStream> UnbufferedData<R> {
@@ -70,7 +72,7 @@ impl<R: RawStream> UnbufferedData<R> {
         requires open { C.is_open collector.old }
         requires ends { C.wanted collector.old [] ≡ [] }
         requires asks { (more : List ℕ) → more ≢ [] → C.wanted collector.old more ≢ [] }
-        ensures { GatherOutcome (C.wanted collector.old) self.old result (C.collected collector.new) self.new }
+        ensures { GatherOutcome (C.wanted collector.old) (stream_of self.old) result (C.collected collector.new) (stream_of self.new) }
     {
         let _ = &self.raw;
         let mut moved = false;

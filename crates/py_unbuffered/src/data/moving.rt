@@ -5,10 +5,10 @@ ghost use Rattle.py_flat.specs.Limits.{greatest_place};
 ghost use Rattle.py_flat.specs.Calls.{FileCall, Seek, Tell, Flush, Close, Refused};
 ghost use Rattle.py_stream.specs.Answers.{Answers, RefusesAlone};
 ghost use Rattle.py_stream.specs.Replies.{place_reply, done_reply};
-ghost use Rattle.py_unbuffered.specs.Engine.{stream_of, TargetOutcome, EndOutcome, GoOutcome};
+ghost use Rattle.py_stream.specs.Moving.{TargetOutcome, EndOutcome, GoOutcome};
+ghost use Rattle.py_unbuffered.specs.Engine.{stream_of};
 
 use super::UnbufferedData;
-use crate::access::Access;
 use py_raw::{IoFault, Life, RawError, RawStream};
 use py_stream::moved_by;
 
@@ -19,7 +19,7 @@ impl<R: RawStream> UnbufferedData<R> {
     {
         let _ = &self.raw;
         self.begin()?;
-        if !self.raw.seekable() || matches!(self.access, Access::Append) {
+        if !self.raw.seekable() || self.access.appends() {
             return Err(IoFault::Unsupported);
         }
         let target = self.target(offset, whence)?;
@@ -93,7 +93,7 @@ impl<R: RawStream> UnbufferedData<R> {
     fn target(&mut self, offset: i64, whence: i32) -> Result<u64, IoFault>
         requires live { self.old.life ≡ Live }
         requires can { self.old.raw.seekable ≡ true }
-        ensures { TargetOutcome self.old offset whence result self.new }
+        ensures { TargetOutcome (stream_of self.old) offset whence result (stream_of self.new) }
     {
         match whence {
             0 => moved_by(0, offset),
@@ -110,7 +110,7 @@ impl<R: RawStream> UnbufferedData<R> {
     fn end(&mut self) -> Result<u64, IoFault>
         requires live { self.old.life ≡ Live }
         requires can { self.old.raw.seekable ≡ true }
-        ensures { EndOutcome self.old result self.new }
+        ensures { EndOutcome (stream_of self.old) result (stream_of self.new) }
     {
         match self.raw.end() {
             Ok(end) => Ok(end),
@@ -127,7 +127,7 @@ impl<R: RawStream> UnbufferedData<R> {
         requires live { self.old.life ≡ Live }
         requires can { self.old.raw.seekable ≡ true }
         requires within { target ≤ greatest_place }
-        ensures { GoOutcome self.old target result self.new }
+        ensures { GoOutcome (stream_of self.old) target result (stream_of self.new) }
     {
         match self.raw.seek(target) {
             Ok(()) => {

@@ -3,12 +3,14 @@ ghost use Rattle.std.specs.Prelude.{◌≡◌, [], false, length, max};
 ghost use Rattle.py_flat.specs.declared.life.Life.TheVariants.{Live};
 ghost use Rattle.py_flat.specs.Calls.{Read, ReadInto};
 ghost use Rattle.py_stream.specs.Answers.{Answers};
+ghost use Rattle.py_stream.specs.Reading.{RestOutcome};
 ghost use Rattle.py_stream.specs.Replies.{bytes_reply, into_reply, CountFits, KeepsBuffer};
-ghost use Rattle.py_unbuffered.specs.declared.access.Access.TheVariants as access;
-ghost use Rattle.py_unbuffered.specs.Engine.{stream_of, RestOutcome};
+ghost use Rattle.py_stream.specs.declared.access.Access.TheVariants as access;
+ghost use Rattle.py_unbuffered.specs.Engine.{stream_of};
 
-use super::{Stop, UnbufferedData};
+use super::UnbufferedData;
 use py_raw::{IoFault, RawStream};
+use py_stream::Stop;
 use std::alloc::Global;
 
 /// How many bytes the next transfer of a reading up to the end asks for, after n: 8192, and then as many as came,
@@ -98,7 +100,7 @@ impl<R: RawStream> UnbufferedData<R> {
         requires live { self.old.life ≡ Live }
         requires reads { self.old.access ≡ access.Read }
         requires none { bytes.old.items ≡ [] }
-        ensures { RestOutcome self.old result bytes.new.items self.new }
+        ensures { RestOutcome (stream_of self.old) result bytes.new.items (stream_of self.new) }
     {
         let _ = &self.raw;
         loop {

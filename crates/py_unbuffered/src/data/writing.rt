@@ -1,13 +1,14 @@
 //! Writing.
-ghost use Rattle.std.specs.Prelude.{◌≡◌, ◌≢◌, ◌+◌, ◌≤◌, false, length};
+ghost use Rattle.std.specs.Prelude.{◌≡◌, ◌+◌, ◌≤◌, true, false, length};
 ghost use Rattle.py_flat.specs.declared.life.Life.TheVariants.{Live};
 ghost use Rattle.py_flat.specs.Limits.{greatest_place};
 ghost use Rattle.py_flat.specs.Lines.{joined};
 ghost use Rattle.py_flat.specs.Calls.{Write, WriteLines};
 ghost use Rattle.py_stream.specs.Answers.{Answers};
 ghost use Rattle.py_stream.specs.Replies.{taken_reply, done_reply};
-ghost use Rattle.py_unbuffered.specs.declared.access.Access.TheVariants as access;
-ghost use Rattle.py_unbuffered.specs.Engine.{stream_of, PutOutcome, WriteOutcome};
+ghost use Rattle.py_stream.specs.Taking.{PutsOutcome};
+ghost use Rattle.py_unbuffered.specs.Engine.{stream_of, PutOutcome};
+ghost use Rattle.py_stream.specs.Access.{can_of};
 
 use super::UnbufferedData;
 use py_raw::{GREATEST_PLACE, IoFault, Life, Lines, RawError, RawStream};
@@ -56,10 +57,10 @@ impl<R: RawStream> UnbufferedData<R> {
     /// Hands each line to the raw, for a call that began at a place; false where the raw would have blocked.
     fn write_lines(&mut self, lines: &Lines, start: u64) -> Result<bool, IoFault>
         requires live { self.old.life ≡ Live }
-        requires writes { self.old.access ≢ access.Read }
+        requires writes { (can_of self.old.access self.old.raw.seekable).writable ≡ true }
         requires start { start ≡ self.old.place }
         requires within { start + length (joined lines.now) ≤ greatest_place }
-        ensures { WriteOutcome self.old (joined lines.now) start result self.new }
+        ensures { PutsOutcome (stream_of self.old) (joined lines.now) start result (stream_of self.new) }
     {
         let _ = &self.raw;
         for line in lines.as_slice() {
@@ -73,10 +74,10 @@ impl<R: RawStream> UnbufferedData<R> {
     /// Hands all of a line to the raw, for a call that began at a place; false where the raw would have blocked.
     fn write_line(&mut self, line: &[u8], start: u64) -> Result<bool, IoFault>
         requires live { self.old.life ≡ Live }
-        requires writes { self.old.access ≢ access.Read }
+        requires writes { (can_of self.old.access self.old.raw.seekable).writable ≡ true }
         requires start { start ≤ self.old.place }
         requires within { self.old.place + length line.now ≤ greatest_place }
-        ensures { WriteOutcome self.old line.now start result self.new }
+        ensures { PutsOutcome (stream_of self.old) line.now start result (stream_of self.new) }
     {
         let _ = &self.raw;
         let mut taken = 0;
@@ -92,7 +93,7 @@ impl<R: RawStream> UnbufferedData<R> {
     /// One transfer to the raw. `moved` tells whether bytes had moved in this call.
     fn put(&mut self, bytes: &[u8], moved: bool) -> Result<Option<usize>, IoFault>
         requires live { self.old.life ≡ Live }
-        requires writes { self.old.access ≢ access.Read }
+        requires writes { (can_of self.old.access self.old.raw.seekable).writable ≡ true }
         requires within { self.old.place + length bytes.now ≤ greatest_place }
         ensures { PutOutcome self.old moved bytes.now result self.new }
     {

@@ -6,7 +6,7 @@ use Rattle.py_flat.specs.declared.fault.IoFault.TheVariants as fault
 use Rattle.py_flat.specs.Refusals.{or_else, refused_if}
 use Rattle.py_raw.specs.RawStream.{Raw}
 use Rattle.py_stream.specs.Opening.{holds_none, RefusesRaw}
-use Rattle.py_unbuffered.specs.Unbuffered.{can_of, is_able}
+use Rattle.py_stream.specs.Access.{can_of, is_able}
 use Rattle.py_calls.specs.declared.call.Call.{Call}
 use Rattle.py_calls.specs.declared.reply.Reply.{Reply}
 use Rattle.py_open.specs.Opening.{access_of}

@@ -1,8 +1,9 @@
 use Rattle.std.proofs.Common.{rules, ◌≡◌, ℕ, ◌<◌, List, [], ◌∷◌, Result, Err, refl, sym, subst, ◌∙◌, arith}
 use Rattle.py_lines.specs.Collecting.{HasEnough, WantsMore}
 use Rattle.py_flat.specs.declared.fault.IoFault.{IoFault}
-use Rattle.py_unbuffered.specs.declared.data.Stop.{Stop}
-use Rattle.py_unbuffered.specs.Engine.{Brings, Waits, GatherOutcome}
+use Rattle.py_stream.specs.declared.stop.Stop.{Stop}
+use Rattle.py_stream.specs.Reading.{GatherOutcome}
+use Rattle.py_unbuffered.specs.Engine.{stream_of, Brings, Waits}
 use Rattle.py_unbuffered.proofs.Begun.{Stands}
 use Rattle.py_unbuffered.proofs.Gathering.{gathered_none, gather_ends, gather_waits, gather_refused, gathered_more, gather_enough, gather_starves}
 use Rattle.py_unbuffered.proofs.data.UnbufferedData.gather.Goals as goal
@@ -23,7 +24,7 @@ transfer-requires-clause-reads g c = c.loop-moved.invariant.gathered.took.kept.a
 pub returns-in_err-transfer : goal.returns-in_err-transfer
 returns-in_err-transfer g c =
     let says : c.from_residual.result ≡ Err c.in_err-transfer.field-0.0 = search rules in
-    subst (λ (result : Result Stop IoFault). GatherOutcome (g.C.Collector.wanted c.args.collector.now) c.args.self.now result (g.C.Collector.collected c.loop-moved.collector) c.transfer.new.self) (sym says)
+    subst (λ (result : Result Stop IoFault). GatherOutcome (g.C.Collector.wanted c.args.collector.now) (stream_of c.args.self.now) result (g.C.Collector.collected c.loop-moved.collector) (stream_of c.transfer.new.self)) (sym says)
     (gather_refused (g.C.Collector.wanted c.args.collector.now) c.args.self.now c.loop-moved.self (g.C.Collector.collected c.loop-moved.collector) c.loop-moved.moved c.loop-moved.invariant.gathered (0 ∷ []) c.in_err-transfer.field-0.0 c.transfer.new.buffer (g.C.Collector.collected c.loop-moved.collector) c.transfer.new.self c.in_err-transfer.ensures.outcome)
 
 pub returns-in-Some-eq0 : goal.returns-in-Some-eq0

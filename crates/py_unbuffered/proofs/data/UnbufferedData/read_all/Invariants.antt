@@ -1,6 +1,6 @@
 use Rattle.std.proofs.Common.{◌-◌}
 use Rattle.py_flat.specs.Limits.{greatest_place}
-use Rattle.py_unbuffered.specs.Engine.{Took}
+use Rattle.py_unbuffered.proofs.ReadingSteps.{Took}
 use Rattle.py_unbuffered.proofs.data.UnbufferedData.read_all.Given as goal
 
 -- all that has come stands in the vector

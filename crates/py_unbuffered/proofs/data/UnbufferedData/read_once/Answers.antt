@@ -4,15 +4,16 @@ use Rattle.py_flat.specs.Calls.{FileCall, Bytes, NotReady, Read}
 use Rattle.py_stream.specs.Answers.{Answers}
 use Rattle.py_unbuffered.specs.Engine.{EngineView, stream_of, TransferOutcome}
 use Rattle.py_unbuffered.proofs.Begun.{Stands}
-use Rattle.py_unbuffered.proofs.Reading.{Reads}
-use Rattle.py_unbuffered.proofs.Once.{once_came, refused_once, cut_to}
+use Rattle.py_stream.proofs.ReadingAnswers.{Reads}
+use Rattle.py_stream.proofs.ReadingOn.{cut_to}
+use Rattle.py_unbuffered.proofs.Reading.{reads_live, once_came, once_refused}
 use Rattle.py_unbuffered.proofs.data.UnbufferedData.read_once.Goals as goal
 
 pub returns-in_err-count : goal.returns-in_err-count
 returns-in_err-count g c =
     let left = err_from_is_err_and c.from_residual.result c.from_residual.ensures.1 in
-    let begun : Reads c.args.self.now = record { live = c.requires.live; reader = c.requires.reads; whole = c.requires.whole; stands = subst Stands c.self.view_is c.self.invariant } in
-    rw (left.1, left.2) (refused_once c.args.self.now c.transfer.new.self (Read (Some c.args.size)) c.deref_mut.result.now c.transfer.new.buffer c.in_err-count.field-0.0 refl begun c.in_err-count.ensures.outcome)
+    let begun : Reads (stream_of c.args.self.now) = reads_live c.args.self.now c.requires.live c.requires.reads c.requires.whole (subst Stands c.self.view_is c.self.invariant) in
+    rw (left.1, left.2) (once_refused c.args.self.now c.transfer.new.self (Read (Some c.args.size)) c.deref_mut.result.now c.transfer.new.buffer refl begun c.in_err-count.field-0.0 c.in_err-count.ensures.outcome)
 
 pub returns-in-Some : goal.returns-in-Some
 returns-in-Some g c =
@@ -22,14 +23,14 @@ returns-in-Some g c =
     let before : List ℕ = c.deref_mut.result.now in
     let buffer : List ℕ = c.transfer.new.buffer in
     let count : ℕ = c.in-Some.count in
-    let begun : Reads old = record { live = c.requires.live; reader = c.requires.reads; whole = c.requires.whole; stands = subst Stands c.self.view_is c.self.invariant } in
+    let begun : Reads (stream_of old) = reads_live old c.requires.live c.requires.reads c.requires.whole (subst Stands c.self.view_is c.self.invariant) in
     let long : length before ≡ size = c.deref_mut.ensures.len ∙ c.in-Ok.ensures.len in
     let cut : c.truncate.new.self.items ≡ take count buffer = c.truncate.ensures.items ∙ cut_to buffer (drop (length buffer) c.in-Ok.bytes.items) count c.in-Ok.bytes.len (c.in_ok-count.ensures.length ∙ c.deref_mut.ensures.len) in
     let came : TransferOutcome old false before (Ok (Some count)) buffer c.transfer.new.self = subst (λ (counted : Option ℕ). TransferOutcome old false before (Ok counted) buffer c.transfer.new.self) c.in-Some.is c.in_ok-count.ensures.outcome in
     let same : record c.transfer.new.self { short = false } ≡ c.transfer.new.self = ap (λ (whole : Bool). let engine : EngineView = record c.transfer.new.self { short = whole } in engine) (sym (came.kept.short ∙ c.requires.whole)) in
     subst (λ (part : List ℕ). Answers (stream_of old) call (Bytes part) (stream_of c.transfer.new.self)) (sym cut)
     (subst (λ (engine : EngineView). Answers (stream_of old) call (Bytes (take count buffer)) (stream_of engine)) same
-    (once_came old c.transfer.new.self call before buffer (Some count) refl long (c.in_ok-count.ensures.length ∙ long) begun came))
+    (once_came old c.transfer.new.self call before buffer refl begun (Some count) long (c.in_ok-count.ensures.length ∙ long) came))
 
 pub returns-in-None : goal.returns-in-None
 returns-in-None g c =
@@ -37,8 +38,8 @@ returns-in-None g c =
     let call : FileCall = Read (Some c.args.size) in
     let before : List ℕ = c.deref_mut.result.now in
     let buffer : List ℕ = c.transfer.new.buffer in
-    let begun : Reads old = record { live = c.requires.live; reader = c.requires.reads; whole = c.requires.whole; stands = subst Stands c.self.view_is c.self.invariant } in
+    let begun : Reads (stream_of old) = reads_live old c.requires.live c.requires.reads c.requires.whole (subst Stands c.self.view_is c.self.invariant) in
     let long : length before ≡ c.args.size = c.deref_mut.ensures.len ∙ c.in-Ok.ensures.len in
     let came : TransferOutcome old false before (Ok None) buffer c.transfer.new.self = subst (λ (counted : Option ℕ). TransferOutcome old false before (Ok counted) buffer c.transfer.new.self) c.in-None.is c.in_ok-count.ensures.outcome in
     subst (λ (engine : EngineView). Answers (stream_of old) call NotReady (stream_of engine)) (ap (λ (engine : EngineView). let cut : EngineView = record engine { short = true } in cut) (sym c.self-2.view_is))
-    (once_came old c.transfer.new.self call before buffer None refl long (c.in_ok-count.ensures.length ∙ long) begun came)
+    (once_came old c.transfer.new.self call before buffer refl begun None long (c.in_ok-count.ensures.length ∙ long) came)

@@ -1,49 +1,72 @@
-use Rattle.std.proofs.Common.{rules, ◌≡◌, ◌-◌, ℕ, nat_lt, Bool, List, length, take, drop, Result, Err, refl, sym, ap, subst, ◌∙◌}
+use Rattle.std.proofs.Common.{rules, ◌≡◌, ◌-◌, ℕ, nat_lt, Bool, false, List, length, take, drop, Result, Ok, Err, sym, ap, subst, ◌∙◌, arith}
+use Rattle.std.proofs.lemmas.List.{take_all, length-drop}
 use Rattle.py_flat.specs.declared.fault.IoFault.{IoFault}
-use Rattle.py_unbuffered.specs.Engine.{EngineView, Waits, Puts, WriteOutcome}
-use Rattle.py_unbuffered.proofs.Begun.{Stands}
-use Rattle.py_unbuffered.proofs.Putting.{wrote_none, piece_fits, line_on, line_smaller, line_waits, line_refused, line_whole}
+use Rattle.py_flat.specs.FlatFile.{Abilities}
+use Rattle.py_stream.specs.Taking.{TookAll, PutsOutcome}
+use Rattle.py_stream.proofs.Putting.{takes_nothing, takes_more, put_rest, rest_within}
+use Rattle.py_unbuffered.specs.Engine.{EngineView, stream_of, Waits, Puts, PutOutcome}
+use Rattle.py_unbuffered.proofs.Begun.{Stands, is_sound, owes_behind}
+use Rattle.py_unbuffered.proofs.Putting.{puts_took, waits_full, put_refused, put_some, piece_is}
 use Rattle.py_unbuffered.proofs.data.UnbufferedData.write_line.Goals as goal
 
 pub loop-taken-init : goal.loop-taken-init
-loop-taken-init g c = wrote_none c.args.self.now c.args.line.now (subst Stands c.self.view_is c.self.invariant) c.requires.live
+loop-taken-init g c = record { fits = omega arith; took = takes_nothing (stream_of c.args.self.now) (is_sound c.args.self.now (subst Stands c.self.view_is c.self.invariant)) (owes_behind c.args.self.now) c.requires.live }
 
 pub put-requires-clause-live : goal.put-requires-clause-live
-put-requires-clause-live g c = c.loop-taken.invariant.wrote.live
+put-requires-clause-live g c = c.loop-taken.invariant.took.took.live
 
 pub put-requires-clause-writes : goal.put-requires-clause-writes
-put-requires-clause-writes g c = λ reads. c.requires.writes (sym c.loop-taken.invariant.wrote.kept.access ∙ reads)
+put-requires-clause-writes g c = ap (λ (can : Abilities). can.writable) c.loop-taken.invariant.took.took.kept.can ∙ c.requires.writes
 
 pub put-requires-clause-within : goal.put-requires-clause-within
 put-requires-clause-within g c =
-    let piece : List ℕ = take (length c.args.line.now - c.loop-taken.taken) (drop c.loop-taken.taken c.args.line.now) in
-    piece_fits c.args.self.now c.loop-taken.self c.args.line.now piece c.loop-taken.taken c.args.start refl c.loop-taken-test.true c.loop-taken.invariant c.requires.within
+    let within = rest_within (stream_of c.args.self.now) (stream_of c.loop-taken.self) c.args.line.now c.loop-taken.taken c.loop-taken.invariant.fits c.loop-taken.invariant.took.took c.requires.within in
+    omega (arith, within, ap length (piece_is c.args.line.now c.loop-taken.taken))
 
 pub returns-in_err-count : goal.returns-in_err-count
 returns-in_err-count g c =
-    let piece : List ℕ = take (length c.args.line.now - c.loop-taken.taken) (drop c.loop-taken.taken c.args.line.now) in
-    let says : c.from_residual.result ≡ Err c.in_err-count.field-0.0 = search rules in
-    let moved : nat_lt c.args.start c.put.inside.place ≡ nat_lt c.args.start c.loop-taken.self.place = ap (λ (e : EngineView). nat_lt c.args.start e.place) c.put.view_is in
-    subst (λ (result : Result Bool IoFault). WriteOutcome c.args.self.now c.args.line.now c.args.start result c.put-in-loop-taken.new.self) (sym says)
-    (line_refused c.args.self.now c.loop-taken.self c.args.line.now piece c.loop-taken.taken c.args.start refl c.loop-taken-test.true c.loop-taken.invariant (nat_lt c.args.start c.put.inside.place) c.in_err-count.field-0.0 c.put-in-loop-taken.new.self moved c.in_err-count.ensures)
+    let line : List ℕ = c.args.line.now in
+    let taken : ℕ = c.loop-taken.taken in
+    let now : EngineView = c.loop-taken.self in
+    let new : EngineView = c.put-in-loop-taken.new.self in
+    let why : IoFault = c.in_err-count.field-0.0 in
+    let says : c.from_residual.result ≡ Err why = search rules in
+    let moved : nat_lt c.args.start c.put.inside.place ≡ nat_lt c.args.start now.place = ap (λ (e : EngineView). nat_lt c.args.start e.place) c.put.view_is in
+    let put : PutOutcome now (nat_lt c.args.start c.put.inside.place) (drop taken line) (Err why) new = subst (λ (piece : List ℕ). PutOutcome now (nat_lt c.args.start c.put.inside.place) piece (Err why) new) (piece_is line taken) c.in_err-count.ensures in
+    subst (λ (result : Result Bool IoFault). PutsOutcome (stream_of c.args.self.now) line c.args.start result (stream_of new)) (sym says)
+    (put_rest (stream_of c.args.self.now) (stream_of now) (stream_of new) line taken c.args.start (Err why) c.loop-taken.invariant.took
+    (put_refused now new (drop taken line) c.args.start _ why moved c.loop-taken.invariant.took.took.kept.sound c.loop-taken.invariant.took.took.live put))
 
 pub loop-taken-smaller : goal.loop-taken-smaller
 loop-taken-smaller g c =
     let piece : List ℕ = take (length c.args.line.now - c.loop-taken.taken) (drop c.loop-taken.taken c.args.line.now) in
     let puts : Puts c.loop-taken.self piece c.in-Some.count c.put-in-loop-taken.new.self = rw c.in-Some.is at c.in_ok-count.ensures in
-    line_smaller c.args.self.now c.loop-taken.self c.args.line.now piece c.loop-taken.taken c.args.start refl c.loop-taken-test.true c.loop-taken.invariant c.in-Some.count c.put-in-loop-taken.new.self puts
+    let long : length piece ≡ length c.args.line.now - c.loop-taken.taken = ap length (piece_is c.args.line.now c.loop-taken.taken) ∙ length-drop c.loop-taken.taken c.args.line.now in
+    let some = put_some piece c.in-Some.count (omega (arith, long, c.loop-taken-test.true)) puts.some in
+    omega (arith, some, c.loop-taken-test.true)
 
 pub loop-taken-preserved : goal.loop-taken-preserved
 loop-taken-preserved g c =
-    let piece : List ℕ = take (length c.args.line.now - c.loop-taken.taken) (drop c.loop-taken.taken c.args.line.now) in
-    let puts : Puts c.loop-taken.self piece c.in-Some.count c.put-in-loop-taken.new.self = rw c.in-Some.is at c.in_ok-count.ensures in
-    line_on c.args.self.now c.loop-taken.self c.args.line.now piece c.loop-taken.taken c.args.start refl c.loop-taken-test.true c.loop-taken.invariant c.in-Some.count c.put-in-loop-taken.new.self puts
+    let line : List ℕ = c.args.line.now in
+    let taken : ℕ = c.loop-taken.taken in
+    let now : EngineView = c.loop-taken.self in
+    let new : EngineView = c.put-in-loop-taken.new.self in
+    let count : ℕ = c.in-Some.count in
+    let puts : Puts now (drop taken line) count new = subst (λ (piece : List ℕ). Puts now piece count new) (piece_is line taken) (rw c.in-Some.is at c.in_ok-count.ensures) in
+    record {
+      fits = omega (arith, puts.fits, length-drop taken line, c.loop-taken.invariant.fits);
+      took = takes_more (stream_of c.args.self.now) (stream_of now) (stream_of new) line taken count c.loop-taken.invariant.took (puts_took now (drop taken line) count new puts);
+    }
 
 pub returns-in-None : goal.returns-in-None
 returns-in-None g c =
-    let piece : List ℕ = take (length c.args.line.now - c.loop-taken.taken) (drop c.loop-taken.taken c.args.line.now) in
-    let waits : Waits c.loop-taken.self c.put-in-loop-taken.new.self = rw c.in-None.is at c.in_ok-count.ensures in
-    line_waits c.args.self.now c.loop-taken.self c.args.line.now piece c.loop-taken.taken c.args.start refl c.loop-taken-test.true c.loop-taken.invariant c.put-in-loop-taken.new.self waits
+    let line : List ℕ = c.args.line.now in
+    let taken : ℕ = c.loop-taken.taken in
+    let now : EngineView = c.loop-taken.self in
+    let new : EngineView = c.put-in-loop-taken.new.self in
+    let waits : Waits now new = rw c.in-None.is at c.in_ok-count.ensures in
+    put_rest (stream_of c.args.self.now) (stream_of now) (stream_of new) line taken c.args.start (Ok false) c.loop-taken.invariant.took
+    (waits_full now new (drop taken line) (omega (arith, length-drop taken line, c.loop-taken-test.true)) waits)
 
 pub returns : goal.returns
-returns g c = line_whole c.args.self.now c.loop-taken.self c.args.line.now c.loop-taken.taken c.args.start c.loop-taken.invariant c.loop-taken-test.false
+returns g c = subst (λ (bytes : List ℕ). TookAll (stream_of c.args.self.now) bytes (stream_of c.loop-taken.self)) (take_all c.loop-taken.taken c.args.line.now c.loop-taken-test.false) c.loop-taken.invariant.took

@@ -1,0 +1,223 @@
+-- The calls that give nothing, or bytes, by what the stream is opened for: what holds when a call begins, and what its steps come to.
+use Rattle.std.proofs.Common.{◌≡◌, ℕ, ℤ, ◌+◌, ◌≤◌, ◌⊎◌, inl, inr, Bool, true, false, not, ◌||◌, length, [], Some, Result, Ok, Err, refl, sym, ap, ◌∙◌, subst}
+use Rattle.py_flat.specs.declared.fault.IoFault.{IoFault}
+use Rattle.py_flat.specs.declared.fault.IoFault.TheVariants as fault
+use Rattle.py_flat.specs.declared.life.Life.TheVariants as life
+use Rattle.py_flat.specs.Limits.{greatest_place}
+use Rattle.py_flat.specs.Calls.{FileCall, Flush, Close, Seek, Place, Refused}
+use Rattle.py_flat.specs.BinaryStep.{payload}
+use Rattle.py_stream.specs.declared.access.Access.{Access}
+use Rattle.py_stream.specs.declared.access.Access.TheVariants as access
+use Rattle.py_stream.specs.Access.{can_of, is_read, is_appended}
+use Rattle.py_stream.specs.Stream.{Stream}
+use Rattle.py_stream.specs.Kinds.{is_writing, goes_on, makes_one}
+use Rattle.py_stream.specs.Replies.{done_reply}
+use Rattle.py_stream.specs.Answers.{Answers}
+use Rattle.py_stream.specs.Moving.{TargetOutcome, GoOutcome, GoesTo}
+use Rattle.py_stream.specs.Ending.{CloseRawOutcome}
+use Rattle.py_stream.proofs.Alone.{Begins}
+use Rattle.py_stream.proofs.Refusing.{refused_by_ability}
+use Rattle.py_stream.proofs.Seeking.{or_true, MaySeek}
+use Rattle.py_stream.proofs.Giving.{of_both}
+use Rattle.py_stream.proofs.Given.{Begun}
+use Rattle.py_stream.proofs.Showing.{IsWriting}
+use Rattle.py_stream.proofs.PassingOn.{begun}
+use Rattle.py_stream.proofs.Flushing.{flush_answers}
+use Rattle.py_stream.proofs.Shutting.{flush_passes_on, close_stops, close_answers, close_answers_at_once}
+use Rattle.py_stream.proofs.Going.{SeeksWriting, Finds, seek_finds, seek_stops, seek_fails, seek_answers, going_fails, going_answers}
+use Rattle.py_flat.specs.Owed.{Owed}
+use Rattle.py_engine.specs.Window.{place_of, pending_of}
+use Rattle.py_engine.specs.Engine.{EngineView, stream_of, Stands, BeginOutcome}
+use Rattle.py_engine.specs.Passing.{PassesAll, PassesToClose}
+use Rattle.py_engine.proofs.Standing.{is_placed, is_sound, owes_behind, owes_nothing}
+
+-- What each access can do.
+
+-- a stream that isn't opened to be read writes, and doesn't read
+pub writes_only : (opened : Access) (seekable : Bool) → is_read opened ≡ false → ((can_of opened seekable).writable ≡ true) × ((can_of opened seekable).readable ≡ false)
+writes_only access.Read seekable other = absurd (cc)
+writes_only access.Write seekable other = (refl, refl)
+writes_only access.Append seekable other = (refl, refl)
+
+-- a stream that is opened to be read doesn't write
+pub reads_only : (opened : Access) (seekable : Bool) → is_read opened ≡ true → (can_of opened seekable).writable ≡ false
+reads_only access.Read seekable reads = refl
+reads_only other seekable reads = absurd (cc)
+
+-- a stream can seek where its raw can
+pub can_seek : (opened : Access) (seekable : Bool) → (can_of opened seekable).seekable ≡ seekable
+can_seek access.Read seekable = refl
+can_seek access.Write seekable = refl
+can_seek access.Append seekable = refl
+
+-- a stream that doesn't append is moved where its raw can be
+free_of : (opened : Access) (seekable : Bool) → is_appended opened ≡ false → (can_of opened seekable).appending ≡ false
+free_of access.Read seekable free = refl
+free_of access.Write seekable free = refl
+free_of access.Append seekable free = absurd (cc)
+
+-- How a call begins.
+
+-- a call of an engine begins as one of its stream does
+pub begins : (old new : EngineView) (result : Result (Unit {0}) IoFault) → BeginOutcome old result new → Begins (stream_of old) result (stream_of new)
+begins old new (Ok done) began = (began.0, ap stream_of began.1)
+begins old new (Err why) began = (began.0, ap stream_of began.1)
+
+-- an engine that forgot a wait stands as it stood
+stands_whole : (engine : EngineView) → Stands engine → Stands (record engine { short = false })
+stands_whole engine is = is
+
+-- a live stream that is written
+pub is_writing_live : (engine : EngineView) → Stands engine → is_read engine.access ≡ false → engine.life ≡ life.Live → IsWriting (begun (stream_of engine))
+is_writing_live engine is writes live = record {
+  sound = is_sound (record engine { short = false }) (stands_whole engine is);
+  live = live;
+  whole = refl;
+  size = engine.window.size;
+  buffered = refl;
+  writes = (writes_only engine.access engine.raw.seekable writes).0;
+}
+
+-- Flushing.
+
+flush_by : (opened : Access) (old started new : EngineView) (result : Result (Unit {0}) IoFault) → old.access ≡ opened → Stands old → BeginOutcome old (Ok tt) started → PassesAll opened (stream_of started) result (stream_of new) → Answers (stream_of old) Flush (done_reply result) (stream_of new)
+flush_by access.Read old started new result opened is began passed =
+    let reads : is_read old.access ≡ true = ap is_read opened in
+    let bare : Answers (stream_of old) Flush (done_reply (Ok tt)) (stream_of started) =
+    flush_answers (stream_of old) (stream_of started) (Ok tt) (is_placed old is) (owes_nothing old is reads) (λ writes. absurd (cc (reads_only old.access old.raw.seekable reads))) (begins old started (Ok tt) began) in
+    rw (passed.0, passed.1) bare
+flush_by other old started new result opened is began passed =
+    flush_passes_on (stream_of old) (stream_of started) (stream_of new) result (is_writing_live old is (ap is_read opened) began.0) (begins old started (Ok tt) began) passed
+
+-- a `flush` answers what passing all on came to
+pub flushes : (old started new : EngineView) (result : Result (Unit {0}) IoFault) → Stands old → BeginOutcome old (Ok tt) started → PassesAll started.access (stream_of started) result (stream_of new) → Answers (stream_of old) Flush (done_reply result) (stream_of new)
+flushes old started new result is began passed = flush_by started.access old started new result (sym (ap (λ (engine : EngineView). engine.access) began.1)) is began passed
+
+-- Closing.
+
+close_stops_by : (opened : Access) (old started new : EngineView) (why : IoFault) → old.access ≡ opened → Stands old → BeginOutcome old (Ok tt) started → PassesToClose opened (stream_of started) (Err why) (stream_of new) → Answers (stream_of old) Close (Refused why) (stream_of new)
+close_stops_by access.Read old started new why opened is began stops = let never : Err why ≡ Ok tt = stops.0 in absurd (cc)
+close_stops_by other old started new why opened is began stops = close_stops (stream_of old) (stream_of started) (stream_of new) why (is_writing_live old is (ap is_read opened) began.0) (begins old started (Ok tt) began) stops
+
+-- a `close` that passing all on refused answers that refusal
+pub closing_stops : (old started new : EngineView) (why : IoFault) → Stands old → BeginOutcome old (Ok tt) started → PassesToClose started.access (stream_of started) (Err why) (stream_of new) → Answers (stream_of old) Close (Refused why) (stream_of new)
+closing_stops old started new why is began stops = close_stops_by started.access old started new why (sym (ap (λ (engine : EngineView). engine.access) began.1)) is began stops
+
+close_by : (opened : Access) (old started mid new : EngineView) (result : Result (Unit {0}) IoFault) → old.access ≡ opened → Stands old → BeginOutcome old (Ok tt) started → PassesToClose opened (stream_of started) (Ok tt) (stream_of mid) → CloseRawOutcome (stream_of mid) result (stream_of new) → Answers (stream_of old) Close (done_reply result) (stream_of new)
+close_by access.Read old started mid new result opened is began passed closes =
+    close_answers_at_once (stream_of old) (stream_of started) (stream_of new) result (is_sound (record old { short = false }) (stands_whole old is)) (owes_nothing old is (ap is_read opened)) (begins old started (Ok tt) began) (subst (λ (stream : Stream). CloseRawOutcome stream result (stream_of new)) passed.1 closes)
+close_by other old started mid new result opened is began passed closes =
+    close_answers (stream_of old) (stream_of started) (stream_of mid) (stream_of new) result (is_writing_live old is (ap is_read opened) began.0) (begins old started (Ok tt) began) passed closes
+
+-- a `close` that passed all on answers what the closing of the raw came to
+pub closes : (old started mid new : EngineView) (result : Result (Unit {0}) IoFault) → Stands old → BeginOutcome old (Ok tt) started → PassesToClose started.access (stream_of started) (Ok tt) (stream_of mid) → CloseRawOutcome (stream_of mid) result (stream_of new) → Answers (stream_of old) Close (done_reply result) (stream_of new)
+closes old started mid new result is began passed shut = close_by started.access old started mid new result (sym (ap (λ (engine : EngineView). engine.access) began.1)) is began passed shut
+
+-- Moving.
+
+-- a stream that can't be moved: its raw can't, or the stream appends
+not_moved : (opened : Access) (seekable : Bool) → seekable ≡ false → not (can_of opened seekable).seekable || (can_of opened seekable).appending ≡ true
+not_moved access.Read seekable none = ap (λ (moves : Bool). not moves || false) none
+not_moved access.Write seekable none = ap (λ (moves : Bool). not moves || false) none
+not_moved access.Append seekable none = ap (λ (moves : Bool). not moves || true) none
+
+never_moved : (opened : Access) (seekable : Bool) → is_appended opened ≡ true → not (can_of opened seekable).seekable || (can_of opened seekable).appending ≡ true
+never_moved access.Append seekable appends = or_true (not seekable)
+never_moved other seekable appends = absurd (cc)
+
+cannot_move : (old started : EngineView) → BeginOutcome old (Ok tt) started → (started.raw.seekable ≡ false) ⊎ (is_appended started.access ≡ true) → not (can_of old.access old.raw.seekable).seekable || (can_of old.access old.raw.seekable).appending ≡ true
+cannot_move old started began (inl still) = not_moved old.access old.raw.seekable (sym (ap (λ (engine : EngineView). engine.raw.seekable) began.1) ∙ still)
+cannot_move old started began (inr appends) = never_moved old.access old.raw.seekable (sym (ap (λ (engine : EngineView). is_appended engine.access) began.1) ∙ appends)
+
+-- a seek of a stream that can't be moved is refused as unsupported
+pub seek_unsupported : (old started : EngineView) (offset whence : ℤ) → Stands old → BeginOutcome old (Ok tt) started → (started.raw.seekable ≡ false) ⊎ (is_appended started.access ≡ true) → Answers (stream_of old) (Seek offset whence) (Refused fault.Unsupported) (stream_of started)
+seek_unsupported old started offset whence is began cannot = refused_by_ability (stream_of old) (stream_of started) (Seek offset whence) (is_placed old is) refl refl began.0 (cannot_move old started began cannot) (ap stream_of began.1)
+
+-- a seek of a live stream that may be moved
+pub may_seek : (old started : EngineView) → Stands old → BeginOutcome old (Ok tt) started → started.raw.seekable ≡ true → is_appended started.access ≡ false → MaySeek (begun (stream_of old))
+may_seek old started is began can free = record {
+  sound = is_sound (record old { short = false }) (stands_whole old is);
+  live = began.0;
+  seeks = can_seek old.access old.raw.seekable ∙ sym (ap (λ (engine : EngineView). engine.raw.seekable) began.1) ∙ can;
+  free = free_of old.access old.raw.seekable (sym (ap (λ (engine : EngineView). is_appended engine.access) began.1) ∙ free);
+  whole = refl;
+}
+
+seeks_writing : (old started : EngineView) → Stands old → MaySeek (begun (stream_of old)) → is_read old.access ≡ false → SeeksWriting (begun (stream_of old))
+seeks_writing old started is may writes = record {
+  may = may;
+  behind = owes_behind (record old { short = false }) (stands_whole old is) writes;
+  size = old.window.size;
+  buffered = refl;
+  writes = (writes_only old.access old.raw.seekable writes).0;
+  reads = (writes_only old.access old.raw.seekable writes).1;
+}
+
+-- what is known once a seek found where it goes
+pub record SeekFinds (old : EngineView) (offset whence : ℤ) (target : ℕ) (found : EngineView) : Type 0 where
+  pub is : Stands old
+  pub may : MaySeek (begun (stream_of old))
+  pub finds : Finds (begun (stream_of old)) offset whence target (stream_of found)
+  pub same : found.access ≡ old.access
+
+-- a seek of a stream that may be moved found its target
+pub seek_found : (old started found : EngineView) (offset whence : ℤ) (target : ℕ) → Stands old → BeginOutcome old (Ok tt) started → started.raw.seekable ≡ true → is_appended started.access ≡ false → TargetOutcome (stream_of started) offset whence (Ok target) (stream_of found) → found.access ≡ started.access → SeekFinds old offset whence target found
+seek_found old started found offset whence target is began can free found_is same =
+    let may : MaySeek (begun (stream_of old)) = may_seek old started is began can free in
+    record {
+      is = is;
+      may = may;
+      finds = seek_finds (stream_of old) (stream_of started) (stream_of found) offset whence target may (begins old started (Ok tt) began) found_is;
+      same = same ∙ ap (λ (engine : EngineView). engine.access) began.1;
+    }
+
+stops_by : (opened : Access) (old found new : EngineView) (offset whence : ℤ) (target : ℕ) (why : IoFault) → old.access ≡ opened → SeekFinds old offset whence target found → PassesAll opened (stream_of found) (Err why) (stream_of new) → Answers (stream_of old) (Seek offset whence) (Refused why) (stream_of new)
+stops_by access.Read old found new offset whence target why opened seek stops = let never : Err why ≡ Ok tt = stops.0 in absurd (cc)
+stops_by other old found new offset whence target why opened seek stops = seek_stops (stream_of old) (stream_of found) (stream_of new) offset whence target why (seeks_writing old found seek.is seek.may (ap is_read opened)) seek.finds stops
+
+-- a seek that passing all on refused answers that refusal
+pub seeking_stops : (old found new : EngineView) (offset whence : ℤ) (target : ℕ) (why : IoFault) → SeekFinds old offset whence target found → PassesAll found.access (stream_of found) (Err why) (stream_of new) → Answers (stream_of old) (Seek offset whence) (Refused why) (stream_of new)
+seeking_stops old found new offset whence target why seek stops = stops_by found.access old found new offset whence target why (sym seek.same) seek stops
+
+fails_by : (opened : Access) (old found mid new : EngineView) (offset whence : ℤ) (target : ℕ) (why : IoFault) → old.access ≡ opened → SeekFinds old offset whence target found → PassesAll opened (stream_of found) (Ok tt) (stream_of mid) → GoOutcome (stream_of mid) target (Err why) (stream_of new) → Answers (stream_of old) (Seek offset whence) (Refused why) (stream_of new)
+fails_by access.Read old found mid new offset whence target why opened seek passed fails =
+    going_fails (stream_of old) (stream_of found) (stream_of new) offset whence target why seek.may seek.finds (subst (λ (stream : Stream). GoOutcome stream target (Err why) (stream_of new)) passed.1 fails)
+fails_by other old found mid new offset whence target why opened seek passed fails =
+    seek_fails (stream_of old) (stream_of found) (stream_of mid) (stream_of new) offset whence target why (seeks_writing old found seek.is seek.may (ap is_read opened)) seek.finds passed fails
+
+-- a seek whose moving failed answers that failure
+pub seeking_fails : (old found mid new : EngineView) (offset whence : ℤ) (target : ℕ) (why : IoFault) → SeekFinds old offset whence target found → PassesAll found.access (stream_of found) (Ok tt) (stream_of mid) → GoOutcome (stream_of mid) target (Err why) (stream_of new) → Answers (stream_of old) (Seek offset whence) (Refused why) (stream_of new)
+seeking_fails old found mid new offset whence target why seek passed fails = fails_by found.access old found mid new offset whence target why (sym seek.same) seek passed fails
+
+arrives_by : (opened : Access) (old found mid new : EngineView) (offset whence : ℤ) (target : ℕ) → old.access ≡ opened → SeekFinds old offset whence target found → PassesAll opened (stream_of found) (Ok tt) (stream_of mid) → GoesTo (stream_of mid) target (stream_of new) → Answers (stream_of old) (Seek offset whence) (Place target) (stream_of new)
+arrives_by access.Read old found mid new offset whence target opened seek passed goes =
+    going_answers (stream_of old) (stream_of found) (stream_of new) offset whence target seek.may (owes_nothing old seek.is (ap is_read opened)) seek.finds (subst (λ (stream : Stream). GoesTo stream target (stream_of new)) passed.1 goes)
+arrives_by other old found mid new offset whence target opened seek passed goes =
+    seek_answers (stream_of old) (stream_of found) (stream_of mid) (stream_of new) offset whence target (seeks_writing old found seek.is seek.may (ap is_read opened)) seek.finds passed goes
+
+-- a seek that moved the stream answers its target
+pub seeking_arrives : (old found mid new : EngineView) (offset whence : ℤ) (target : ℕ) → SeekFinds old offset whence target found → PassesAll found.access (stream_of found) (Ok tt) (stream_of mid) → GoesTo (stream_of mid) target (stream_of new) → Answers (stream_of old) (Seek offset whence) (Place target) (stream_of new)
+seeking_arrives old found mid new offset whence target seek passed goes = arrives_by found.access old found mid new offset whence target (sym seek.same) seek passed goes
+
+-- once all is passed on nothing is pending
+passed_none : (opened : Access) (found mid : EngineView) → found.access ≡ opened → Stands found → PassesAll opened (stream_of found) (Ok tt) (stream_of mid) → pending_of mid.window ≡ []
+passed_none access.Read found mid opened is passed = ap (λ (stream : Stream). stream.owed.bytes) passed.1 ∙ ap (λ (owed : Owed). owed.bytes) (owes_nothing found is (ap is_read opened))
+passed_none other found mid opened is passed = passed.2
+
+-- once a stream passed all on, no byte of its window is pending
+pub nothing_pending : (found mid : EngineView) → Stands found → PassesAll found.access (stream_of found) (Ok tt) (stream_of mid) → pending_of mid.window ≡ []
+nothing_pending found mid is passed = passed_none found.access found mid refl is passed
+
+-- Giving bytes.
+
+-- a call that gives bytes begins, where these have a place
+pub writing_begun : (first old : EngineView) (call : FileCall) → is_writing call ≡ true → Stands first → is_read first.access ≡ false → BeginOutcome first (Ok tt) old → place_of old.window + length (payload call) ≤ greatest_place → Begun (stream_of first) (stream_of old) call
+writing_begun first old call writing is writes began within =
+    let stands : Stands old = subst Stands (sym began.1) is in
+    let same : is_read old.access ≡ false = ap (λ (engine : EngineView). is_read engine.access) began.1 ∙ writes in
+    record {
+      began = begins first old (Ok tt) began;
+      may = record { writing = writing; sound = is_sound old stands; behind = owes_behind old stands same; live = ap (λ (engine : EngineView). engine.life) began.1 ∙ began.0; can = (writes_only old.access old.raw.seekable same).0; within = within };
+      many = of_both (λ (call : FileCall). makes_one (Some old.window.size) call ≡ false) (λ bytes. refl) (λ lines. refl) call writing;
+      goes = of_both (λ (call : FileCall). goes_on (Some old.window.size) call ≡ true) (λ bytes. refl) (λ lines. refl) call writing;
+    }

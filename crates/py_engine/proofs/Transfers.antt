@@ -1,0 +1,204 @@
+-- What an engine holds, and what stays of it from transfer to transfer.
+use Rattle.std.proofs.Common.{◌≡◌, ℕ, ◌+◌, ◌≤◌, Bool, IsTrue, length, take, drop, true, Some, if◌then◌else◌, refl, sym, ap, ◌∙◌, arith}
+use Rattle.std.proofs.lemmas.List.{length-drop, take-take, drop-take, drop-drop}
+use Rattle.std.proofs.lemmas.Bool.{eq-eqb}
+use Rattle.py_flat.specs.Bytes.{left_at}
+use Rattle.py_flat.specs.Causes.{counted}
+use Rattle.py_flat.specs.declared.life.Life.{Life}
+use Rattle.py_flat.specs.declared.life.Life.TheVariants as life
+use Rattle.py_raw.specs.RawStream.{Raw, tells, WhereTold, NoFault, NoWait, WaitsOnce, LeavesCounts}
+use Rattle.py_raw.proofs.Telling.{tells_its_bytes, tells_still, keeps_same}
+use Rattle.py_raw.proofs.ReadingOn.{Keeps-then}
+use Rattle.py_engine.specs.Window.{WindowView, IsWindow, place_of, ahead_of, is_settled, advanced}
+use Rattle.py_engine.specs.Engine.{EngineView, HoldsBytes}
+use Rattle.py_engine.specs.Reading.{reading_of, IsReading, KeepsEngine, FailsByRaw, UsesUp}
+use Rattle.py_stream.specs.declared.access.Access.{Access}
+use Rattle.py_stream.specs.Access.{can_of}
+use Rattle.py_stream.specs.Reading.{KeepsReading, EachBrings}
+use Rattle.py_stream.proofs.ReadingSteps.{each_then as stream_each_then}
+use Rattle.py_engine.proofs.Seen.{near, within_window}
+
+-- Engines.
+
+-- the bytes held from the place on are the raw's
+pub ahead_told : (raw : Raw) (window : WindowView) → window.cursor ≤ length window.held → HoldsBytes raw.bytes window → take (length (ahead_of window)) (left_at raw.bytes (place_of window)) ≡ ahead_of window
+ahead_told raw window within told =
+    let count : ℕ = length (ahead_of window) in
+    let size : length window.held ≡ window.cursor + count = omega (arith, length-drop window.cursor window.held) in
+    ap (take count) (sym (drop-drop window.cursor window.begin raw.bytes))
+    ∙ (sym (drop-take window.cursor count (left_at raw.bytes window.begin))
+    ∙ (ap (λ (n : ℕ). drop window.cursor (take n (left_at raw.bytes window.begin))) (sym size)
+    ∙ ap (drop window.cursor) told))
+
+-- a front of the bytes held from the place on is the raw's too
+pub held_next : (raw : Raw) (window : WindowView) (count : ℕ) → window.cursor ≤ length window.held → count ≤ length (ahead_of window) → HoldsBytes raw.bytes window → take count (left_at raw.bytes (place_of window)) ≡ take count (ahead_of window)
+held_next raw window count within fits told = sym (take-take count (length (ahead_of window)) (left_at raw.bytes (place_of window)) fits) ∙ ap (take count) (ahead_told raw window within told)
+
+-- an engine that stays as it is keeps all
+pub keeps_self : (engine : EngineView) → IsReading engine → KeepsEngine engine engine
+keeps_self engine is = record {
+  raw = keeps_same engine.raw;
+  stays = refl;
+  bytes = λ tells. refl;
+  written = λ tells. refl;
+  size = refl;
+  access = refl;
+  short = refl;
+  is = is;
+}
+
+-- two steps, one after the other, keep what each keeps
+pub keeps_then : (old mid new : EngineView) → KeepsEngine old mid → KeepsEngine mid new → KeepsEngine old new
+keeps_then old mid new first second = record {
+  raw = Keeps-then old.raw mid.raw new.raw first.raw second.raw;
+  stays = second.stays ∙ first.stays;
+  bytes = λ tells. second.bytes (first.raw.tells_bytes ∙ tells) ∙ first.bytes tells;
+  written = λ tells. second.written (first.raw.tells_transfers ∙ tells) ∙ first.written tells;
+  size = second.size ∙ first.size;
+  access = second.access ∙ first.access;
+  short = second.short ∙ first.short;
+  is = second.is;
+}
+
+-- a raw that told its bytes and its place before a step tells both after it
+pub still_tells : (old new : EngineView) → KeepsEngine old new → WhereTold old.raw (IsTrue (tells new.raw))
+still_tells old new kept told = tells_still old.raw new.raw kept.raw ∙ told
+
+-- a raw that tells has the bytes that it had
+pub keeps_told : (old new : EngineView) → KeepsEngine old new → WhereTold old.raw (new.raw.bytes ≡ old.raw.bytes)
+keeps_told old new kept told = kept.bytes (tells_its_bytes old.raw told)
+
+-- what two steps leave uncounted
+pub no_fault_then : (old mid new : EngineView) → KeepsEngine old mid → NoFault old.raw mid.raw → NoFault mid.raw new.raw → NoFault old.raw new.raw
+no_fault_then old mid new kept first second exact = second (kept.raw.counts_exactly ∙ exact) ∙ first exact
+
+-- two steps count no wait where neither of them did
+pub no_wait_then : (old mid new : EngineView) → KeepsEngine old mid → NoWait old.raw mid.raw → NoWait mid.raw new.raw → NoWait old.raw new.raw
+no_wait_then old mid new kept first second exact = second (kept.raw.counts_exactly ∙ exact) ∙ first exact
+
+-- two steps count neither fault nor wait where neither step did
+pub uncounted_then : (old mid new : EngineView) → KeepsEngine old mid → LeavesCounts old.raw mid.raw → LeavesCounts mid.raw new.raw → LeavesCounts old.raw new.raw
+uncounted_then old mid new kept first second = record {
+  no_fault = no_fault_then old mid new kept first.no_fault second.no_fault;
+  no_wait = no_wait_then old mid new kept first.no_wait second.no_wait;
+}
+
+-- a wait after steps that counted none is the only one
+pub waits_once_then : (old mid new : EngineView) → KeepsEngine old mid → NoWait old.raw mid.raw → WaitsOnce mid.raw new.raw → WaitsOnce old.raw new.raw
+waits_once_then old mid new kept first second exact = second (kept.raw.counts_exactly ∙ exact) ∙ ap (λ (waits : ℕ). counted waits 1) (first exact)
+
+-- a raw that isn't called counts nothing
+pub uncounted : (old new : Raw) → new ≡ old → LeavesCounts old new
+uncounted old new same = record { no_fault = λ exact. ap (λ (raw : Raw). raw.faults) same; no_wait = λ exact. ap (λ (raw : Raw). raw.waits) same }
+
+-- each step of an engine is one of a reading
+pub keeps_reading : (old new : EngineView) → KeepsEngine old new → KeepsReading (reading_of old) (reading_of new)
+keeps_reading old new kept = record {
+  raw = kept.raw;
+  stays = kept.stays;
+  bytes = kept.bytes;
+  written = kept.written;
+  can = (λ k. can_of (kept.access k) new.raw.seekable) ∙ ap (can_of old.access) kept.raw.seekable;
+  buffer = ap Some kept.size;
+  short = kept.short;
+  owed = refl;
+  far = within_window new.window kept.is.window_is;
+  near = near new kept.is;
+}
+
+-- How many transfers were made, by the bytes that they brought.
+
+-- each transfer of two steps brought a byte, but for those of the second that brought none
+pub each_then : (old mid new : EngineView) (others : ℕ) → KeepsEngine old mid → EachBrings 0 (reading_of old) (reading_of mid) → EachBrings others (reading_of mid) (reading_of new) → EachBrings others (reading_of old) (reading_of new)
+each_then old mid new others kept first second = stream_each_then (reading_of old) (reading_of mid) (reading_of new) others (keeps_reading old mid kept) first second
+
+-- each transfer brought a byte, but for one that brought nothing
+pub each_but_last : (old new : EngineView) → UsesUp old new → EachBrings 1 (reading_of old) (reading_of new)
+each_but_last old new uses tells = omega (arith, uses.transferred.transfers tells, uses.end)
+
+-- each transfer brought a byte, but for one that failed
+pub each_but_failed : (old new : EngineView) → FailsByRaw old new → EachBrings 1 (reading_of old) (reading_of new)
+each_but_failed old new fails tells = omega (arith, fails.transfers tells, fails.place, fails.kept.is.window_is.cursor)
+
+-- the cursor moved on, of a window that owes nothing
+pub settled_advanced : (window : WindowView) (count : ℕ) → window.from ≡ window.to → (advanced count window).from ≡ (advanced count window).to
+settled_advanced window count settled = ap (λ (n : ℕ). if is_settled window then window.cursor + count else n) settled
+
+-- a window whose cursor moved on over bytes held is a window
+pub window_advanced : (window : WindowView) (count : ℕ) → window.from ≡ window.to → IsWindow window → count ≤ length (ahead_of window) → IsWindow (advanced count window)
+window_advanced window count settled is fits =
+    let at : (advanced count window).from ≡ window.cursor + count = ap (λ (none : Bool). if none then window.cursor + count else window.from) (eq-eqb window.from window.to settled) in
+    let both = settled_advanced window count settled in
+    let within : window.cursor + count ≤ length window.held = omega (arith, fits, is.cursor, length-drop window.cursor window.held) in
+    record {
+      some = is.some;
+      cursor = within;
+      held = is.held;
+      far = is.far;
+      ordered = omega (arith, both);
+      within = omega (arith, both, at, within);
+      rests = λ none. at;
+    }
+
+-- a cursor that moves on by none stays
+pub advanced_none : (window : WindowView) → window.from ≡ window.to → IsWindow window → window ≡ advanced 0 window
+advanced_none window settled is =
+    let none : is_settled window ≡ true = eq-eqb window.from window.to settled in
+    let cursor : window.cursor ≡ window.cursor + 0 = omega arith in
+    let from : window.from ≡ (if is_settled window then window.cursor + 0 else window.from) = is.rests settled ∙ (cursor ∙ sym (ap (λ (at : Bool). if at then window.cursor + 0 else window.from) none)) in
+    let to : window.to ≡ (if is_settled window then window.cursor + 0 else window.to) = sym settled ∙ (is.rests settled ∙ (cursor ∙ sym (ap (λ (at : Bool). if at then window.cursor + 0 else window.to) none))) in
+    (λ k. record window { cursor = cursor k; from = from k; to = to k })
+
+-- an engine whose cursor moved on over bytes held keeps what a step of a reading keeps
+pub keeps_advanced : (old : EngineView) (count : ℕ) → IsReading old → count ≤ length (ahead_of old.window) → KeepsEngine old (record old { window = advanced count old.window })
+keeps_advanced old count is fits = record {
+  raw = keeps_same old.raw;
+  stays = refl;
+  bytes = λ tells. refl;
+  written = λ tells. refl;
+  size = refl;
+  access = refl;
+  short = refl;
+  is = record {
+    reads = is.reads;
+    window_is = window_advanced old.window count is.ahead.settled is.window_is fits;
+    is_open = is.is_open;
+    attached = is.attached;
+    ahead = record { settled = settled_advanced old.window count is.ahead.settled; stands = is.ahead.stands };
+    stands = is.stands;
+    told = is.told;
+  };
+}
+
+-- whether the last answer was short is nothing that has to hold
+pub reading_whole : (engine : EngineView) (short : Bool) → IsReading engine → IsReading (record engine { short = short })
+reading_whole engine short is = record { reads = is.reads; window_is = is.window_is; is_open = is.is_open; attached = is.attached; ahead = is.ahead; stands = is.stands; told = is.told }
+
+-- an engine that failed
+pub keeps_failed : (engine : EngineView) → IsReading engine → KeepsEngine engine (record engine { life = life.Failed })
+keeps_failed engine is = record {
+  raw = keeps_same engine.raw;
+  stays = refl;
+  bytes = λ tells. refl;
+  written = λ tells. refl;
+  size = refl;
+  access = refl;
+  short = refl;
+  is = record {
+    reads = is.reads;
+    window_is = is.window_is;
+    is_open = λ live. absurd (cc);
+    attached = λ detached. cc;
+    ahead = is.ahead;
+    stands = λ tells live. absurd (cc);
+    told = λ tells live. absurd (cc);
+  };
+}
+
+-- an engine by its parts
+abbrev pub made : Raw → ℕ → WindowView → Access → Life → Bool → EngineView
+made raw raw_place window opened current short = record { raw = raw; raw_place = raw_place; window = window; access = opened; life = current; short = short }
+
+-- an engine whose cursor moved on, by its parts
+pub made_advanced : (engine : EngineView) (raw : Raw) (raw_place : ℕ) (window now : WindowView) (opened : Access) (current : Life) (short : Bool) (count : ℕ) → made raw raw_place window opened current short ≡ engine → now ≡ advanced count window → record engine { window = advanced count engine.window } ≡ made raw raw_place now opened current short
+made_advanced engine raw raw_place window now opened current short count same moved = ap (λ (view : EngineView). record view { window = advanced count view.window }) (sym same) ∙ ap (λ (view : WindowView). made raw raw_place view opened current short) (sym moved)

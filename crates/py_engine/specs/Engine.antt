@@ -1,0 +1,80 @@
+-- The engine of the buffered streams: what it is seen as, and what holds of it.
+use Rattle.std.specs.Prelude.{◌≡◌, ◌≢◌, ℕ, ◌+◌, Bool, false, List, length, take, Some, Result, Ok, Err}
+use Rattle.py_flat.specs.declared.fault.IoFault.{IoFault}
+use Rattle.py_flat.specs.declared.life.Life.{Life}
+use Rattle.py_flat.specs.declared.life.Life.TheVariants as life
+use Rattle.py_flat.specs.Bytes.{left_at}
+use Rattle.py_flat.specs.Refusals.{life_fault}
+use Rattle.py_raw.specs.RawStream.{Raw, WhereTold, WherePlace}
+use Rattle.py_stream.specs.declared.access.Access.{Access}
+use Rattle.py_stream.specs.declared.access.Access.TheVariants as access
+use Rattle.py_stream.specs.Access.{can_of}
+use Rattle.py_stream.specs.Stream.{Stream}
+use Rattle.py_engine.specs.Window.{WindowView, IsWindow, Collects, place_of, end_of, owed_of}
+
+-- an engine: its raw, where the raw stands by the stream's own count, the window on the raw's bytes, what its stream is opened for, what
+-- became of it, and whether a wait cut the last answer short
+pub record EngineView : Type 0 where
+  pub raw : Raw
+  pub raw_place : ℕ
+  pub window : WindowView
+  pub access : Access
+  pub life : Life
+  pub short : Bool
+
+-- the stream that an engine is
+abbrev pub stream_of : EngineView → Stream
+stream_of engine = record {
+  raw = engine.raw;
+  place = place_of engine.window;
+  raw_place = engine.raw_place;
+  can = can_of engine.access engine.raw.seekable;
+  life = engine.life;
+  buffer = Some engine.window.size;
+  short = engine.short;
+  owed = owed_of engine.window;
+  held = record { from = engine.window.begin; to = end_of engine.window };
+}
+
+-- the bytes held are those of a list, from the window's place on
+abbrev pub HoldsBytes : List ℕ → WindowView → Type 0
+HoldsBytes bytes window = take (length window.held) (left_at bytes window.begin) ≡ window.held
+
+-- the shape of a window by what the stream is opened for. Of a stream that is read nothing is owed, and its raw stands after the
+-- bytes held
+pub record ReadsAhead (raw_place : ℕ) (window : WindowView) : Type 0 where
+  pub settled : window.from ≡ window.to
+  pub stands : raw_place ≡ end_of window
+
+-- of a stream that is written what is owed ends at the place, where all held bytes end, and the raw stands where what is owed begins
+pub record OwesBefore (raw_place : ℕ) (window : WindowView) : Type 0 where
+  pub collects : Collects window
+  pub stands : raw_place ≡ window.begin + window.from
+
+-- where an engine's raw stands beside its window, by what the stream is opened for
+abbrev pub HasShape : Access → ℕ → WindowView → Type 0
+HasShape access.Read raw_place window = ReadsAhead raw_place window
+HasShape other raw_place window = OwesBefore raw_place window
+
+-- told, what a stream that is read holds are the raw's bytes
+abbrev pub HoldsRead : Access → List ℕ → WindowView → Type 0
+HoldsRead access.Read bytes window = HoldsBytes bytes window
+HoldsRead other bytes window = Unit {0}
+
+-- what holds of every engine; of a live one that its raw is open, and stands where the stream counts
+pub record IsEngine (raw : Raw) (raw_place : ℕ) (window : WindowView) (opened : Access) (current : Life) : Type 0 where
+  pub window_is : IsWindow window
+  pub is_open : current ≡ life.Live → raw.closed ≡ false
+  pub attached : current ≢ life.Detached
+  pub shape : HasShape opened raw_place window
+  pub stands : WherePlace raw (current ≡ life.Live → raw.place ≡ raw_place)
+  pub told : WhereTold raw (current ≡ life.Live → HoldsRead opened raw.bytes window)
+
+-- an engine as it is seen
+abbrev pub Stands : EngineView → Type 0
+Stands engine = IsEngine engine.raw engine.raw_place engine.window engine.access engine.life
+
+-- a call begins: it is refused by the life, and nothing is short yet
+abbrev pub BeginOutcome : EngineView → Result (Unit {0}) IoFault → EngineView → Type 0
+BeginOutcome old (Ok done) new = (old.life ≡ life.Live) × (new ≡ record old { short = false })
+BeginOutcome old (Err why) new = (life_fault old.life ≡ Some why) × (new ≡ record old { short = false })

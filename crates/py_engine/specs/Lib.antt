@@ -1,0 +1,4 @@
+pub mod Window
+pub mod Engine
+pub mod Passing
+pub mod Reading

@@ -1,0 +1,236 @@
+-- Reading from an engine that reads ahead: nothing is pending, and its raw stands after the bytes held.
+use Rattle.std.specs.Prelude.{◌≡◌, ◌≢◌, ℕ, ◌+◌, ◌<◌, ◌≤◌, ◌⊎◌, Bool, true, false, IsTrue, List, [], ◌++◌, length, take, Some, Result, Ok, Err, Vec}
+use Rattle.std.specs.declared.alloc.Global.{Global}
+use Rattle.py_flat.specs.declared.fault.IoFault.{IoFault}
+use Rattle.py_flat.specs.declared.fault.IoFault.TheVariants as fault
+use Rattle.py_flat.specs.declared.life.Life.TheVariants as life
+use Rattle.py_flat.specs.Bytes.{left_at}
+use Rattle.py_flat.specs.Causes.{Rose}
+use Rattle.py_flat.specs.ExactStep.{rest}
+use Rattle.py_raw.specs.RawStream.{Keeps, StaysOpen, WhereTold, WherePlace, WhereTransfers, KeepsBytes, NoFault, NoWait, WaitsOnce, LeavesCounts, AnswersFor}
+use Rattle.py_stream.specs.Access.{can_of, is_read}
+use Rattle.py_stream.specs.Stream.{Stream, file_of, nothing_owed}
+use Rattle.py_stream.specs.Reading.{KeepsReading, EachBrings, Reaches, FailsReading, StopOutcome, is_wait}
+use Rattle.py_stream.specs.declared.stop.Stop.{Stop}
+use Rattle.py_stream.specs.declared.stop.Stop.TheVariants as stop
+use Rattle.py_engine.specs.declared.window.Filled.{Filled}
+use Rattle.py_engine.specs.declared.window.Filled.TheVariants as filled
+use Rattle.py_engine.specs.declared.data.reading.Progress.{Progress}
+use Rattle.py_engine.specs.declared.data.reading.Step.{Step}
+use Rattle.py_engine.specs.declared.data.reading.Step.TheVariants as step
+use Rattle.py_engine.specs.Window.{IsWindow, place_of, end_of, ahead_of, advanced, emptied_at, HoldsNew}
+use Rattle.py_engine.specs.Engine.{EngineView, ReadsAhead, HoldsBytes}
+
+-- the stream that an engine is which reads ahead
+abbrev pub reading_of : EngineView → Stream
+reading_of engine = record {
+  raw = engine.raw;
+  place = place_of engine.window;
+  raw_place = end_of engine.window;
+  can = can_of engine.access engine.raw.seekable;
+  life = engine.life;
+  buffer = Some engine.window.size;
+  short = engine.short;
+  owed = nothing_owed (place_of engine.window);
+  held = record { from = engine.window.begin; to = end_of engine.window };
+}
+
+-- what holds of an engine that reads ahead; of a live one that its raw stands after the bytes held, and told, that these are the raw's
+pub record IsReading (engine : EngineView) : Type 0 where
+  pub reads : is_read engine.access ≡ true
+  pub window_is : IsWindow engine.window
+  pub is_open : engine.life ≡ life.Live → engine.raw.closed ≡ false
+  pub attached : engine.life ≢ life.Detached
+  pub ahead : ReadsAhead engine.raw_place engine.window
+  pub stands : WherePlace engine.raw (engine.life ≡ life.Live → engine.raw.place ≡ end_of engine.window)
+  pub told : WhereTold engine.raw (engine.life ≡ life.Live → HoldsBytes engine.raw.bytes engine.window)
+
+-- what every step of a reading keeps of an engine
+pub record KeepsEngine (old new : EngineView) : Type 0 where
+  pub raw : Keeps old.raw new.raw
+  pub stays : StaysOpen old.raw new.raw
+  pub bytes : KeepsBytes old.raw new.raw
+  pub written : AnswersFor 0 old.raw new.raw
+  pub size : new.window.size ≡ old.window.size
+  pub access : new.access ≡ old.access
+  pub short : new.short ≡ old.short
+  pub is : IsReading new
+
+-- Failing.
+
+-- the raw failed, and the stream with it
+pub record FailsByRaw (old new : EngineView) : Type 0 where
+  pub kept : KeepsEngine old new
+  pub cause : Rose old.raw.faults new.raw.faults
+  pub no_wait : NoWait old.raw new.raw
+  pub failed : new.life ≡ life.Failed
+  pub place : place_of new.window ≡ end_of old.window
+  pub transfers : WhereTransfers old.raw (new.raw.transfers ≤ old.raw.transfers + 1)
+
+-- What one transfer leaves.
+
+-- what at most one transfer leaves of a live engine
+pub record Transferred (old new : EngineView) : Type 0 where
+  pub kept : KeepsEngine old new
+  pub no_fault : NoFault old.raw new.raw
+  pub live : new.life ≡ life.Live
+  pub transfers : WhereTransfers old.raw (new.raw.transfers ≤ old.raw.transfers + 1)
+
+-- the raw would have blocked, or said that nothing comes: the window is used up
+pub record UsesUp (old new : EngineView) : Type 0 where
+  pub transferred : Transferred old new
+  pub place : place_of new.window ≡ end_of old.window
+  pub end : end_of new.window ≡ end_of old.window
+  pub none : ahead_of new.window ≡ []
+  pub still : WherePlace old.raw (new.raw.place ≡ old.raw.place)
+
+-- told: no byte comes after those held
+abbrev pub IsLast : EngineView → Type 0
+IsLast old = WhereTold old.raw (length old.raw.bytes ≤ end_of old.window)
+
+-- memory ran out: the stream fails where bytes had moved in this call
+abbrev pub StarvesWith : Bool → EngineView → EngineView → Type 0
+StarvesWith true old new = new ≡ record old { life = life.Failed }
+StarvesWith false old new = new ≡ old
+
+-- the raw wanted memory that it takes: nothing changed
+abbrev pub RawStarves : Bool → EngineView → EngineView → Type 0
+RawStarves moved old new = IsTrue old.raw.takes_memory × StarvesWith moved old new
+
+-- the window was filled anew
+pub record Fills (old : EngineView) (count : ℕ) (new : EngineView) : Type 0 where
+  pub transferred : Transferred old new
+  pub no_wait : NoWait old.raw new.raw
+  pub holds : HoldsNew old.window count new.window
+  pub some : 0 < count
+  pub told : WhereTold old.raw (take count (left_at old.raw.bytes (end_of old.window)) ≡ new.window.held)
+  pub each : EachBrings 0 (reading_of old) (reading_of new)
+  pub forth : WherePlace old.raw (old.raw.place < new.raw.place)
+
+-- one transfer into the window: it brought bytes, nothing comes, the raw waits or failed, or memory ran out
+abbrev pub FillsOutcome : EngineView → Bool → Result Filled IoFault → EngineView → Type 0
+FillsOutcome old moved (Ok (filled.More count)) new = Fills old count new
+FillsOutcome old moved (Ok filled.End) new = UsesUp old new × IsLast old × NoWait old.raw new.raw
+FillsOutcome old moved (Ok filled.Waits) new = UsesUp old new × Rose old.raw.waits new.raw.waits × WaitsOnce old.raw new.raw
+FillsOutcome old moved (Err fault.RawFault) new = FailsByRaw old new
+FillsOutcome old moved (Err fault.NoMemory) new = RawStarves moved old new
+FillsOutcome old moved (Err other) new = ⊥
+
+-- bytes went past the window into the front of a caller's buffer
+pub record Passes (old : EngineView) (count : ℕ) (buffer : List ℕ) (new : EngineView) : Type 0 where
+  pub transferred : Transferred old new
+  pub no_wait : NoWait old.raw new.raw
+  pub fits : count ≤ length buffer
+  pub some : 0 < count
+  pub window_is : new.window ≡ emptied_at (end_of old.window + count) old.window
+  pub told : WhereTold old.raw (take count (left_at old.raw.bytes (end_of old.window)) ≡ take count buffer)
+  pub each : EachBrings 0 (reading_of old) (reading_of new)
+  pub forth : WherePlace old.raw (old.raw.place < new.raw.place)
+
+-- one transfer past the window into a caller's buffer: it brought bytes, nothing comes, the raw waits or failed, or memory ran out
+abbrev pub PassesOutcome : EngineView → Bool → Result Filled IoFault → List ℕ → EngineView → Type 0
+PassesOutcome old moved (Ok (filled.More count)) buffer new = Passes old count buffer new
+PassesOutcome old moved (Ok filled.End) buffer new = UsesUp old new × IsLast old × NoWait old.raw new.raw
+PassesOutcome old moved (Ok filled.Waits) buffer new = UsesUp old new × Rose old.raw.waits new.raw.waits × WaitsOnce old.raw new.raw
+PassesOutcome old moved (Err fault.RawFault) buffer new = FailsByRaw old new
+PassesOutcome old moved (Err fault.NoMemory) buffer new = RawStarves moved old new
+PassesOutcome old moved (Err other) buffer new = ⊥
+
+-- Answering.
+
+-- the engine once the answer is known: a wait cut it short
+abbrev pub answered_at : Stop → EngineView → EngineView
+answered_at where_stopped engine = record engine { short = is_wait where_stopped }
+
+-- Into a caller's buffer.
+
+-- bytes came after those held, which were all taken, into the front of what is left of a caller's buffer
+pub record StepsOn (old : EngineView) (count : ℕ) (rest : List ℕ) (new : EngineView) : Type 0 where
+  pub kept : KeepsEngine old new
+  pub counts : LeavesCounts old.raw new.raw
+  pub live : new.life ≡ life.Live
+  pub some : 0 < count
+  pub place : end_of old.window ≤ place_of new.window
+  pub told : WhereTold old.raw (take count (left_at old.raw.bytes (end_of old.window)) ≡ take count rest)
+  pub each : EachBrings 0 (reading_of old) (reading_of new)
+  pub forth : WherePlace old.raw (old.raw.place < new.raw.place)
+
+-- one transfer: it brought less than what is left of the buffer, and the window's end lies after it; or as much, and the
+-- place does; or none
+abbrev pub StepOutcome : EngineView → Bool → Result Step IoFault → List ℕ → EngineView → Type 0
+StepOutcome old moved (Ok (step.On count)) rest new = StepsOn old count rest new × (count < length rest) × (end_of new.window ≡ end_of old.window + count)
+StepOutcome old moved (Ok (step.Stopped count stop.Enough)) rest new = StepsOn old count rest new × (count ≡ length rest) × (place_of new.window ≡ end_of old.window + count)
+StepOutcome old moved (Ok (step.Stopped count stop.End)) rest new = (count ≡ 0) × UsesUp old new × IsLast old × NoWait old.raw new.raw
+StepOutcome old moved (Ok (step.Stopped count stop.Waits)) rest new = (count ≡ 0) × UsesUp old new × Rose old.raw.waits new.raw.waits × WaitsOnce old.raw new.raw
+StepOutcome old moved (Err fault.RawFault) rest new = FailsByRaw old new
+StepOutcome old moved (Err fault.NoMemory) rest new = RawStarves moved old new
+StepOutcome old moved (Err other) rest new = ⊥
+
+-- memory ran out in a reading that goes on, where bytes had left the raw in this call, or in the reading before it
+pub record FailsStarved (moved : Bool) (before after : Stream) : Type 0 where
+  pub kept : KeepsReading before after
+  pub counts : LeavesCounts before.raw after.raw
+  pub failed : after.life ≡ life.Failed
+  pub forth : before.place ≤ after.place
+  pub reach : Reaches before after
+  pub raw_forth : before.raw_place ≤ after.raw_place
+  pub further : moved ≡ false → before.raw_place < after.raw_place
+  pub stands : WherePlace before.raw (before.raw.place ≤ after.raw.place)
+  pub stands_further : moved ≡ false → WherePlace before.raw (before.raw.place < after.raw.place)
+  pub some : moved ≡ false → WhereTold before.raw (rest (file_of before) ≢ [])
+  pub each : EachBrings 0 before after
+
+-- the raw's running out of memory: all is as it was where no byte had moved in this call; else the stream fails
+abbrev pub StarvesIn : EngineView → Bool → EngineView → Type 0
+StarvesIn old moved new = IsTrue old.raw.takes_memory × (((moved ≡ false) × (new ≡ old)) ⊎ FailsStarved moved (reading_of old) (reading_of new))
+
+-- a refused reading into a buffer moved the place by no more than that has room for, which is more than was held
+abbrev pub MovesInto : EngineView → List ℕ → EngineView → Type 0
+MovesInto old buffer new = (place_of new.window ≤ place_of old.window + length buffer) × (length (ahead_of old.window) < length buffer)
+
+-- n bytes came into the front of the buffer: all of it where there are enough, and else less; for one that the bytes held fill the
+-- raw isn't called
+pub record ReadsInto (old : EngineView) (progress : Progress) (buffer : List ℕ) (new : EngineView) : Type 0 where
+  pub fits : progress.count ≤ length buffer
+  pub full : progress.stop ≡ stop.Enough → progress.count ≡ length buffer
+  pub less : progress.stop ≢ stop.Enough → progress.count < length buffer
+  pub idle : length buffer ≤ length (ahead_of old.window) → new.raw ≡ old.raw
+  pub stops : StopOutcome (reading_of old) (take progress.count buffer) (Ok progress.stop) (reading_of new)
+
+-- a reading into a buffer came to some bytes, or is refused
+abbrev pub ReadIntoOutcome : EngineView → Bool → Result Progress IoFault → List ℕ → EngineView → Type 0
+ReadIntoOutcome old moved (Ok progress) buffer new = ReadsInto old progress buffer new
+ReadIntoOutcome old moved (Err fault.RawFault) buffer new = FailsReading (reading_of old) (reading_of new) × MovesInto old buffer new
+ReadIntoOutcome old moved (Err fault.NoMemory) buffer new = StarvesIn old moved new × MovesInto old buffer new
+ReadIntoOutcome old moved (Err other) buffer new = ⊥
+
+-- n bytes more were asked for, and some of them came after what a vector had; all of them where there are enough
+pub record ReadsMore (old : EngineView) (before : List ℕ) (more : ℕ) (where_stopped : Stop) (after : List ℕ) (new : EngineView) : Type 0 where
+  pub part : List ℕ
+  pub behind : after ≡ before ++ part
+  pub full : where_stopped ≡ stop.Enough → length part ≡ more
+  pub stops : StopOutcome (reading_of old) part (Ok where_stopped) (reading_of new)
+
+-- a reading of n bytes more came to some of them, or is refused
+abbrev pub ReadMoreOutcome : EngineView → Bool → List ℕ → ℕ → Result Stop IoFault → List ℕ → EngineView → Type 0
+ReadMoreOutcome old moved before more (Ok where_stopped) after new = ReadsMore old before more where_stopped after new
+ReadMoreOutcome old moved before more (Err fault.RawFault) after new = FailsReading (reading_of old) (reading_of new)
+ReadMoreOutcome old moved before more (Err fault.NoMemory) after new = StarvesWith moved old new ⊎ FailsStarved moved (reading_of old) (reading_of new)
+ReadMoreOutcome old moved before more (Err other) after new = ⊥
+
+-- By one transfer.
+
+-- the window has some bytes ahead, without a call of the raw where it held some; or it is used up, and nothing comes; or the raw
+-- waits
+abbrev pub ReadyOutcome : EngineView → Result Stop IoFault → EngineView → Type 0
+ReadyOutcome old (Ok stop.Enough) new = Transferred old new × (place_of new.window ≡ place_of old.window) × (0 < length (ahead_of new.window)) × NoWait old.raw new.raw × (end_of old.window ≢ place_of old.window → new.raw ≡ old.raw)
+ReadyOutcome old (Ok stop.End) new = Transferred old new × (place_of new.window ≡ place_of old.window) × (ahead_of new.window ≡ []) × WhereTold old.raw (length old.raw.bytes ≤ place_of old.window) × NoWait old.raw new.raw × (end_of old.window ≡ place_of old.window)
+ReadyOutcome old (Ok stop.Waits) new = Transferred old new × (place_of new.window ≡ place_of old.window) × (ahead_of new.window ≡ []) × Rose old.raw.waits new.raw.waits × WaitsOnce old.raw new.raw × (end_of old.window ≡ place_of old.window)
+ReadyOutcome old (Err fault.RawFault) new = FailsByRaw old new × (place_of new.window ≡ place_of old.window) × (end_of old.window ≡ place_of old.window)
+ReadyOutcome old (Err fault.NoMemory) new = IsTrue old.raw.takes_memory × (new ≡ old)
+ReadyOutcome old (Err other) new = ⊥
+
+-- what is held is given, at most n bytes: the raw isn't called
+abbrev pub GivesHeld : EngineView → ℕ → Result (Vec ℕ Global) IoFault → EngineView → Type 0
+GivesHeld old size (Ok part) new = (part.items ≡ take size (ahead_of old.window)) × (new ≡ record old { window = advanced (length part.items) old.window })
+GivesHeld old size (Err refused) new = (refused ≡ fault.NoMemory) × (new ≡ old)

@@ -1,0 +1,202 @@
+-- The bytes of a stream that its buffer holds, with a cursor among them, and those among them that its raw is owed.
+use Rattle.std.specs.Prelude.{◌≡◌, ◌≢◌, ℕ, ◌+◌, ◌-◌, ◌<◌, ◌≤◌, List, [], ◌++◌, length, take, drop, min, max, Result, Ok, Err, Bool, ◌&&◌, nat_le, nat_eq, if◌then◌else◌}
+use Rattle.py_flat.specs.Limits.{greatest_place}
+use Rattle.py_flat.specs.Bytes.{left_at}
+use Rattle.py_flat.specs.Owed.{Owed}
+use Rattle.py_raw.specs.declared.raw_error.RawError.{RawError}
+use Rattle.py_raw.specs.declared.raw_error.RawError.TheVariants as raw_error
+use Rattle.py_raw.specs.RawStream.{Raw, WhereTold, WherePlace, KeepsBytes, Transfers, LeavesCounts, AnswersFor, AsksToWait, FailsWithout, LacksMemory}
+use Rattle.py_engine.specs.declared.window.Filled.{Filled}
+use Rattle.py_engine.specs.declared.window.Filled.TheVariants as filled
+
+-- how many bytes a window can hold; the place of the first that it holds; the bytes held; how many of them lie before the cursor; and
+-- before the first and the last end of those that are pending, which the stream owes its raw
+pub record WindowView : Type 0 where
+  pub size : ℕ
+  pub begin : ℕ
+  pub held : List ℕ
+  pub cursor : ℕ
+  pub from : ℕ
+  pub to : ℕ
+
+-- the place of the cursor, which is the stream's
+abbrev pub place_of : WindowView → ℕ
+place_of window = window.begin + window.cursor
+
+-- the place after the bytes held
+abbrev pub end_of : WindowView → ℕ
+end_of window = window.begin + length window.held
+
+-- the bytes held from the cursor on
+abbrev pub ahead_of : WindowView → List ℕ
+ahead_of window = drop window.cursor window.held
+
+-- the bytes that are pending
+abbrev pub pending_of : WindowView → List ℕ
+pending_of window = take (window.to - window.from) (drop window.from window.held)
+
+-- what is owed: the pending bytes, at their place
+abbrev pub owed_of : WindowView → Owed
+owed_of window = record { bytes = pending_of window; place = window.begin + window.from }
+
+-- whether no bytes are pending
+abbrev pub is_settled : WindowView → Bool
+is_settled window = nat_eq window.from window.to
+
+-- what holds of every window: where no bytes are pending, their empty range stands at the cursor
+pub record IsWindow (window : WindowView) : Type 0 where
+  pub some : 0 < window.size
+  pub cursor : window.cursor ≤ length window.held
+  pub held : length window.held ≤ window.size
+  pub far : end_of window ≤ greatest_place
+  pub ordered : window.from ≤ window.to
+  pub within : window.to ≤ length window.held
+  pub rests : window.from ≡ window.to → window.from ≡ window.cursor
+
+-- a window of a stream that is read, and not written: it owes nothing
+abbrev pub Reads : WindowView → Type 0
+Reads window = window.from ≡ window.to
+
+-- a window of a stream that is written, and not read: what it owes ends at the cursor, where all ends that it holds
+pub record Collects (window : WindowView) : Type 0 where
+  pub to : window.to ≡ window.cursor
+  pub end : window.cursor ≡ length window.held
+
+-- the cursor after n of the bytes held: the range of none that are pending goes with it
+abbrev pub at_cursor : ℕ → WindowView → WindowView
+at_cursor cursor window = record window {
+  cursor = cursor;
+  from = if is_settled window then cursor else window.from;
+  to = if is_settled window then cursor else window.to;
+}
+
+-- the cursor moved on
+abbrev pub advanced : ℕ → WindowView → WindowView
+advanced count window = at_cursor (window.cursor + count) window
+
+-- nothing is held, at a place
+abbrev pub emptied_at : ℕ → WindowView → WindowView
+emptied_at place window = record { size = window.size; begin = place; held = []; cursor = 0; from = 0; to = 0 }
+
+-- a window that holds nothing, after the bytes that it held
+abbrev pub used_up : WindowView → WindowView
+used_up window = emptied_at (end_of window) window
+
+-- whether a place lies among the bytes held, or right after them
+abbrev pub covers : WindowView → ℕ → Bool
+covers window place = nat_le window.begin place && nat_le place (end_of window)
+
+-- the cursor at a place that the window covers
+abbrev pub moved_to : ℕ → WindowView → WindowView
+moved_to place window = at_cursor (place - window.begin) window
+
+-- Putting bytes at the cursor.
+
+-- how many bytes before the cursor have to stay: from the first pending one on, where that lies before it
+abbrev pub kept_before : WindowView → ℕ
+kept_before window = window.cursor - window.from
+
+-- how many bytes have room at the cursor: all of the buffer, but for what has to stay
+abbrev pub room_of : WindowView → ℕ
+room_of window = window.size - kept_before window
+
+-- bytes put over those of a list, from n of them on
+abbrev pub pasted : List ℕ → ℕ → List ℕ → List ℕ
+pasted items at bytes = take at items ++ (bytes ++ drop (at + length bytes) items)
+
+-- the cursor moved on to stand after n of the bytes held: what it moved over is pending, with all that lies between
+abbrev pub covered : ℕ → WindowView → WindowView
+covered after window = record window {
+  cursor = after;
+  from = if is_settled window then window.cursor else min window.from window.cursor;
+  to = if is_settled window then after else max window.to after;
+}
+
+-- bytes at the cursor, over those held there, and pending from then on
+abbrev pub laid_at_cursor : List ℕ → WindowView → WindowView
+laid_at_cursor bytes window = covered (window.cursor + length bytes) (record window { held = pasted window.held window.cursor bytes })
+
+-- a window without the first n of the bytes held
+abbrev pub without_front : ℕ → WindowView → WindowView
+without_front count window = record {
+  size = window.size;
+  begin = window.begin + count;
+  held = drop count window.held;
+  cursor = window.cursor - count;
+  from = window.from - count;
+  to = window.to - count;
+}
+
+-- bytes were put at the cursor: where there is no room after it, all is let go of that needn't stay before it
+abbrev pub pushed : List ℕ → WindowView → WindowView
+pushed bytes window = if nat_le (window.cursor + length bytes) window.size then laid_at_cursor bytes window else laid_at_cursor bytes (without_front (window.cursor - kept_before window) window)
+
+-- Passing pending bytes on.
+
+-- a window of whose pending bytes the first n were passed on
+abbrev pub passed_on : ℕ → WindowView → WindowView
+passed_on count window = at_cursor window.cursor (record window { from = window.from + count })
+
+-- the pending bytes, and all that is held, up to a place
+abbrev pub cut_at : ℕ → WindowView → WindowView
+cut_at place window = record window {
+  held = take (place - window.begin) window.held;
+  cursor = place - window.begin;
+  to = place - window.begin;
+}
+
+-- One transfer of the raw after the bytes held, which are used up then.
+
+-- some bytes came, not none; they lie below the greatest place. Of a raw that stood where the last held byte ended: told, they
+-- are those that come next in it; and it stands after them
+pub record Brings (old : Raw) (place : ℕ) (part : List ℕ) (new : Raw) : Type 0 where
+  pub some : part ≢ []
+  pub within : place + length part ≤ greatest_place
+  pub counts : LeavesCounts old new
+  pub written : AnswersFor 0 old new
+  pub next : WhereTold old (old.place ≡ place → take (length part) (left_at old.bytes place) ≡ part)
+  pub stands : WherePlace old (old.place ≡ place → new.place ≡ place + length part)
+  pub bytes : KeepsBytes old new
+  pub transfers : Transfers 1 old new
+
+-- nothing came; told, nothing comes after the place, where the raw stood there; and it stands where it stood
+pub record BringsNone (old : Raw) (place : ℕ) (new : Raw) : Type 0 where
+  pub counts : LeavesCounts old new
+  pub written : AnswersFor 0 old new
+  pub last : WhereTold old (old.place ≡ place → length old.bytes ≤ place)
+  pub stands : WherePlace old (new.place ≡ old.place)
+  pub bytes : KeepsBytes old new
+  pub transfers : Transfers 1 old new
+
+-- into the front of a buffer
+abbrev pub TransferOutcome : Raw → ℕ → List ℕ → Result Filled RawError → List ℕ → Raw → Type 0
+TransferOutcome old place before (Ok (filled.More count)) after new = (count ≤ length after) × Brings old place (take count after) new
+TransferOutcome old place before (Ok filled.End) after new = BringsNone old place new
+TransferOutcome old place before (Ok filled.Waits) after new = AsksToWait old new
+TransferOutcome old place before (Err raw_error.Fault) after new = FailsWithout 1 old new
+TransferOutcome old place before (Err raw_error.Memory) after new = LacksMemory old new × (after ≡ before)
+
+-- a window that was filled anew: it holds what came, with the cursor before it
+pub record HoldsNew (before : WindowView) (count : ℕ) (after : WindowView) : Type 0 where
+  pub size : after.size ≡ before.size
+  pub begin : after.begin ≡ end_of before
+  pub cursor : after.cursor ≡ 0
+  pub from : after.from ≡ 0
+  pub to : after.to ≡ 0
+  pub as_many : count ≡ length after.held
+
+-- a transfer into the window
+abbrev pub FillOutcome : Raw → WindowView → Result Filled RawError → Raw → WindowView → Type 0
+FillOutcome old before (Ok (filled.More count)) new after = HoldsNew before count after × IsWindow after × Brings old (end_of before) after.held new
+FillOutcome old before (Ok filled.End) new after = (after ≡ used_up before) × BringsNone old (end_of before) new
+FillOutcome old before (Ok filled.Waits) new after = (after ≡ used_up before) × AsksToWait old new
+FillOutcome old before (Err raw_error.Fault) new after = (after ≡ used_up before) × FailsWithout 1 old new
+FillOutcome old before (Err raw_error.Memory) new after = (after ≡ before) × LacksMemory old new
+
+-- a transfer past the window, straight into the front of a caller's buffer
+abbrev pub PassOutcome : Raw → WindowView → Result Filled RawError → List ℕ → Raw → WindowView → Type 0
+PassOutcome old before (Ok (filled.More count)) buffer new after = (count ≤ length buffer) × (after ≡ emptied_at (end_of before + count) before) × Brings old (end_of before) (take count buffer) new
+PassOutcome old before (Ok filled.End) buffer new after = (after ≡ used_up before) × BringsNone old (end_of before) new
+PassOutcome old before (Ok filled.Waits) buffer new after = (after ≡ used_up before) × AsksToWait old new
+PassOutcome old before (Err raw_error.Fault) buffer new after = (after ≡ used_up before) × FailsWithout 1 old new
+PassOutcome old before (Err raw_error.Memory) buffer new after = (after ≡ before) × LacksMemory old new

@@ -1,0 +1,219 @@
+-- How a reading that goes on comes from one transfer to the next.
+use Rattle.std.proofs.Common.{◌≡◌, ◌≢◌, ℕ, ◌+◌, ◌-◌, ◌<◌, ◌≤◌, max, replicate, inl, inr, Bool, true, false, if◌then◌else◌, nat_lt, IsTrue, List, [], ◌∷◌, ◌++◌, length, take, drop, None, Result, Ok, Err, refl, sym, ap, ◌∙◌, subst, arith}
+use Rattle.std.proofs.lemmas.Bool.{true≢false, lt-ltb}
+use Rattle.std.proofs.lemmas.List.{length-append, length-take, length-take-le, length-drop, length-replicate, take_all, take_at}
+use Rattle.py_flat.specs.declared.fault.IoFault.{IoFault}
+use Rattle.py_flat.specs.declared.fault.IoFault.TheVariants as fault
+use Rattle.py_flat.specs.declared.life.Life.TheVariants as life
+use Rattle.py_flat.specs.Bytes.{left_at}
+use Rattle.py_lines.proofs.Asking.{some_length}
+use Rattle.py_raw.specs.RawStream.{LeavesCounts, AnswersFor, WhereTold, WherePlace, WhereTransfers, KeepsBytes, tells}
+use Rattle.py_raw.proofs.Telling.{tells_its_bytes, tells_still}
+use Rattle.py_stream.specs.declared.stop.Stop.{Stop}
+use Rattle.py_stream.specs.declared.stop.Stop.TheVariants as stop
+use Rattle.py_stream.specs.Reading.{KeepsReading, ComesNext, FailsReading, FailsMoved, StarvesReading, StopOutcome, RestOutcome}
+use Rattle.py_stream.proofs.ReadingSteps.{next_behind, next_reaches, keeps_then as keeps_then_reading}
+use Rattle.py_unbuffered.specs.Engine.{EngineView, stream_of, IsEngine, KeepsEngine, Waits, Fails, StarvesWith, Brings, TransferOutcome}
+use Rattle.py_unbuffered.proofs.Begun.{bufferless}
+use Rattle.py_unbuffered.proofs.Steps.{keeps_self, keeps_then, keeps_failed, keeps_reading, no_fault_then, no_wait_then, uncounted, uncounted_then, answers_none, answers_none_then}
+
+-- a reading has taken a part, at least one byte by each transfer: told, the next ones; it began live, where its raw stood
+pub record Took (old : EngineView) (part : List ℕ) (now : EngineView) : Type 0 where
+  pub began : old.life ≡ life.Live
+  pub stands : WherePlace old.raw (old.raw.place ≡ old.place)
+  pub kept : KeepsEngine old now
+  pub counts : LeavesCounts old.raw now.raw
+  pub answered : AnswersFor 0 old.raw now.raw
+  pub live : now.life ≡ life.Live
+  pub place : now.place ≡ old.place + length part
+  pub none : part ≡ [] → now ≡ old
+  pub bytes : KeepsBytes old.raw now.raw
+  pub told : WhereTold old.raw (ComesNext (stream_of old) part)
+  pub transfers : WhereTransfers old.raw (now.raw.transfers ≤ old.raw.transfers + length part)
+
+-- a reading has taken nothing before the first transfer
+pub took_none : (old : EngineView) → IsEngine old.raw old.place old.access old.life → old.life ≡ life.Live → Took old [] old
+took_none old is live = record {
+  began = live;
+  stands = λ tells. is.stands tells live;
+  kept = keeps_self old is;
+  counts = uncounted old.raw old.raw refl;
+  answered = answers_none old.raw old.raw refl;
+  live = live;
+  place = omega arith;
+  none = λ nothing. refl;
+  bytes = λ tells. refl;
+  told = λ tells. refl;
+  transfers = λ tells. omega arith;
+}
+
+module _ (old now : EngineView) (part : List ℕ) (took : Took old part now) where
+  -- a raw that told its bytes and its place tells both still
+  still_tells : IsTrue (tells old.raw) → IsTrue (tells now.raw)
+  still_tells told = tells_still old.raw now.raw took.kept.raw ∙ told
+
+  -- a step that leaves the raw's bytes leaves those with which the reading began
+  bytes_then : (new : EngineView) → KeepsBytes now.raw new.raw → KeepsBytes old.raw new.raw
+  bytes_then new same = λ tells. same (took.kept.raw.tells_bytes ∙ tells) ∙ took.bytes tells
+
+  -- what a transfer brings comes after what was taken
+  brings_next : (before : List ℕ) (count : ℕ) (after : List ℕ) (new : EngineView) → Brings now before count after new → WhereTold old.raw (take (length (part ++ take count after)) (left_at old.raw.bytes old.place) ≡ part ++ take count after)
+  brings_next before count after new brings = λ tells.
+      let long : length (part ++ take count after) ≡ length part + count = length-append part (take count after) ∙ ap (λ (n : ℕ). length part + n) (length-take-le count after brings.fits) in
+      ap (λ (n : ℕ). take n (left_at old.raw.bytes old.place)) long
+      ∙ next_behind old.raw.bytes part after old.place (length part) count refl (took.told tells)
+      (ap (λ (place : ℕ). take count (left_at old.raw.bytes place)) (sym took.place)
+      ∙ (ap (λ (bytes : List ℕ). take count (left_at bytes now.place)) (sym (took.bytes (tells_its_bytes old.raw tells)))
+      ∙ brings.told (still_tells tells)))
+
+  -- one more transfer brought some bytes
+  pub took_on : (before : List ℕ) (count : ℕ) (after : List ℕ) (new : EngineView) → Brings now before count after new → 0 < count → Took old (part ++ take count after) new
+  took_on before count after new brings some =
+      let long : length (part ++ take count after) ≡ length part + count = length-append part (take count after) ∙ ap (λ (n : ℕ). length part + n) (length-take-le count after brings.fits) in
+      record {
+        began = took.began;
+        stands = took.stands;
+        kept = keeps_then old now new took.kept brings.kept;
+        counts = uncounted_then old now new took.kept took.counts brings.counts;
+        answered = answers_none_then old now new 0 took.kept took.answered brings.answered;
+        live = brings.live;
+        place = omega (arith, took.place, brings.place, long);
+        none = λ nothing. absurd (omega (arith, ap length nothing, long, some));
+        bytes = bytes_then new brings.bytes;
+        told = brings_next before count after new brings;
+        transfers = λ tells. omega (arith, took.transfers tells, brings.transfers (took.kept.raw.tells_transfers ∙ tells), long, some);
+      }
+
+  -- what was taken is given
+  pub gives_taken : StopOutcome (stream_of old) part (Ok stop.Enough) (stream_of now)
+  gives_taken = (
+    record { kept = keeps_reading old now took.kept took.bytes took.answered; no_fault = took.counts.no_fault; live = took.live; place = took.place; told = took.told },
+    took.counts.no_wait,
+    λ tells. omega (arith, took.transfers tells, took.place),
+    λ buffered. absurd (bufferless None refl buffered),
+  )
+
+  -- what a step after what was taken keeps of the engine
+  keeps_on : (new : EngineView) → KeepsEngine now new → KeepsBytes now.raw new.raw → AnswersFor 0 now.raw new.raw → KeepsReading (stream_of old) (stream_of new)
+  keeps_on new kept bytes answered = keeps_then_reading (stream_of old) (stream_of now) (stream_of new) (keeps_reading old now took.kept took.bytes took.answered) (keeps_reading now new kept bytes answered)
+
+  -- nothing came any more
+  pub stops_at_end : (before : List ℕ) (after : List ℕ) (new : EngineView) → Brings now before 0 after new → before ≢ [] → StopOutcome (stream_of old) part (Ok stop.End) (stream_of new)
+  stops_at_end before after new brings asked = (
+    record {
+      kept = keeps_on new brings.kept brings.bytes brings.answered;
+      no_fault = no_fault_then old now new took.kept took.counts.no_fault brings.counts.no_fault;
+      live = brings.live;
+      place = omega (arith, took.place, brings.place);
+      told = took.told;
+    },
+    no_wait_then old now new took.kept took.counts.no_wait brings.counts.no_wait,
+    λ tells. omega (arith, brings.end refl asked (still_tells tells), ap length (took.bytes (tells_its_bytes old.raw tells)), brings.place),
+    λ tells. omega (arith, took.transfers tells, took.place, brings.place, brings.transfers (took.kept.raw.tells_transfers ∙ tells)),
+  )
+
+  -- the raw would have blocked
+  pub stops_waiting : (new : EngineView) → Waits now new → StopOutcome (stream_of old) part (Ok stop.Waits) (stream_of new)
+  stops_waiting new waits = (
+    record {
+      kept = keeps_on new waits.kept waits.bytes waits.answered;
+      no_fault = no_fault_then old now new took.kept took.counts.no_fault waits.no_fault;
+      live = waits.live;
+      place = waits.place ∙ took.place;
+      told = took.told;
+    },
+    omega (arith, took.kept.raw.waits, waits.cause),
+    refl,
+    λ exact. omega (arith, took.counts.no_wait exact, waits.once (took.kept.raw.counts_exactly ∙ exact)),
+    λ tells. omega (arith, took.transfers tells, took.place, waits.place, waits.transfers (took.kept.raw.tells_transfers ∙ tells)),
+  )
+
+  -- the raw failed
+  pub fails_after : (new : EngineView) → Fails now new → FailsReading (stream_of old) (stream_of new)
+  fails_after new fails = record {
+    kept = keeps_on new fails.kept fails.bytes fails.answered;
+    cause = omega (arith, took.kept.raw.faults, fails.cause);
+    no_wait = no_wait_then old now new took.kept took.counts.no_wait fails.no_wait;
+    failed = fails.failed;
+    forth = omega (arith, fails.place, took.place);
+    reach = next_reaches (stream_of old) (stream_of new) part (fails.place ∙ took.place) took.told;
+    each = λ tells. omega (arith, took.transfers tells, took.place, fails.place, fails.transfers (took.kept.raw.tells_transfers ∙ tells));
+  }
+
+  -- memory ran out once bytes had moved
+  starves_moved : part ≢ [] → FailsMoved (stream_of old) (stream_of (record now { life = life.Failed }))
+  starves_moved some = record {
+    kept = keeps_on (record now { life = life.Failed }) (keeps_failed now took.kept.is) (λ tells. refl) (answers_none now.raw now.raw refl);
+    counts = took.counts;
+    failed = refl;
+    forth = omega (arith, took.place);
+    reach = next_reaches (stream_of old) (stream_of (record now { life = life.Failed })) part took.place took.told;
+    further = omega (arith, took.place, some_length part some);
+    stands = λ tells. omega (arith, took.place, some_length part some, took.stands tells, took.kept.is.stands (took.kept.raw.tells_place ∙ tells) took.live);
+    some = λ tells none. absurd (omega (arith, some_length part some, ap length (took.told tells), ap (λ (left : List ℕ). length (take (length part) left)) none, length-take {A = ℕ} (length part) []));
+    each = λ tells. omega (arith, took.transfers tells, took.place);
+  }
+
+  -- memory ran out, which fails the stream where bytes had moved
+  pub starves_after : (moved : Bool) (new : EngineView) → (moved ≡ true → part ≢ []) → (moved ≡ false → part ≡ []) → StarvesWith moved now new → StarvesReading (stream_of old) (stream_of new)
+  starves_after true new some none starves = inr (subst (λ (engine : EngineView). FailsMoved (stream_of old) (stream_of engine)) (sym starves) (starves_moved (some refl)))
+  starves_after false new some none starves = inl (ap stream_of (starves ∙ took.none (none refl)))
+
+-- whether something has come, by how much
+some_came : (part : List ℕ) (held : ℕ) → held ≡ length part → (nat_lt 0 held ≡ true → part ≢ []) × (nat_lt 0 held ≡ false → part ≡ [])
+some_came [] held long = (λ some. absurd (true≢false (sym some ∙ ap (nat_lt 0) long)), λ none. refl)
+some_came (byte ∷ part) held long = (
+  λ some nothing. cc,
+  λ none. absurd (true≢false (sym (lt-ltb 0 held (omega arith)) ∙ none)),
+)
+
+-- a vector could not be lengthened
+pub rest_starved : (old now : EngineView) (part : List ℕ) (held : ℕ) (why : IoFault) (bytes : List ℕ) (new : EngineView) → held ≡ length part → Took old part now → why ≡ fault.NoMemory → StarvesWith (nat_lt 0 held) now new → RestOutcome (stream_of old) (Err why) bytes (stream_of new)
+rest_starved old now part held why bytes new long took says starves =
+    let came : (nat_lt 0 held ≡ true → part ≢ []) × (nat_lt 0 held ≡ false → part ≡ []) = some_came part held long in
+    subst (λ (w : IoFault). RestOutcome (stream_of old) (Err w) bytes (stream_of new)) (sym says) (starves_after old now part took (nat_lt 0 held) new came.0 came.1 starves)
+
+-- a transfer was refused
+pub rest_refused : (old now : EngineView) (part : List ℕ) (held : ℕ) (before : List ℕ) (why : IoFault) (after bytes : List ℕ) (new : EngineView) → held ≡ length part → Took old part now → TransferOutcome now (nat_lt 0 held) before (Err why) after new → RestOutcome (stream_of old) (Err why) bytes (stream_of new)
+rest_refused old now part held before fault.RawFault after bytes new long took outcome = fails_after old now part took new outcome
+rest_refused old now part held before fault.NoMemory after bytes new long took outcome = rest_starved old now part held fault.NoMemory bytes new long took refl outcome.1
+rest_refused old now part held before why after bytes new long took outcome = absurd outcome
+
+-- a refusal says nothing of the vector
+pub rest_err : (old : EngineView) (result : Result Stop IoFault) (why : IoFault) (bytes : List ℕ) (new : EngineView) → result ≡ Err why → ((any : List ℕ) → RestOutcome (stream_of old) (Err why) any (stream_of new)) → RestOutcome (stream_of old) result bytes (stream_of new)
+rest_err old result why bytes new says outcome = subst (λ (r : Result Stop IoFault). RestOutcome (stream_of old) r bytes (stream_of new)) (sym says) (outcome bytes)
+
+-- a vector that was lengthened: what it had stands in front
+pub record Widened (before : List ℕ) (held more : ℕ) (resized : List ℕ) : Type 0 where
+  pub front : take held resized ≡ before
+  pub whole : length resized ≡ held + more
+
+-- a vector is widened by what a lengthening ensures
+pub widened : (before resized : List ℕ) (held more size : ℕ) (ok : Bool) → ok ≡ true → held ≡ length before → size ≡ length before → resized ≡ (if ok then take (held + more) before ++ replicate (held + more - size) 0 else before) → Widened before held more resized
+widened before resized held more size ok is long as_long says =
+    let same : resized ≡ before ++ replicate (held + more - size) 0 = says ∙ (ap (λ (b : Bool). if b then take (held + more) before ++ replicate (held + more - size) 0 else before) is ∙ ap (λ (xs : List ℕ). xs ++ replicate (held + more - size) 0) (take_all (held + more) before (omega arith))) in
+    record {
+      front = ap (take held) same ∙ take_at before (replicate (held + more - size) 0) held (sym long);
+      whole = ap length same ∙ (length-append before (replicate (held + more - size) 0) ∙ omega (arith, length-replicate {A = ℕ} (held + more - size) 0));
+    }
+
+-- how much room is left after what a lengthened vector had
+pub room_left : (held more : ℕ) (resized : List ℕ) → length resized ≡ held + more → length (take (length resized - held) (drop held resized)) ≡ more
+room_left held more resized whole = length-take-le (length resized - held) (drop held resized) (omega (arith, length-drop held resized)) ∙ omega arith
+
+-- the room that a lengthening left isn't empty
+pub room_for_some : (held came more : ℕ) (resized : List ℕ) → length resized ≡ held + more → more ≡ max came 8192 → take (length resized - held) (drop held resized) ≢ []
+room_for_some held came more resized whole chunk none = absurd (omega (arith, room_left held more resized whole, ap length none))
+
+-- nothing came any more, and the vector was cut to what it had
+pub rest_ends : (old now : EngineView) (part before : List ℕ) (count : ℕ) (after bytes : List ℕ) (new : EngineView) → Took old part now → bytes ≡ part → count ≡ 0 → Brings now before count after new → before ≢ [] → RestOutcome (stream_of old) (Ok stop.End) bytes (stream_of new)
+rest_ends old now part before count after bytes new took is none brings asked =
+    subst (λ (xs : List ℕ). RestOutcome (stream_of old) (Ok stop.End) xs (stream_of new)) (sym is) (stops_at_end old now part took before after new (subst (λ (n : ℕ). Brings now before n after new) none brings) asked)
+
+-- the raw would have blocked, and the vector was cut to what it had
+pub rest_waits : (old now : EngineView) (part bytes : List ℕ) (new : EngineView) → Took old part now → bytes ≡ part → Waits now new → RestOutcome (stream_of old) (Ok stop.Waits) bytes (stream_of new)
+rest_waits old now part bytes new took is waits = subst (λ (xs : List ℕ). RestOutcome (stream_of old) (Ok stop.Waits) xs (stream_of new)) (sym is) (stops_waiting old now part took new waits)
+
+-- some more came
+pub rest_goes_on : (old now : EngineView) (part before : List ℕ) (count : ℕ) (after bytes : List ℕ) (new : EngineView) → Took old part now → bytes ≡ part ++ take count after → 0 < count → Brings now before count after new → Took old bytes new
+rest_goes_on old now part before count after bytes new took is some brings = subst (λ (xs : List ℕ). Took old xs new) (sym is) (took_on old now part took before count after new brings some)
