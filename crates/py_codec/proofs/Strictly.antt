@@ -19,7 +19,7 @@ use Rattle.py_codec.specs.ErrorHandler.{DecodeMeaning}
 use Rattle.py_codec.specs.Treating.{decode_fault}
 use Rattle.py_codec.specs.Decoding.{walk_by, decoding_by}
 use Rattle.py_codec.specs.Laws.{came_past, bytes_of_items}
-use Rattle.py_codec.proofs.Feeding.{CameTo, answered}
+use Rattle.py_codec.proofs.Ended.{CameTo, answered}
 use Rattle.py_codec.proofs.Covering.{none_lost}
 
 -- an item that is a character, whose own bytes are those of the item

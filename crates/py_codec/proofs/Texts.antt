@@ -25,7 +25,8 @@ begun encoding treat place c text own =
     let first = first_written treat place (c ∷ text) size own in
     onto_encoded place size first (encoded_from encoding treat (place + 1) (characters_behind first) text)
 
-written_from : (encoding : Encoding) (treat : EncodeTreatment) (place : ℕ) (text bytes : List ℕ) → text_bytes encoding text ≡ Some bytes → encoded_from encoding treat place 0 text ≡ record { bytes = bytes; ending = AllWritten }
+-- a text whose characters all have bytes, from a place on
+pub written_from : (encoding : Encoding) (treat : EncodeTreatment) (place : ℕ) (text bytes : List ℕ) → text_bytes encoding text ≡ Some bytes → encoded_from encoding treat place 0 text ≡ record { bytes = bytes; ending = AllWritten }
 written_from encoding treat place [] bytes is =
     let none : [] ≡ bytes = cc in
     ap (λ (bs : List ℕ). record { bytes = bs; ending = AllWritten }) none

@@ -7,5 +7,5 @@ pub mod Blocks
 pub mod Substituting
 pub mod Decoding
 pub mod Encoding
-pub mod Incremental
 pub mod Laws
+pub mod Refusing

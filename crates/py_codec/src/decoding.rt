@@ -48,9 +48,12 @@ fn push_item<H: ErrorHandler>(
     }
 }
 
-/// The text of some bytes and how many were used, for all encodings and handlers: whole runs of characters at once, and
-/// one item at a time between them.
-pub(crate) fn decode<H: ErrorHandler>(
+/// The text of some bytes in an encoding, and how many bytes were used; `last` says that no bytes follow.
+///
+/// It is the call by whichever name the encoding has, as `utf_8_decode`, and refuses as that does. Latin-1 and ASCII have
+/// no character of several bytes, so that for them `last` says nothing.
+// whole runs of characters at once, and one item at a time between them
+pub fn decode<H: ErrorHandler>(
     alloc: Global,
     encoding: Encoding,
     bytes: &[u8],

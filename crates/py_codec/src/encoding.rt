@@ -3,7 +3,9 @@ ghost use Rattle.std.specs.Str.{IsUtf8};
 ghost use Rattle.py_plain.specs.Encode.{run_length};
 ghost use Rattle.py_codec.specs.Answers.{bytes_of, IsAnswer};
 ghost use Rattle.py_codec.specs.Encoding.{encoding_by};
+ghost use Rattle.py_codec.specs.Refusing.{RefusedFirst};
 
+use crate::refusing::first_refusal;
 use crate::substituting::push_substitute;
 use crate::writing::{first_character, push_written};
 use crate::{ErrorHandler, HandlerRef};
@@ -12,7 +14,7 @@ use py_plain::{Encoding, has_bytes};
 use std::alloc::Global;
 
 /// How many characters without bytes a text begins with.
-fn run_length(encoding: Encoding, text: &str) -> usize
+pub(crate) fn run_length(encoding: Encoding, text: &str) -> usize
     ensures { result ≡ run_length encoding (chars text.now) }
 {
     let mut left = text;
@@ -53,7 +55,7 @@ fn room(encoding: Encoding, text: &str) -> usize {
 
 /// The bytes of a text and the number of its characters, for all encodings and handlers: characters that have bytes as
 /// they come, and one run without bytes at a time between them.
-pub(crate) fn encode<H: ErrorHandler>(
+fn encode_each<H: ErrorHandler>(
     alloc: Global,
     encoding: Encoding,
     text: &str,
@@ -80,5 +82,24 @@ pub(crate) fn encode<H: ErrorHandler>(
         )?;
         place += used;
         left = rest;
+    }
+}
+
+/// The bytes of a text in an encoding, and how many characters the text has.
+///
+/// It is the call by whichever name the encoding has, as `latin_1_encode`, and refuses as that does. By strict and the two
+/// handlers of surrogates a text with a run is refused before any memory is taken.
+pub fn encode<H: ErrorHandler>(
+    alloc: Global,
+    encoding: Encoding,
+    text: &str,
+    errors: HandlerRef<H>,
+) -> Result<(Vec<u8>, usize), IoFault>
+    ensures answer { IsAnswer bytes_of result (encoding_by H.encodes errors encoding (chars text.now)) }
+    ensures first { RefusedFirst errors (encoding_by H.encodes errors encoding (chars text.now)) result }
+{
+    match first_refusal(encoding, text, errors) {
+        Some(fault) => Err(fault),
+        None => encode_each(alloc, encoding, text, errors),
     }
 }

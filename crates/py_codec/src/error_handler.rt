@@ -5,13 +5,16 @@ ghost use Rattle.py_codec.specs.ErrorHandler.{DecodeMeaning, EncodeMeaning, Repl
 
 use py_plain::Encoding;
 use std::alloc::Global;
+use thiserror::Error;
 
 /// Why a handler gives nothing.
-#[derive(Clone, Copy, Debug, PartialEq, Eq)]
+#[derive(Clone, Copy, Debug, PartialEq, Eq, Error)]
 pub enum HandlerRefusal {
     /// It refuses the range or run: the call answers a `UnicodeDecodeError` or `UnicodeEncodeError` with it.
+    #[error("the handler refuses")]
     Refuse,
     /// Out of memory.
+    #[error("out of memory")]
     Memory,
 }
 

@@ -1,4 +1,4 @@
-//! Codecs and handlers: texts from bytes and bytes from texts, in five encodings, whole or in pieces.
+//! Codecs and handlers: texts from bytes and bytes from texts, in five encodings.
 //!
 //! A decoding is the items of the whole list of bytes, from its front: characters, and refused ranges as a handler
 //! treats them. An encoding is the bytes of each character, and runs without bytes as a handler treats them. One engine
@@ -7,18 +7,15 @@
 
 mod ascii;
 mod counting;
-mod decode;
-mod decoder_state;
 mod decoding;
-mod encode;
 mod encoding;
 mod error_handler;
 mod handler_ref;
-mod held;
-mod incremental_decoder;
-mod incremental_encoder;
 mod laws;
+mod named_decoding;
+mod named_encoding;
 mod no_handler;
+mod refusing;
 mod replacing;
 mod runs;
 mod substituting;
@@ -26,16 +23,18 @@ mod utf16;
 mod utf16_blocks;
 mod writing;
 
-pub use decode::{ascii_decode, latin_1_decode, utf_8_decode, utf_16_be_decode, utf_16_le_decode};
-pub use decoder_state::DecoderState;
-pub use encode::{ascii_encode, latin_1_encode, utf_8_encode, utf_16_be_encode, utf_16_le_encode};
+pub use decoding::decode;
+pub use encoding::encode;
 pub use error_handler::{EncodeReplace, ErrorHandler, HandlerRefusal};
 pub use handler_ref::HandlerRef;
-pub use incremental_decoder::IncrementalDecoder;
-pub use incremental_encoder::IncrementalEncoder;
-pub use laws::{
-    a_decoder_reads_the_pieces_joined, a_text_encodes_and_decodes_back,
-    four_handlers_write_every_text, no_byte_is_lost,
+pub use laws::{a_text_encodes_and_decodes_back, four_handlers_write_every_text, no_byte_is_lost};
+pub use named_decoding::{
+    ascii_decode, latin_1_decode, utf_8_decode, utf_16_be_decode, utf_16_le_decode,
+};
+pub use named_encoding::{
+    ascii_encode, latin_1_encode, utf_8_encode, utf_16_be_encode, utf_16_le_encode,
 };
 pub use no_handler::NoHandler;
+pub use py_flat::IoFault;
 pub use py_plain::{Encoding, Handler, items_decode_alone, pieces_decode_as_one};
+pub use writing::first_character;

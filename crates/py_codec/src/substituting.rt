@@ -49,7 +49,7 @@ fn substitute(
 }
 
 /// The refusal of a run.
-fn encode_error(start: usize, size: usize) -> IoFault
+pub(crate) fn encode_error(start: usize, size: usize) -> IoFault
     requires { start + size < 2 ^ 64 }
     ensures { result ≡ UnicodeEncodeError start (start + size) }
 {

@@ -1,4 +1,4 @@
-ghost use Rattle.std.specs.Prelude.{◌≡◌, ◌<◌, ◌≤◌, ◌++◌, ◌∷◌, [], take, length, chars, is_some, MatchOption, IfSome, IfOk, OnOk};
+ghost use Rattle.std.specs.Prelude.{◌≡◌, ◌<◌, ◌≤◌, ◌++◌, ◌∷◌, ℕ, List, [], take, length, chars, is_some, MatchOption, IfSome, IfOk, OnOk};
 ghost use Rattle.std.specs.Str.{IsUtf8, IsAscii};
 ghost use Rattle.py_plain.specs.declared.encoding.Encoding.TheVariants.{Utf8};
 ghost use Rattle.py_plain.specs.Encode.{unit_bytes, utf16_bytes, own_bytes};
@@ -15,7 +15,7 @@ use std::alloc::AllocError;
 const FEW: usize = 8;
 
 /// The first character of a text, and the text after it.
-pub(crate) fn first_character(text: &str) -> Option<(char, &str)>
+pub fn first_character(text: &str) -> Option<(char, &str)>
     ensures parts { MatchOption result (chars text.now ≡ []) (λ t. chars text.now ≡ t.0 ∷ chars t.1.now) }
     ensures utf8 { IfSome result (λ t. IsUtf8 t.1.now) }
 {
@@ -148,6 +148,15 @@ fn write_bytes<'a>(
     Ok((count, left))
 }
 
+/// Characters of ASCII that a text begins with, and the text after them.
+pub(crate) fn split_ascii(encoding: Encoding, text: &str) -> (&str, &str)
+    requires { IsOneByte encoding }
+    ensures wrote { (before : List ℕ) → Wrote encoding (chars text.now) before (before ++ result.0.now) (length result.0.now) (chars result.1.now) }
+    ensures utf8 { IsUtf8 result.1.now }
+{
+    text.split_at(near_ascii_front(text.as_bytes()))
+}
+
 /// Appends characters of ASCII that a text begins with.
 fn write_ascii<'a>(
     encoding: Encoding,
@@ -157,7 +166,7 @@ fn write_ascii<'a>(
     requires { IsOneByte encoding }
     ensures { IfOk result (λ t. Wrote encoding (chars text.now) bytes.old.items bytes.new.items t.0 (chars t.1.now)) }
 {
-    let (front, left) = text.split_at(near_ascii_front(text.as_bytes()));
+    let (front, left) = split_ascii(encoding, text);
     bytes.extend_from_slice(front.as_bytes())?;
     Ok((front.len(), left))
 }

@@ -46,7 +46,7 @@ fn short_text(
     Ok(text)
 }
 
-/// So often a letter and a middle.
+/// A letter and a middle, `times` times.
 fn long_text(alloc: Global, times: usize, middle: &str) -> Result<String, AllocError> {
     let mut text = String::new(alloc);
     for index in 0..times {

@@ -1,7 +1,8 @@
 use crate::codec::{Codec, ENCODINGS, Refusal};
 use crate::tally::Tally;
-use py_codec::{Handler, IncrementalDecoder};
+use py_codec::Handler;
 use py_flat::IoFault;
+use py_incremental::IncrementalDecoder;
 use std::alloc::{AllocError, Global};
 
 /// The handlers that texts are read with.

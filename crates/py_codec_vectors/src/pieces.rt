@@ -1,8 +1,8 @@
 use crate::codec::{Codec, Refusal};
 use crate::tally::Tally;
 use crate::words::{Unread, bytes, refusal};
-use py_codec::{DecoderState, IncrementalDecoder};
 use py_flat::IoFault;
+use py_incremental::{DecoderState, IncrementalDecoder};
 use std::alloc::Global;
 
 /// A call of a decoder that is fed in pieces.

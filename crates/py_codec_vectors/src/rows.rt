@@ -2,7 +2,7 @@ use crate::codec::{Codec, Expected, Refusal};
 use crate::tally::Tally;
 use crate::words::{Unread, bytes, encoding, handler, number, refusal};
 use crate::{cuts, pieces};
-use py_codec::IncrementalEncoder;
+use py_incremental::IncrementalEncoder;
 use std::alloc::{AllocError, Global};
 
 /// What the rows came to, each kind by itself, and the cuts of the bytes that are decoded.

@@ -1,22 +1,10 @@
-use Rattle.std.proofs.Common.{◌≡◌, ◌++◌, length, take, drop, sym, ap, subst, ◌∙◌, arith}
-use Rattle.std.specs.Str.{IsAscii}
-use Rattle.std.proofs.lemmas.List.{take-append-drop}
-use Rattle.std.proofs.lemmas.Str.{IsCharBoundary-from_take, IsUtf8-from_ascii}
-use Rattle.py_codec.proofs.Fronts.{Wrote-ascii}
+use Rattle.std.proofs.Common.{◌++◌, chars, length, sym, ap, subst, ◌∙◌}
+use Rattle.py_codec.specs.Writing.{Wrote}
 use Rattle.py_codec.proofs.writing.write_ascii.Goals as goal
-
-pub split_at-requires : goal.split_at-requires
-split_at-requires c =
-    let text = c.args.text.now in
-    let ascii : IsAscii (take c.near_ascii_front.result text) = rw c.as_bytes.ensures.value at c.near_ascii_front.ensures.ascii in
-    IsCharBoundary-from_take text c.near_ascii_front.result c.utf8.text (omega (arith, ap length c.as_bytes.ensures.value)) (IsUtf8-from_ascii (take c.near_ascii_front.result text) ascii)
 
 pub returns : goal.returns
 returns c =
-    let text = c.args.text.now in
-    let front = c.split_at.result.0.now in
-    let back = c.split_at.result.1.now in
-    let same : take c.near_ascii_front.result text ≡ front = sym c.split_at.ensures.front in
-    let ascii : IsAscii front = subst IsAscii same (subst (λ bs. IsAscii (take c.near_ascii_front.result bs)) c.as_bytes.ensures.value c.near_ascii_front.ensures.ascii) in
-    let split : text ≡ front ++ back = sym (take-append-drop c.near_ascii_front.result text) ∙ ap (λ bs. bs ++ drop c.near_ascii_front.result text) same ∙ ap (λ bs. front ++ bs) (sym c.split_at.ensures.back) in
-    Wrote-ascii c.args.encoding text front back _ _ c.requires ascii split (c.in_ok-extend_from_slice.ensures.items ∙ ap (λ bs. c.args.bytes.now.items ++ bs) c.as_bytes-2.ensures.value)
+    let front = c.split_ascii.result.0.now in
+    let back = c.split_ascii.result.1.now in
+    let appended = c.in_ok-extend_from_slice.ensures.items ∙ ap (λ bs. c.args.bytes.now.items ++ bs) c.as_bytes.ensures.value in
+    subst (λ bs. Wrote c.args.encoding (chars c.args.text.now) c.args.bytes.now.items bs (length front) (chars back)) (sym appended) (c.split_ascii.ensures.wrote c.args.bytes.now.items)

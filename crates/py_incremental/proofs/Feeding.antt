@@ -1,8 +1,7 @@
 -- How a decoder goes on after pieces that it answered.
-use Rattle.std.proofs.Common.{◌≡◌, ℕ, ◌+◌, ◌-◌, ◌≤◌, Bool, true, false, List, [], ◌∷◌, ◌++◌, length as len, drop, Ok, Err, refl, sym, ap, subst, ◌∙◌, arith}
+use Rattle.std.proofs.Common.{◌≡◌, ℕ, ◌+◌, ◌-◌, ◌≤◌, Bool, true, false, List, [], ◌∷◌, ◌++◌, length as len, drop, Ok, refl, sym, ap, subst, ◌∙◌, arith}
 use Rattle.std.proofs.Math.Seq.{drop-length}
 use Rattle.std.proofs.lemmas.List.{append-nil, append_assoc, length-append, length-drop, drop-drop, drop-append-le}
-use Rattle.py_flat.specs.declared.fault.IoFault.{IoFault}
 use Rattle.py_flat.specs.declared.fault.IoFault.TheVariants.{UnicodeDecodeError}
 use Rattle.py_plain.specs.declared.encoding.Encoding.{Encoding}
 use Rattle.py_plain.specs.declared.handler.Handler.{Handler}
@@ -13,46 +12,11 @@ use Rattle.py_plain.specs.Items.{Item, Ending, AtEnd, AtRange, AtCut, Walk, char
 use Rattle.py_plain.specs.Pieces.{LooksAtRange, walk_at, items_before, place_behind, unused, unless_refused}
 use Rattle.py_plain.proofs.Joining.{two}
 use Rattle.py_plain.proofs.Looking.{reading}
-use Rattle.py_codec.specs.Answers.{Expected}
-use Rattle.py_codec.specs.Decoding.{ended}
-use Rattle.py_codec.specs.Incremental.{DecoderView, walk_with, decoding_with, holding}
-use Rattle.py_codec.specs.Laws.{Fed, pieces_of, texts_of, FedRun, bytes_behind}
-use Rattle.py_codec.proofs.Cuts.{AreCut, walk_cut, cut_size, cut_again}
-use Rattle.py_codec.proofs.Moving.{IgnoresPlace, moved, moved_twice, moved_none, IsBehind, walk_moved}
-
--- What a decoding that was answered, or refused, says of its walk.
-
--- how many bytes were used
-abbrev pub CameTo : (total : ℕ) → Ending → (used : ℕ) → Type 0
-CameTo total AtEnd used = used ≡ total
-CameTo total (AtCut start) used = used ≡ start
-CameTo total (AtRange start end) used = ⊥
-
-pub record IsAnswered (characters : List ℕ) (total : ℕ) (ending : Ending) (text : List ℕ) (used : ℕ) : Type 0 where
-  pub text_is : characters ≡ text
-  pub came : CameTo total ending used
-
-ok_parts : (characters text : List ℕ) (total used : ℕ) → ◌≡◌ {A = Expected} (Ok (characters, total)) (Ok (text, used)) → (characters ≡ text) × (used ≡ total)
-ok_parts characters text total used is =
-    let same : ◌≡◌ {A = List ℕ × ℕ} (characters, total) (text, used) = cc in
-    (ap (λ (pair : List ℕ × ℕ). pair.0) same, sym (ap (λ (pair : List ℕ × ℕ). pair.1) same))
-
-pub answered : (characters : List ℕ) (total : ℕ) (refusal : ℕ → ℕ → IoFault) (ending : Ending) (text : List ℕ) (used : ℕ) → ended characters total refusal ending ≡ Ok (text, used) → IsAnswered characters total ending text used
-answered characters total refusal AtEnd text used is =
-    let parts = ok_parts characters text total used is in
-    record { text_is = parts.0; came = parts.1 }
-answered characters total refusal (AtCut start) text used is =
-    let parts = ok_parts characters text start used is in
-    record { text_is = parts.0; came = parts.1 }
-answered characters total refusal (AtRange start end) text used is = absurd (cc)
-
-pub refused_at : (characters : List ℕ) (total : ℕ) (ending : Ending) (start end : ℕ) → ended characters total UnicodeDecodeError ending ≡ Err (UnicodeDecodeError start end) → ending ≡ AtRange start end
-refused_at characters total AtEnd start end is = absurd (cc)
-refused_at characters total (AtCut from) start end is = absurd (cc)
-refused_at characters total (AtRange from to) start end is =
-    let starts : from ≡ start = cc in
-    let ends : to ≡ end = cc in
-    ap (λ (s : ℕ). AtRange s to) starts ∙ ap (AtRange start) ends
+use Rattle.py_codec.proofs.Ended.{CameTo, IsAnswered, answered}
+use Rattle.py_incremental.specs.Incremental.{DecoderView, walk_with, decoding_with, holding}
+use Rattle.py_incremental.specs.Pieces.{Fed, pieces_of, texts_of, FedRun, bytes_behind}
+use Rattle.py_incremental.proofs.Cuts.{AreCut, walk_cut, cut_size, cut_again}
+use Rattle.py_incremental.proofs.Moving.{IgnoresPlace, moved, moved_twice, moved_none, IsBehind, walk_moved}
 
 -- What is left unused.
 
@@ -81,6 +45,7 @@ waits_cut : (encoding : Encoding) (treat : Treatment) (order : Order) (bytes : L
 waits_cut encoding treat order [] cut = absurd (omega (arith, (cut_size encoding order [] cut).0))
 waits_cut encoding treat order (byte ∷ rest) cut = cut_again encoding treat order (byte ∷ rest) cut
 
+-- a walk over the bytes that an answered piece left has no items, while more may come
 pub left_waits : (encoding : Encoding) (treat : Treatment) (order : Order) (bytes : List ℕ) (used : ℕ) (ending : Ending) → (walk_at encoding treat false order 0 bytes).ending ≡ ending → CameTo (len bytes) ending used → Waits encoding treat order (drop used bytes)
 left_waits encoding treat order bytes used AtEnd is came =
     let none : [] ≡ drop used bytes = sym (drop-length bytes) ∙ ap (λ (k : ℕ). drop k bytes) (sym came) in
@@ -117,6 +82,7 @@ behind_items items text by walk far near text_is walk_is behind = record {
   ending = ap (λ (w : Walk). w.ending) walk_is ∙ behind.ending;
 }
 
+-- where a front was answered, the walk over all has its text, and then the walk over what is left of it and the rest
 pub goes_on : (encoding : Encoding) (treat : Treatment) → LooksAtRange treat → IgnoresPlace treat → (last : Bool) (order : Order) (front rest text : List ℕ) (used : ℕ) → characters_of (walk_at encoding treat false order 0 front).items ≡ text → CameTo (len front) (walk_at encoding treat false order 0 front).ending used → IsBehind text used (walk_at encoding treat last order 0 (front ++ rest)) (walk_at encoding treat last order 0 (drop used front ++ rest))
 goes_on encoding treat looks ignores last order front rest text used text_is came =
     let first : Walk = walk_at encoding treat false order 0 front in
@@ -153,7 +119,7 @@ pub record GoesOn (before : DecoderView) (run : List Fed) (after : DecoderView) 
   pub same : after ≡ record before { held = after.held }
   pub behind : reads_texts before.handler ≡ true → (last : Bool) (rest : List ℕ) → IsBehind (texts_of run) gone (walk_with before last (pieces_of run ++ rest)) (walk_with after last rest)
 
--- an answered piece
+-- the walk over the held bytes and a piece that is answered has the text of the answer, and came to the bytes that were used
 pub step_answered : (before : DecoderView) (fed : Fed) (used : ℕ) → decoding_with before false fed.piece ≡ Ok (fed.text, used) → IsAnswered (characters_of (walk_with before false fed.piece).items) (len (before.held ++ fed.piece)) (walk_with before false fed.piece).ending fed.text used
 step_answered before fed used is = answered _ _ UnicodeDecodeError _ fed.text used is
 
@@ -188,6 +154,7 @@ goes_piece before after fed run used first further =
           (then_behind fed.text (texts_of run) used further.gone _ _ _ step (further.behind reads last rest));
     }
 
+-- a run of answered pieces goes on at what it left
 pub run_goes_on : (before after : DecoderView) (run : List Fed) → FedRun before run after → GoesOn before run after
 run_goes_on before after [] fed = goes_none before after fed
 run_goes_on before after (fed ∷ run) (used, is, further) =

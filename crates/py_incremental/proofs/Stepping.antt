@@ -10,8 +10,9 @@ use Rattle.py_plain.specs.Units.{Unknown}
 use Rattle.py_plain.specs.Handlers.{treatment}
 use Rattle.py_plain.specs.Items.{Walk, characters_of}
 use Rattle.py_codec.specs.Answers.{text_of}
-use Rattle.py_codec.specs.Incremental.{DecoderView, walk_with, decoding_with, DecoderStep}
-use Rattle.py_codec.proofs.Feeding.{answered, left_short}
+use Rattle.py_incremental.specs.Incremental.{DecoderView, walk_with, decoding_with, DecoderStep}
+use Rattle.py_codec.proofs.Ended.{answered}
+use Rattle.py_incremental.proofs.Feeding.{left_short}
 
 -- a decoder that holds nothing
 abbrev pub empty : Encoding → Handler → DecoderView
@@ -34,6 +35,7 @@ step_ok decoder seen last bytes joined held text used same is answer left =
     ) in
     subst (λ (d : DecoderView). joined ≡ d.held ++ bytes → DecoderStep d last bytes (Ok text) (record seen { held = held })) same step is
 
+-- a refusal of the held bytes and the piece joined is the step of a decoder that stays as it was
 pub step_err : (decoder seen : DecoderView) (last : Bool) (bytes joined : List ℕ) (why : IoFault) → seen ≡ decoder → joined ≡ decoder.held ++ bytes → (why ≡ NoMemory) ⊎ (decoding_with (empty seen.encoding seen.handler) last joined ≡ Err why) → DecoderStep decoder last bytes (Err why) decoder
 step_err decoder seen last bytes joined why same is (inl memory) = (refl, inl memory)
 step_err decoder seen last bytes joined why same is (inr refused) =

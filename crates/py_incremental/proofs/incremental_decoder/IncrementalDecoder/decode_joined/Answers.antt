@@ -1,6 +1,6 @@
 use Rattle.std.proofs.Common.{◌≤◌, length, rules}
-use Rattle.py_codec.proofs.Stepping.{used_within, step_ok, step_err}
-use Rattle.py_codec.proofs.incremental_decoder.IncrementalDecoder.decode_joined.Goals as goal
+use Rattle.py_incremental.proofs.Stepping.{used_within, step_ok, step_err}
+use Rattle.py_incremental.proofs.incremental_decoder.IncrementalDecoder.decode_joined.Goals as goal
 
 pub slice_bounds-from_slice-count : goal.slice_bounds-from_slice-count
 slice_bounds-from_slice-count c = (used_within _ _ _ _ _ _ c.in-Ok.ensures).0

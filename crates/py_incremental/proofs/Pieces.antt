@@ -12,11 +12,12 @@ use Rattle.py_plain.specs.Pieces.{walk_at, place_behind, unused, unless_refused}
 use Rattle.py_plain.proofs.Joining.{two}
 use Rattle.py_plain.proofs.Looking.{reading}
 use Rattle.py_codec.specs.Decoding.{ended}
-use Rattle.py_codec.specs.Incremental.{DecoderView, walk_with, decoding_with, holding}
-use Rattle.py_codec.specs.Laws.{Fed, pieces_of, texts_of, FedRun, bytes_behind, used_up}
-use Rattle.py_codec.proofs.Cuts.{walk_cut}
-use Rattle.py_codec.proofs.Moving.{moved, IsBehind}
-use Rattle.py_codec.proofs.Feeding.{CameTo, answered, refused_at, left_short, waiting, Waits, left_waits, GoesOn, step_answered, run_goes_on}
+use Rattle.py_incremental.specs.Incremental.{DecoderView, walk_with, decoding_with, holding}
+use Rattle.py_incremental.specs.Pieces.{Fed, pieces_of, texts_of, FedRun, bytes_behind, used_up}
+use Rattle.py_codec.proofs.Ended.{CameTo, answered, refused_at}
+use Rattle.py_incremental.proofs.Cuts.{walk_cut}
+use Rattle.py_incremental.proofs.Moving.{moved, IsBehind}
+use Rattle.py_incremental.proofs.Feeding.{left_short, waiting, Waits, left_waits, GoesOn, step_answered, run_goes_on}
 
 -- the bytes that a run used up
 gone_is : (before after : DecoderView) (run : List Fed) (goes : GoesOn before run after) → goes.gone ≡ used_up before run after
@@ -24,11 +25,13 @@ gone_is before after run goes = omega (arith, goes.within)
 
 -- What is held.
 
+-- what is held after a run is the end of the bytes that the decoder has had
 pub held_is : (before after : DecoderView) (run : List Fed) → FedRun before run after → after.held ≡ drop (used_up before run after) (bytes_behind before run)
 held_is before after run fed =
     let goes = run_goes_on before after run fed in
     goes.held ∙ ap (λ (k : ℕ). drop k (bytes_behind before run)) (gone_is before after run goes)
 
+-- a decoder that held at most three bytes holds at most three after a run
 pub stays_short : (before after : DecoderView) (run : List Fed) → len before.held ≤ 3 → FedRun before run after → len after.held ≤ 3
 stays_short before after [] short is = subst (λ (d : DecoderView). len d.held ≤ 3) (sym is) short
 stays_short before after (fed ∷ run) short (used, is, further) =
@@ -61,6 +64,7 @@ so_far_by characters text (byte ∷ held) ending total gone text_is ending_is al
     ap (λ (e : Ending). ended characters total UnicodeDecodeError e) ending_is
     ∙ (ap (λ (cs : List ℕ). Ok (cs, gone + 0)) text_is ∙ ap (λ (k : ℕ). Ok (text, k)) same)
 
+-- the pieces of a run, joined, are answered with the texts joined, and leave what the run leaves
 pub so_far : (before after : DecoderView) (first : Fed) (run : List Fed) → reads_texts before.handler ≡ true → FedRun before (first ∷ run) after → (decoding_with before false (pieces_of (first ∷ run)) ≡ Ok (texts_of (first ∷ run), used_up before (first ∷ run) after)) × (after ≡ holding before (pieces_of (first ∷ run)) (used_up before (first ∷ run) after))
 so_far before after first run reads (used, is, further) =
     let all : List Fed = first ∷ run in
@@ -85,6 +89,7 @@ whole_by characters text ending total other text_is ending_is same =
     ap (λ (e : Ending). ended characters total UnicodeDecodeError e) ending_is
     ∙ (ap (λ (cs : List ℕ). Ok (cs, total)) text_is ∙ ap (λ (k : ℕ). Ok (text, k)) same)
 
+-- the pieces of a run and a last one, joined, are answered with the texts joined
 pub whole : (before after : DecoderView) (run : List Fed) (final text : List ℕ) (used : ℕ) → reads_texts before.handler ≡ true → FedRun before run after → decoding_with after true final ≡ Ok (text, used) → decoding_with before true (pieces_of run ++ final) ≡ Ok (texts_of run ++ text, len (bytes_behind before run ++ final))
 whole before after run final text used reads fed is =
     let goes = run_goes_on before after run fed in
@@ -96,6 +101,7 @@ whole before after run final text used reads fed is =
     (behind.ending ∙ ap (moved goes.gone) ends)
     (ap (λ (bytes : List ℕ). len bytes) (sym (append_assoc before.held (pieces_of run) final)))
 
+-- a piece that is refused after a run is refused in the pieces joined, at the range that counts from their first byte
 pub refused : (before after : DecoderView) (run : List Fed) (last : Bool) (piece : List ℕ) (start end : ℕ) → reads_texts before.handler ≡ true → FedRun before run after → decoding_with after last piece ≡ Err (UnicodeDecodeError start end) → decoding_with before last (pieces_of run ++ piece) ≡ Err (UnicodeDecodeError (used_up before run after + start) (used_up before run after + end))
 refused before after run last piece start end reads fed is =
     let goes = run_goes_on before after run fed in
@@ -120,6 +126,7 @@ refused_front decoder last piece more start end reads is =
     ∙ ap (λ (e : Ending). (unless_refused e (walk_at decoder.encoding treat last Unknown (place_behind 0 front e) (unused 0 front e ++ more))).ending) range in
     ap (λ (e : Ending). ended (characters_of walk.items) (len (decoder.held ++ (piece ++ more))) UnicodeDecodeError e) stays
 
+-- a piece that is refused while more may come is refused so whatever comes after it
 pub refused_for_good : (before after : DecoderView) (run : List Fed) (piece : List ℕ) (start end : ℕ) → reads_texts before.handler ≡ true → FedRun before run after → decoding_with after false piece ≡ Err (UnicodeDecodeError start end) → (last : Bool) (more : List ℕ) → decoding_with before last (pieces_of run ++ (piece ++ more)) ≡ Err (UnicodeDecodeError (used_up before run after + start) (used_up before run after + end))
 refused_for_good before after run piece start end reads fed is last more =
     let goes = run_goes_on before after run fed in

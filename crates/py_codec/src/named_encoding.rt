@@ -2,6 +2,7 @@ ghost use Rattle.std.specs.Prelude.{chars};
 ghost use Rattle.py_plain.specs.declared.encoding.Encoding.TheVariants.{Utf8, Latin1, Ascii, Utf16Le, Utf16Be};
 ghost use Rattle.py_codec.specs.Answers.{bytes_of, IsAnswer};
 ghost use Rattle.py_codec.specs.Encoding.{encoding_by};
+ghost use Rattle.py_codec.specs.Refusing.{RefusedFirst};
 
 use crate::encoding::encode;
 use crate::{ErrorHandler, HandlerRef};
@@ -24,13 +25,15 @@ pub fn utf_8_encode<H: ErrorHandler>(
 ///
 /// A *run* is characters without bytes, as many as stand together. `UnicodeEncodeError` is the first run that the handler refuses,
 /// in characters from the start, or for which it gives a text with a character that has no bytes itself; `BadRestart`: a handler's
-/// place to go on isn't past the start of its run, or is past the end; `NoMemory` means out of memory.
+/// place to go on isn't past the start of its run, or is past the end; `NoMemory` means out of memory, and never comes
+/// where strict or a handler of surrogates refuses the text.
 pub fn latin_1_encode<H: ErrorHandler>(
     alloc: Global,
     text: &str,
     errors: HandlerRef<H>,
 ) -> Result<(Vec<u8>, usize), IoFault>
-    ensures { IsAnswer bytes_of result (encoding_by H.encodes errors Latin1 (chars text.now)) }
+    ensures answer { IsAnswer bytes_of result (encoding_by H.encodes errors Latin1 (chars text.now)) }
+    ensures first { RefusedFirst errors (encoding_by H.encodes errors Latin1 (chars text.now)) result }
 {
     encode(alloc, Encoding::Latin1, text, errors)
 }
@@ -42,7 +45,8 @@ pub fn ascii_encode<H: ErrorHandler>(
     text: &str,
     errors: HandlerRef<H>,
 ) -> Result<(Vec<u8>, usize), IoFault>
-    ensures { IsAnswer bytes_of result (encoding_by H.encodes errors Ascii (chars text.now)) }
+    ensures answer { IsAnswer bytes_of result (encoding_by H.encodes errors Ascii (chars text.now)) }
+    ensures first { RefusedFirst errors (encoding_by H.encodes errors Ascii (chars text.now)) result }
 {
     encode(alloc, Encoding::Ascii, text, errors)
 }

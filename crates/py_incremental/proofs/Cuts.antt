@@ -25,6 +25,7 @@ unit_anywhere Utf16Be order here there bytes = refl
 
 -- A cut unit has at most three bytes.
 
+-- a unit is no cut sequence, or one of at most three bytes
 abbrev IsShort : Read → Type 0
 IsShort (Cut n) = n ≤ 3
 IsShort unit = Unit {0}
@@ -109,6 +110,7 @@ cut_onto encoding order at_start last place byte rest Unfinished walk start here
     let same : place ≡ start = cc in
     subst (IsCutAt encoding order last place (byte ∷ rest)) same (cut_here encoding order at_start last place byte rest (here refl))
 
+-- a walk that ends at a cut sequence ends so while more may come, and the bytes from there on are a cut unit
 pub walk_cut : (encoding : Encoding) (treat : Treatment) (last : Bool) (order : Order) (place skip : ℕ) (bytes : List ℕ) (start : ℕ) → (walk_from encoding treat last order place skip bytes).ending ≡ AtCut start → IsCutAt encoding order last place bytes start
 walk_cut encoding treat last order place skip [] start is = absurd (cc)
 walk_cut encoding treat last order place (suc skip) (byte ∷ rest) start is = cut_behind encoding order last place byte rest start (walk_cut encoding treat last order (place + 1) skip rest start is)
@@ -128,14 +130,14 @@ begun encoding treat order byte rest unit =
     let first = item_of treat false 0 (byte ∷ rest) unit in
     onto_walk 0 first (walk_from encoding treat false order 1 (used_behind first) rest)
 
--- there are such bytes, and at most three
+-- bytes that are cut are at least one and at most three
 pub cut_size : (encoding : Encoding) (order : Order) (bytes : List ℕ) → AreCut encoding order bytes → (1 ≤ len bytes) × (len bytes ≤ 3)
 cut_size encoding order bytes cut =
     let within = subst (λ (unit : Option Read). IfSome unit (λ u. IsWithin u (len bytes))) (cut.unit true) (unit_within_any encoding order true bytes) in
     let short = subst (λ (unit : Option Read). IfSome unit IsShort) (cut.unit true) (unit_short encoding order true bytes) in
     (omega (arith, within.0, within.1), omega (arith, within.1, short))
 
--- a walk over them alone, while more may come, stops before them
+-- a walk over bytes that are cut stops before them, while more may come
 pub cut_again : (encoding : Encoding) (treat : Treatment) (order : Order) (bytes : List ℕ) → AreCut encoding order bytes → walk_from encoding treat false order 0 0 bytes ≡ record { items = []; ending = AtCut 0 }
 cut_again encoding treat order [] cut = absurd (omega (arith, (cut_size encoding order [] cut).0))
 cut_again encoding treat order (byte ∷ rest) cut =

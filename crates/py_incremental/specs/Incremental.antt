@@ -22,7 +22,7 @@ pub record EncoderView : Type 0 where
   pub encoding : Encoding
   pub handler : Handler
 
--- both have a built-in handler, so there is none of a user's own to be asked
+-- the meaning of a handler of a user's own where there is none: incremental decoders and encoders have a built-in handler
 abbrev pub nobody : {Answers : Type 0} → ⊥ → Answers
 nobody handler = absurd handler
 
@@ -30,7 +30,7 @@ nobody handler = absurd handler
 abbrev pub walk_with : DecoderView → (last : Bool) → List ℕ → Walk
 walk_with decoder last bytes = walk_by nobody (Builtin decoder.handler) decoder.encoding last (decoder.held ++ bytes)
 
--- their decoding; the places of a refusal count from the first held byte
+-- the decoding of the held bytes and a piece after them; the places of a refusal count from the first held byte
 abbrev pub decoding_with : DecoderView → (last : Bool) → List ℕ → Expected
 decoding_with decoder last bytes = decoding_by nobody (Builtin decoder.handler) decoder.encoding last (decoder.held ++ bytes)
 

@@ -3,7 +3,7 @@ use denote.Text.{Utf8}
 use denote.Shadow.{shadow}
 use Rattle.py_codec.specs.Treating.{encode_treatment_by}
 use Rattle.py_codec.proofs.EncodedFrom.{Encodes}
-use Rattle.py_codec.proofs.encoding.encode.Given as goal
+use Rattle.py_codec.proofs.encoding.encode_each.Given as goal
 
 abbrev pub invariant-loop-count : goal.invariant-loop-count
 invariant-loop-count g l = record {

@@ -6,17 +6,19 @@ use Rattle.py_plain.specs.declared.unit.Unit.TheVariants.{Character, Malformed, 
 use Rattle.py_plain.specs.Units.{Order, first_unit}
 use Rattle.py_plain.specs.Handlers.{Treatment}
 use Rattle.py_plain.specs.Items.{FirstItem, Given, RefusedRange, Unfinished, item_handled, item_of, first_item, used_behind, Ending, AtEnd, AtRange, AtCut, Walk, onto_walk, walk_from, characters_of}
-use Rattle.py_codec.proofs.Cuts.{unit_anywhere}
+use Rattle.py_incremental.proofs.Cuts.{unit_anywhere}
 
 -- a treatment that doesn't look at the place
 abbrev pub IgnoresPlace : Treatment → Type 0
 IgnoresPlace treat = (here there : ℕ) (rest : List ℕ) (size : ℕ) → treat here rest size ≡ treat there rest size
 
+-- an ending whose places count from further on
 abbrev pub moved : ℕ → Ending → Ending
 moved by AtEnd = AtEnd
 moved by (AtRange start end) = AtRange (by + start) (by + end)
 moved by (AtCut start) = AtCut (by + start)
 
+-- an ending that is moved twice is moved by the sum
 pub moved_twice : (by more : ℕ) (ending : Ending) → moved by (moved more ending) ≡ moved (by + more) ending
 moved_twice by more AtEnd = refl
 moved_twice by more (AtRange start end) =
@@ -27,6 +29,7 @@ moved_twice by more (AtCut start) =
     let starts : by + (more + start) ≡ by + more + start = omega arith in
     ap AtCut starts
 
+-- an ending that is moved by nothing stays where it is
 pub moved_none : (ending : Ending) → ending ≡ moved 0 ending
 moved_none AtEnd = refl
 moved_none (AtRange start end) =
@@ -61,6 +64,7 @@ moved_onto by place (RefusedRange size) walk other behind =
     record { characters = refl; ending = ap (AtRange (by + place)) ends }
 moved_onto by place Unfinished walk other behind = record { characters = refl; ending = refl }
 
+-- a walk from a place further on has the same characters, and its ending is moved
 pub walk_moved : (encoding : Encoding) (treat : Treatment) (last : Bool) (order : Order) (by place skip : ℕ) (bytes : List ℕ) → IgnoresPlace treat → IsBehind [] by (walk_from encoding treat last order (by + place) skip bytes) (walk_from encoding treat last order place skip bytes)
 walk_moved encoding treat last order by place skip [] ignores = record { characters = refl; ending = refl }
 walk_moved encoding treat last order by place (suc skip) (byte ∷ rest) ignores =

@@ -1,10 +1,10 @@
 ghost use Rattle.std.specs.Prelude.{◌≡◌, ◌≤◌, ◌++◌, ℕ, true, List, [], length, IfOk, IfErr};
 ghost use Rattle.py_plain.specs.Handlers.{reads_texts};
-ghost use Rattle.py_codec.specs.Incremental.{DecoderView, DecoderStep};
+ghost use Rattle.py_incremental.specs.Incremental.{DecoderView, DecoderStep};
 
-use crate::decoding::decode;
+use crate::DecoderState;
 use crate::held::Held;
-use crate::{DecoderState, HandlerRef, NoHandler};
+use py_codec::{HandlerRef, NoHandler, decode};
 use py_flat::{Data, IoFault};
 use py_plain::{Encoding, Handler};
 use std::alloc::{AllocError, Global};
@@ -22,7 +22,7 @@ pub struct IncrementalDecoder {
 }
 
 impl Model for IncrementalDecoder {
-    ghost use Rattle.py_codec.specs.Incremental.{DecoderView};
+    ghost use Rattle.py_incremental.specs.Incremental.{DecoderView};
 
     ghost Value = { DecoderView };
 
@@ -45,6 +45,21 @@ impl IncrementalDecoder {
             handler,
             held: Held::new(),
         }
+    }
+
+    /// The encoding that it reads.
+    pub fn encoding(&self) -> Encoding
+        ensures { result ≡ self.now.encoding }
+    {
+        self.encoding
+    }
+
+    /// The handler that it reads by, one of those that texts are read with.
+    pub fn handler(&self) -> Handler
+        ensures handler { result ≡ self.now.handler }
+        ensures reads { reads_texts result ≡ true }
+    {
+        self.handler
     }
 
     /// The text of the held bytes and a piece after them; `last` says that no bytes follow, and nothing is held then.

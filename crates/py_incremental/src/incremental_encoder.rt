@@ -1,9 +1,8 @@
 ghost use Rattle.std.specs.Prelude.{◌≡◌, chars, IfOk};
 ghost use Rattle.py_codec.specs.Answers.{bytes_of};
-ghost use Rattle.py_codec.specs.Incremental.{EncoderView, EncoderAnswer};
+ghost use Rattle.py_incremental.specs.Incremental.{EncoderView, EncoderAnswer};
 
-use crate::encoding::encode;
-use crate::{HandlerRef, NoHandler};
+use py_codec::{HandlerRef, NoHandler, encode};
 use py_flat::IoFault;
 use py_plain::{Encoding, Handler};
 use std::alloc::Global;
@@ -17,7 +16,7 @@ pub struct IncrementalEncoder {
 }
 
 impl Model for IncrementalEncoder {
-    ghost use Rattle.py_codec.specs.Incremental.{EncoderView};
+    ghost use Rattle.py_incremental.specs.Incremental.{EncoderView};
 
     ghost Value = { EncoderView };
 
@@ -30,6 +29,20 @@ impl IncrementalEncoder {
         ensures { result ≡ record { encoding = encoding; handler = handler } }
     {
         IncrementalEncoder { encoding, handler }
+    }
+
+    /// The encoding that it writes.
+    pub fn encoding(&self) -> Encoding
+        ensures { result ≡ self.now.encoding }
+    {
+        self.encoding
+    }
+
+    /// The handler that it writes by.
+    pub fn handler(&self) -> Handler
+        ensures { result ≡ self.now.handler }
+    {
+        self.handler
     }
 
     /// The bytes of a piece.

@@ -1,0 +1,5 @@
+pub mod Cuts
+pub mod Feeding
+pub mod Moving
+pub mod Pieces
+pub mod Stepping

@@ -1,0 +1,2 @@
+pub mod Incremental
+pub mod Pieces
