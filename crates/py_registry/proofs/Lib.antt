@@ -1,0 +1,5 @@
+pub mod Chosen
+pub mod Entries
+pub mod Registering
+pub mod Spelled
+pub mod Steps

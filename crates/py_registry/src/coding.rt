@@ -1,0 +1,179 @@
+ghost use Rattle.std.specs.Prelude.{◌≡◌, true, false, None, Some, chars, option_map, IfErr, OnOk, OnErr};
+ghost use Rattle.py_flat.specs.declared.fault.IoFault.TheVariants.{NoMemory};
+ghost use Rattle.py_codec.specs.Answers.{text_of, bytes_of};
+ghost use Rattle.py_registry.specs.Coding.{codec_encoding, codec_decoding};
+ghost use Rattle.py_registry.specs.Machine.{known, found, handler_of, looked_up};
+ghost use Rattle.py_registry.specs.Answers.{IsExpected, name_or_strict, chosen_by, worked, Works, RefusedFirstBy};
+
+use crate::{CodecsRegistry, PyCodec, SearchFunction};
+use py_codec::{ErrorHandler, HandlerRef, IoFault};
+use std::alloc::Global;
+
+/// The name of a handler, or that of strict where none is given.
+fn name_or_strict(errors: Option<&str>) -> &str
+    ensures { chars result.now ≡ name_or_strict (option_map (λ errors. chars errors.now) errors.entry) }
+{
+    match errors {
+        Some(errors) => errors,
+        None => "strict",
+    }
+}
+
+impl<S: SearchFunction, H: ErrorHandler> CodecsRegistry<S, H> {
+    /// The codec of a name and the handler of another; `only_text` says that the codec has to be one for text.
+    fn choose(
+        &self,
+        alloc: Global,
+        name: &str,
+        errors: Option<&str>,
+        only_text: bool,
+    ) -> Result<(PyCodec<S>, HandlerRef<H>), IoFault>
+        ensures answer { IsExpected result (chosen_by S.finds S.text_slots self.now only_text (chars name.now) (option_map (λ errors. chars errors.now) errors.entry)) }
+        ensures known { IfErr result (λ why. why ≡ NoMemory → known self.now (chars name.now) ≡ None) }
+    {
+        let Some(codec) = self.find(alloc, name)? else {
+            return Err(IoFault::UnknownEncoding);
+        };
+        if only_text && !codec.is_text_codec() {
+            return Err(IoFault::UnknownEncoding);
+        }
+        match self.lookup_error_opt(name_or_strict(errors)) {
+            Some(handler) => Ok((codec, handler)),
+            None => Err(IoFault::UnknownHandler),
+        }
+    }
+
+    /// The codec that was found for a name is kept as a lookup keeps it.
+    fn keep(&mut self, alloc: Global, name: &str, codec: PyCodec<S>) -> Result<(), IoFault>
+        requires { found S.finds self.old (chars name.now) ≡ Some codec }
+        ensures ok { OnOk result (self.new ≡ looked_up S.finds self.old (chars name.now)) }
+        ensures err { OnErr result (self.new ≡ self.old) }
+        ensures memory { IfErr result (λ why. why ≡ NoMemory) }
+    {
+        if self.known(name).is_none() {
+            self.settle(alloc, name, codec)?;
+        }
+        Ok(())
+    }
+
+    /// The bytes of a text by the codec and the handler of these names.
+    fn encode_by(
+        &mut self,
+        alloc: Global,
+        text: &str,
+        name: &str,
+        errors: Option<&str>,
+        only_text: bool,
+    ) -> Result<Vec<u8>, IoFault>
+        ensures answer { Works bytes_of result (worked
+            (λ codec handler. codec_encoding S.slot_encodes H.decodes H.encodes codec handler (chars text.now))
+            (chosen_by S.finds S.text_slots self.old only_text (chars name.now) (option_map (λ errors. chars errors.now) errors.entry)))
+            self.old (looked_up S.finds self.old (chars name.now)) self.new }
+        ensures first { RefusedFirstBy (known self.old (chars name.now))
+            (handler_of self.old (name_or_strict (option_map (λ errors. chars errors.now) errors.entry)))
+            (λ codec handler. codec_encoding S.slot_encodes H.decodes H.encodes codec handler (chars text.now)) result }
+    {
+        let (codec, handler) = self.choose(alloc, name, errors, only_text)?;
+        let bytes = codec.encode(alloc, text, handler)?;
+        self.keep(alloc, name, codec)?;
+        Ok(bytes)
+    }
+
+    /// The text of some bytes by the codec and the handler of these names.
+    fn decode_by(
+        &mut self,
+        alloc: Global,
+        bytes: &[u8],
+        name: &str,
+        errors: Option<&str>,
+        only_text: bool,
+    ) -> Result<String, IoFault>
+        ensures { Works text_of result (worked
+            (λ codec handler. codec_decoding S.slot_decodes H.decodes H.encodes codec handler bytes.now)
+            (chosen_by S.finds S.text_slots self.old only_text (chars name.now) (option_map (λ errors. chars errors.now) errors.entry)))
+            self.old (looked_up S.finds self.old (chars name.now)) self.new }
+    {
+        let (codec, handler) = self.choose(alloc, name, errors, only_text)?;
+        let text = codec.decode(alloc, bytes, handler)?;
+        self.keep(alloc, name, codec)?;
+        Ok(text)
+    }
+
+    /// The bytes of a text by the codec of a name, which is looked up, and the handler of another; without one the
+    /// handler is that of the name `strict`.
+    ///
+    /// `UnknownEncoding`: there is no such codec; `UnknownHandler`: no such handler; the other refusals are those of
+    /// `PyCodec::encode`, and of a codec that no function has to be asked for they come before memory is taken as there. A
+    /// refusal leaves the registry as it was.
+    pub fn encode(
+        &mut self,
+        alloc: Global,
+        text: &str,
+        name: &str,
+        errors: Option<&str>,
+    ) -> Result<Vec<u8>, IoFault>
+        ensures answer { Works bytes_of result (worked
+            (λ codec handler. codec_encoding S.slot_encodes H.decodes H.encodes codec handler (chars text.now))
+            (chosen_by S.finds S.text_slots self.old false (chars name.now) (option_map (λ errors. chars errors.now) errors.entry)))
+            self.old (looked_up S.finds self.old (chars name.now)) self.new }
+        ensures first { RefusedFirstBy (known self.old (chars name.now))
+            (handler_of self.old (name_or_strict (option_map (λ errors. chars errors.now) errors.entry)))
+            (λ codec handler. codec_encoding S.slot_encodes H.decodes H.encodes codec handler (chars text.now)) result }
+    {
+        self.encode_by(alloc, text, name, errors, false)
+    }
+
+    /// The text of some bytes, after which none follow, by the codec of a name, which is looked up, and the handler of
+    /// another; without one the handler is that of the name `strict`.
+    ///
+    /// The refusals are those of `encode` and of `PyCodec::decode`; a refusal leaves the registry as it was.
+    pub fn decode(
+        &mut self,
+        alloc: Global,
+        bytes: &[u8],
+        name: &str,
+        errors: Option<&str>,
+    ) -> Result<String, IoFault>
+        ensures { Works text_of result (worked
+            (λ codec handler. codec_decoding S.slot_decodes H.decodes H.encodes codec handler bytes.now)
+            (chosen_by S.finds S.text_slots self.old false (chars name.now) (option_map (λ errors. chars errors.now) errors.entry)))
+            self.old (looked_up S.finds self.old (chars name.now)) self.new }
+    {
+        self.decode_by(alloc, bytes, name, errors, false)
+    }
+
+    /// As `encode`, by a codec that makes bytes of texts; another is an `UnknownEncoding`.
+    pub fn encode_text(
+        &mut self,
+        alloc: Global,
+        text: &str,
+        name: &str,
+        errors: Option<&str>,
+    ) -> Result<Vec<u8>, IoFault>
+        ensures answer { Works bytes_of result (worked
+            (λ codec handler. codec_encoding S.slot_encodes H.decodes H.encodes codec handler (chars text.now))
+            (chosen_by S.finds S.text_slots self.old true (chars name.now) (option_map (λ errors. chars errors.now) errors.entry)))
+            self.old (looked_up S.finds self.old (chars name.now)) self.new }
+        ensures first { RefusedFirstBy (known self.old (chars name.now))
+            (handler_of self.old (name_or_strict (option_map (λ errors. chars errors.now) errors.entry)))
+            (λ codec handler. codec_encoding S.slot_encodes H.decodes H.encodes codec handler (chars text.now)) result }
+    {
+        self.encode_by(alloc, text, name, errors, true)
+    }
+
+    /// As `decode`, by a codec that makes bytes of texts; another is an `UnknownEncoding`.
+    pub fn decode_text(
+        &mut self,
+        alloc: Global,
+        bytes: &[u8],
+        name: &str,
+        errors: Option<&str>,
+    ) -> Result<String, IoFault>
+        ensures { Works text_of result (worked
+            (λ codec handler. codec_decoding S.slot_decodes H.decodes H.encodes codec handler bytes.now)
+            (chosen_by S.finds S.text_slots self.old true (chars name.now) (option_map (λ errors. chars errors.now) errors.entry)))
+            self.old (looked_up S.finds self.old (chars name.now)) self.new }
+    {
+        self.decode_by(alloc, bytes, name, errors, true)
+    }
+}
