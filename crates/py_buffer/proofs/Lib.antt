@@ -1,0 +1,6 @@
+pub mod Products
+pub mod Indexing
+pub mod Places
+pub mod Furthest
+pub mod Rows
+pub mod Gathering

@@ -1,0 +1,27 @@
+-- Buffers: bytes with a descriptor that doesn't leave them.
+use Rattle.std.specs.Prelude.{◌≡◌, ℕ, pos, Bool, List, [], ◌∷◌, length}
+use Rattle.py_buffer.specs.declared.descriptor.BufferDescriptor.{BufferDescriptor}
+use Rattle.py_buffer.specs.Descriptor.{IsValid}
+use Rattle.py_buffer.specs.Segments.{Covers, bytes_of}
+
+-- a buffer as contracts see it: its bytes, and what they hold
+pub record BufferView : Type 0 where
+  pub bytes : List ℕ
+  pub desc : BufferDescriptor
+
+-- a descriptor that is valid, and whose segments lie within these bytes
+pub record IsOver (descriptor : BufferDescriptor) (bytes : List ℕ) : Type 0 where
+  pub valid : IsValid descriptor
+  pub covers : Covers descriptor (length bytes)
+
+-- the bytes of a buffer's items, in row order
+abbrev pub items_of : BufferView → List ℕ
+items_of buffer = bytes_of buffer.desc buffer.bytes
+
+-- the descriptor of so many bytes one by one
+pub record IsSimple (descriptor : BufferDescriptor) (n : ℕ) (readonly : Bool) : Type 0 where
+  pub len : descriptor.len ≡ n
+  pub only_read : descriptor.readonly ≡ readonly
+  pub itemsize : descriptor.itemsize ≡ 1
+  pub letter : descriptor.format.now ≡ 66 ∷ []
+  pub dimension : descriptor.dim_desc.items ≡ (n, pos 1, pos 0) ∷ []

@@ -1,0 +1,124 @@
+//! Bytes that are lent to be read and written.
+ghost use Rattle.std.specs.Prelude.{◌≡◌, ◌++◌, take, false, is_ok, IfOk, MatchOption, OnErr, if◌then◌else◌};
+ghost use Rattle.std.specs.Fn.{FnOnceReturnsAt};
+ghost use Rattle.py_flat.specs.declared.fault.IoFault.TheVariants as fault;
+ghost use Rattle.py_buffer.specs.Descriptor.{IsValid, IsContiguous};
+ghost use Rattle.py_buffer.specs.Buffers.{IsOver, items_of};
+
+use crate::BufferDescriptor;
+use crate::lent::{append, collected, contiguous};
+use py_flat::IoFault;
+use std::alloc::Global;
+use std::marker::Model;
+
+/// Lent bytes that may be written, with a descriptor whose segments lie within them.
+///
+/// Bytes that are written keep their number, so the descriptor still doesn't leave them (docs/DECISIONS.md).
+#[derive(Drop)]
+pub struct PyBufferMut<'a> {
+    bytes: &'a mut [u8],
+    desc: BufferDescriptor,
+}
+
+impl<'a> Model for PyBufferMut<'a> {
+    ghost use Rattle.std.specs.Prelude.{◌≡◌, false};
+    ghost use Rattle.py_buffer.specs.Descriptor.{IsValid};
+    ghost use Rattle.py_buffer.specs.Buffers.{BufferView};
+
+    ghost Value = { BufferView };
+
+    ghost view = { λ b. record { bytes = b.bytes.now; desc = b.desc } };
+
+    ghost invariant = { λ b. IsValid b.desc × (b.desc.readonly ≡ false) };
+}
+
+impl<'a> PyBufferMut<'a> {
+    /// A buffer of these bytes with that descriptor, or `None` where `PyBuffer::new` would give none, or the descriptor is readonly.
+    pub fn new(bytes: &'a mut [u8], desc: BufferDescriptor) -> Option<Self>
+        ensures { MatchOption result (IsOver desc bytes.old → desc.readonly ≡ false → ⊥) (λ b. (b.bytes ≡ bytes.old) × (b.desc ≡ desc) × IsOver desc bytes.old × (desc.readonly ≡ false)) }
+    {
+        if !desc.readonly && desc.is_valid() && desc.covers(bytes.len()) {
+            Some(PyBufferMut { bytes, desc })
+        } else {
+            None
+        }
+    }
+
+    /// A buffer of these bytes with that descriptor, which isn't readonly.
+    pub(crate) fn over(bytes: &'a mut [u8], desc: BufferDescriptor) -> Self
+        requires valid { IsValid desc }
+        requires writable { desc.readonly ≡ false }
+        ensures { result ≡ record { bytes = bytes.old; desc = desc } }
+    {
+        PyBufferMut { bytes, desc }
+    }
+
+    /// What the bytes hold.
+    pub fn desc(&self) -> &BufferDescriptor
+        ensures value { result.now ≡ self.now.desc }
+        ensures valid { IsValid self.now.desc }
+        ensures writable { self.now.desc.readonly ≡ false }
+    {
+        &self.desc
+    }
+
+    /// All bytes that were lent, whatever the descriptor says.
+    pub fn obj_bytes(&self) -> &[u8]
+        ensures { result.now ≡ self.now.bytes }
+    {
+        &self.bytes[..]
+    }
+
+    /// All bytes that were lent, to be written.
+    pub fn obj_bytes_mut(&mut self) -> &mut [u8]
+        ensures { result.now ≡ self.old.bytes }
+    {
+        &mut self.bytes[..]
+    }
+
+    /// The first `len` bytes, which are those of all items, or `None` where the descriptor isn't contiguous.
+    pub fn as_contiguous(&self) -> Option<&[u8]>
+        ensures { MatchOption result (IsContiguous self.now.desc → ⊥) (λ first. (first.now ≡ take self.now.desc.len self.now.bytes) × (first.now ≡ items_of self.now) × IsContiguous self.now.desc) }
+    {
+        contiguous(&self.bytes[..], &self.desc)
+    }
+
+    /// The first `len` bytes, to be written, or `None` where the descriptor isn't contiguous.
+    pub fn as_contiguous_mut(&mut self) -> Option<&mut [u8]>
+        ensures { MatchOption result (IsContiguous self.old.desc → ⊥) (λ first. (first.now ≡ take self.old.desc.len self.old.bytes) × IsContiguous self.old.desc) }
+    {
+        if self.desc.is_contiguous() {
+            let len = self.desc.len.min(self.bytes.len());
+            Some(&mut self.bytes[..len])
+        } else {
+            None
+        }
+    }
+
+    /// Appends the bytes of all items, in row order; or nothing, with NoMemory.
+    pub fn append_to(&self, buf: &mut Vec<u8>) -> Result<(), IoFault>
+        ensures items { buf.new.items ≡ (if is_ok result then buf.old.items ++ items_of self.now else buf.old.items) }
+        ensures err { OnErr result (result ≡ Err fault.NoMemory) }
+    {
+        if !self.desc.covers(self.bytes.len()) {
+            return Err(IoFault::NoMemory); // never so: `new` refused it, and bytes keep their number
+        }
+        append(&self.bytes[..], &self.desc, buf)
+    }
+
+    /// What `f` answers of the bytes of all items, in row order; or NoMemory, since they had to be copied.
+    pub fn contiguous_or_collect<R, F: FnOnce(&[u8]) -> R>(
+        &self,
+        alloc: Global,
+        f: F,
+    ) -> Result<R, IoFault>
+        requires { F.IsAlwaysCallable f }
+        ensures answer { IfOk result (λ r. FnOnceReturnsAt F.FnOnce f (items_of self.now) r) }
+        ensures err { OnErr result (result ≡ Err fault.NoMemory) }
+    {
+        if !self.desc.covers(self.bytes.len()) {
+            return Err(IoFault::NoMemory); // never so, as in `append_to`
+        }
+        collected(&self.bytes[..], &self.desc, alloc, f)
+    }
+}

@@ -1,0 +1,108 @@
+//! Arguments that ask for bytes to be written.
+ghost use Rattle.std.specs.Prelude.{◌≡◌, ◌↔◌, ℕ, List, length, take, IsTrue, MatchResult};
+ghost use Rattle.std.specs.Fn.{FnOnceReturnsAtMut};
+ghost use Rattle.py_buffer.specs.declared.arguments.ArgFault.TheVariants as arg_fault;
+ghost use Rattle.py_buffer.specs.Descriptor.{IsValid, IsContiguous};
+ghost use Rattle.py_buffer.specs.Segments.{Covers};
+ghost use Rattle.py_buffer.specs.Arguments.{MemoryOutcome};
+
+use crate::{ArgFault, BufferDescriptor, PyBufferMut};
+use std::marker::Model;
+
+/// What `f` answers of some bytes.
+fn called<R, F: FnOnce(&mut [u8]) -> R>(f: F, bytes: &mut [u8]) -> R
+    requires { F.IsAlwaysCallable f }
+    ensures { FnOnceReturnsAtMut F.FnOnce f bytes.old result bytes.new }
+{
+    f(bytes)
+}
+
+/// A contiguous buffer that is written. Contracts see the buffer.
+#[derive(Drop)]
+pub struct ArgMemoryBuffer<'a> {
+    bytes: &'a mut [u8],
+    desc: BufferDescriptor,
+}
+
+impl<'a> Model for ArgMemoryBuffer<'a> {
+    ghost use Rattle.std.specs.Prelude.{◌≡◌, false};
+    ghost use Rattle.py_buffer.specs.Descriptor.{IsValid, IsContiguous};
+    ghost use Rattle.py_buffer.specs.Buffers.{BufferView};
+
+    ghost Value = { BufferView };
+
+    ghost view = { λ a. record { bytes = a.bytes.now; desc = a.desc } };
+
+    ghost invariant = { λ a. IsValid a.desc × IsContiguous a.desc × (a.desc.readonly ≡ false) };
+}
+
+impl<'a> ArgMemoryBuffer<'a> {
+    /// A buffer of these bytes; or NotContiguous where the descriptor isn't contiguous, or else ReadOnly where it is readonly.
+    pub fn new(bytes: &'a mut [u8], desc: BufferDescriptor) -> Result<Self, ArgFault>
+        requires valid { IsValid desc }
+        requires covers { Covers desc (length bytes.old) }
+        ensures { MemoryOutcome bytes.old desc result }
+    {
+        if !desc.is_contiguous() {
+            return Err(ArgFault::NotContiguous);
+        }
+        if desc.readonly {
+            return Err(ArgFault::ReadOnly);
+        }
+        Ok(ArgMemoryBuffer { bytes, desc })
+    }
+
+    /// The bytes of all items, lent to be written.
+    pub fn borrow_buf_mut(&mut self) -> &mut [u8]
+        ensures { result.now ≡ take self.old.desc.len self.old.bytes }
+    {
+        let len = self.desc.len.min(self.bytes.len());
+        &mut self.bytes[..len]
+    }
+
+    /// What `f` answers of the bytes of all items, which it may write.
+    pub fn with_ref<R, F: FnOnce(&mut [u8]) -> R>(&mut self, f: F) -> R
+        requires { F.IsAlwaysCallable f }
+        ensures { (new : List ℕ) × FnOnceReturnsAtMut F.FnOnce f (take self.old.desc.len self.old.bytes) result new }
+    {
+        called(f, self.borrow_buf_mut())
+    }
+
+    /// How many bytes the argument has.
+    pub fn len(&self) -> usize
+        ensures { result ≡ self.now.desc.len }
+    {
+        self.desc.len
+    }
+
+    /// Whether the argument has no bytes.
+    pub fn is_empty(&self) -> bool
+        ensures { IsTrue result ↔ (self.now.desc.len ≡ 0) }
+    {
+        self.len() == 0
+    }
+}
+
+impl<'a> From<ArgMemoryBuffer<'a>> for PyBufferMut<'a> {
+    ghost from_gives = { λ argument buffer. buffer ≡ argument };
+
+    fn from(argument: ArgMemoryBuffer<'a>) -> PyBufferMut<'a> {
+        let ArgMemoryBuffer { bytes, desc } = argument;
+        PyBufferMut::over(bytes, desc)
+    }
+}
+
+/// What `f` answers of the bytes of a buffer, which it may write, or NotContiguous.
+pub fn try_rw_bytes_like<R, F: FnOnce(&mut [u8]) -> R>(
+    buffer: &mut PyBufferMut<'_>,
+    f: F,
+) -> Result<R, ArgFault>
+    requires { F.IsAlwaysCallable f }
+    ensures { MatchResult result (λ r. (new : List ℕ) × FnOnceReturnsAtMut F.FnOnce f (take buffer.old.desc.len buffer.old.bytes) r new × IsContiguous buffer.old.desc)
+        (λ refused. (refused ≡ arg_fault.NotContiguous) × (IsContiguous buffer.old.desc → ⊥)) }
+{
+    match buffer.as_contiguous_mut() {
+        Some(bytes) => Ok(called(f, bytes)),
+        None => Err(ArgFault::NotContiguous),
+    }
+}
