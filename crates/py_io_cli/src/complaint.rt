@@ -40,15 +40,16 @@ where
 
 /// Which word is malformed: the last of the shortest front of the words that is malformed, once a command, a path and a mode are there.
 fn words_complaint(alloc: Global, words: &[String]) -> Result<String, AllocError> {
+    if let Some(word) = words.first() {
+        if matches!(word.as_str(), "--help" | "--version") {
+            return format!(in alloc; "{word} stands alone");
+        }
+    }
     if words.len() < 3 {
         return String::from_str(
             alloc,
             "the words are malformed: run PATH MODE [OPTION ..], or --help",
         );
-    }
-    if matches!(words[0].as_str(), "--help" | "--version") {
-        let word = &words[0];
-        return format!(in alloc; "{word} stands alone");
     }
     for count in 3..=words.len() {
         let front = words.get(..count).unwrap_or(words);

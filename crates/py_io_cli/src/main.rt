@@ -68,7 +68,11 @@ fn main(rt: HostRuntime) -> ExitCode {
     match command_words(&rt) {
         Ok(words) => ExitCode::from(run(&rt, &words)),
         Err(status) => {
-            say(&rt, "a word is not UTF-8, or there is no memory");
+            let why = match status {
+                Status::NoMemory => "out of memory",
+                _ => "a word is not UTF-8",
+            };
+            say(&rt, why);
             ExitCode::from(status.code())
         }
     }

@@ -23,7 +23,7 @@ same_keeps before after same = λ path. ap (λ (outside : Outside). outside.open
 opener_same : (before after : OpenerView) → after ≡ before → HoldsTheSame before after
 opener_same before after same = λ path. ap (λ (opener : OpenerView). opener.holds path) same
 
--- Every path, where the plan only reads.
+-- Every path keeps what it held, where the plan only reads.
 
 opener_keeps : (path : List ℕ) (asked : Asked) (before after : Outside) → OpenerFails path asked before after → IsTrue before.opener.tells → HoldsTheSame before.opener after.opener
 opener_keeps path asked before after (inl refused) tells = refused.0.holds tells
@@ -44,7 +44,7 @@ calls_keep path asked status.WordsMalformed before after reads did tells = absur
 calls_keep path asked status.ScriptMalformed before after reads did tells = absurd did
 calls_keep path asked status.SourceFailed before after reads did tells = absurd did
 
--- whatever the plan of a mode and arguments is, if there is one, it reads
+-- the plan of a mode and arguments, if there is one, reads
 abbrev pub PlansToRead : List ℕ → OpenArgs → Type 0
 PlansToRead mode args = (plan : OpenPlan) → plan_of mode args ≡ Ok plan → plan.mode.file ≡ Read
 
@@ -52,7 +52,7 @@ planned_keeps : (path mode : List ℕ) (args : OpenArgs) (calls : List Call) (en
 planned_keeps path mode args calls ended before after reads (inl refused) tells = opener_same before.opener after.opener refused.opener
 planned_keeps path mode args calls ended before after reads (inr follows) tells = calls_keep path (asked_by follows.plan args calls) ended before after (reads follows.plan follows.planned) follows.does tells
 
--- whatever plan the words ask for, if there is one, it reads
+-- the plan that the words ask for, if there is one, reads
 abbrev pub WordsToRead : Option Command → Type 0
 WordsToRead (Some (Run path mode args)) = PlansToRead mode args
 WordsToRead command = Unit {0}
@@ -88,7 +88,7 @@ asked_reads (Some Help) asked = absurd asked
 asked_reads (Some Version) asked = absurd asked
 asked_reads None asked = absurd asked
 
--- By the status.
+-- What was promised, by the status.
 
 failed_keeps : (path mode : List ℕ) (args : OpenArgs) (calls : List Call) (before after : Outside) → PlannedOutcome path mode args calls status.OpenerFailed before after → IsTrue before.opener.tells → HoldsTheSame before.opener after.opener
 failed_keeps path mode args calls before after (inl refused) tells = opener_same before.opener after.opener refused.opener
@@ -104,6 +104,7 @@ code_keeps status.Done words old new before after is did tells = absurd (omega a
 code_keeps status.SinkFailed words old new before after is did tells = absurd (omega arith)
 code_keeps status.NoMemory words old new before after is did tells = absurd (omega arith)
 
+-- where the program's number, or its words, leave the paths, every path holds what it held
 pub paths_kept : (code : ℕ) (words : List (List ℕ)) (old new : SourceView) (before after : Outside) → Ends code words old new before after → IsTrue before.opener.tells → LeavesPaths code (command_of words) → HoldsTheSame before.opener after.opener
 paths_kept code words old new before after ends tells (inl is) = code_keeps ends.ended words old new before after (inl (sym ends.code_is ∙ is)) ends.outcome tells
 paths_kept code words old new before after ends tells (inr (inl is)) = code_keeps ends.ended words old new before after (inr (inl (sym ends.code_is ∙ is))) ends.outcome tells
@@ -112,7 +113,7 @@ paths_kept code words old new before after ends tells (inr (inr (inr (inl is))))
 paths_kept code words old new before after ends tells (inr (inr (inr (inr (inl refused))))) = kept_by ends.ended words old new before after (refused_reads (command_of words) refused) ends.outcome tells
 paths_kept code words old new before after ends tells (inr (inr (inr (inr (inr asked))))) = kept_by ends.ended words old new before after (asked_reads (command_of words) asked) ends.outcome tells
 
--- Every other path.
+-- Every other path keeps what it held.
 
 calls_spare : (path : List ℕ) (asked : Asked) (ended : Status) (before after : Outside) → CallsOutcome path asked ended before after → IsTrue before.opener.tells → OthersHoldTheSame path before.opener after.opener
 calls_spare path asked status.Done before after did tells = path_spares path asked status.Done before after did tells
@@ -154,12 +155,13 @@ spared_by status.NoMemory words old new before after (inl none) tells = all_spar
 spared_by status.NoMemory words old new before after (inr (inl read)) tells = all_spare (command_of words) before.opener after.opener (same_keeps before after read.same)
 spared_by status.NoMemory words old new before after (inr (inr did)) tells = script_spares words status.NoMemory old new before after did tells
 
+-- every path but the one that the words name holds what it held
 pub others_kept : (code : ℕ) (words : List (List ℕ)) (old new : SourceView) (before after : Outside) → Ends code words old new before after → IsTrue before.opener.tells → KeepsOthers (command_of words) before.opener after.opener
 others_kept code words old new before after ends tells = spared_by ends.ended words old new before after ends.outcome tells
 
 -- Refused openings.
 
--- with 4 the words asked for a run, whose opening was refused
+-- with the number 4 the words asked for a run, whose opening was refused
 all_refused : (ended : Status) (words : List (List ℕ)) (old new : SourceView) (before after : Outside) → code_of ended ≡ 4 → Outcome ended words old new before after → RunsScript words status.Refused old new before after
 all_refused status.Refused words old new before after is did = did
 all_refused status.Done words old new before after is did = absurd (omega arith)
@@ -181,6 +183,7 @@ left_by path named mode args plan calls before after is accepted (inr follows) t
     let Q : OpenPlan → Type 0 = λ by. after.opener.holds named ≡ Some (opened_bytes (raw_mode by) (before.opener.holds named)) in
     subst P is (subst Q (one_plan (plan_of mode args) follows.plan plan follows.planned accepted) (path_left named (asked_by follows.plan args calls) before after follows.does tells))
 
+-- with the number 4 the path holds what its opening left
 pub path_left_by : (words : List (List ℕ)) (old new : SourceView) (before after : Outside) (path : List ℕ) (plan : OpenPlan) → Ends 4 words old new before after → IsAcceptedAt path plan (command_of words) → IsTrue before.opener.tells → after.opener.holds path ≡ Some (opened_bytes (raw_mode plan) (before.opener.holds path))
 path_left_by words old new before after path plan ends accepted tells =
     let did = all_refused ends.ended words old new before after (sym ends.code_is) ends.outcome in
@@ -210,6 +213,7 @@ missed_by path named mode args plan calls before after is accepted (inr follows)
     let Q : OpenPlan → Type 0 = λ by. misses (raw_mode by) (before.opener.holds named) ≡ true in
     subst P is (subst Q (one_plan (plan_of mode args) follows.plan plan follows.planned accepted) (opener_misses named (asked_by follows.plan args calls) before after follows.does tells))
 
+-- with the number 8 the plan's mode can't open what the path held
 pub path_missed : (words : List (List ℕ)) (old new : SourceView) (before after : Outside) (path : List ℕ) (plan : OpenPlan) → Ends 8 words old new before after → IsAcceptedAt path plan (command_of words) → IsTrue before.opener.tells → misses (raw_mode plan) (before.opener.holds path) ≡ true
 path_missed words old new before after path plan ends accepted tells =
     let did = all_failed ends.ended words old new before after (sym ends.code_is) ends.outcome in

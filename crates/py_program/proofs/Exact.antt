@@ -18,8 +18,8 @@ use Rattle.py_raw.specs.Opener.{opened_bytes}
 use Rattle.py_source_sink.specs.Source.{SourceView}
 use Rattle.py_stream.specs.Stream.{Stream, buffering_of, file_of}
 use Rattle.py_stream.specs.Opening.{Opens, begins_at, tells_start}
-use Rattle.py_unbuffered.specs.Unbuffered.{can_of, is_able}
-use Rattle.py_unbuffered.specs.declared.access.Access.{Access}
+use Rattle.py_stream.specs.Access.{can_of, is_able}
+use Rattle.py_stream.specs.declared.access.Access.{Access}
 use Rattle.py_calls.specs.declared.call.Call.{Call}
 use Rattle.py_calls.specs.declared.reply.Reply.{Reply}
 use Rattle.py_mode.specs.declared.mode.EncodeMode.{EncodeMode}
@@ -105,7 +105,7 @@ file_opened Bytes raw plan chunk bytes (BinarySession stream) opens tells seeks 
 file_opened Text raw plan chunk bytes (BinarySession stream) opens tells seeks place are = absurd opens
 file_opened Bytes raw plan chunk bytes (TextSession text) opens tells seeks place are = absurd opens
 
--- with 0 all was done
+-- with the number 0 all was done
 all_done : (ended : Status) (words : List (List ℕ)) (old new : SourceView) (before after : Outside) → code_of ended ≡ 0 → Outcome ended words old new before after → Outcome status.Done words old new before after
 all_done status.Done words old new before after is did = did
 all_done status.WordsMalformed words old new before after is did = absurd (omega arith)
@@ -136,12 +136,12 @@ no_own_text command path mode args text run own =
     let none : None ≡ Some text = subst (λ (asked : Command). own_text asked ≡ Some text) is own in
     cc
 
--- with 0 the plan accepted the opening
+-- with the number 0 the plan accepted the opening
 follows_done : (path mode : List ℕ) (args : OpenArgs) (calls : List Call) (before after : Outside) → PlannedOutcome path mode args calls status.Done before after → FollowsPlan path mode args calls status.Done before after
 follows_done path mode args calls before after (inl refuses) = absurd refuses.prints
 follows_done path mode args calls before after (inr follows) = follows
 
--- What was done with 0.
+-- What was done with the number 0.
 
 done_script : (words : List (List ℕ)) (old new : SourceView) (before after : Outside) (path mode : List ℕ) (args : OpenArgs) → Outcome status.Done words old new before after → command_of words ≡ Some (Run path mode args) → RunsScript words status.Done old new before after
 done_script words old new before after path mode args (inl did) form = did
@@ -177,6 +177,7 @@ replies_of path mode args words old new before after did same =
           (opened.done_keeps.raw_faults ∙ ap (λ (old_count : ℕ). counted old_count opened.back.faults) opened.open_keeps.raw_faults ∙ ap (λ (raw : Raw). counted before.opener.raw_faults raw.faults) ran.raw_is));
     }
 
+-- with the number 0 a run printed the replies to its calls
 pub prints_replies : (words : List (List ℕ)) (old new : SourceView) (before after : Outside) (path mode : List ℕ) (args : OpenArgs) → Ends 0 words old new before after → command_of words ≡ Some (Run path mode args) → PrintsReplies path mode args old new before after
 prints_replies words old new before after path mode args ends form =
     let did = done_script words old new before after path mode args (all_done ends.ended words old new before after (sym ends.code_is) ends.outcome) form in
@@ -200,6 +201,7 @@ settled law path mode args old new before after printed told tells ready =
       says = λ memory. (file_seen printed.session, settles_over law printed.raw printed.plan args.chunk_size printed.session (closed_calls printed.calls) printed.replies (opened_bytes (raw_mode printed.plan) (before.opener.holds path)) printed.run smooth begun.tells begun.seeks begun.place begun.bytes_are memory);
     }
 
+-- with the number 0 a run in which no raw failed or waited printed what settles
 pub prints_settled : SmoothRunsSettle → (words : List (List ℕ)) (old new : SourceView) (before after : Outside) (path mode : List ℕ) (args : OpenArgs) (plan : OpenPlan) → Ends 0 words old new before after → command_of words ≡ Some (Run path mode args) → plan_of mode args ≡ Ok plan → IsTrue old.tells → IsTrue before.opener.tells → RawsAreReady before after → PrintsSettled path plan args.chunk_size old before after
 prints_settled law words old new before after path mode args plan ends form accepted told tells ready =
     let printed = prints_replies words old new before after path mode args ends form in
@@ -216,6 +218,7 @@ text_opened_of plan chunk held bytes is_text reads holds =
 abbrev pub SettledTextsAreExact : Type 0
 SettledTextsAreExact = (before : TextFile) (calls : List Call) (replies : List FileReply) (after : SessionFile) → AllSettle (OfText before) calls replies after → IsExact before calls replies after
 
+-- with the number 0 a run of a text in which no raw failed or waited printed the exact replies
 pub prints_exactly : SmoothRunsSettle → SettledTextsAreExact → (words : List (List ℕ)) (old new : SourceView) (before after : Outside) (path mode bytes : List ℕ) (args : OpenArgs) (plan : OpenPlan) → Ends 0 words old new before after → command_of words ≡ Some (Run path mode args) → plan_of mode args ≡ Ok plan → plan.mode.encode ≡ Text → IsTrue old.tells → IsTrue before.opener.tells → before.opener.holds path ≡ Some bytes → RawsAreReady before after → PrintsExactly bytes args.chunk_size old before after
 prints_exactly law exact words old new before after path mode bytes args plan ends form accepted is_text told tells holds ready =
     let printed = prints_settled law words old new before after path mode args plan ends form accepted told tells ready in

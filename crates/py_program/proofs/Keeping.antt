@@ -15,7 +15,7 @@ use Rattle.py_mode.specs.declared.mode.FileMode.{FileMode}
 use Rattle.py_mode.specs.declared.mode.FileMode.TheVariants.{Read}
 use Rattle.py_mode.specs.declared.plan.OpenPlan.{OpenPlan}
 use Rattle.py_mode.specs.Mode.{letter_of}
-use Rattle.py_unbuffered.specs.Unbuffered.{can_of}
+use Rattle.py_stream.specs.Access.{can_of}
 use Rattle.py_open.specs.Session.{SessionView, TextSession, BinarySession, raw_of}
 use Rattle.py_open.specs.Opening.{access_of, OpensBy}
 use Rattle.py_open.specs.Run.{RefusesOpening}
@@ -30,7 +30,7 @@ same_or_other : (test : Bool) (other path : List ℕ) → bytes_eq other path �
 same_or_other true other path is = inl ((bytes_eq-Decides other path).0 is)
 same_or_other false other path is = inr (λ same. let both : true ≡ false = sym ((bytes_eq-Decides other path).1 same) ∙ is in cc)
 
--- every path, from one of them and the others
+-- every path holds what it held, where one does and the others do
 all_hold : (path : List ℕ) (old new : OpenerView) → new.holds path ≡ old.holds path → OthersHoldTheSame path old new → HoldsTheSame old new
 all_hold path old new here others other =
     elim (same_or_other (bytes_eq other path) other path refl) [
@@ -38,7 +38,7 @@ all_hold path old new here others other =
       | inr differs ↦ others other differs
     ]
 
--- what is found is held
+-- what is found at a path is held there
 found_held : (held : Option (List ℕ)) → is_none held ≡ false → Some (unwrap_or held []) ≡ held
 found_held (Some bytes) found = refl
 found_held None found = cc

@@ -6,7 +6,7 @@ use Rattle.py_raw.specs.RawMode.{raw_mode_text}
 use Rattle.py_source_sink.specs.Sink.{SinkView}
 use Rattle.py_raw.specs.Opener.{OpenerView, IsOpened}
 use Rattle.py_raw.specs.RawStream.{Raw}
-use Rattle.py_unbuffered.specs.Unbuffered.{is_able}
+use Rattle.py_stream.specs.Access.{is_able}
 use Rattle.py_calls.specs.declared.call.Call.{Call}
 use Rattle.py_calls.specs.declared.reply.Reply.{Reply}
 use Rattle.py_mode.specs.declared.open_args.OpenArgs.{OpenArgs}
@@ -56,6 +56,7 @@ refused_session raw back plan fault.Unsupported opened some why = let able : tru
 refused_session raw back plan fault.BadArgument opened some why = absurd (some why.2)
 refused_session raw back plan _ opened some why = absurd why
 
+-- a session over an opened raw is refused by running out of memory, or by a fault of the raw
 pub refused_by : (raw back : Raw) (mode : List ℕ) (args : OpenArgs) (plan : OpenPlan) (refused : IoFault) → plan_of mode args ≡ Ok plan → IsOpened (raw_mode plan) raw → RefusesOpening raw plan refused back → (refused ≡ fault.NoMemory) ⊎ ((refused ≡ fault.RawFault) × RefusesSession raw plan fault.RawFault back)
 refused_by raw back mode args plan refused accepted opened why = refused_session raw back plan refused opened (planned_buffer_is_not_empty mode args plan accepted) why
 
@@ -75,6 +76,7 @@ printed_refusal refused old new (Err status.Refused) ended prints is = absurd pr
 printed_refusal refused old new (Err status.SourceFailed) ended prints is = absurd prints
 printed_refusal refused old new (Err status.OpenerFailed) ended prints is = absurd prints
 
+-- an opening that the plan refuses had its refusal printed, or a front of it
 pub plan_refused : (path mode : List ℕ) (args : OpenArgs) (calls : List Call) (refused : IoFault) (opener : OpenerView) (old new : SinkView) (printed : Result (Unit {0}) Status) (ended : Status) → plan_of mode args ≡ Err refused → PrintOutcome old (refused_line refused) printed new → MatchResult printed (λ done. ended ≡ status.Refused) (λ stop. ended ≡ stop) → PlannedOutcome path mode args calls ended (record { opener = opener; sink = old }) (record { opener = opener; sink = new })
 plan_refused path mode args calls refused opener old new printed ended planned prints is =
     inl (refuses mode args refused opener old new ended planned (printed_refusal refused old new printed ended prints is))

@@ -48,9 +48,11 @@ stops_behind old mid new before line whole status.OpenerFailed keeps printed fro
 pub sink_keeps_more : (old mid new : SinkView) → SinkKeeps old mid → SinkKeeps mid new → SinkKeeps old new
 sink_keeps_more old mid new first second = record { tells = second.tells ∙ first.tells; faults = omega arith; counts_exactly = second.counts_exactly ∙ first.counts_exactly }
 
+-- two calls of a sink count no fault where neither of them did
 pub no_fault_more : (old mid new : SinkView) → SinkKeeps old mid → NoSinkFault old mid → NoSinkFault mid new → NoSinkFault old new
 no_fault_more old mid new keeps first second exact = second (keeps.counts_exactly ∙ exact) ∙ first exact
 
+-- the lines of replies and of more replies are the lines of both
 pub lines_joined : (first second : List Reply) → reply_lines (first ++ second) ≡ reply_lines first ++ reply_lines second
 lines_joined [] second = refl
 lines_joined (reply ∷ first) second = ap (λ bytes. reply_line reply ++ bytes) (lines_joined first second) ∙ sym (append_assoc (reply_line reply) (reply_lines first) (reply_lines second))

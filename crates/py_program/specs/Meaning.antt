@@ -1,12 +1,13 @@
 -- What the clauses of the program speak of beside its outcome.
-use Rattle.std.specs.Prelude.{◌≡◌, ℕ, ◌⊎◌, Bool, true, false, IsTrue, List, length, Option, Some, Ok, IsErr, if◌then◌else◌}
+use Rattle.std.specs.Prelude.{◌≡◌, ◌≢◌, ◌≤◌, ℕ, ◌⊎◌, Bool, true, false, IsTrue, List, length, Option, Some, None, Ok, IsErr, if◌then◌else◌}
 use Rattle.py_flat.specs.declared.life.Life.TheVariants as life
-use Rattle.py_flat.specs.Causes.{rose, RoseBy}
+use Rattle.py_flat.specs.Causes.{rose, Rose, RoseBy}
 use Rattle.py_raw.specs.RawStream.{Raw, tells as raw_tells}
-use Rattle.py_raw.specs.Opener.{OpenerView, IsOpened, opened_bytes, HoldsTheSame, OthersHoldTheSame}
-use Rattle.py_source_sink.specs.Source.{SourceView}
+use Rattle.py_raw.specs.Opener.{OpenerView, NoOpenerFault, misses, IsOpened, opened_bytes, HoldsTheSame, OthersHoldTheSame}
+use Rattle.py_source_sink.specs.Source.{SourceView, NoSourceFault}
+use Rattle.py_source_sink.specs.Sink.{NoSinkFault}
 use Rattle.py_stream.specs.Stream.{buffering_of}
-use Rattle.py_unbuffered.specs.Unbuffered.{can_of}
+use Rattle.py_stream.specs.Access.{can_of}
 use Rattle.py_calls.specs.declared.call.Call.{Call}
 use Rattle.py_calls.specs.declared.reply.Reply.{Reply}
 use Rattle.py_mode.specs.declared.mode.EncodeMode.{EncodeMode}
@@ -20,7 +21,8 @@ use Rattle.py_open.specs.Session.{SessionFile, OfText, OfBinary, SessionView, ra
 use Rattle.py_open.specs.Opening.{access_of}
 use Rattle.py_open.specs.Run.{NoneLacksMemory, RunsCalls, AllSettle, all_said}
 use Rattle.py_open.specs.Laws.{RunsComplete, exact_replies}
-use Rattle.py_script.specs.CommandWords.{Command, Run}
+use Rattle.py_script.specs.CommandWords.{Command, Run, Help, Version}
+use Rattle.py_script.specs.Help.{help_text, version_text}
 use Rattle.py_script.specs.Script.{script_calls}
 use Rattle.py_script.specs.ReplyLine.{reply_lines}
 use Rattle.py_program.specs.Outside.{IsMalformed, ReadsScript, Prints}
@@ -120,6 +122,7 @@ KeepsOthers command old new = HoldsTheSame old new
 abbrev pub begins_with : Bool → List ℕ → ℕ
 begins_with appends bytes = if appends then length bytes else 0
 
+-- the flat file of a session over bytes, by whether it is of a text or of bytes
 abbrev pub file_by : EncodeMode → OpenPlan → ℕ → List ℕ → SessionFile
 file_by Text plan chunk bytes = OfText (text_opened bytes 0 true chunk)
 file_by Bytes plan chunk bytes = OfBinary (record {
@@ -130,6 +133,7 @@ file_by Bytes plan chunk bytes = OfBinary (record {
   life = life.Live;
 })
 
+-- the flat file that a plan opens over bytes
 abbrev pub opened_file : OpenPlan → ℕ → List ℕ → SessionFile
 opened_file plan chunk bytes = file_by plan.mode.encode plan chunk bytes
 
@@ -150,3 +154,33 @@ pub record PrintsExactly (bytes : List ℕ) (chunk : ℕ) (old : SourceView) (be
   pub replies : List Reply
   pub prints : Prints before.sink (reply_lines replies) after.sink
   pub says : NoneLacksMemory (all_said replies) → all_said replies ≡ exact_replies (text_opened bytes 0 true chunk) (closed_calls calls)
+
+-- The program's promises.
+
+-- what follows from how the program ended, each promise by its name
+pub record Promises (code : ℕ) (asked : Option Command) (old new : SourceView) (before after : Outside) : Type 0 where
+  pub statuses : (code ≤ 8) × (code ≢ 1)
+  pub malformed_words : code ≡ 2 → asked ≡ None
+  pub words : asked ≡ None → (code ≡ 2) ⊎ (code ≡ 7)
+  pub source : code ≡ 5 → Rose old.faults new.faults
+  pub sink : code ≡ 6 → Rose before.sink.faults after.sink.faults
+  pub opener : code ≡ 8 → Rose before.opener.faults after.opener.faults
+  pub source_exact : code ≢ 5 → NoSourceFault old new
+  pub sink_exact : code ≢ 6 → NoSinkFault before.sink after.sink
+  pub opener_exact : code ≡ 0 → NoOpenerFault before.opener after.opener
+  pub refused : code ≡ 4 → IsRefusedPlan asked ⊎ Rose before.opener.raw_faults after.opener.raw_faults
+  pub planned : IsRefusedPlan asked → TellsWellFormed old → (code ≡ 4) ⊎ ((code ≡ 5) ⊎ ((code ≡ 6) ⊎ (code ≡ 7)))
+  pub unopened : IsRefusedPlan asked → after.opener ≡ before.opener
+  pub complete : asked ≢ None → ¬ IsRefusedPlan asked → NothingFails old new before after → (code ≡ 0) ⊎ ((code ≡ 3) ⊎ (code ≡ 7))
+  pub malformed_script : code ≡ 3 → IsTrue old.tells → IsMalformed old.left
+  pub script : AsksForRun asked → TellsMalformed old → (code ≡ 3) ⊎ ((code ≡ 5) ⊎ (code ≡ 7))
+  pub missing : (path : List ℕ) (plan : OpenPlan) → IsAcceptedAt path plan asked → code ≡ 8 → TellsPaths before.opener → misses (raw_mode plan) (before.opener.holds path) ≡ true
+  pub found : (path : List ℕ) (plan : OpenPlan) → IsAcceptedAt path plan asked → TellsWellFormed old → TellsPaths before.opener
+      → misses (raw_mode plan) (before.opener.holds path) ≡ true → (code ≡ 8) ⊎ ((code ≡ 5) ⊎ (code ≡ 7))
+  pub kept : TellsPaths before.opener → LeavesPaths code asked → HoldsTheSame before.opener after.opener
+  pub others : TellsPaths before.opener → KeepsOthers asked before.opener after.opener
+  pub left : (path : List ℕ) (plan : OpenPlan) → IsAcceptedAt path plan asked → code ≡ 4 → TellsPaths before.opener
+      → after.opener.holds path ≡ Some (opened_bytes (raw_mode plan) (before.opener.holds path))
+  pub printed : (path mode : List ℕ) (args : OpenArgs) → code ≡ 0 → asked ≡ Some (Run path mode args) → PrintsReplies path mode args old new before after
+  pub help : code ≡ 0 → asked ≡ Some Help → Prints before.sink help_text after.sink
+  pub version : code ≡ 0 → asked ≡ Some Version → Prints before.sink version_text after.sink

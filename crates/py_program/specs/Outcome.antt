@@ -46,7 +46,7 @@ outside shows_opener shows_sink opener sink = record { opener = shows_opener ope
 abbrev pub asked_in : List (String Global) → Option Command
 asked_in words = command_of (texts words)
 
--- Over a raw that was opened.
+-- What is done over a raw that was opened.
 
 -- what is asked of a raw: a session as it is planned, of a text with chunks of this size in bytes, and the calls of a script
 pub record Asked : Type 0 where
@@ -191,6 +191,7 @@ own_text Help = Some help_text
 own_text Version = Some version_text
 own_text (Run path mode args) = None
 
+-- the words ask for a text of the program's own, and only the sink was called
 pub record PrintsText (words : List (List ℕ)) (ended : Status) (old new : SourceView) (before after : Outside) : Type 0 where
   pub command : Command
   pub form : command_of words ≡ Some command
@@ -232,7 +233,7 @@ Outcome status.Done words old new before after = RunsScript words status.Done ol
 Outcome status.SinkFailed words old new before after = RunsScript words status.SinkFailed old new before after ⊎ PrintsText words status.SinkFailed old new before after
 Outcome ended words old new before after = RunsScript words ended old new before after
 
--- the program ended with a number: that of a status, by which it did this
+-- the program ended with a number: that of a status, by which the program did what its outcome says
 pub record Ends (code : ℕ) (words : List (List ℕ)) (old new : SourceView) (before after : Outside) : Type 0 where
   pub ended : Status
   pub code_is : code ≡ code_of ended

@@ -1,18 +1,14 @@
 //! The program: from its words to the lines that it prints and the status that it ends with.
-ghost use Rattle.std.specs.Prelude.{◌≡◌, ◌≢◌, ◌≤◌, ◌⊎◌, ℕ, true, IsTrue, List, Ok, Some, None, MatchResult};
-ghost use Rattle.py_flat.specs.Causes.{Rose};
+ghost use Rattle.std.specs.Prelude.{◌≡◌, ◌≢◌, Ok, MatchResult};
 ghost use Rattle.py_source_sink.specs.Source.{NoSourceFault};
 ghost use Rattle.py_source_sink.specs.Sink.{SinkKeeps, NoSinkFault};
-ghost use Rattle.py_raw.specs.Opener.{HoldsTheSame, IsOpened, NoOpenerFault, misses, opened_bytes};
+ghost use Rattle.py_raw.specs.Opener.{IsOpened, NoOpenerFault};
 ghost use Rattle.py_stream.specs.Opening.{StandsAtStart};
 ghost use Rattle.py_mode.specs.declared.plan.OpenPlan.{OpenPlan as Plan};
-ghost use Rattle.py_mode.specs.declared.open_args.OpenArgs.{OpenArgs as Arguments};
 ghost use Rattle.py_mode.specs.Plan.{plan_of};
-ghost use Rattle.py_script.specs.CommandWords.{Run as Asks, Help, Version};
-ghost use Rattle.py_script.specs.Help.{help_text, version_text};
-ghost use Rattle.py_program.specs.Outside.{texts, IsMalformed, Prints};
+ghost use Rattle.py_program.specs.Outside.{texts};
 ghost use Rattle.py_program.specs.Outcome.{raw_mode, asked_by, asked_in, outside, RawOutcome, PlannedOutcome, Outcome, Ends, after_done};
-ghost use Rattle.py_program.specs.Meaning.{TellsPaths, AsksForRun, IsRefusedPlan, IsAcceptedAt, TellsWellFormed, TellsMalformed, NothingFails, LeavesPaths, KeepsOthers, PrintsReplies};
+ghost use Rattle.py_program.specs.Meaning.{Promises};
 
 use crate::laws::{a_smooth_run_prints_the_exact_replies, a_smooth_run_prints_what_settles};
 use crate::printing::{print_refused, print_replies, print_text};
@@ -32,7 +28,8 @@ use std::alloc::Global;
 /// `words` are those of the command line without the program's own name. It answers the status that the program ends
 /// with (docs/PROGRAM.md); the first stop that applies decides. A raw that was opened is always put away again.
 ///
-/// `ends` says all that was read, opened, printed and put away, by the status. The other clauses follow from it:
+/// `ends` says all that was read, opened, printed and put away, by the status. What follows from it `promises` says, field by
+/// field of `Promises`:
 ///
 /// - `statuses`: it is 0 or one of 2 to 8;
 /// - `malformed_words`, `words`: 2 comes only of malformed words, and such words end with 2 unless memory ran out;
@@ -67,38 +64,8 @@ pub fn run_program<O: Opener, I: Source, K: Sink>(
 ) -> u8
     ensures ends { Ends result (texts words.now) (I.shows script.old) (I.shows script.new)
         (outside O.shows K.shows opener.old out.old) (outside O.shows K.shows opener.new out.new) }
-    ensures statuses { (result ≤ 8) × (result ≢ 1) }
-    ensures malformed_words { result ≡ 2 → asked_in words.now ≡ None }
-    ensures words { asked_in words.now ≡ None → (result ≡ 2) ⊎ (result ≡ 7) }
-    ensures source { result ≡ 5 → Rose (I.shows script.old).faults (I.shows script.new).faults }
-    ensures sink { result ≡ 6 → Rose (K.shows out.old).faults (K.shows out.new).faults }
-    ensures opener { result ≡ 8 → Rose (O.shows opener.old).faults (O.shows opener.new).faults }
-    ensures source_exact { result ≢ 5 → NoSourceFault (I.shows script.old) (I.shows script.new) }
-    ensures sink_exact { result ≢ 6 → NoSinkFault (K.shows out.old) (K.shows out.new) }
-    ensures opener_exact { result ≡ 0 → NoOpenerFault (O.shows opener.old) (O.shows opener.new) }
-    ensures refused { result ≡ 4 → IsRefusedPlan (asked_in words.now) ⊎ Rose (O.shows opener.old).raw_faults (O.shows opener.new).raw_faults }
-    ensures planned { IsRefusedPlan (asked_in words.now) → TellsWellFormed (I.shows script.old)
-        → (result ≡ 4) ⊎ ((result ≡ 5) ⊎ ((result ≡ 6) ⊎ (result ≡ 7))) }
-    ensures unopened { IsRefusedPlan (asked_in words.now) → O.shows opener.new ≡ O.shows opener.old }
-    ensures complete { asked_in words.now ≢ None → ¬ IsRefusedPlan (asked_in words.now) → NothingFails (I.shows script.old) (I.shows script.new)
-        (outside O.shows K.shows opener.old out.old) (outside O.shows K.shows opener.new out.new)
-        → (result ≡ 0) ⊎ ((result ≡ 3) ⊎ (result ≡ 7)) }
-    ensures malformed_script { result ≡ 3 → IsTrue (I.shows script.old).tells → IsMalformed (I.shows script.old).left }
-    ensures script { AsksForRun (asked_in words.now) → TellsMalformed (I.shows script.old)
-        → (result ≡ 3) ⊎ ((result ≡ 5) ⊎ (result ≡ 7)) }
-    ensures missing { (path : List ℕ) (plan : Plan) → IsAcceptedAt path plan (asked_in words.now) → result ≡ 8 → TellsPaths (O.shows opener.old)
-        → misses (raw_mode plan) ((O.shows opener.old).holds path) ≡ true }
-    ensures found { (path : List ℕ) (plan : Plan) → IsAcceptedAt path plan (asked_in words.now) → TellsWellFormed (I.shows script.old)
-        → TellsPaths (O.shows opener.old) → misses (raw_mode plan) ((O.shows opener.old).holds path) ≡ true
-        → (result ≡ 8) ⊎ ((result ≡ 5) ⊎ (result ≡ 7)) }
-    ensures kept { TellsPaths (O.shows opener.old) → LeavesPaths result (asked_in words.now) → HoldsTheSame (O.shows opener.old) (O.shows opener.new) }
-    ensures others { TellsPaths (O.shows opener.old) → KeepsOthers (asked_in words.now) (O.shows opener.old) (O.shows opener.new) }
-    ensures left { (path : List ℕ) (plan : Plan) → IsAcceptedAt path plan (asked_in words.now) → result ≡ 4 → TellsPaths (O.shows opener.old)
-        → (O.shows opener.new).holds path ≡ Some (opened_bytes (raw_mode plan) ((O.shows opener.old).holds path)) }
-    ensures printed { (path mode : List ℕ) (args : Arguments) → result ≡ 0 → asked_in words.now ≡ Some (Asks path mode args) → PrintsReplies path mode args (I.shows script.old) (I.shows script.new)
+    ensures promises { Promises result (asked_in words.now) (I.shows script.old) (I.shows script.new)
         (outside O.shows K.shows opener.old out.old) (outside O.shows K.shows opener.new out.new) }
-    ensures help { result ≡ 0 → asked_in words.now ≡ Some Help → Prints (K.shows out.old) help_text (K.shows out.new) }
-    ensures version { result ≡ 0 → asked_in words.now ≡ Some Version → Prints (K.shows out.old) version_text (K.shows out.new) }
 {
     a_smooth_run_prints_what_settles();
     a_smooth_run_prints_the_exact_replies();

@@ -1,4 +1,5 @@
-use Rattle.std.proofs.Common.{subst, ℕ}
+use Rattle.std.proofs.Common.{subst, ℕ, rules, arith}
+use Rattle.std.proofs.lemmas.Grind.{common_steps}
 use Rattle.py_source_sink.specs.Source.{SourceView}
 use Rattle.py_program.specs.Outside.{texts}
 use Rattle.py_program.specs.Outcome.{Outside, Ends}
@@ -6,41 +7,35 @@ use Rattle.py_program.proofs.Ending.{paths_kept, others_kept, path_left_by, path
 use Rattle.py_program.proofs.Exact.{prints_replies}
 use Rattle.py_program.proofs.program.run_program.Goals as goal
 
-pub returns-clause-kept : goal.returns-clause-kept
-returns-clause-kept g c =
-    let before : Outside = record { opener = g.O.Opener.shows c.args.opener.now; sink = g.K.Sink.shows c.args.out.now } in
-    let after : Outside = record { opener = g.O.Opener.shows c.run_to_status.new.opener; sink = g.K.Sink.shows c.run_to_status.new.out } in
-    paths_kept c.code.result (texts c.args.words.now) (g.I.Source.shows c.args.script.now) (g.I.Source.shows c.run_to_status.new.script) before after (record { ended = c.run_to_status.result; code_is = c.code.ensures; outcome = c.run_to_status.ensures.outcome })
-
-pub returns-clause-others : goal.returns-clause-others
-returns-clause-others g c =
-    let before : Outside = record { opener = g.O.Opener.shows c.args.opener.now; sink = g.K.Sink.shows c.args.out.now } in
-    let after : Outside = record { opener = g.O.Opener.shows c.run_to_status.new.opener; sink = g.K.Sink.shows c.run_to_status.new.out } in
-    others_kept c.code.result (texts c.args.words.now) (g.I.Source.shows c.args.script.now) (g.I.Source.shows c.run_to_status.new.script) before after (record { ended = c.run_to_status.result; code_is = c.code.ensures; outcome = c.run_to_status.ensures.outcome })
-
-pub returns-clause-left : goal.returns-clause-left
-returns-clause-left g c = λ path plan accepted is tells.
+pub returns-clause-promises : goal.returns-clause-promises
+returns-clause-promises g c =
     let old : SourceView = g.I.Source.shows c.args.script.now in
     let new : SourceView = g.I.Source.shows c.run_to_status.new.script in
     let before : Outside = record { opener = g.O.Opener.shows c.args.opener.now; sink = g.K.Sink.shows c.args.out.now } in
     let after : Outside = record { opener = g.O.Opener.shows c.run_to_status.new.opener; sink = g.K.Sink.shows c.run_to_status.new.out } in
     let ends : Ends c.code.result (texts c.args.words.now) old new before after = record { ended = c.run_to_status.result; code_is = c.code.ensures; outcome = c.run_to_status.ensures.outcome } in
-    path_left_by (texts c.args.words.now) old new before after path plan (subst (λ (code : ℕ). Ends code (texts c.args.words.now) old new before after) is ends) accepted tells
-
-pub returns-clause-missing : goal.returns-clause-missing
-returns-clause-missing g c = λ path plan accepted is tells.
-    let old : SourceView = g.I.Source.shows c.args.script.now in
-    let new : SourceView = g.I.Source.shows c.run_to_status.new.script in
-    let before : Outside = record { opener = g.O.Opener.shows c.args.opener.now; sink = g.K.Sink.shows c.args.out.now } in
-    let after : Outside = record { opener = g.O.Opener.shows c.run_to_status.new.opener; sink = g.K.Sink.shows c.run_to_status.new.out } in
-    let ends : Ends c.code.result (texts c.args.words.now) old new before after = record { ended = c.run_to_status.result; code_is = c.code.ensures; outcome = c.run_to_status.ensures.outcome } in
-    path_missed (texts c.args.words.now) old new before after path plan (subst (λ (code : ℕ). Ends code (texts c.args.words.now) old new before after) is ends) accepted tells
-
-pub returns-clause-printed : goal.returns-clause-printed
-returns-clause-printed g c = λ path mode args is form.
-    let old : SourceView = g.I.Source.shows c.args.script.now in
-    let new : SourceView = g.I.Source.shows c.run_to_status.new.script in
-    let before : Outside = record { opener = g.O.Opener.shows c.args.opener.now; sink = g.K.Sink.shows c.args.out.now } in
-    let after : Outside = record { opener = g.O.Opener.shows c.run_to_status.new.opener; sink = g.K.Sink.shows c.run_to_status.new.out } in
-    let ends : Ends c.code.result (texts c.args.words.now) old new before after = record { ended = c.run_to_status.result; code_is = c.code.ensures; outcome = c.run_to_status.ensures.outcome } in
-    prints_replies (texts c.args.words.now) old new before after path mode args (subst (λ (code : ℕ). Ends code (texts c.args.words.now) old new before after) is ends) form
+    record {
+      statuses = first_of (search rules, grind (arith, common_steps));
+      malformed_words = first_of (search rules, grind (arith, common_steps));
+      words = first_of (search rules, grind (arith, common_steps));
+      source = first_of (search rules, grind (arith, common_steps));
+      sink = first_of (search rules, grind (arith, common_steps));
+      opener = first_of (search rules, grind (arith, common_steps));
+      source_exact = first_of (search rules, grind (arith, common_steps));
+      sink_exact = first_of (search rules, grind (arith, common_steps));
+      opener_exact = first_of (search rules, grind (arith, common_steps));
+      refused = first_of (search rules, grind (arith, common_steps));
+      planned = first_of (search rules, grind (arith, common_steps));
+      unopened = first_of (search rules, grind (arith, common_steps));
+      complete = first_of (search rules, grind (arith, common_steps));
+      malformed_script = first_of (search rules, grind (arith, common_steps));
+      script = first_of (search rules, grind (arith, common_steps));
+      missing = λ path plan accepted is tells. path_missed (texts c.args.words.now) old new before after path plan (subst (λ (code : ℕ). Ends code (texts c.args.words.now) old new before after) is ends) accepted tells;
+      found = first_of (search rules, grind (arith, common_steps));
+      kept = paths_kept c.code.result (texts c.args.words.now) old new before after ends;
+      others = others_kept c.code.result (texts c.args.words.now) old new before after ends;
+      left = λ path plan accepted is tells. path_left_by (texts c.args.words.now) old new before after path plan (subst (λ (code : ℕ). Ends code (texts c.args.words.now) old new before after) is ends) accepted tells;
+      printed = λ path mode args is form. prints_replies (texts c.args.words.now) old new before after path mode args (subst (λ (code : ℕ). Ends code (texts c.args.words.now) old new before after) is ends) form;
+      help = first_of (search rules, grind (arith, common_steps));
+      version = first_of (search rules, grind (arith, common_steps));
+    }
