@@ -20,9 +20,10 @@ enum Plain {
     Text(PlainText),
 }
 
-/// How often the raw of a run waited and failed, and what of the run isn't as the plain code has it.
+/// The transfers, waits and faults of a run's raw, and what of the run isn't as the plain code has it.
 #[derive(Drop)]
 pub(crate) struct Outcome {
+    pub(crate) transfers: u64,
     pub(crate) waits: u64,
     pub(crate) faults: u64,
     pub(crate) differs: Option<String>,
@@ -46,6 +47,7 @@ pub(crate) fn run_beside(alloc: Global, case: &SessionCase<'_>) -> Result<Outcom
 
 fn outcome_of(raw: &MemRaw, differs: Option<String>) -> Outcome {
     Outcome {
+        transfers: raw.transfer_count(),
         waits: raw.wait_count(),
         faults: raw.fault_count(),
         differs,

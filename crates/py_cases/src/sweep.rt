@@ -1,4 +1,4 @@
-//! Sweeps: a session with variables, run for all their values beside plain code.
+//! Sweeps: a session with variables, run for all their values beside plain code; a table may bound the transfers of its raw.
 
 use crate::beside::{Outcome, run_beside};
 use crate::block::{Block, Line};
@@ -18,18 +18,17 @@ struct Variable<'a> {
 /// and in how many it failed; or the first run that differs, as a session that can be run by itself.
 ///
 /// A line `for $x a b ..` gives a variable values, of which `m..n` is the numbers from m to before n; in the other lines each value
-/// stands for the variable in turn.
+/// stands for the variable in turn. Lines `most a b ..` say how many transfers the runs may make.
 pub(crate) fn run_sweep_block(block: &Block<'_>, report: &mut Report) -> Result<()> {
     let alloc = report.alloc;
     let mut variables = Vec::new(alloc);
+    let mut runs = 1usize;
     for line in block.lines.iter().filter(|line| line.word == "for") {
-        variables.push(variable_of(alloc, line)?)?;
+        let variable = variable_of(alloc, line)?;
+        runs = runs.saturating_mul(variable.values.len());
+        variables.push(variable)?;
     }
-    let runs = variables
-        .iter()
-        .fold(1usize, |runs, variable: &Variable<'_>| {
-            runs.saturating_mul(variable.values.len())
-        });
+    let most = most_of(alloc, block, runs)?;
     let mut waited = 0usize;
     let mut failed = 0usize;
     for run in 0..runs {
@@ -37,7 +36,7 @@ pub(crate) fn run_sweep_block(block: &Block<'_>, report: &mut Report) -> Result<
         let outcome = run_texts(alloc, block, texts.as_slice())?;
         waited = waited.saturating_add(usize::from(outcome.waits > 0));
         failed = failed.saturating_add(usize::from(outcome.faults > 0));
-        if let Some(what) = outcome.differs {
+        if let Some(what) = flaw_of(alloc, outcome, most.get(run % most.len().max(1)))? {
             report.line(format!(in alloc; "run {run} of {runs} differs: {what}")?.as_str())?;
             report.line(format!(in alloc; "session {}", block.head.rest)?.as_str())?;
             for text in &texts {
@@ -47,6 +46,30 @@ pub(crate) fn run_sweep_block(block: &Block<'_>, report: &mut Report) -> Result<
         }
     }
     report.line(format!(in alloc; "{runs} runs, {waited} waited, {failed} failed")?.as_str())
+}
+
+/// How many transfers each run may make at most, in the order of the runs: of these the first variable changes first. Fewer numbers
+/// than runs begin anew; none bound nothing.
+fn most_of(alloc: Global, block: &Block<'_>, runs: usize) -> Result<Vec<u64>> {
+    let mut most = Vec::new(alloc);
+    for line in block.lines.iter().filter(|line| line.word == "most") {
+        most.extend_from_slice(&line.numbers(alloc, line.rest)?)?;
+    }
+    match runs % most.len().max(1) {
+        0 => Ok(most),
+        _ => block.head.malformed(),
+    }
+}
+
+/// What isn't as it should be in a run: what differs from the plain code, or that it made more transfers than it may.
+fn flaw_of(alloc: Global, outcome: Outcome, most: Option<&u64>) -> Result<Option<String>> {
+    let transfers = outcome.transfers;
+    Ok(match most {
+        Some(most) if outcome.differs.is_none() && transfers > *most => {
+            Some(format!(in alloc; "{transfers} transfers, {most} at most")?)
+        }
+        _ => outcome.differs,
+    })
 }
 
 fn variable_of<'a>(alloc: Global, line: &Line<'a>) -> Result<Variable<'a>> {
@@ -65,6 +88,11 @@ fn variable_of<'a>(alloc: Global, line: &Line<'a>) -> Result<Variable<'a>> {
     Ok(Variable { mark, values })
 }
 
+/// Whether a line of a sweep is one of its runs' sessions.
+fn is_of_runs(line: &Line<'_>) -> bool {
+    !matches!(line.word, "for" | "most")
+}
+
 /// The lines of a sweep's run of a number, by the values of the variables.
 fn texts_of(
     alloc: Global,
@@ -73,7 +101,7 @@ fn texts_of(
     run: usize,
 ) -> Result<Vec<String>> {
     let mut texts = Vec::new(alloc);
-    for line in block.lines.iter().filter(|line| line.word != "for") {
+    for line in block.lines.iter().filter(|line| is_of_runs(line)) {
         let mut text = format!(in alloc; "{} {}", line.word, line.rest)?;
         let mut left = run;
         for variable in variables {
@@ -103,7 +131,7 @@ fn replaced(alloc: Global, text: &str, mark: &str, value: &str) -> Result<String
 /// Runs the lines of a sweep, of which each has the number of the line that it is made from.
 fn run_texts(alloc: Global, block: &Block<'_>, texts: &[String]) -> Result<Outcome> {
     let mut lines = Vec::new(alloc);
-    let made_from = block.lines.iter().filter(|line| line.word != "for");
+    let made_from = block.lines.iter().filter(|line| is_of_runs(line));
     for (text, line) in texts.iter().zip(made_from) {
         lines.push(Line::new(line.number, text.as_str().trim_end()))?;
     }
