@@ -30,8 +30,8 @@ use Rattle.py_mode.specs.declared.open_args.OpenArgs.{OpenArgs}
 use Rattle.py_mode.specs.OpenArgs.{default_args}
 use Rattle.py_mode.specs.Plan.{plan_of}
 use Rattle.py_binary.specs.Binary.{AnswersBinary}
-use Rattle.py_unbuffered.specs.Unbuffered.{can_of, is_able}
-use Rattle.py_unbuffered.specs.declared.access.Access.TheVariants as access
+use Rattle.py_stream.specs.Access.{can_of, is_able}
+use Rattle.py_stream.specs.declared.access.Access.TheVariants as access
 use Rattle.py_open.specs.Session.{SessionView, TextSession, BinarySession, Answers, raw_of}
 use Rattle.py_open.specs.Opening.{OpensSession}
 use Rattle.py_open.specs.Run.{IsRun, RunsCalls}

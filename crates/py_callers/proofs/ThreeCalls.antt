@@ -79,7 +79,7 @@ copied reader read writer written flushed part reads whole writes flushes = λ f
     ∙ ap (λ (file : FlatFile). file.bytes) wrote.1
     ∙ ap (lay (file_of writer).bytes writer.place) all
 
--- the same calls, where what was written is known to be what was read
+-- three calls copy what the reader had left, where the piece that is written is what was read
 pub copied_as : (reader read writer written flushed : Stream) (part piece : List ℕ) (taken : ℕ) → piece ≡ part → taken ≡ length part → Answers reader (Read None) (Bytes part) read → read.short ≡ false → Answers writer (Write piece) (Count taken) written → Answers written Flush Done flushed → Copied reader writer flushed
 copied_as reader read writer written flushed part piece taken same count reads whole writes flushes =
     let all : Answers writer (Write part) (Count taken) written = subst (λ (bytes : List ℕ). Answers writer (Write bytes) (Count taken) written) same writes in

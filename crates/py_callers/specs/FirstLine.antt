@@ -8,8 +8,8 @@ use Rattle.py_flat.specs.Calls.{FileReply, Bytes, Refused}
 use Rattle.py_raw.specs.RawStream.{Raw, WhereTold}
 use Rattle.py_stream.specs.Kinds.{says_fault}
 use Rattle.py_stream.specs.Opening.{RefusesRaw}
-use Rattle.py_unbuffered.specs.Unbuffered.{is_able}
-use Rattle.py_unbuffered.specs.declared.access.Access.TheVariants as access
+use Rattle.py_stream.specs.Access.{is_able}
+use Rattle.py_stream.specs.declared.access.Access.TheVariants as access
 use Rattle.py_calls.specs.Calls.{said}
 use Rattle.py_open.specs.declared.open_refused.OpenRefused.{OpenRefused}
 use Rattle.py_open.specs.Run.{IsSmooth}

@@ -1,9 +1,9 @@
 //! Codecs: the examples of docs/CODECS.md.
 use py_codec::{
-    Encoding, Handler, HandlerRef, IncrementalDecoder, NoHandler, ascii_encode, utf_8_decode,
-    utf_8_encode,
+    Encoding, Handler, HandlerRef, NoHandler, ascii_encode, utf_8_decode, utf_8_encode,
 };
 use py_flat::IoFault;
+use py_incremental::IncrementalDecoder;
 use std::test::Fail;
 
 #[test]
@@ -19,7 +19,7 @@ fn a_text_of_bytes(rt: HostRuntime) -> Result<(), Fail> {
         refused.err(),
         Some(IoFault::UnicodeDecodeError { start: 3, end: 4 })
     );
-    // or a handler gives something for it
+    // a handler may give something for a byte that begins no character
     let (text, used) = utf_8_decode(alloc, b"caf\xFF", replace, true)?;
     assert_eq!(rt; (text.as_str(), used), ("caf\u{FFFD}", 4));
     // where more may come, the front of a character is left for later
