@@ -29,13 +29,13 @@ fn a_reader_shows_where_it_stands_and_not_its_buffer(rt: HostRuntime) -> Result<
     assert!(rt;
         has(
             text.as_str(),
-            "BufferedReader { data: Some(BufferedData { raw: MemRaw {"
+            "BufferedReader { inner: Buffered { data: Some(BufferedData { raw: MemRaw {"
         )
     );
     assert!(rt;
         has(
             text.as_str(),
-            "window: Window { place: 3, ahead: 1, size: 4 }, life: Live"
+            "window: Window { place: 3, ahead: 1, pending: 0, size: 4 }, access: Read, life: Live"
         )
     );
     Ok(())
@@ -50,7 +50,7 @@ fn a_writer_shows_what_it_owes_and_not_its_buffer(rt: HostRuntime) -> Result<(),
     assert!(rt;
         has(
             text.as_str(),
-            "pending: Pending { place: 0, count: 3, size: 4 }"
+            "window: Window { place: 3, ahead: 0, pending: 3, size: 4 }, access: Write, life: Live"
         )
     );
     Ok(())
