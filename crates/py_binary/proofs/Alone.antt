@@ -11,12 +11,12 @@ use Rattle.py_calls.specs.declared.call.Call.{Call}
 use Rattle.py_calls.specs.declared.call.Call.TheVariants as call
 use Rattle.py_calls.specs.Calls.{file_call}
 
--- By the life.
+-- What a stream that isn't live refuses, by its life.
 
 pub refuses_dead : (stream : Stream) (call : FileCall) → is_getter call ≡ false → is_other_getter call ≡ false → is_close call ≡ false → is_detach call ≡ false → stream.life ≢ life.Live → RefusesAlone stream call
 refuses_dead stream call asks known close detach dead = (asks, known, inl (stopped stream.life (buffering_of stream.buffer) call dead close (ap (λ (detaching : Bool). detaching && is_buffered (buffering_of stream.buffer)) detach)))
 
--- By what the stream lacks.
+-- What a stream refuses by what it lacks.
 
 -- a call of a reader that is none of its own
 pub reader_refuses : (stream : Stream) (made : Call) → stream.can.writable ≡ false → is_getter (file_call made) ≡ false → file_call made ≢ Detach

@@ -13,7 +13,7 @@ pub seen_gone : {R : Type 0} (shows : R → Raw) (stream : Kind R) (raw : Option
 seen_gone shows stream None is = absurd (cc)
 seen_gone shows stream (Some raw) is = (shows raw, refl)
 
--- another shows its stream
+-- a session that isn't detached shows its stream
 pub seen_kept : {R : Type 0} (shows : R → Raw) (stream : Kind R) (raw : Option R) → is_some raw ≡ false → seen shows stream raw ≡ shown stream
 seen_kept shows stream None is = refl
 seen_kept shows stream (Some raw) is = absurd (cc)

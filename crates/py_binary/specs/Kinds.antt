@@ -46,13 +46,14 @@ pub record IsUnbuffered (stream : Stream) : Type 0 where
   pub held : IsHeld stream
   pub bare : stream.buffer ≡ None
 
--- of the stream of each kind
+-- what holds of the stream of each kind
 abbrev pub IsServed : {R : Type 0} → Kind R → Type 0
 IsServed (kind.Reader reader) = IsReader reader
 IsServed (kind.Writer writer) = IsWriter writer
 IsServed (kind.Unbuffered stream) = IsUnbuffered stream
 
--- of a session: while its raw isn't back, of its stream; then nothing is left of that
+-- what holds of a session: what holds of its stream while the raw isn't back; from then on its stream is a detached
+-- one
 abbrev pub IsSession : {R : Type 0} → Kind R → Option R → Type 0
 IsSession stream None = IsServed stream
 IsSession stream (Some raw) = shown stream ≡ detached_stream (shown stream).can (shown stream).buffer

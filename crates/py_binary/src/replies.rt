@@ -6,7 +6,7 @@ ghost use Rattle.py_stream.specs.Replies as seen;
 use py_calls::Reply;
 use py_raw::{Data, IoFault, Lines};
 
-/// Of a reading that gives bytes, or isn't ready.
+/// The reply of a reading that gives bytes, or isn't ready.
 pub(crate) fn bytes_reply(answer: Result<Option<Vec<u8>>, IoFault>) -> Reply
     ensures { said result ≡ seen.bytes_reply answer }
 {
@@ -17,7 +17,7 @@ pub(crate) fn bytes_reply(answer: Result<Option<Vec<u8>>, IoFault>) -> Reply
     }
 }
 
-/// Of a reading that gives lines, or isn't ready.
+/// The reply of a reading that gives lines, or isn't ready.
 pub(crate) fn lines_reply(answer: Result<Option<Lines>, IoFault>) -> Reply
     ensures { said result ≡ seen.lines_reply answer }
 {
@@ -28,7 +28,7 @@ pub(crate) fn lines_reply(answer: Result<Option<Lines>, IoFault>) -> Reply
     }
 }
 
-/// Of a write that takes all.
+/// The reply of a write that takes all.
 pub(crate) fn count_reply(answer: Result<usize, IoFault>) -> Reply
     ensures { said result ≡ seen.count_reply answer }
 {
@@ -38,7 +38,7 @@ pub(crate) fn count_reply(answer: Result<usize, IoFault>) -> Reply
     }
 }
 
-/// Of a write by one transfer, or that isn't ready.
+/// The reply of a write by one transfer, or that isn't ready.
 pub(crate) fn taken_reply(answer: Result<Option<usize>, IoFault>) -> Reply
     ensures { said result ≡ seen.taken_reply answer }
 {
@@ -49,7 +49,7 @@ pub(crate) fn taken_reply(answer: Result<Option<usize>, IoFault>) -> Reply
     }
 }
 
-/// Of a call that answers a place.
+/// The reply of a call that answers a place.
 pub(crate) fn place_reply(answer: Result<u64, IoFault>) -> Reply
     ensures { said result ≡ seen.place_reply answer }
 {
@@ -59,7 +59,7 @@ pub(crate) fn place_reply(answer: Result<u64, IoFault>) -> Reply
     }
 }
 
-/// Of a call that has nothing to say.
+/// The reply of a call that has nothing to say.
 pub(crate) fn done_reply(answer: Result<(), IoFault>) -> Reply
     ensures { said result ≡ seen.done_reply answer }
 {
@@ -69,7 +69,7 @@ pub(crate) fn done_reply(answer: Result<(), IoFault>) -> Reply
     }
 }
 
-/// Of a reading into a buffer, which becomes the bytes that were given.
+/// The reply of a reading into a buffer, which becomes the bytes that were given.
 pub(crate) fn into_reply(answer: Result<Option<usize>, IoFault>, buffer: Vec<u8>) -> Reply
     ensures { said result ≡ seen.into_reply answer buffer.items }
 {

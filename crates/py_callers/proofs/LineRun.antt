@@ -112,7 +112,7 @@ run_line raw plan chunk session reply planned runs =
     let same : RunsCalls raw plan_read chunk (call.ReadLine None ∷ []) session (reply ∷ []) = subst (λ (p : OpenPlan). RunsCalls raw p chunk (call.ReadLine None ∷ []) session (reply ∷ [])) (sym is) runs in
     session_line raw chunk same.opened session reply same.opens same.run
 
--- From what `run_session` ensures.
+-- What follows from the clauses that `run_session` ensures.
 
 -- the one reply of a run is the last of it
 only : (first : Reply) (front : List Reply) (reply : Reply) → first ∷ [] ≡ front ++ (reply ∷ []) → first ∷ [] ≡ reply ∷ []

@@ -68,7 +68,7 @@ able None late false e = cc
 writes_of : (file : FlatFile) (bytes : List ℕ) → refusal file (Write bytes) ≡ None → file.can.writable ≡ true
 writes_of file bytes e = able (life_refusal file (Write bytes)) (argument_refusal file (Write bytes)) file.can.writable e
 
--- All three.
+-- Three calls copy: a read of all, a write of what was read, and a flush.
 
 copied : (reader read writer written flushed : Stream) (part : List ℕ) → Answers reader (Read None) (Bytes part) read → read.short ≡ false → Answers writer (Write part) (Count (length part)) written → Answers written Flush Done flushed → Copied reader writer flushed
 copied reader read writer written flushed part reads whole writes flushes = λ from to.

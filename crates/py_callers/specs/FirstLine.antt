@@ -19,7 +19,8 @@ use Rattle.py_callers.specs.declared.line_of_raw.FirstLine.{FirstLine}
 abbrev pub IsFirstLine : Raw → FileReply → Type 0
 IsFirstLine raw reply = (reply ≡ Bytes (first_line Lf None (left_at raw.bytes raw.place))) ⊎ (reply ≡ Refused fault.NoMemory)
 
--- where the raw tells its bytes and its place and no count of it rose, that line is answered; a fault comes only where its faults rose
+-- what reading the first line comes to: where the raw tells its bytes and its place and no count of it rose, the line
+-- is answered; a fault comes only where the raw's faults rose
 pub record AnswersLine (raw : Raw) (reply : FileReply) (back : Raw) : Type 0 where
   pub line : WhereTold raw (IsSmooth raw back → IsFirstLine raw reply)
   pub fault : IsTrue (says_fault reply) → Rose raw.faults back.faults

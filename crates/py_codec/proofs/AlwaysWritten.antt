@@ -54,7 +54,7 @@ digits_from (suc count) number behind ascii =
     let more : AreAscii (digit ∷ behind) = ascii_more digit behind (glyph_below (nat_lt (number % 10) 10) (number % 10) (omega arith)) ascii in
     either (number / 10 == 0) _ _ more (digits_from count (number / 10) (digit ∷ behind) more)
 
--- however great the number
+-- the decimal digits of any number are ASCII
 decimal_ascii : (number : ℕ) → AreAscii (decimal number)
 unfolding digits
 decimal_ascii number = digits_from 64 number [] ascii_none
@@ -90,7 +90,7 @@ spelled_ascii : (spell : ℕ → List ℕ) → ((value : ℕ) → AreAscii (spel
 spelled_ascii spell ascii [] = ascii_none
 spelled_ascii spell ascii (value ∷ values) = ascii_both (spell value) (each_spelled spell values) (ascii value) (spelled_ascii spell ascii values)
 
--- They have bytes.
+-- ASCII characters have bytes in each encoding.
 
 -- bytes that are there
 abbrev HasBytes : Option (List ℕ) → Type 0

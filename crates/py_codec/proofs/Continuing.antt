@@ -21,7 +21,7 @@ pub record Continues (encoding : Encoding) (treat : Treatment) (last : Bool) (by
   pub characters : out ++ characters_of (walk_here encoding treat last bytes place).items ≡ characters_of (walk_here encoding treat last bytes 0).items
   pub ending : (walk_here encoding treat last bytes place).ending ≡ (walk_here encoding treat last bytes 0).ending
 
--- nothing is out at the start
+-- a walk from the start goes on with nothing out
 pub Continues-start : (encoding : Encoding) (treat : Treatment) (last : Bool) (bytes out : List ℕ) → out ≡ [] → Continues encoding treat last bytes 0 out
 Continues-start encoding treat last bytes out none = record {
   inside = omega arith;
@@ -111,7 +111,7 @@ refused encoding treat last bytes place size out refusal (byte ∷ rest) is firs
     let here = ap (λ b. walk_from encoding treat last Unknown place 0 b) is ∙ ap (λ item. onto_walk place item (walk_from encoding treat last Unknown (place + 1) (used_behind item) rest)) first in
     all_out encoding treat last bytes place out (AtRange place (place + size)) refusal here continues
 
--- where it is a refused range, that range is the refusal of all
+-- a refused range that comes first of what is left is the refusal of all
 pub answer-refused : (encoding : Encoding) (treat : Treatment) (last : Bool) (bytes : List ℕ) (place size : ℕ) (out : List ℕ) (refusal : ℕ → ℕ → IoFault) (why : IoFault) → first_item encoding treat last Unknown place (drop place bytes) ≡ RefusedRange size → why ≡ refusal place (place + size) → Continues encoding treat last bytes place out → decoding_of (walk_here encoding treat last bytes 0) (length bytes) refusal ≡ Err why
 answer-refused encoding treat last bytes place size out refusal why first is continues =
     refused encoding treat last bytes place size out refusal (drop place bytes) refl first continues ∙ ap (λ w. Err w) (sym is)

@@ -25,7 +25,8 @@ use Rattle.py_codec.specs.Laws.{came_past, bytes_of_items}
 
 -- What stands for a range uses a byte at least, and no more than there are.
 
--- of some bytes at a place, n in all
+-- where a place and the bytes left at it are `total` in all, a treatment uses a byte at least, and no more than are
+-- left
 abbrev UsesWithin : (total : ℕ) → Treatment → Type 0
 UsesWithin total treat = (place size : ℕ) (rest characters : List ℕ) (used : ℕ) → place + len rest ≡ total → 1 ≤ size → size ≤ len rest → treat place rest size ≡ Replaced characters used → (1 ≤ used) × (used ≤ len rest)
 

@@ -39,7 +39,7 @@ encoded-run encoding treat place size used (c ∷ cs) written is some uses treat
     let step = encoded-first encoding treat place c used cs written uses first in
     record { bytes = ap (λ w. w.bytes) step; ending = ap (λ w. w.ending) step }
 
--- a run that it refuses
+-- an encoding ends at a run that the treatment refuses
 pub encoded-refused : (encoding : Encoding) (treat : EncodeTreatment) (place size : ℕ) (left : List ℕ) → size ≡ run_length encoding left → 1 ≤ size → treat place left size ≡ RefusesRun → encoded_from encoding treat place 0 left ≡ record { bytes = []; ending = AtRun place (place + size) }
 encoded-refused encoding treat place size [] is some treats = absurd (omega (arith, is))
 encoded-refused encoding treat place size (c ∷ cs) is some treats =

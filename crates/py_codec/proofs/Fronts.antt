@@ -49,7 +49,7 @@ Wrote-more {encoding} {rest = rest} first second = record {
   appended = second.appended ∙ ap (λ bs. bs ++ second.written) first.appended ∙ append_assoc _ first.written second.written;
 }
 
--- a character
+-- a character that was written is a front of its text
 pub Wrote-character : (encoding : Encoding) (c : ℕ) (text behind before after own : List ℕ) → text ≡ c ∷ behind → own_bytes encoding c ≡ Some own → after ≡ before ++ own → Wrote encoding text before after 1 behind
 Wrote-character encoding c text behind before after own is has appended = record {
   front = c ∷ [];

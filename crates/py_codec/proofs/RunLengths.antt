@@ -15,15 +15,15 @@ suc_unless-within : (own : Option (List ℕ)) (count : ℕ) → suc_unless own c
 suc_unless-within None count = omega arith
 suc_unless-within (Some bytes) count = omega arith
 
--- a character without bytes makes it one longer
+-- a character without bytes makes the run behind it one longer
 pub run_length-next : (encoding : Encoding) (c : ℕ) (left behind : List ℕ) → left ≡ c ∷ behind → false ≡ is_some (own_bytes encoding c) → run_length encoding left ≡ run_length encoding behind + 1
 run_length-next encoding c left behind is none = ap (run_length encoding) is ∙ suc_unless-none (own_bytes encoding c) (run_length encoding behind) (sym none) ∙ omega arith
 
--- another ends it
+-- where the first character has bytes, no run begins
 pub run_length-ends : (encoding : Encoding) (c : ℕ) (left behind : List ℕ) → left ≡ c ∷ behind → true ≡ is_some (own_bytes encoding c) → run_length encoding left ≡ 0
 run_length-ends encoding c left behind is some = ap (run_length encoding) is ∙ suc_unless-some (own_bytes encoding c) (run_length encoding behind) (sym some)
 
--- it is no longer than the text
+-- the run that a text begins with is no longer than the text
 pub run_length-within : (encoding : Encoding) (text : List ℕ) → run_length encoding text ≤ length text
 run_length-within encoding [] = omega arith
 run_length-within encoding (c ∷ text) = omega (arith, suc_unless-within (own_bytes encoding c) (run_length encoding text), run_length-within encoding text)

@@ -24,7 +24,7 @@ text_bytes-push encoding (d ∷ cs) bytes c own is one =
     ∙ ap (λ b. joined_bytes (Some parts.front) b) (text_bytes-push encoding cs parts.back c own parts.back_is one)
     ∙ ap (λ (b : List ℕ). Some b) (sym (append_assoc parts.front parts.back own) ∙ ap (λ b. b ++ own) (sym parts.whole))
 
--- no character
+-- a run of no characters
 pub IsRun-none : (encoding : Encoding) (bytes before : List ℕ) → IsRun encoding bytes before before 0
 IsRun-none encoding bytes before = record {
   text = [];
@@ -34,7 +34,7 @@ IsRun-none encoding bytes before = record {
   appended = sym (append-nil before);
 }
 
--- one more after the run
+-- a run with one character more after it
 pub IsRun-more : (encoding : Encoding) (bytes before between after : List ℕ) (used size c : ℕ) (own : List ℕ) → IsRun encoding bytes before between used → used + size ≤ length bytes → IsScalar c → own_bytes encoding c ≡ Some own → take size (drop used bytes) ≡ own → after ≡ between ++ c ∷ [] → IsRun encoding bytes before after (used + size)
 IsRun-more encoding bytes before between after used size c own run inside scalar one is pushed = record {
   text = run.text ++ c ∷ [];

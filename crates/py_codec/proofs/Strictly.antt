@@ -28,7 +28,7 @@ pub record IsOwnItem (encoding : Encoding) (bytes : List ℕ) (item : Item) : Ty
   pub characters_are : item.characters ≡ character ∷ []
   pub own : own_bytes encoding character ≡ Some (bytes_of_item 0 bytes item)
 
--- such items have the bytes of their text
+-- items that are characters, each with its own bytes, have the bytes of their text
 items_own : (encoding : Encoding) (bytes : List ℕ) (items : List Item) → All (IsOwnItem encoding bytes) items → text_bytes encoding (characters_of items) ≡ Some (bytes_of_items 0 bytes items)
 items_own encoding bytes [] all = refl
 items_own encoding bytes (item ∷ items) all =

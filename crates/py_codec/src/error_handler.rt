@@ -10,7 +10,7 @@ use thiserror::Error;
 /// Why a handler gives nothing.
 #[derive(Clone, Copy, Debug, PartialEq, Eq, Error)]
 pub enum HandlerRefusal {
-    /// It refuses the range or run: the call answers a `UnicodeDecodeError` or `UnicodeEncodeError` with it.
+    /// The handler refuses the range or run: the call answers a `UnicodeDecodeError` or `UnicodeEncodeError` with it.
     #[error("the handler refuses")]
     Refuse,
     /// Out of memory.

@@ -8,7 +8,7 @@ use py_plain::Handler;
 pub enum HandlerRef<H> {
     /// A built-in handler, one of the seven.
     Builtin(Handler),
-    /// One of a user's own.
+    /// A handler of a user's own.
     Custom(H),
 }
 

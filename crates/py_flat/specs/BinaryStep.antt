@@ -178,7 +178,8 @@ payload (Write bytes) = bytes
 payload (WriteLines lines) = joined lines
 payload _ = []
 
--- after a call that failed in the middle: its life, and its bytes; abilities and settings stay, the place isn't told
+-- a file after a call that failed in the middle: its life, and its bytes; abilities and settings stay, the place
+-- isn't told
 pub record Fails (file : FlatFile) (life : Life) (bytes : List ℕ) (after : FlatFile) : Type 0 where
   pub life_is : after.life ≡ life
   pub bytes_are : after.bytes ≡ bytes

@@ -17,11 +17,11 @@ is_closed _ = false
 abbrev pub rest : FlatFile → List ℕ
 rest file = left_at file.bytes file.place
 
--- after a read of n bytes
+-- a file after a read of n bytes
 abbrev pub after_read : FlatFile → ℕ → FlatFile
 after_read file count = record file { place = file.place + count }
 
--- after a write
+-- a file after a write
 abbrev pub after_write : FlatFile → List ℕ → FlatFile
 after_write file bytes = record file { bytes = lay file.bytes file.place bytes; place = file.place + length bytes }
 
@@ -86,6 +86,6 @@ abbrev pub answered : FlatFile → FileCall → Option IoFault → FileReply × 
 answered file call (Some fault) = (Refused fault, file)
 answered file call None = carried_out file call
 
--- the exact step
+-- the exact step: what a file answers to a call, and how the call leaves it
 abbrev pub exact : FlatFile → FileCall → FileReply × FlatFile
 exact file call = answered file call (refusal file call)

@@ -29,11 +29,11 @@ memory bytes = opened can_all InMemory bytes
 abbrev pub unbuffered : List ℕ → FlatFile
 unbuffered bytes = opened can_all Unbuffered bytes
 
--- a reader with a buffer of that size
+-- a reader with a buffer of a size
 abbrev pub reader : ℕ → List ℕ → FlatFile
 reader size bytes = opened (record can_all { writable = false }) (Buffered size) bytes
 
--- a writer with a buffer of that size
+-- a writer with a buffer of a size
 abbrev pub writer : ℕ → List ℕ → FlatFile
 writer size bytes = opened (record can_all { readable = false }) (Buffered size) bytes
 
@@ -50,7 +50,7 @@ abbrev pub replies_of : FlatFile → List FileCall → List FileReply
 replies_of file [] = []
 replies_of file (call ∷ calls) = (exact file call).0 ∷ replies_of (exact file call).1 calls
 
--- what these calls leave
+-- what the exact step leaves of a file after calls that come one after the other
 abbrev pub file_after : FlatFile → List FileCall → FlatFile
 file_after file [] = file
 file_after file (call ∷ calls) = file_after (exact file call).1 calls

@@ -21,7 +21,7 @@ abbrev pub begins_with_lf : List ℕ → Bool
 begins_with_lf [] = false
 begins_with_lf (c ∷ cs) = nat_eq c lf
 
--- whether a line ends with the first of these: CR is the end of a line only where it isn't the first half of a longer one
+-- whether a line ends with a character before others: CR is the end of a line only where it isn't the first half of a longer one
 abbrev pub ends_line : LineEnd → ℕ → List ℕ → Bool
 ends_line Lf c next = nat_eq c lf
 ends_line Cr c next = nat_eq c cr

@@ -8,7 +8,7 @@ use std::fmt;
 /// `bytes in position 2-4` for three from 2 on. So the second number is the place of the last one, and not the one after it.
 #[derive(Clone, Copy, Debug)]
 pub(crate) struct Positions {
-    /// What one of them is called.
+    /// What one byte or character of the range is called.
     pub unit: &'static str,
     /// The place of the first.
     pub start: u64,

@@ -26,11 +26,12 @@ pub record EncoderView : Type 0 where
 abbrev pub nobody : {Answers : Type 0} → ⊥ → Answers
 nobody handler = absurd handler
 
--- the walk over the held bytes and a piece after them
+-- the walk over the bytes that a decoder holds and a piece after them
 abbrev pub walk_with : DecoderView → (last : Bool) → List ℕ → Walk
 walk_with decoder last bytes = walk_by nobody (Builtin decoder.handler) decoder.encoding last (decoder.held ++ bytes)
 
--- the decoding of the held bytes and a piece after them; the places of a refusal count from the first held byte
+-- the decoding of the bytes that a decoder holds and a piece after them; the places of a refusal count from the first
+-- held byte
 abbrev pub decoding_with : DecoderView → (last : Bool) → List ℕ → Expected
 decoding_with decoder last bytes = decoding_by nobody (Builtin decoder.handler) decoder.encoding last (decoder.held ++ bytes)
 

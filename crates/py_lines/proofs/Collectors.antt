@@ -81,7 +81,7 @@ module _ (limit : Option ℕ) (line : List ℕ) (stays : LineIsOpen (record { li
       ∙ (ap (λ (t : List ℕ). line ++ t) (first_of_none (limit_left limit (length line)))
       ∙ append-nil line))
 
-  -- it goes on after what it has
+  -- a line that nothing has ended goes on with the bytes that come
   open_goes_on : (more : List ℕ) → IsFrontOf line (first_line Lf limit (line ++ more))
   open_goes_on more = (first_line Lf (limit_left limit (length line)) more, sym (stays more))
 

@@ -126,7 +126,7 @@ pub joined_both : (lines more : List (List ℕ)) → joined (lines ++ more) ≡ 
 joined_both [] more = refl
 joined_both (line ∷ lines) more = ap (λ (t : List ℕ). line ++ t) (joined_both lines more) ∙ sym (append_assoc line (joined lines) (joined more))
 
--- one line more
+-- the bytes of some lines and one line after them
 pub joined_more : (lines : List (List ℕ)) (line : List ℕ) → joined (lines ++ (line ∷ [])) ≡ joined lines ++ line
 joined_more lines line = joined_both lines (line ∷ []) ∙ ap (λ (t : List ℕ). joined lines ++ t) (append-nil line)
 

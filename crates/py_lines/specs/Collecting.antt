@@ -73,7 +73,7 @@ abbrev pub lines_and_part : List (List ℕ) → List ℕ → List (List ℕ)
 lines_and_part lines [] = lines
 lines_and_part lines part = lines ++ (part ∷ [])
 
--- all bytes of these lines
+-- all bytes of the collected lines, and of the part after them
 abbrev pub lines_collected : LinesView → List ℕ
 lines_collected view = joined view.lines ++ view.part
 
@@ -100,7 +100,7 @@ HasRoomForPart lines part = part ≢ [] → length lines.items < vec_capacity li
 abbrev pub IsNewLines : Option ℕ → LinesView → Type 0
 IsNewLines hint view = (view.lines ≡ []) × (view.part ≡ []) × (view.hint ≡ hint)
 
--- how much a hint leaves, of which no lines may be above
+-- what a hint leaves after lines of `total` bytes, which aren't above it; no hint, or one of 0, limits nothing
 abbrev pub HintLeaves : Option ℕ → ℕ → Option ℕ → Type 0
 HintLeaves None total left = left ≡ None
 HintLeaves (Some zero) total left = left ≡ None

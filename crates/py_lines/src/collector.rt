@@ -6,7 +6,7 @@ use std::alloc::AllocError;
 /// What a piece came to.
 #[derive(Clone, Copy, Debug, PartialEq, Eq)]
 pub enum Collected {
-    /// There are enough, with n bytes of the piece, from its start. Those after them weren't taken.
+    /// With the first n bytes of the piece there is enough; its bytes after those weren't taken.
     Enough(usize),
     /// All of the piece was taken, and more is wanted.
     All,
@@ -19,10 +19,10 @@ pub trait Collector {
     /// The bytes that it took.
     ghost collected: { Self → List ℕ };
 
-    /// What it wants of all that is left of a stream: a front of it.
+    /// What the collector wants of all that is left of a stream: a front of it.
     ghost wanted: { Self → List ℕ → List ℕ };
 
-    /// It hasn't enough yet.
+    /// The collector hasn't enough yet.
     ghost is_open: { Self → Type 0 };
 
     /// Takes what it wants of a piece, the bytes of the stream after those that it took.

@@ -18,10 +18,10 @@ front_letter said letters at within = rw (add-one, drop-cons letters at 0) refl
 pub letter_taken : (said more : Letters) (letters : List ℕ) (at : ℕ) → at < length letters → with_letter said (get_or letters at 0) ≡ Ok more → mode_from said (drop at letters) ≡ mode_from more (drop (at + 1) letters)
 letter_taken said more letters at within taken = front_letter said letters at within ∙ ap (mode_behind (drop (at + 1) letters)) taken
 
--- one that offends decides
+-- a letter that offends decides how the mode is malformed
 pub letter_refused : (said : Letters) (why : ParseModeError) (letters : List ℕ) (at : ℕ) → at < length letters → with_letter said (get_or letters at 0) ≡ Err why → mode_from said (drop at letters) ≡ Err why
 letter_refused said why letters at within refused = front_letter said letters at within ∙ ap (mode_behind (drop (at + 1) letters)) refused
 
--- after the last letter
+-- after the last letter a mode is what its letters said
 pub letters_end : (said : Letters) (letters : List ℕ) (at : ℕ) → length letters ≤ at → mode_from said (drop at letters) ≡ mode_said said
 letters_end said letters at past = ap (mode_from said) (drop_all at letters past)

@@ -112,15 +112,15 @@ some_buffer (negsuc more) size is = let same : 8192 ≡ size = cc in rw (sym sam
 
 -- What is known of an accepted plan.
 
--- its mode is the one that the text names
+-- the mode of an accepted plan is the one that the text names
 pub planned_mode : (mode : List ℕ) (args : OpenArgs) (plan : OpenPlan) → plan_of mode args ≡ Ok plan → mode_of mode ≡ Ok plan.mode
 planned_mode mode args plan planned = (accepted mode args plan planned).named
 
--- it has no plus
+-- the mode of an accepted plan has no plus
 pub planned_without_plus : (mode : List ℕ) (args : OpenArgs) (plan : OpenPlan) → plan_of mode args ≡ Ok plan → plan.mode.plus ≡ false
 planned_without_plus mode args plan planned = without_plus plan.mode.plus _ (accepted mode args plan planned).planned
 
--- its buffer is the one that is asked for
+-- the buffer of an accepted plan is the one that is asked for
 pub planned_buffer : (mode : List ℕ) (args : OpenArgs) (plan : OpenPlan) → plan_of mode args ≡ Ok plan → plan.buffer_size ≡ buffer_size_of args.buffering
 planned_buffer mode args plan planned = (accepted mode args plan planned).buffer
 
@@ -132,22 +132,22 @@ planned_buffer_has_bytes mode args plan size planned is = some_buffer args.buffe
 pub planned_buffer_is_not_empty : (mode : List ℕ) (args : OpenArgs) (plan : OpenPlan) → plan_of mode args ≡ Ok plan → plan.buffer_size ≢ Some 0
 planned_buffer_is_not_empty mode args plan planned is = let some = planned_buffer_has_bytes mode args plan 0 planned is in omega arith
 
--- it asks for chunks of at least one byte
+-- the arguments of an accepted plan ask for chunks of at least one byte
 pub planned_chunk : (mode : List ℕ) (args : OpenArgs) (plan : OpenPlan) → plan_of mode args ≡ Ok plan → 0 < args.chunk_size
 planned_chunk mode args plan planned = some_chunk args.chunk_size (neither_holds _ _ (accepted mode args plan planned).fits).0
 
 planned_text : (mode : List ℕ) (args : OpenArgs) (plan : OpenPlan) → plan_of mode args ≡ Ok plan → plan.mode.encode ≡ Text → is_planned_text plan.mode args ≡ true
 planned_text mode args plan planned text = text_is_planned plan.mode.encode plan.mode.plus _ (accepted mode args plan planned).planned text
 
--- a text is read
+-- an accepted plan of a text reads it
 pub planned_text_is_read : (mode : List ℕ) (args : OpenArgs) (plan : OpenPlan) → plan_of mode args ≡ Ok plan → plan.mode.encode ≡ Text → plan.mode.file ≡ Read
 planned_text_is_read mode args plan planned text = (is_read_alone plan.mode.file _ (planned_text mode args plan planned text)).0
 
--- by names of utf-8 and strict, and the newline LF
+-- the arguments of an accepted plan of a text name utf-8, strict and the newline LF
 pub planned_text_names : (mode : List ℕ) (args : OpenArgs) (plan : OpenPlan) → plan_of mode args ≡ Ok plan → plan.mode.encode ≡ Text → are_planned_names args ≡ true
 planned_text_names mode args plan planned text = (both_hold _ _ (is_read_alone plan.mode.file _ (planned_text mode args plan planned text)).1).0
 
--- through a buffer of at least one byte
+-- an accepted plan of a text has a buffer of at least one byte
 pub planned_text_buffer : (mode : List ℕ) (args : OpenArgs) (plan : OpenPlan) → plan_of mode args ≡ Ok plan → plan.mode.encode ≡ Text → (size : ℕ) × (plan.buffer_size ≡ Some size) × (0 < size)
 planned_text_buffer mode args plan planned text =
     let asked = some_of (buffer_size_of args.buffering) (both_hold _ _ (is_read_alone plan.mode.file _ (planned_text mode args plan planned text)).1).1 in

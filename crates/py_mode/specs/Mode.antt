@@ -38,18 +38,18 @@ abbrev pub is_text : EncodeMode → Bool
 is_text Text = true
 is_text Bytes = false
 
--- before the first letter: no file letter, neither t nor b, no plus
+-- what is said before the first letter: no file letter, neither t nor b, no plus
 abbrev pub no_letters : Letters
 no_letters = record { file = None; encode = None; plus = false }
 
--- letters with a file letter more: it is the first, or the same again, or a second
+-- letters with a file letter more: the first is taken; the same again, or a second that differs, is refused
 abbrev pub with_file : Letters → FileMode → Result Letters ParseModeError
 with_file said file = elim said.file as (λ _. Result Letters ParseModeError) [
   | None ↦ Ok (record said { file = Some file })
   | Some before ↦ Err (if nat_eq (letter_of before) (letter_of file) then InvalidMode else MultipleFile)
 ]
 
--- letters with t or b more: it is the first of the two, or the same again, or the other
+-- letters with t or b more: the first of either is taken; the same again, or t and b together, is refused
 abbrev pub with_encode : Letters → EncodeMode → Result Letters ParseModeError
 with_encode said encode = elim said.encode as (λ _. Result Letters ParseModeError) [
   | None ↦ Ok (record said { encode = Some encode })

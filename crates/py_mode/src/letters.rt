@@ -14,7 +14,7 @@ pub(crate) struct Letters {
 }
 
 impl Letters {
-    /// Before the first letter.
+    /// What is said before the first letter: nothing.
     pub(crate) fn none() -> Self
         ensures { result ≡ no_letters }
     {
@@ -55,7 +55,8 @@ impl Letters {
         }
     }
 
-    /// The letters with `t` or `b` more: it is the first of the two, or the one that stood before, or the other.
+    /// The letters with `t` or `b` more: the first of either is taken; the same again, or `t` and `b` together, is
+    /// refused.
     fn with_encode(self, encode: EncodeMode) -> Result<Self, ParseModeError>
         ensures { result ≡ with_encode self encode }
     {

@@ -36,14 +36,14 @@ pub record Passes (before answered : Stream) : Type 0 where
 passed : (before answered : Stream) → PassedOn before answered → Passes before answered
 passed before answered on = record { none = on.none; holds = on.holds }
 
--- by one that writes
+-- a live stream that writes has passed all on after a call whose reply promises it
 written : (before : Stream) (call : FileCall) (reply : FileReply) (answered : Stream) → AnswersWith has_reply_room before call reply answered → before.can.writable ≡ true → before.life ≡ life.Live → PassesAll call reply → Passes before answered
 written before Flush Done answered a writes live all = passed before answered (a.writes writes).passes.0
 written before Close Done answered a writes live all = passed before answered ((a.writes writes).passes live)
 written before Detach (Unwritten bytes place) answered a writes live all = passed before answered ((a.writes writes).passes live).0
 written before call reply answered a writes live all = absurd all
 
--- by one that only reads
+-- a stream that only reads, and owed nothing before, has nothing left to pass on after a call
 spared : (before : Stream) (call : FileCall) (reply : FileReply) (answered : Stream) → AnswersWith has_reply_room before call reply answered → before.can.writable ≡ false → before.owed ≡ nothing_owed before.place → Passes before answered
 spared before call reply answered a reads none =
     let spares = a.spares reads none in

@@ -92,7 +92,7 @@ step_keeps (BinarySession before) call reply (TextSession after) step = absurd s
 
 -- Causes.
 
--- what has neither cause
+-- a reply that isn't short and says no fault needs no cause
 caused_none : (old new : Raw) (reply : FileReply) (short : Bool) → short ≡ false → says_fault reply ≡ false → HasCauses old reply new short
 caused_none old new reply short whole sound = record { waits = λ is. absurd (let wrong : true ≡ false = sym is ∙ whole in cc); faults = λ is. absurd (let wrong : true ≡ false = sym is ∙ sound in cc) }
 

@@ -17,8 +17,8 @@ use Rattle.py_open.specs.declared.open_refused.OpenRefused.{OpenRefused}
 use Rattle.py_open.specs.Session.{SessionFile, SessionView, SessionStep, Settles, short_of, Answers}
 use Rattle.py_open.specs.Opening.{OpensSession, RefusesSession}
 
--- from `before` the calls may be answered so, and leave `after`: there is a session between any two calls, and each
--- call leads from one to the next
+-- a run from `before`: its calls may be answered by its replies, and leave `after`; there is a session between any two
+-- calls, and each call leads from one to the next
 abbrev pub IsRun : SessionView → List Call → List Reply → SessionView → Type 0
 IsRun before [] [] after = after ≡ before
 IsRun before (call ∷ calls) (reply ∷ replies) after = (mid : SessionView) × Answers before call reply mid × IsRun mid calls replies after

@@ -32,7 +32,7 @@ abbrev pub file_seen : SessionView → SessionFile
 file_seen (TextSession text) = OfText text.file
 file_seen (BinarySession stream) = OfBinary (file_of stream)
 
--- the raw under it, with its counts
+-- the raw under a session, with its counts
 abbrev pub raw_of : SessionView → Raw
 raw_of (TextSession text) = text.raw
 raw_of (BinarySession stream) = stream.raw
@@ -104,7 +104,7 @@ abbrev pub flag_seen : SessionFile → Call → FileReply
 flag_seen (OfText file) call = Flag (flag_of file.can file.life (file_call call))
 flag_seen (OfBinary file) call = Flag (flag_of file.can file.life (file_call call))
 
--- it leaves the file as it was
+-- a question answers what the session's file says of it, and leaves the file as it was
 pub record Tells (before : SessionFile) (call : Call) (reply : FileReply) (after : SessionFile) : Type 0 where
   pub says : reply ≡ flag_seen before call
   pub same : after ≡ before
@@ -115,7 +115,7 @@ StepBy false (OfText before) call reply waited faulted (OfText after) = TextStep
 StepBy false (OfBinary before) call reply waited faulted (OfBinary after) = LeavesFile before call reply waited faulted after
 StepBy false before call reply waited faulted after = ⊥
 
--- the allowed step
+-- the allowed step of a session's file: what a call may answer and leave, by whether the raw waited or failed
 abbrev pub SessionStep : SessionFile → Call → FileReply → Bool → Bool → SessionFile → Type 0
 SessionStep before call reply waited faulted after = StepBy (is_getter (file_call call)) before call reply waited faulted after
 

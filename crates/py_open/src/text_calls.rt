@@ -52,7 +52,7 @@ fn flag<R: RawStream>(text: &mut TextReader<R>, value: bool) -> Reply
     Reply::Flag(value)
 }
 
-/// Of a reading that gives characters, or isn't ready.
+/// The reply of a reading that gives characters, or isn't ready.
 fn text_reply(answer: Result<Option<Chars>, IoFault>) -> Reply
     ensures { said result ≡ seen.text_reply answer }
 {
@@ -63,7 +63,7 @@ fn text_reply(answer: Result<Option<Chars>, IoFault>) -> Reply
     }
 }
 
-/// Of a closing.
+/// The reply of a closing.
 fn close_reply(answer: Result<(), IoFault>) -> Reply
     ensures { said result ≡ done_reply answer }
 {

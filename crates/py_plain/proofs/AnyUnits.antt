@@ -26,7 +26,7 @@ unit_some Utf16Be order at_start (byte ∷ second ∷ rest) more = refl
 
 -- How long a unit is.
 
--- as in UTF-8
+-- a unit that is as long as UTF-8 allows is as long as any encoding may have it
 within_any : (unit : Read) (left : ℕ) → IsUtf8Long unit left → IsWithin unit left
 within_any (Character c n) left long = (long.0, long.2)
 within_any (Malformed n) left long = (long.0, long.2)

@@ -43,7 +43,7 @@ pub record GoesOn (encoding : Encoding) (handler : Handler) (text : List ℕ) (p
   pub bytes : out ++ (encoded_at encoding (encode_treatment handler encoding) text place).bytes ≡ (encoded_at encoding (encode_treatment handler encoding) text 0).bytes
   pub refusal : refused_run (encoded_at encoding (encode_treatment handler encoding) text place).ending ≡ refused_run (encoded_at encoding (encode_treatment handler encoding) text 0).ending
 
--- what came was written
+-- the bytes that a first piece of writing gave were appended
 writes-written : (size : ℕ) (handled : EncodeHandled) (used : ℕ) (before after : List ℕ) → WritesFirst size handled before after (seen.Written used) → (bytes : List ℕ) × (handled ≡ Written bytes used) × (after ≡ before ++ bytes)
 writes-written size (Written bytes count) used before after writes = (bytes, cc, writes.0)
 writes-written size RefusesRun used before after writes = absurd (cc)
@@ -64,7 +64,7 @@ GoesOn-written encoding handler text place used before after inside some writes 
       refusal = ap (λ e. refused_run e.ending) (sym step) ∙ goes.refusal;
     }
 
--- what it has out at a refused run is the whole encoding, and that run its refusal
+-- the bytes that are out at a refused run are the whole encoding, and that run is its refusal
 pub GoesOn-refused : (encoding : Encoding) (handler : Handler) (text : List ℕ) (place size : ℕ) (before after : List ℕ) → place < len text → WritesFirst (run_length encoding (drop place text)) (first_encoded encoding (encode_treatment handler encoding) place (drop place text)) before after (seen.RefusedRun size) → GoesOn encoding handler text place before → (after ≡ (encoded_at encoding (encode_treatment handler encoding) text 0).bytes) × (Some (place, place + size) ≡ refused_run (encoded_at encoding (encode_treatment handler encoding) text 0).ending)
 GoesOn-refused encoding handler text place size before after inside writes goes =
     let treat = encode_treatment handler encoding in

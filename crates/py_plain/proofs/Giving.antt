@@ -37,7 +37,7 @@ Continues-given encoding handler order bytes from place used before after inside
     let given = Gives-given (first_item encoding (treatment handler encoding) true order place (drop place bytes)) used before after gives in
     rw given.2 (Continues-next encoding handler order bytes from place before given.0 used inside some given.1 continues)
 
--- what it has out at a refused range is the whole decoding, and that range its refusal
+-- the characters that are out at a refused range are the whole decoding, and that range is its refusal
 pub Continues-refused : (encoding : Encoding) (handler : Handler) (order : Order) (bytes : List ℕ) (from place size : ℕ) (before after : List ℕ) → place < len bytes → Gives (first_item encoding (treatment handler encoding) true order place (drop place bytes)) before after (seen.RefusedRange size) → Continues encoding handler order bytes from place before → (after ≡ characters_of (plain encoding (treatment handler encoding) order bytes from).items) × (Some (place, place + size) ≡ refusal_of (plain encoding (treatment handler encoding) order bytes from).ending)
 Continues-refused encoding handler order bytes from place size before after inside gives continues =
     let treat = treatment handler encoding in

@@ -61,7 +61,7 @@ item_alone treat last place bytes (Some (Malformed n)) (Some part) characters us
 item_alone treat last place bytes (Some (Cut n)) (Some part) characters used looks uses more some front is =
     range_alone treat place n bytes part characters used looks uses more front (cut_given last n (treat place bytes n) characters used is)
 
--- The decoding of those bytes.
+-- The decoding of the bytes that an item used, alone.
 
 dropped : (count : ℕ) (bytes : List ℕ) → drop count (take count bytes) ≡ []
 dropped zero bytes = refl

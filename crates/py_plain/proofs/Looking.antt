@@ -17,7 +17,7 @@ front_within (byte ∷ rest) =
     let front = front_within rest in
     cond_both (is_ascii byte) [] (byte ∷ front_past_ascii rest) (λ xs. len xs ≤ suc (len rest)) (λ ascii. omega arith) (λ other. omega (arith, front))
 
--- what is escaped is all of it
+-- bytes that are escaped are all used
 pub escaped_whole : (bytes characters : List ℕ) (used : ℕ) → escaped bytes ≡ Replaced characters used → used ≡ len bytes
 escaped_whole [] characters used is = absurd (cc)
 escaped_whole (byte ∷ rest) characters used is = cc
@@ -60,7 +60,7 @@ front_taken [] = refl
 front_taken (byte ∷ rest) =
     cond_both (is_ascii byte) [] (byte ∷ front_past_ascii rest) (λ front. front ≡ take (len front) (byte ∷ rest)) (λ ascii. refl) (λ other. ap (λ bytes. byte ∷ bytes) (front_taken rest))
 
--- in which no ASCII byte is found
+-- the front of bytes before their first ASCII byte has no ASCII byte itself
 front_again : (bytes : List ℕ) → front_past_ascii (front_past_ascii bytes) ≡ front_past_ascii bytes
 front_again [] = refl
 front_again (byte ∷ rest) =

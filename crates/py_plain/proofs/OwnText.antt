@@ -60,7 +60,7 @@ walk-own encoding treat last order place (c ∷ text) bytes rest scalars is =
     subst (λ (p : ℕ). IsTextBefore (c ∷ text) (walk_from encoding treat last order place 0 (bytes ++ rest)) (walk_from encoding treat last order p 0 rest)) far
     (character_before c place (len own) text _ _ _ first further)
 
--- where nothing stands after them they are read as that text, to the end
+-- the bytes of a text are read as that text, to the end, where nothing stands after them
 pub walk-text : (encoding : Encoding) (treat : Treatment) (last : Bool) (order : Order) (place : ℕ) (text bytes : List ℕ) → All IsScalar text → text_bytes encoding text ≡ Some bytes → (characters_of (walk_from encoding treat last order place 0 bytes).items ≡ text) × ((walk_from encoding treat last order place 0 bytes).ending ≡ AtEnd)
 walk-text encoding treat last order place text bytes scalars is =
     let before = walk-own encoding treat last order place text bytes [] scalars is in

@@ -2,6 +2,6 @@
 use Rattle.std.proofs.Common.{ℕ, Bool, List, ◌++◌}
 use Rattle.py_plain.specs.NewlineRule.{released, universal, ends_held}
 
--- what it gives of some characters after which nothing comes
+-- what the universal rule gives of some characters after which nothing comes
 abbrev pub finished : Bool → List ℕ → List ℕ
 finished held cs = universal held cs ++ released (ends_held held cs)

@@ -17,7 +17,7 @@ Gives (Given characters used) before after answer = (after ≡ before ++ charact
 Gives (RefusedRange length) before after answer = (after ≡ before) × (answer ≡ seen.RefusedRange length)
 Gives Unfinished before after answer = ⊥
 
--- how many bytes it stands for
+-- how many bytes a first item stands for
 abbrev pub bytes_of : Seen → ℕ
 bytes_of (seen.Given used) = used
 bytes_of (seen.RefusedRange length) = length

@@ -83,7 +83,7 @@ encode_treatment handler encoding place rest size = written_if encoding (replace
 
 -- The encoding of a whole text.
 
--- what ended it: the end of the text; or a refused run, in characters from its start
+-- what ended an encoding: the end of the text; or a refused run, in characters from the text's start
 pub data EncodeEnding : Type 0 where
   AllWritten : EncodeEnding
   AtRun : (start end : ℕ) → EncodeEnding

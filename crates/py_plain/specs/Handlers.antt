@@ -47,7 +47,7 @@ spelled_number Ascii bytes = None
 spelled_number Utf16Le bytes = two_bytes false bytes
 spelled_number Utf16Be bytes = two_bytes true bytes
 
--- how many bytes such a number has
+-- how many bytes spell a number in an encoding
 abbrev pub number_length : Encoding → ℕ
 number_length Utf8 = 3
 number_length _ = 2

@@ -15,7 +15,7 @@ use Rattle.py_plain.specs.NewlineRule.{translated}
 use Rattle.py_plain.specs.TextFile.{TextSettings, TextFile, clean_at}
 use Rattle.py_plain.specs.TextStep.{TextCall, text_exact, TextStarved}
 
--- it can be read and moved
+-- the abilities of a plain text: it can be read and moved
 abbrev pub plain_abilities : Abilities
 plain_abilities = record { readable = true; writable = false; seekable = true; appending = false }
 
@@ -32,7 +32,7 @@ abbrev pub text_reply : Result (List ℕ) IoFault → FileReply
 text_reply (Ok characters) = Text characters
 text_reply (Err fault) = Refused fault
 
--- what a call that only does answered
+-- what a call answered that says no more than that it is done
 abbrev pub done_reply : {T : Type 0} → Result T IoFault → FileReply
 done_reply (Ok value) = Done
 done_reply (Err fault) = Refused fault

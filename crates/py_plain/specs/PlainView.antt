@@ -6,7 +6,7 @@ use Rattle.py_plain.specs.Units.{Unknown}
 use Rattle.py_plain.specs.TextFile.{TextFile}
 use Rattle.py_plain.specs.PlainSteps.{plain_abilities, plain_settings, read_from}
 
--- the text that they stand for
+-- the text that the fields of a plain text stand for
 abbrev pub shown : Inside → TextFile
 shown text = record {
   bytes = text.bytes.items;

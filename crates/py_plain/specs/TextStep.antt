@@ -71,7 +71,7 @@ place_taking place count asks = record place { taken = place.taken + count; dirt
 abbrev pub after_taking : TextFile → ℕ → Bool → TextFile
 after_taking file count asks = record file { place = place_taking file.place count asks }
 
--- at the end of the bytes, clean; a place past it stays
+-- a text at the end of its bytes, clean; a place past the end stays
 abbrev pub at_the_end : TextFile → TextFile
 at_the_end file = record file { place = clean_at (max file.place.at (length file.bytes)) file.place.order }
 
@@ -108,7 +108,7 @@ text_answered file call None = text_carried_out file call
 abbrev pub text_exact : TextFile → TextCall → FileReply × TextFile
 text_exact file call = text_answered file call (text_refusal file call)
 
--- Over any raw.
+-- What a text answers over any raw.
 
 abbrev pub TextSettled : TextFile → TextCall → FileReply → TextFile → Type 0
 TextSettled file call reply after = (reply, after) ≡ text_exact file call
@@ -130,7 +130,7 @@ TextWaitedBy file OtherKind reply after = ⊥
 abbrev pub TextWaited : TextFile → TextCall → FileReply → TextFile → Type 0
 TextWaited file call reply after = IsTrue (text_reaches_raw file call) × TextWaitedBy file call reply after
 
--- after a fault of the raw: the life, and all else but the place
+-- a text after a fault of the raw: in the given life, and as it was in all else but the place
 pub record TextFails (file : TextFile) (life : Life) (after : TextFile) : Type 0 where
   pub life_is : after.life ≡ life
   pub bytes : after.bytes ≡ file.bytes

@@ -20,7 +20,8 @@ is_low unit = is_within 0xDC00 0xDFFF unit
 abbrev pub joined : ℕ → ℕ → ℕ
 joined high low = 0x10000 + (high - 0xD800) * 0x400 + (low - 0xDC00)
 
--- after the first of a pair: its second, or the end within it, or an unpaired unit
+-- the unit that begins with the first of a pair: a character, where its second follows; the end within the pair; or
+-- an unpaired unit
 abbrev pub behind_high : Bool → ℕ → List ℕ → Unit
 behind_high big high [] = Cut 2
 behind_high big high (first ∷ []) = Cut 3

@@ -6,11 +6,11 @@ use Rattle.py_plain.specs.declared.unit.Unit.TheVariants.{Character, Malformed, 
 
 -- what a byte says that begins a sequence
 pub data Lead : Type 0 where
-  -- it is a character by itself
+  -- the byte is a character by itself
   Alone : Lead
-  -- n bytes follow, the first of them from `low` to `high`; `bits` are what it adds to the character
+  -- n bytes follow, the first of them from `low` to `high`; `bits` are what the leading byte adds to the character
   Leads : (follow low high bits : ℕ) → Lead
-  -- no well-formed sequence begins with it
+  -- no well-formed sequence begins with the byte
   Never : Lead
 
 -- whether a byte lies from `low` to `high`

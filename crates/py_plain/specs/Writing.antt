@@ -20,7 +20,7 @@ abbrev pub first_encoded : Encoding → EncodeTreatment → ℕ → List ℕ →
 first_encoded encoding treat place [] = RefusesRun
 first_encoded encoding treat place (c ∷ cs) = first_written treat place (c ∷ cs) (run_length encoding (c ∷ cs)) (own_bytes encoding c)
 
--- how many characters it stands for
+-- how many characters the bytes written first, or a refused run, stand for
 abbrev pub characters_used : FirstWritten → ℕ
 characters_used (seen.Written used) = used
 characters_used (seen.RefusedRun size) = size

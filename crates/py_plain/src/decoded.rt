@@ -13,7 +13,8 @@ use std::alloc::{AllocError, Global};
 pub struct Decoded {
     /// The characters up to the end of the bytes or up to a refused range.
     pub characters: Vec<char>,
-    /// Where that range begins and the place after it, in bytes from the start of the list.
+    /// Where the refused range begins and the place after it, in bytes from the start of the list; `None` where
+    /// nothing is refused.
     pub refusal: Option<(usize, usize)>,
 }
 

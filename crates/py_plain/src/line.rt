@@ -23,7 +23,7 @@ fn begins_with_lf(characters: &[char]) -> bool
     }
 }
 
-/// Whether a line ends with the first of these characters; `next` are those after it, and `after_cr` says that a CR
+/// Whether a line ends with a character; `next` are those after it, and `after_cr` says that a CR
 /// stands before.
 fn ends_here(rule: Newlines, after_cr: bool, character: char, next: &[char]) -> bool
     ensures { result ≡ (ends_line (line_end rule) character next.now || ends_pair (line_end rule) after_cr character) }

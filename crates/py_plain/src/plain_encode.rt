@@ -14,7 +14,8 @@ use std::alloc::{AllocError, Global};
 pub struct EncodedText {
     /// The bytes of all the characters, or of those before a refused run.
     pub bytes: Vec<u8>,
-    /// Where that run begins and the place after it, in characters from the start of the text.
+    /// Where the refused run begins and the place after it, in characters from the start of the text; `None` where
+    /// nothing is refused.
     pub refusal: Option<(usize, usize)>,
 }
 

@@ -65,7 +65,7 @@ fn asks_any(size: Option<usize>) -> bool
     }
 }
 
-/// How many characters a size asks for of these.
+/// How many of some characters a size asks for.
 fn count_of(size: Option<usize>, characters: &[char]) -> usize
     ensures count { take result characters.now ≡ first_of size characters.now }
     ensures within { result ≤ length characters.now }

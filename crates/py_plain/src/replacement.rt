@@ -99,7 +99,7 @@ fn spelled_number(encoding: Encoding, bytes: &[u8]) -> Option<u16>
     }
 }
 
-/// How many bytes such a number has.
+/// How many bytes spell a number in an encoding.
 fn number_length(encoding: Encoding) -> usize
     ensures length { result ≡ number_length encoding }
     ensures some { 1 ≤ result }

@@ -7,9 +7,10 @@ use crate::Unit;
 /// What a byte says that begins a sequence, by the first column of the Unicode Standard's Table 3-7.
 #[derive(Clone, Copy)]
 enum Lead {
-    /// It is a character by itself.
+    /// The byte is a character by itself.
     Alone,
-    /// This many bytes follow, the first of them from `low` to `high`; `bits` are what it adds to the character.
+    /// `follow` bytes come after, the first of them from `low` to `high`; `bits` are what the leading byte adds to
+    /// the character.
     Leads {
         follow: u8,
         low: u8,

@@ -17,10 +17,10 @@ at_letter letters place within = rw (take_more letters place 0 within, add-one, 
 pub letter_passes : (letters : List ℕ) (place : ℕ) → place < length letters → offence_behind (take place letters) (get_or letters place 0) ≡ None → first_offence (take place letters) (drop place letters) ≡ first_offence (take (place + 1) letters) (drop (place + 1) letters)
 letter_passes letters place within passes = at_letter letters place within ∙ ap (offence_or (take (place + 1) letters) (drop (place + 1) letters)) passes
 
--- one that offends decides
+-- a letter that offends decides how the mode is malformed
 pub letter_offends : (letters : List ℕ) (place : ℕ) (why : ModeError) → place < length letters → offence_behind (take place letters) (get_or letters place 0) ≡ Some why → first_offence (take place letters) (drop place letters) ≡ Some why
 letter_offends letters place why within offends = at_letter letters place within ∙ ap (offence_or (take (place + 1) letters) (drop (place + 1) letters)) offends
 
--- after the last letter
+-- after the last letter, only the want of a file letter offends
 pub letters_end : (letters : List ℕ) (place : ℕ) → length letters ≤ place → first_offence (take place letters) (drop place letters) ≡ (if has_file_letter letters then None else Some BadRwa)
 letters_end letters place past = rw (drop_all place letters past, take_all place letters past) refl

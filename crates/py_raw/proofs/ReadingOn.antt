@@ -62,12 +62,12 @@ uncounted_then old mid new keeps first second = record {
   no_wait = no_wait_then old mid new keeps first.no_wait second.no_wait;
 }
 
--- two parts one after the other
+-- two parts that follow each other are one part of the bytes
 next_part : (bytes part more : List ℕ) (place : ℕ) → take (length part) (left_at bytes place) ≡ part → take (length more) (left_at bytes (place + length part)) ≡ more → take (length (part ++ more)) (left_at bytes place) ≡ part ++ more
 next_part bytes part more place first second =
     rw (length-append part more, take-add (length part) (length more) (drop place bytes), first, drop-drop (length part) place bytes, second) refl
 
--- a transfer that moved bytes
+-- a transfer that moved bytes lengthens the part that was read by them
 read_on : (old mid new : Raw) (part before after : List ℕ) (count : ℕ) → Keeps old mid → ReadOn old part mid → ReadBytes mid before count after new → count ≤ length after → ReadOn old (part ++ take count after) new
 read_on old mid new part before after count keeps was is within =
     let size : length (take count after) ≡ count = length-take-le count after within in
@@ -79,7 +79,7 @@ read_on old mid new part before after count keeps was is within =
       place = λ tells. let whole = length-append part (take count after) in omega (arith, is.place (keeps.tells_place ∙ tells), was.place tells);
     }
 
--- nothing moved after it
+-- a call that moves nothing leaves the part that was read as it was
 stands_on : (old mid new : Raw) (part : List ℕ) → Keeps old mid → ReadOn old part mid → KeepsBytes mid new → WherePlace mid (new.place ≡ mid.place) → ReadOn old part new
 stands_on old mid new part keeps was bytes place = record {
   given = was.given;
@@ -87,7 +87,7 @@ stands_on old mid new part keeps was bytes place = record {
   place = λ tells. place (keeps.tells_place ∙ tells) ∙ was.place tells;
 }
 
--- one transfer more
+-- where transfers were counted before, one more is counted within a greater bound
 pub CameBy-more : (most more old mid new : ℕ) → CameBy most old mid → new ≡ counted mid 1 → most + 1 ≤ more → CameBy more old new
 CameBy-more most more old mid new was is within = record {
   calls = was.calls + 1;
@@ -96,11 +96,11 @@ CameBy-more most more old mid new was is within = record {
   count = omega (arith, was.count);
 }
 
--- the first
+-- where no transfer was counted before, the first is counted within any bound of at least one
 pub CameBy-one : (more old mid new : ℕ) → mid ≡ old → new ≡ counted mid 1 → 1 ≤ more → CameBy more old new
 CameBy-one more old mid new same is within = record { calls = 1; some = omega arith; within = within; count = omega arith }
 
--- after a part, of no bytes or of some
+-- after a part of no bytes or of some, one transfer more is counted within any bound above the length of the part
 came_by_part : (part : List ℕ) (more old mid new : ℕ) → (part ≡ [] → mid ≡ old) → (part ≢ [] → CameBy (length part) old mid) → new ≡ counted mid 1 → length part + 1 ≤ more → CameBy more old new
 came_by_part [] more old mid new none some is within = CameBy-one more old mid new (none refl) is (omega arith)
 came_by_part (byte ∷ part) more old mid new none some is within = CameBy-more (length (byte ∷ part)) more old mid new (some (λ (e : byte ∷ part ≡ []). cc)) is within
@@ -124,7 +124,7 @@ so_far_more old mid new start held before after count keeps was is some within =
       transfers = λ tells _. let whole = length-append was.part (take count after) in came_by_more old mid new start held (length (was.part ++ take count after)) tells was (is.transfers (keeps.tells_transfers ∙ tells)) (omega arith);
     }
 
--- the end was reached
+-- a reading of all is done once a transfer finds the end
 pub reads_to_end : (old mid new : Raw) (start held before after : List ℕ) (none count : ℕ) → Keeps old mid → ReadSoFar old start held mid → ReadBytes mid before none after new → none ≡ 0 → 1 ≤ length before → count ≡ length held - length start → ReadsAll old start count held new
 reads_to_end old mid new start held before after none count keeps was is is_none room counts =
     let long : length held ≡ length start + length was.part = ap length was.appended ∙ length-append start was.part in
@@ -161,14 +161,14 @@ reads_to_wait old mid new start held count keeps was is some counts =
       transfers = λ tells. came_by_more old mid new start held (count + 1) tells was (is.still.transfers (keeps.tells_transfers ∙ tells)) (omega arith);
     }
 
--- it would have blocked before any
+-- where the stream would have blocked before any byte, a reading of all appended nothing
 pub waits_at_first : (old mid new : Raw) (start held : List ℕ) → ReadSoFar old start held mid → AsksToWait mid new → length held ≤ length start → AsksToWait old new × (held ≡ start)
 waits_at_first old mid new start held was is none =
     let long : length held ≡ length start + length was.part = ap length was.appended ∙ length-append start was.part in
     let empty : was.part ≡ [] = nil_from_length was.part (omega arith) in
     (rw (sym (was.untouched empty)) is, was.appended ∙ (ap (λ part. start ++ part) empty ∙ append-nil start))
 
--- before any or after some
+-- what a reading of all comes to where the stream would have blocked, before any byte or after some
 by_test : (later : Bool) (old mid new : Raw) (start held : List ℕ) (answer : Option ℕ) (count : ℕ) → nat_lt (length start) (length held) ≡ later → answer ≡ then_some later count → count ≡ length held - length start → Keeps old mid → ReadSoFar old start held mid → AsksToWait mid new → ReadAllOutcome old start (Ok answer) held new
 by_test true old mid new start held answer count some answers counts keeps was is = rw answers (reads_to_wait old mid new start held count keeps was is (grind (arith, some)) counts)
 by_test false old mid new start held answer count none answers counts keeps was is = rw answers (waits_at_first old mid new start held was is (grind (arith, none)))

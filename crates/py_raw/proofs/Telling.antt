@@ -11,15 +11,15 @@ right_of : (left right : Bool) → IsTrue (left && right) → IsTrue right
 right_of true right both = both
 right_of false right both = cc
 
--- one that tells its bytes and its place tells its bytes
+-- a stream that tells its bytes and its place tells its bytes
 pub tells_its_bytes : (raw : Raw) → IsTrue (tells raw) → IsTrue raw.tells_bytes
 tells_its_bytes raw told = left_of raw.tells_bytes raw.tells_place told
 
--- one that tells its bytes and its place tells its place
+-- a stream that tells its bytes and its place tells its place
 pub tells_its_place : (raw : Raw) → IsTrue (tells raw) → IsTrue raw.tells_place
 tells_its_place raw told = right_of raw.tells_bytes raw.tells_place told
 
--- it tells both after a call exactly where it did before
+-- a stream tells its bytes and its place after a call exactly where it did before
 pub tells_still : (old new : Raw) → Keeps old new → tells new ≡ tells old
 tells_still old new keeps = rw (keeps.tells_bytes, keeps.tells_place) refl
 

@@ -14,7 +14,7 @@ has_letter letters wanted = list_any (λ letter. letter == wanted) letters
 abbrev pub says_file : ℕ → Bool
 says_file letter = letter == letter_x || (letter == letter_r || (letter == letter_w || letter == letter_a))
 
--- whether one of them stands among letters
+-- whether a file letter stands among letters
 abbrev pub has_file_letter : List ℕ → Bool
 has_file_letter letters = list_any says_file letters
 

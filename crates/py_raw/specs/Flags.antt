@@ -7,22 +7,22 @@ use Rattle.py_raw.specs.declared.raw_flags.RawFlags.{RawFlags}
 abbrev pub has_bits : RawFlags → ℕ → Bool
 has_bits flags bits = bit_and flags.0 bits == bits
 
--- whether they have READABLE
+-- whether flags have READABLE
 abbrev pub can_read : RawFlags → Bool
 can_read flags = has_bits flags 2
 
--- whether they have WRITABLE
+-- whether flags have WRITABLE
 abbrev pub can_write : RawFlags → Bool
 can_write flags = has_bits flags 4
 
--- whether they have SEEKABLE
+-- whether flags have SEEKABLE
 abbrev pub can_seek : RawFlags → Bool
 can_seek flags = has_bits flags 16
 
--- whether they have CREATED
+-- whether flags have CREATED
 abbrev pub was_created : RawFlags → Bool
 was_created flags = has_bits flags 1
 
--- whether they have APPENDING
+-- whether flags have APPENDING
 abbrev pub appends : RawFlags → Bool
 appends flags = has_bits flags 8

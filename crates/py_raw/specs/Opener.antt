@@ -30,7 +30,8 @@ NoOpenerFault old new = IsTrue old.counts_exactly → new.faults ≡ old.faults
 
 -- `open_raw`
 
--- it raises no count of raws
+-- what every opening keeps: the counts of raws, whether the opener tells, and whether it counts exactly; the opener's
+-- faults don't fall
 pub record OpenKeeps (old new : OpenerView) : Type 0 where
   pub tells : new.tells ≡ old.tells
   pub faults : old.faults ≤ new.faults

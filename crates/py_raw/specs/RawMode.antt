@@ -27,25 +27,25 @@ raw_mode_text letter plus = letter ∷ letter_b ∷ (if plus then plus_sign ∷ 
 abbrev pub IsFileLetter : ℕ → Type 0
 IsFileLetter letter = (letter ≡ letter_r) ⊎ ((letter ≡ letter_w) ⊎ ((letter ≡ letter_x) ⊎ (letter ≡ letter_a)))
 
--- one of the eight
+-- a text is one of the eight modes of raw streams
 pub record IsRawMode (mode : List ℕ) : Type 0 where
   pub letter : ℕ
   pub plus : Bool
   pub file : IsFileLetter letter
   pub text : mode ≡ raw_mode_text letter plus
 
--- the file letter of such a mode
+-- the file letter of a mode of raw streams
 abbrev pub file_letter : List ℕ → ℕ
 file_letter mode = slice_index mode 0
 
--- whether it has a plus
+-- whether a mode of raw streams has a plus
 abbrev pub has_plus : List ℕ → Bool
 has_plus mode = nat_eq (length mode) 3
 
--- whether what it opens can be read: with r, or with a plus
+-- whether what a mode opens can be read: with r, or with a plus
 abbrev pub mode_reads : List ℕ → Bool
 mode_reads mode = nat_eq (file_letter mode) letter_r || has_plus mode
 
--- whether it can be written: with w, x or a, or with a plus
+-- whether what a mode opens can be written: with w, x or a, or with a plus
 abbrev pub mode_writes : List ℕ → Bool
 mode_writes mode = not (nat_eq (file_letter mode) letter_r) || has_plus mode

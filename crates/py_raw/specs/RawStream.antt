@@ -26,7 +26,7 @@ pub record Raw : Type 0 where
   pub takes_memory : Bool
   pub counts_exactly : Bool
 
--- whether it tells its bytes and its place: both together say what a reading gives
+-- whether a stream tells its bytes and its place: both together say what a reading gives
 abbrev pub tells : Raw → Bool
 tells raw = raw.tells_bytes && raw.tells_place
 
@@ -91,39 +91,39 @@ pub record LeavesCounts (old new : Raw) : Type 0 where
 abbrev pub WhereTold : Raw → Type 0 → Type 0
 WhereTold raw Fact = IsTrue (tells raw) → Fact
 
--- where it tells its bytes
+-- where the stream tells its bytes
 abbrev pub WhereBytes : Raw → Type 0 → Type 0
 WhereBytes raw Fact = IsTrue raw.tells_bytes → Fact
 
--- where it tells its place
+-- where the stream tells its place
 abbrev pub WherePlace : Raw → Type 0 → Type 0
 WherePlace raw Fact = IsTrue raw.tells_place → Fact
 
--- where it tells its transfers
+-- where the stream tells its transfers
 abbrev pub WhereTransfers : Raw → Type 0 → Type 0
 WhereTransfers raw Fact = IsTrue raw.tells_transfers → Fact
 
--- its bytes are as they were
+-- where the stream tells its bytes, they are as they were
 abbrev pub KeepsBytes : Raw → Raw → Type 0
 KeepsBytes old new = WhereBytes old (new.bytes ≡ old.bytes)
 
--- it made n transfers more
+-- where the stream tells its transfers, n more were made
 abbrev pub Transfers : ℕ → Raw → Raw → Type 0
 Transfers more old new = WhereTransfers old (new.transfers ≡ counted old.transfers more)
 
--- no transfer was made
+-- where the stream tells its transfers, none was made
 abbrev pub KeepsTransfers : Raw → Raw → Type 0
 KeepsTransfers old new = WhereTransfers old (new.transfers ≡ old.transfers)
 
--- at most n transfers more were made
+-- where the stream tells its transfers, at most n more were made
 abbrev pub TransfersAtMost : ℕ → Raw → Raw → Type 0
 TransfersAtMost most old new = WhereTransfers old ((old.transfers ≤ new.transfers) × (new.transfers ≤ counted old.transfers most))
 
--- it answered for n bytes more, as far as a count can tell
+-- where the stream tells its transfers, its writes answered for n bytes more, as far as a count can tell
 abbrev pub AnswersFor : ℕ → Raw → Raw → Type 0
 AnswersFor more old new = WhereTransfers old (counted new.written 0 ≡ counted old.written more)
 
--- bytes and place as before, after n transfers
+-- the stream stands still: bytes and place are as before, after n transfers
 pub record StandsStill (more : ℕ) (old new : Raw) : Type 0 where
   pub bytes : KeepsBytes old new
   pub place : WherePlace old (new.place ≡ old.place)
@@ -211,7 +211,7 @@ WriteOutcome old piece (Err Memory) new = LacksMemory old new
 
 -- `seek`, `tell`, `end`
 
--- it stands at the place that was asked for
+-- a seek leaves the stream at the place that was asked for, with its bytes, and by no transfer
 pub record Seeks (old : Raw) (place : ℕ) (new : Raw) : Type 0 where
   pub counts : LeavesCounts old new
   pub written : AnswersFor 0 old new

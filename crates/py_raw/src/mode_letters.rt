@@ -13,7 +13,7 @@ fn says_file(letter: u8) -> bool
     letter == b'x' || letter == b'r' || letter == b'w' || letter == b'a'
 }
 
-/// Whether such a letter stands among these.
+/// Whether a file letter stands among some letters.
 fn has_file_letter(letters: &[u8]) -> bool
     ensures { result ≡ has_file_letter letters.now }
 {

@@ -11,13 +11,13 @@ bitflag_items! {
     impl RawFlags: u8 {
         /// The file was made by the opening.
         const CREATED = 1;
-        /// It can be read from.
+        /// The file can be read from.
         const READABLE = 2;
-        /// It can be written to.
+        /// The file can be written to.
         const WRITABLE = 4;
         /// Every write goes to the end.
         const APPENDING = 8;
-        /// It can be moved.
+        /// The place in the file can be moved.
         const SEEKABLE = 16;
     }
 }

@@ -7,7 +7,7 @@ use Rattle.std.specs.IoError.{error_kind}
 use Rattle.py_raw.specs.Opener.{OpenerView}
 use Rattle.py_raw_files.specs.declared.file_opener.FileOpener.{FileOpener}
 
--- its counts alone, which are exact: what a path holds is the system's
+-- what an opener of files shows: its counts alone, which are exact; what a path holds is the system's
 abbrev pub shown_file_opener : {R F D : Type 0} → FileOpener R F D → OpenerView
 shown_file_opener opener = record {
   tells = false;

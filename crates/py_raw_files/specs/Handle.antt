@@ -11,7 +11,8 @@ use Rattle.py_raw.specs.declared.raw_error.RawError.TheVariants.{Fault}
 use Rattle.py_raw.specs.RawStream.{Raw, untold}
 use Rattle.py_raw_files.specs.declared.handle.Handle.{Handle}
 
--- what it can do, and its counts, of transfers and of bytes written too; no content, and no memory taken
+-- what a handle shows: what it can do, and its counts, of transfers and of bytes written too; no content, and no
+-- memory taken
 abbrev pub shown_handle : {T : Type 0} → Handle T → Raw
 shown_handle handle = record (untold handle.counts.faults handle.counts.waits (is_none handle.inner) handle.readable handle.writable handle.seekable) {
   tells_transfers = true;
@@ -34,7 +35,7 @@ abbrev pub transfer_reply : Result ℕ Error → Result (Option ℕ) RawError
 transfer_reply (Ok count) = Ok (Some count)
 transfer_reply (Err error) = if asks_to_wait (error_kind error) then Ok None else Err Fault
 
--- what its answer to another call comes to; none is one that can't be true
+-- what the system's answer to a call that is no transfer comes to; none is an answer that can't be true
 abbrev pub call_reply : {A : Type 0} → Result (Option A) Error → Result A RawError
 call_reply (Ok (Some value)) = Ok value
 call_reply (Ok None) = Err Fault
@@ -55,18 +56,19 @@ one_wait raw = record raw { waits = counted raw.waits 1 }
 abbrev pub one_transfer : Raw → Raw
 one_transfer raw = record raw { transfers = counted raw.transfers 1 }
 
--- after a call that is no transfer
+-- a stream after a call that is no transfer
 abbrev pub after_call : {A : Type 0} → Raw → Result A RawError → Raw
 after_call raw (Ok answer) = raw
 after_call raw (Err error) = one_fault raw
 
--- after a transfer, but for the bytes that it wrote
+-- a stream after a transfer, but for the bytes that it wrote
 abbrev pub after_transfer : Raw → Result (Option ℕ) RawError → Raw
 after_transfer raw (Ok (Some count)) = one_transfer raw
 after_transfer raw (Ok None) = one_wait (one_transfer raw)
 after_transfer raw (Err error) = one_fault (one_transfer raw)
 
--- after a write of a piece of a size: it answers for the bytes that it took; to take none of some is a fault too
+-- a stream after a write of a piece of a size: it answers for the bytes that it took; to take none of some is a fault
+-- too
 abbrev pub after_write : Raw → ℕ → Result (Option ℕ) RawError → Raw
 after_write raw size (Ok (Some count)) = if nat_eq count 0 && not (nat_eq size 0) then one_fault (one_transfer raw) else record (one_transfer raw) { written = counted raw.written count }
 after_write raw size (Ok None) = one_wait (one_transfer raw)

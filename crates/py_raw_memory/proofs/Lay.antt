@@ -13,7 +13,7 @@ take_widened (byte ∷ bytes) (suc place) more within =
     let left : suc place - suc (length bytes) ≡ place - length bytes = omega arith in
     grind (arith, common_steps)
 
--- after their end, no zero is left
+-- past an end up to which zeros fill some bytes, the bytes with the zeros are the bytes without
 pub drop_widened : (bytes : List ℕ) (end more : ℕ) → more ≡ end - length bytes → drop end (bytes ++ replicate more 0) ≡ drop end bytes
 drop_widened [] end more gap = grind (arith, common_steps, drop-replicate)
 drop_widened (byte ∷ bytes) zero more gap = grind (arith, common_steps)

@@ -15,13 +15,13 @@ held_past : {T : Type 0} → (front back : List (Entry T)) (path : List ℕ) →
 held_past [] back path none = refl
 held_past (entry ∷ more) back path none = grind (arith, held_past more back path)
 
--- an entry of the path that follows them is found
+-- an entry of a path is found behind entries that hold nothing for the path
 held_here : {T : Type 0} → (front : List (Entry T)) (entry : Entry T) (back : List (Entry T)) (path : List ℕ) → path_of entry ≡ path → held_in front path ≡ None → held_in (front ++ entry ∷ back) path ≡ Some entry.held
 held_here front entry back path named none =
     let found : bytes_eq (path_of entry) path ≡ true = (bytes_eq-Decides (path_of entry) path).1 named in
     rw (held_past front (entry ∷ back) path none, found) refl
 
--- to another path, an entry may as well hold something else
+-- the look-up of a path stays as it was where an entry of another path holds something else
 held_around : {T : Type 0} → (front : List (Entry T)) (entry changed : Entry T) (back : List (Entry T)) (other : List ℕ) → path_of changed ≡ path_of entry → other ≢ path_of entry → held_in (front ++ changed ∷ back) other ≡ held_in (front ++ entry ∷ back) other
 held_around [] entry changed back other same apart = let unlike = other_path (path_of entry) other apart in grind (arith, unlike)
 held_around (first ∷ more) entry changed back other same apart = grind (arith, held_around more entry changed back other same apart)

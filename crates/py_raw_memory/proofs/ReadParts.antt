@@ -13,7 +13,7 @@ pub record MovesOf (asked count : ℕ) : Type 0 where
   pub within : count ≤ asked
   pub none : count ≡ 0 → asked ≡ 0
 
--- by an element of the plan
+-- what an element of a plan lets a read move is no more than is asked for, and nothing only where nothing is
 pub moves_by : (cut : Option Cut) (asked count : ℕ) → read_by cut asked ≡ Moves count → MovesOf asked count
 moves_by None asked count is = let same : asked ≡ count = cc in record { within = omega arith; none = λ e. omega arith }
 moves_by (Some (Take most)) asked count is = let same : min (max most 1) asked ≡ count = cc in record { within = omega arith; none = λ e. omega arith }
@@ -25,7 +25,7 @@ moves_unless : (refused : Bool) (cut : Option Cut) (asked count : ℕ) → (if r
 moves_unless true cut asked count is = cc
 moves_unless false cut asked count is = moves_by cut asked count is
 
--- in the turn of the next call
+-- what a read moves in its turn is no more than is asked for, and nothing only where nothing is
 pub moves_in_turn : (raw : MemRawView) (asked count : ℕ) → read_turn raw asked ≡ Moves count → MovesOf asked count
 moves_in_turn raw asked count is = moves_unless (refuses raw.shows.readable raw) (next_cut raw) asked count is
 

@@ -16,7 +16,7 @@ read_by (Some (Take most)) asked = Moves (min (max most 1) asked)
 read_by (Some Wait) asked = Waits
 read_by (Some (Break most)) asked = Breaks 0
 
--- what it makes of a write of n bytes
+-- what an element of a plan makes of a write of n bytes; without an element all is moved
 abbrev pub write_by : Option Cut → ℕ → Turn
 write_by None asked = Moves asked
 write_by (Some (Take most)) asked = takes (min most asked) asked

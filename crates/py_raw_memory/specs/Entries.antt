@@ -18,7 +18,7 @@ pub record StandsAt {T : Type 0} (entries : List (Entry T)) (path : List ℕ) (p
   pub first : held_in (take place entries) path ≡ None
   pub named : (d : Entry T) → path_of (slice_index_or entries place d) ≡ path
 
--- of two look-ups: a path holds this now, every other what it held
+-- from one look-up to the next: a path holds this now, every other what it held
 pub record HoldsNow {A : Type 0} (old : List ℕ → Option A) (path : List ℕ) (held : A) (new : List ℕ → Option A) : Type 0 where
   pub held_now : new path ≡ Some held
   pub others : (other : List ℕ) → other ≢ path → new other ≡ old other

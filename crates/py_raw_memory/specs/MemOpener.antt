@@ -14,7 +14,7 @@ use Rattle.py_raw_memory.specs.declared.mem_opener.MemOpener.{MemOpener}
 abbrev pub bytes_in : List (Entry (Vec ℕ Global)) → List ℕ → Option (List ℕ)
 bytes_in entries path = option_map (λ bytes. bytes.items) (held_in entries path)
 
--- it tells what each path holds, and counts exactly
+-- what an opener in memory shows: it tells what each path holds, and counts exactly
 abbrev pub shown_opener : MemOpener → OpenerView
 shown_opener opener = record {
   tells = true;
@@ -25,7 +25,7 @@ shown_opener opener = record {
   counts_exactly = true;
 }
 
--- its own faults, and the faults and waits of the raws that it took back, are as many as before
+-- an opener's own faults, and the faults and waits of the raws that it took back, are as many as before
 pub record KeepsCounts (old new : OpenerView) : Type 0 where
   pub faults : new.faults ≡ old.faults
   pub raw_faults : new.raw_faults ≡ old.raw_faults

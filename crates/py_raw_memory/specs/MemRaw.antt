@@ -13,7 +13,7 @@ use Rattle.py_raw_memory.specs.Cuts.{read_by, write_by}
 use Rattle.py_raw.specs.Flags.{can_read, can_write, can_seek}
 use Rattle.py_raw.specs.RawStream.{Raw}
 
--- it tells everything, and takes memory where it can be written
+-- what a stream in memory shows: it tells everything, and takes memory where it can be written
 abbrev pub shown : MemRaw → Raw
 shown raw = record {
   tells_bytes = true;
@@ -33,7 +33,8 @@ shown raw = record {
   counts_exactly = true;
 }
 
--- what it shows, and what its further calls follow: its plan, the numbers of the calls that fail, and the number of the next
+-- what a stream in memory shows, and what its further calls follow: its plan, the numbers of the calls that fail, and
+-- the number of the next
 pub record MemRawView : Type 0 where
   pub shows : Raw
   pub plan : List Cut
@@ -58,27 +59,27 @@ next_cut raw = slice_get raw.plan raw.shows.transfers
 
 -- The state after a call.
 
--- any call is counted
+-- a stream after a call, which is counted whatever it came to
 abbrev pub called : MemRawView → Raw → MemRawView
 called raw after = record raw { shows = after; calls = counted raw.calls 1 }
 
--- after one that was listed: a fault, and nothing else
+-- a stream after a call that was listed to fail: a fault, and nothing else
 abbrev pub refused_once : MemRawView → MemRawView
 refused_once raw = called raw (record raw.shows { faults = counted raw.shows.faults 1 })
 
--- after a transfer that failed or took nothing
+-- a stream after a transfer that failed or took nothing
 abbrev pub broken : MemRawView → MemRawView
 broken raw = called raw (record raw.shows { transfers = counted raw.shows.transfers 1; faults = counted raw.shows.faults 1 })
 
--- after a transfer that would have blocked
+-- a stream after a transfer that would have blocked
 abbrev pub waited : MemRawView → MemRawView
 waited raw = called raw (record raw.shows { transfers = counted raw.shows.transfers 1; waits = counted raw.shows.waits 1 })
 
--- after a read that moved the place
+-- a stream after a read that moved the place
 abbrev pub moved : MemRawView → ℕ → MemRawView
 moved raw count = called raw (record raw.shows { transfers = counted raw.shows.transfers 1; place = raw.shows.place + count })
 
--- after a write that answered for n bytes: the place moved after them
+-- a stream after a write that answered for n bytes: the place moved after them
 abbrev pub wrote : MemRawView → ℕ → MemRawView
 wrote raw count = called raw (record raw.shows { transfers = counted raw.shows.transfers 1; place = raw.shows.place + count; written = counted raw.shows.written count })
 
@@ -116,7 +117,7 @@ after_read raw Stalls = broken raw
 after_read raw Waits = waited raw
 after_read raw (Breaks count) = broken raw
 
--- the buffer: what was read in its front
+-- a buffer after a read: what was read is in its front
 abbrev pub buffer_after : MemRawView → List ℕ → Turn → List ℕ
 buffer_after raw before Refuses = before
 buffer_after raw before (Moves count) = take count (left_at raw.shows.bytes raw.shows.place) ++ drop count before
@@ -171,7 +172,7 @@ WritePlanned old piece result new =
 abbrev pub answer_or_fault : {A : Type 0} → Bool → MemRawView → A → Result A RawError
 answer_or_fault can raw answer = if refuses can raw then Err Fault else Ok answer
 
--- the state after it: it shows this, unless it failed outright
+-- a stream after a call: it shows this, unless the call failed outright
 abbrev pub after_call : Bool → MemRawView → Raw → MemRawView
 after_call can raw after = if refuses can raw then refused_once raw else called raw after
 
@@ -187,6 +188,6 @@ TruncatePlanned old size result new = GivesOrLacks old (answer_or_fault old.show
 abbrev pub shut : MemRawView → MemRawView
 shut raw = record raw { shows = record raw.shows { closed = true } }
 
--- a closing: a listed one closes too
+-- a closing, which closes the stream also where the call is listed to fail
 abbrev pub ClosePlanned : MemRawView → Result (Unit {0}) RawError → MemRawView → Type 0
 ClosePlanned old result new = Gives (answer_or_fault true old tt) (after_call true (shut old) (shut old).shows) result new

@@ -12,7 +12,7 @@ pub data Command : Type 0 where
   Run : (path mode : List ℕ) → OpenArgs → Command
   -- how the program is used
   Help : Command
-  -- which program it is
+  -- which program this is, by name and version
   Version : Command
 
 -- the command that the program's own one stands for

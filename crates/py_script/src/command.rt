@@ -19,7 +19,7 @@ pub enum Command<'a> {
     },
     /// `--help`: how the program is used.
     Help,
-    /// `--version`: which program it is.
+    /// `--version`: which program this is, by name and version.
     Version,
 }
 

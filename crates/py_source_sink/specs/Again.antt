@@ -10,7 +10,7 @@ abbrev pub interrupts : ErrorKind → Bool
 interrupts Interrupted = true
 interrupts _ = false
 
--- whether an answer is such an error
+-- whether an answer is an error that interrupted a call
 abbrev pub was_interrupted : {A : Type 0} → Result A Error → Bool
 was_interrupted (Ok answer) = false
 was_interrupted (Err error) = interrupts (error_kind error)

@@ -3,15 +3,15 @@ use Rattle.std.specs.Prelude.{ℕ, ◌+◌, ◌≤◌, true, List, length, Conta
 use Rattle.py_source_sink.specs.Sink.{SinkView}
 use Rattle.py_source_sink.specs.declared.mem_sink.MemSink.{MemSink}
 
--- the bytes that were written
+-- the bytes that were written to a sink in memory
 abbrev pub written_in : MemSink → List ℕ
 written_in sink = sink.bytes.items
 
--- what it shows: it tells what was written, and counts exactly
+-- what a sink in memory shows: it tells what was written, and counts exactly
 abbrev pub shown_sink : MemSink → SinkView
 shown_sink sink = record { tells = true; written = written_in sink; faults = sink.failed; counts_exactly = true }
 
--- how many bytes it holds at most
+-- how many bytes a sink in memory holds at most
 abbrev pub room_of : MemSink → ℕ
 room_of sink = sink.room
 
@@ -27,6 +27,6 @@ writes_made sink = sink.writes
 abbrev pub NextWriteFails : MemSink → Type 0
 NextWriteFails sink = Contains (failing_writes sink) (writes_made sink)
 
--- there is room for a piece
+-- a sink in memory has room for a piece
 abbrev pub HasRoomFor : MemSink → List ℕ → Type 0
 HasRoomFor sink piece = length (written_in sink) + length piece ≤ room_of sink

@@ -3,11 +3,11 @@ use Rattle.std.specs.Prelude.{ℕ, true, List, drop, Contains}
 use Rattle.py_source_sink.specs.Source.{SourceView}
 use Rattle.py_source_sink.specs.declared.mem_source.MemSource.{MemSource}
 
--- the bytes that are left: those from the place on
+-- the bytes that are left of a source in memory: those from its place on
 abbrev pub left_in : MemSource → List ℕ
 left_in source = drop source.place source.bytes.items
 
--- what it shows: it tells what is left, and counts exactly
+-- what a source in memory shows: it tells what is left, and counts exactly
 abbrev pub shown_source : MemSource → SourceView
 shown_source source = record { tells = true; left = left_in source; faults = source.failed; counts_exactly = true }
 

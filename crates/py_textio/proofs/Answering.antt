@@ -35,7 +35,7 @@ behind text = characters_of (ahead text.held text.reader.place (left_at text.rea
 abbrev pub stop_of : TextView → Option (ℕ × ℕ)
 stop_of text = refusal_of (ahead text.held text.reader.place (left_at text.reader.raw.bytes text.reader.place)).ending
 
--- told of a live text
+-- a live text, with what holds of it where its raw tells
 pub record Tied (text : TextView) : Type 0 where
   pub live : text.reader.life ≡ life.Live
   pub tied : TiedTold text.reader.raw.bytes text.reader.place text.at text.taken text.held text.pending

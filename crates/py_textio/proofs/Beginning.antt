@@ -30,7 +30,7 @@ opened_new raw size stream opens = record {
   owed = opens.owed;
 }
 
--- it can be asked where it stands
+-- a live reader that can be moved accepts the question where it stands
 accepts_tell : (reader : Stream) → reader.life ≡ life.Live → reader.can.seekable ≡ true → refused_by reader Tell ≡ None
 accepts_tell reader live can = rw live (rw can refl)
 

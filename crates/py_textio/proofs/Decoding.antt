@@ -37,7 +37,7 @@ decoded_more bytes before after used c n decoded is =
 abbrev pub walk_by : Bool → ℕ → List ℕ → Walk
 walk_by last place bytes = walk_from Utf8 (treatment Strict Utf8) last Unknown place 0 bytes
 
--- with nothing after them
+-- the decoding of bytes at a place, with nothing after them
 abbrev pub walk_at : ℕ → List ℕ → Walk
 walk_at place bytes = walk_by true place bytes
 
@@ -47,7 +47,7 @@ begun last place byte rest unit =
     let first = item_of (treatment Strict Utf8) last place (byte ∷ rest) unit in
     onto_walk place first (walk_from Utf8 (treatment Strict Utf8) last Unknown (place + 1) (used_behind first) rest)
 
--- it begins with the character that the bytes begin with
+-- a decoding begins with the character that the bytes begin with
 walk_character : (last : Bool) (place : ℕ) (bytes : List ℕ) (c n : ℕ) → utf8_unit bytes ≡ Some (Character c n) → walk_by last place bytes ≡ onto_walk place (Given (c ∷ []) n) (walk_by last (place + n) (drop n bytes))
 walk_character last place [] c n is = absurd (cc)
 walk_character last place (byte ∷ rest) c zero is = absurd (omega (arith, (unit_within (byte ∷ rest) (Character c zero) is).0))
@@ -86,7 +86,7 @@ pub record Precedes (characters : List ℕ) (whole behind : Walk) : Type 0 where
   pub characters_are : characters_of whole.items ≡ characters ++ characters_of behind.items
   pub refusal_is : refusal_of whole.ending ≡ refusal_of behind.ending
 
--- one more before them
+-- one character more before those that precede a decoding
 precedes_more : (place c n : ℕ) (cs : List ℕ) (whole between behind : Walk) → whole ≡ onto_walk place (Given (c ∷ []) n) between → Precedes cs between behind → Precedes (c ∷ cs) whole behind
 precedes_more place c n cs whole between behind is precedes = record {
   characters_are = ap (λ (walk : Walk). characters_of walk.items) is ∙ ap (λ (more : List ℕ). c ∷ more) precedes.characters_are;

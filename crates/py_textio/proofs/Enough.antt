@@ -88,7 +88,7 @@ pub record IsShort (asked : Wanted) (pending : List ℕ) : Type 0 where
   pub passes_all : passes asked pending ≡ true
   pub front : (more : List ℕ) → IsFrontOf pending (answer_in asked (pending ++ more))
 
--- a size
+-- Whether known characters are enough for a size.
 
 size_enough : (fits : Bool) (size : ℕ) (pending : List ℕ) (count : ℕ) → nat_le size (length pending) ≡ fits → (if fits then Some size else None) ≡ Some count → IsEnough (wanted.Characters (Some size)) pending count
 size_enough false size pending count test is = absurd (cc)
@@ -113,7 +113,7 @@ size_short false size pending test is =
       front = λ more. front_within size pending (pending ++ more) (omega arith) (more, refl);
     }
 
--- a line
+-- Whether known characters are enough for a line.
 
 first_size : (limit : Option ℕ) (cs : List ℕ) → IfSome limit (λ size. length (first_of limit cs) ≤ size)
 first_size None cs = tt
@@ -167,7 +167,7 @@ line_short : (ended : Bool) (limit : Option ℕ) (pending : List ℕ) → is_end
 line_short true limit pending test is = absurd (cc)
 line_short false limit pending test is = line_short_at (has_end_after Lf false pending) limit pending refl test
 
--- whatever is asked for
+-- Whether known characters are enough for whatever is asked for.
 
 pub is_enough : (asked : Wanted) (pending : List ℕ) (count : ℕ) → enough asked pending ≡ Some count → IsEnough asked pending count
 is_enough (wanted.Characters None) pending count is = absurd (cc)

@@ -53,7 +53,7 @@ range_refuses text asked n short is =
     let left : List ℕ = left_at text.reader.raw.bytes text.reader.place in
     (short, λ tells. comes_last text n (walk_refused (text.reader.place - len text.held) (text.held ++ left) n (malformed_stays text.held left n is)))
 
--- a sequence in hand that is cut at the end of the bytes is one too
+-- a sequence in hand that is cut at the end of the bytes is a refused range
 pub cut_refuses : (text : TextView) (asked : Wanted) → enough asked text.pending ≡ None → text.held ≢ [] → IsNoCharacter (utf8_unit text.held) → stop_at (utf8_unit text.held) ≡ None → WhereTold text.reader.raw (len text.reader.raw.bytes ≤ text.reader.place) → GatheredAt text asked (range_in_hand text (len text.held))
 cut_refuses text asked short some none is end =
     let place : ℕ = text.reader.place in

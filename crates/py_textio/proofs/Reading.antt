@@ -44,7 +44,7 @@ accepts_close reader live = rw live refl
 
 -- What a reading gave.
 
--- of a live reader
+-- what a reading of a live reader gave, where its raw tells
 pub gave_told : (old new : Stream) (size : ℕ) (part : List ℕ) (short faulted : _) → ((holds : ℕ) × (old.buffer ≡ Some holds)) → refusal (file_of old) (Read1 (Some size)) ≡ None → BinaryStep (file_of old) (Read1 (Some size)) (Bytes part) short faulted (file_of new) → Transfers (file_of old) (Read1 (Some size)) (take size (left_at (file_of old).bytes old.place)) (Bytes part) (file_of new)
 gave_told old new size part short faulted (holds, buffered) accepted (settled by) =
     let wanted : Option ℕ → Option (List ℕ) = λ (buffer : Option ℕ). if_over_raw (buffering_of buffer) (take size (left_at (file_of old).bytes old.place)) in
@@ -94,7 +94,7 @@ wanting_lives : (buffer size : Option ℕ) (before after : Life) → StarvesTo (
 wanting_lives None size before after starves = starves
 wanting_lives (Some holds) size before after starves = starves
 
--- of a live reader
+-- what a reading of a live reader comes to
 reads_live : (old new : Stream) (place size : ℕ) (result : Result (Option (Vec ℕ Global)) IoFault) → IsReader old place → old.life ≡ life.Live → Answers old (Read1 (Some size)) (bytes_reply result) new → ChunkReadOutcome (seen_at old place) size result (seen_at new (counted_by result place))
 reads_live old new place size (Ok (Some part)) is live answers = record {
   fits = answers.moves.within;
@@ -115,7 +115,7 @@ reads_live old new place size (Err (fault.WouldBlock taken)) is live answers =
     absurd (let never = subst (λ (writes : Bool). IsTrue (writes && not (waits_unready old.buffer (Read1 (Some size))))) is.writes (answers.answer (accepts_reading old (Some size) live is.reads is.buffered)) in cc)
 reads_live old new place size (Err other) is live answers = absurd (answers.answer (accepts_reading old (Some size) live is.reads is.buffered))
 
--- of one that isn't
+-- what a reading of a reader that isn't live comes to: a refusal by its life
 reads_refused : (old new : Stream) (place size : ℕ) (result : Result (Option (Vec ℕ Global)) IoFault) (why : IoFault) → life_fault old.life ≡ Some why → Leaves old (Refused why) (bytes_reply result) new → ((view : ReaderView) → (life_fault view.life ≡ Some why) → ReadFails view why view) → ChunkReadOutcome (seen_at old place) size result (seen_at new (counted_by result place))
 reads_refused old new place size (Ok (Some part)) why is leaves fails = absurd (let says = leaves.says in cc)
 reads_refused old new place size (Ok None) why is leaves fails = absurd (let says = leaves.says in cc)

@@ -10,7 +10,7 @@ use Rattle.py_textio.specs.Text.{TextView, KnowsTold, IsNoCharacter, stop_at, Gi
 use Rattle.py_textio.proofs.Decoding.{walk_by, Precedes, walk_spelling, walk_unfinished}
 use Rattle.py_textio.proofs.Taking.{known_taking}
 
--- told of a text
+-- what is known of a text where its raw tells
 abbrev pub Knows : TextView → Type 0
 Knows text = KnowsTold text.reader.raw.bytes text.reader.place text.at text.taken text.held text.pending
 
@@ -43,7 +43,7 @@ all_shown text has none told =
       };
     }
 
--- after all known characters were given
+-- a text hides nothing after all known characters were given
 pub all_given : (old new : TextView) (characters : List ℕ) → HasNothing old → GiveOutcome old (len old.pending) true (Ok characters) new → Knows old → HidesNothing new
 all_given old new characters has gave told =
     let given : TextView = record old { pending = drop (len old.pending) old.pending; taken = old.taken + len old.pending; dirty = old.dirty || true } in

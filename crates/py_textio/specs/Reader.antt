@@ -90,7 +90,7 @@ ClosesRaw old (Err fault.RawFault) new = Rose old.raw.faults new.raw.faults × (
 ClosesRaw old (Err fault.NoMemory) new = IsTrue old.raw.takes_memory × GivesNothing old new
 ClosesRaw old (Err other) new = ⊥
 
--- by the life: a closed reader stays so, and what a life refuses leaves all as it was
+-- what a close comes to by the life: a closed reader stays so, and what a life refuses leaves all as it was
 abbrev pub ClosesIn : Life → ReaderView → Result (Unit {0}) IoFault → ReaderView → Type 0
 ClosesIn life.Live old result new = ClosesRaw old result new
 ClosesIn life.Closed old result new = (result ≡ Ok tt) × (new ≡ old)
@@ -112,7 +112,7 @@ pub record IsNew (reader : Stream) : Type 0 where
   pub start : IsFalse reader.can.seekable → reader.place ≡ 0
   pub owed : reader.owed ≡ nothing_owed reader.place
 
--- its place was asked for, and nothing else of it changed
+-- the place of a reader was asked for, and nothing else of the reader changed
 pub record CountsPlace (old : Stream) (place : ℕ) (new : Stream) : Type 0 where
   pub is : place ≡ old.place
   pub at : new.place ≡ old.place

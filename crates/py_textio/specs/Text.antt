@@ -128,7 +128,7 @@ pub record Brings (old new : TextView) : Type 0 where
   pub reader_place : new.reader.place ≡ old.reader.place + length part
   pub told : WhereTold old.reader.raw (BringsTold old.reader part)
 
--- nothing came
+-- no bytes came after those in hand
 pub record BringsNothing (old new : TextView) : Type 0 where
   pub held : new.held ≡ old.held
   pub reader_place : new.reader.place ≡ old.reader.place
@@ -184,7 +184,7 @@ pub record Gathers (old new : TextView) : Type 0 where
   pub place : KeepsPlace old new
   pub reader : KeepsReader old.reader new.reader
 
--- it was not the raw that stopped the gathering
+-- what stopped the gathering wasn't that the raw would have blocked
 abbrev pub IsReady : Gathered → Type 0
 IsReady gathered.Waits = ⊥
 IsReady _ = Unit {0}
@@ -256,7 +256,7 @@ OnlyWhereWaits _ waited = waited ≡ false
 abbrev pub DecodedSoFar : List ℕ → List ℕ → ℕ → List ℕ → Type 0
 DecodedSoFar held before used after = (characters : List ℕ) × All IsScalar characters × (take used held ≡ encode_utf8_all characters) × (after ≡ before ++ characters)
 
--- `stop` is what stopped it, where memory did not
+-- `stop` is what stopped a decoding, where memory did not
 abbrev pub StoppedAt : List ℕ → ℕ → Result (Option ℕ) AllocError → Type 0
 StoppedAt held used (Ok stop) = IsNoCharacter (utf8_unit (drop used held)) × (stop ≡ stop_at (utf8_unit (drop used held)))
 StoppedAt held used (Err none) = Unit {0}
@@ -329,6 +329,6 @@ pub record HidesNothing (text : TextView) : Type 0 where
   pub empty : text.reader.raw.place ≡ text.reader.place
   pub shows : ShowsAll (file_of text) text.reader.raw
 
--- told of an answer that says that the raw would have blocked
+-- where the raw tells, an answer that says that the raw would have blocked leaves a text that hides nothing
 abbrev pub AnswerHides : TextView → Result Answer IoFault → TextView → Type 0
 AnswerHides old result new = IsTrue (waited_in result) → WhereTold old.reader.raw (HidesNothing new)

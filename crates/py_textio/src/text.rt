@@ -29,7 +29,7 @@ pub(crate) enum Chunk {
 /// What a call asks for.
 #[derive(Clone, Copy)]
 pub(crate) enum Wanted {
-    /// This many characters, or all.
+    /// The next n characters, or all that are left.
     Characters(Option<usize>),
     /// A line, at most n characters of it.
     Line(Option<usize>),
@@ -37,11 +37,11 @@ pub(crate) enum Wanted {
 
 /// How far the characters that are known reach.
 pub(crate) enum Gathered {
-    /// This many of them are the whole answer.
+    /// The first n known characters are the whole answer.
     Enough(usize),
-    /// They are all that is left.
+    /// The known characters are all that is left.
     Ends,
-    /// A refused range comes after them, in byte places.
+    /// A refused range comes after the known characters, in byte places.
     Refuses { start: u64, end: u64 },
     /// The raw would have blocked before there were enough.
     Waits,
