@@ -107,6 +107,10 @@ WhereTransfers raw Fact = IsTrue raw.tells_transfers → Fact
 abbrev pub KeepsBytes : Raw → Raw → Type 0
 KeepsBytes old new = WhereBytes old (new.bytes ≡ old.bytes)
 
+-- where the stream tells its place, that is as it was
+abbrev pub KeepsPlace : Raw → Raw → Type 0
+KeepsPlace old new = WherePlace old (new.place ≡ old.place)
+
 -- where the stream tells its transfers, n more were made
 abbrev pub Transfers : ℕ → Raw → Raw → Type 0
 Transfers more old new = WhereTransfers old (new.transfers ≡ counted old.transfers more)
@@ -126,7 +130,7 @@ AnswersFor more old new = WhereTransfers old (counted new.written 0 ≡ counted 
 -- the stream stands still: bytes and place are as before, after n transfers
 pub record StandsStill (more : ℕ) (old new : Raw) : Type 0 where
   pub bytes : KeepsBytes old new
-  pub place : WherePlace old (new.place ≡ old.place)
+  pub place : KeepsPlace old new
   pub transfers : Transfers more old new
 
 -- running out of memory leaves all as it was, and comes only of a stream that takes memory

@@ -1,7 +1,7 @@
 ghost use Rattle.std.specs.Prelude.{◌≡◌, ◌≤◌, max, true, false, length, IsTrue};
 ghost use Rattle.py_flat.specs.Limits.{greatest_place};
 ghost use Rattle.py_raw.specs.ReadAll.{ReadOnceOutcome, ReadAllOutcome};
-ghost use Rattle.py_raw.specs.RawStream.{Raw, Keeps, StaysOpen, FailsWithout, ReadOutcome, WriteOutcome, SeekOutcome, TellOutcome, EndOutcome, TruncateOutcome, CloseOutcome, WriteFits};
+ghost use Rattle.py_raw.specs.RawStream.{Raw, Keeps, KeepsPlace, StaysOpen, FailsWithout, ReadOutcome, WriteOutcome, SeekOutcome, TellOutcome, EndOutcome, TruncateOutcome, CloseOutcome, WriteFits};
 
 use crate::{RawError, lengthen};
 use std::alloc::Global;
@@ -28,12 +28,14 @@ pub trait RawStream {
     /// What the stream shows: its counts, what it can do, and, where it tells them, its bytes, its place and its transfers.
     ghost shows: { Self → Raw };
 
-    /// Counts a fault, and answers with it, leaving all else: what a call comes to that the stream lacks.
+    /// Counts a fault, and answers with it: what a call comes to that the stream lacks. Its bytes, its place and its transfers
+    /// stay as they are.
     fn unsupported(&mut self) -> RawError
         ensures keeps { Keeps (shows self.old) (shows self.new) }
         ensures open { StaysOpen (shows self.old) (shows self.new) }
         ensures answer { result ≡ RawError.Fault }
-        ensures fails { FailsWithout 0 (shows self.old) (shows self.new) };
+        ensures fails { FailsWithout 0 (shows self.old) (shows self.new) }
+        ensures place { KeepsPlace (shows self.old) (shows self.new) };
 
     /// Reads up to as many bytes as `buf` is long, from the place on, into its front; the place moves after them.
     ///

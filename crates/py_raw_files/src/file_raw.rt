@@ -2,7 +2,7 @@ ghost use Rattle.std.proofs.Common.{rules};
 ghost use Rattle.std.specs.Prelude.{◌≡◌, ◌≤◌, false, true, length, Some, IsSome, IfSome, IfOk, OnOk};
 ghost use Rattle.py_raw_files.specs.Handle.{opened, one_fault, after_call, after_transfer, after_write, shut, ForInner, TakesFrom, PutsIn};
 ghost use Rattle.py_raw_files.specs.FileRaw.{shown};
-ghost use Rattle.py_raw.specs.RawStream.{Keeps, StaysOpen, FailsWithout, WriteFits, ReadOutcome, WriteOutcome, SeekOutcome, TellOutcome, EndOutcome, TruncateOutcome, CloseOutcome};
+ghost use Rattle.py_raw.specs.RawStream.{Keeps, KeepsPlace, StaysOpen, FailsWithout, WriteFits, ReadOutcome, WriteOutcome, SeekOutcome, TellOutcome, EndOutcome, TruncateOutcome, CloseOutcome};
 ghost use Rattle.py_flat.specs.Limits.{greatest_place};
 
 use crate::Counts;
@@ -81,6 +81,7 @@ impl<F: Read + Write + Seek + OpenFile + Drop> RawStream for FileRaw<F> {
         ensures open { StaysOpen (shown self.old) (shown self.new) }
         ensures answer { result ≡ RawError.Fault }
         ensures fails { FailsWithout 0 (shown self.old) (shown self.new) }
+        ensures place { KeepsPlace (shown self.old) (shown self.new) }
         ensures counts { shown self.new ≡ one_fault (shown self.old) }
     {
         self.handle.fault(None)

@@ -1,6 +1,6 @@
 ghost use Rattle.std.specs.Prelude.{◌≡◌, true, false, Some, is_none};
 ghost use Rattle.std.proofs.Common.{rules};
-ghost use Rattle.py_raw.specs.RawStream.{Keeps, StaysOpen, FailsWithout, ReadOutcome, CloseOutcome};
+ghost use Rattle.py_raw.specs.RawStream.{Keeps, KeepsPlace, StaysOpen, FailsWithout, ReadOutcome, CloseOutcome};
 ghost use Rattle.py_raw_files.specs.Handle.{opened, one_fault, after_call, after_transfer, shut, ForInner, TakesFrom};
 ghost use Rattle.py_raw_files.specs.ReadRaw.{shown_read_raw};
 
@@ -61,6 +61,7 @@ impl<R: Read + Drop> RawStream for ReadRaw<R> {
         ensures open { StaysOpen (shown_read_raw self.old) (shown_read_raw self.new) }
         ensures answer { result ≡ RawError.Fault }
         ensures fails { FailsWithout 0 (shown_read_raw self.old) (shown_read_raw self.new) }
+        ensures place { KeepsPlace (shown_read_raw self.old) (shown_read_raw self.new) }
         ensures counts { shown_read_raw self.new ≡ one_fault (shown_read_raw self.old) }
     {
         self.handle.fault(None)

@@ -2,7 +2,7 @@ ghost use Rattle.std.specs.Prelude.{◌≡◌, true, false, length, Some, is_err
 ghost use Rattle.std.specs.Io.{WritesAtMost};
 ghost use Rattle.std.specs.Io.KnownBytes.{Keeps as KeepsKnown};
 ghost use Rattle.std.proofs.Common.{rules};
-ghost use Rattle.py_raw.specs.RawStream.{Keeps, StaysOpen, FailsWithout, WriteFits, WriteOutcome, CloseOutcome};
+ghost use Rattle.py_raw.specs.RawStream.{Keeps, KeepsPlace, StaysOpen, FailsWithout, WriteFits, WriteOutcome, CloseOutcome};
 ghost use Rattle.py_raw_files.specs.Handle.{opened, one_fault, after_call, after_write, shut, ForInner, PassesThrough, PutsThrough};
 ghost use Rattle.py_raw_files.specs.WriteRaw.{shown_write_raw};
 
@@ -116,6 +116,7 @@ impl<W: Write + Drop> RawStream for WriteRaw<W> {
         ensures open { StaysOpen (shown_write_raw self.old) (shown_write_raw self.new) }
         ensures answer { result ≡ RawError.Fault }
         ensures fails { FailsWithout 0 (shown_write_raw self.old) (shown_write_raw self.new) }
+        ensures place { KeepsPlace (shown_write_raw self.old) (shown_write_raw self.new) }
         ensures counts { shown_write_raw self.new ≡ one_fault (shown_write_raw self.old) }
     {
         self.handle.fault(None)

@@ -2,7 +2,7 @@ ghost use Rattle.std.proofs.Common.{rules};
 ghost use Rattle.std.specs.Prelude.{◌≡◌, ◌≤◌, true, false, length};
 ghost use Rattle.py_flat.specs.Limits.{greatest_place};
 ghost use Rattle.py_raw_memory.specs.MemRaw.{shown, view_of, refused_once, ReadPlanned, WritePlanned, CallPlanned, ClosePlanned, TruncatePlanned};
-ghost use Rattle.py_raw.specs.RawStream.{Keeps, StaysOpen, FailsWithout, WriteFits, ReadOutcome, WriteOutcome, SeekOutcome, TellOutcome, EndOutcome, TruncateOutcome, CloseOutcome};
+ghost use Rattle.py_raw.specs.RawStream.{Keeps, KeepsPlace, StaysOpen, FailsWithout, WriteFits, ReadOutcome, WriteOutcome, SeekOutcome, TellOutcome, EndOutcome, TruncateOutcome, CloseOutcome};
 
 use super::MemRaw;
 use crate::cut::Turn;
@@ -19,6 +19,7 @@ impl RawStream for MemRaw {
         ensures open { StaysOpen (shown self.old) (shown self.new) }
         ensures answer { result ≡ RawError.Fault }
         ensures fails { FailsWithout 0 (shown self.old) (shown self.new) }
+        ensures place { KeepsPlace (shown self.old) (shown self.new) }
         ensures counted { view_of self.new ≡ refused_once (view_of self.old) }
     {
         self.count_refusal();
