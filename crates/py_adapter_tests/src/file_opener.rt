@@ -121,13 +121,24 @@ fn the_last_error_is_what_the_system_said_of_a_path(rt: HostRuntime) -> Result<(
     Ok(())
 }
 
-/// A file that may only be read: this one, or where no rights bind this process, as an administrator's, one of the system's own that
-/// nobody may write.
+/// Files of the system's own that nobody may write, not even an administrator: which of them are there depends on the system.
+const SYSTEM_FILES: [&str; 3] = [
+    "/sys/devices/system/cpu/possible",
+    "/sys/kernel/uevent_seqnum",
+    "/sys/kernel/fscaps",
+];
+
+/// A file that may only be read: this one, or where no rights bind this process, as an administrator's, one of the system's own.
 fn only_read<'a>(rt: &impl Files, made: &'a str) -> &'a str {
-    match OpenOptions::new().append(true).open(rt, made) {
-        Ok(_) => "/sys/kernel/fscaps",
-        Err(_) => made,
+    if OpenOptions::new().append(true).open(rt, made).is_err() {
+        return made;
     }
+    for path in SYSTEM_FILES {
+        if fs::metadata(rt, path).is_ok() {
+            return path;
+        }
+    }
+    made
 }
 
 /// Makes a file that may only be read.
