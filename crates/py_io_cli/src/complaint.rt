@@ -24,10 +24,7 @@ where
         0 => String::from_str(alloc, ""),
         2 => words_complaint(alloc, words),
         3 => script_complaint(alloc, script.seen()),
-        4 => String::from_str(
-            alloc,
-            "the opening is refused, by the name that was printed",
-        ),
+        4 => format!(in alloc; "the opening of {path} is refused, by the name that was printed"),
         5 => String::from_str(alloc, "the script can't be read from standard input"),
         6 => String::from_str(alloc, "standard output can't be written"),
         8 => match opener.last_error() {
