@@ -153,7 +153,7 @@ fn make_only_read(rt: &HostRuntime) -> Result<PathBuf, Fail> {
     Ok(path)
 }
 
-/// Of such a file only `rb` opens it, and no mode changes it.
+/// Only `rb` opens a file that may only be read, and no mode changes it.
 fn assert_rb_alone_opens<O: Opener>(
     rt: &(impl Abort + Files + Alloc),
     alloc: Global,

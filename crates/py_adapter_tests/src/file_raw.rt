@@ -123,7 +123,7 @@ fn a_real_file_keeps_what_is_written(rt: HostRuntime) -> Result<(), Fail> {
 fn an_end_that_the_system_can_t_move_to_is_a_fault(rt: HostRuntime) -> Result<(), Fail> {
     let alloc = rt.alloc();
     let mut opener = FileOpener::new(&rt);
-    // Its metadata says that it is empty.
+    // The metadata of this file says that it is empty.
     let mut raw = opener.open_raw(alloc, "/proc/version", "rb")?;
     let mut buf = [0; 5];
     assert_eq!(rt; raw.readinto(&mut buf), Ok(Some(5)));

@@ -10,7 +10,7 @@ pub(crate) fn padding(index: usize) -> usize {
     }
 }
 
-/// This many characters of ASCII, in an encoding.
+/// As many characters of ASCII as `count` says, in an encoding.
 pub(crate) fn pad(alloc: Global, encoding: Encoding, count: usize) -> Result<Vec<u8>, AllocError> {
     let mut bytes = Vec::new(alloc);
     for _ in 0..count {

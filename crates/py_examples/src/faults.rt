@@ -177,7 +177,7 @@ fn lines_that_fail_are_counted_by_place_and_rest(rt: HostRuntime) -> Result<(), 
 #[test]
 fn a_raw_that_fails_to_close_has_all_the_same(rt: HostRuntime) -> Result<(), Fail> {
     let alloc = rt.alloc();
-    // its calls are counted from 0: it is asked where it stands, written to, and fails to close
+    // The third call of the raw fails: it was asked where it stands, then written to, then closed.
     let mut writer = writer_to(alloc, b"", &[], &[2], 8)?;
     assert_eq!(rt; writer.write(b"abc"), Ok(3));
     assert_eq!(rt; writer.close(), Err(IoFault::RawFault));
