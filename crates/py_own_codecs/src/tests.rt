@@ -16,7 +16,7 @@ fn a_handler_of_ones_own(rt: HostRuntime) -> Result<(), Fail> {
 fn a_search_function_of_ones_own(rt: HostRuntime) -> Result<(), Fail> {
     let alloc = rt.alloc();
     let mut registry = CodecsRegistry::<Marked, Marks>::new(alloc)?;
-    let number = registry.register(Marked)?;
+    let number = registry.register(alloc, Marked)?;
     assert_eq!(rt; number, 0);
     let bytes = registry.encode_text(alloc, "café", "UTF 8 Marked", None)?;
     assert_eq!(rt; bytes.as_slice(), &b"\xEF\xBB\xBFcaf\xC3\xA9"[..]);

@@ -10,7 +10,7 @@ use Rattle.py_registry.specs.declared.codec.PyCodec.TheVariants.{Builtin}
 use Rattle.py_registry.specs.declared.path.Probe.{Probe}
 use Rattle.py_registry.specs.declared.path.Probe.TheVariants.{Hit, Search}
 use Rattle.py_registry.specs.Coding.{is_text, Coded, IsCoded}
-use Rattle.py_registry.specs.Machine.{Machine, found, handler_of}
+use Rattle.py_registry.specs.Machine.{Machine, known, found, looked_up, handler_of}
 
 -- a value that is there, or a fault
 abbrev pub there_or : {T : Type 0} → IoFault → Option T → Result T IoFault
@@ -74,10 +74,21 @@ abbrev pub Works : {T M : Type 0} → (shown : T → List ℕ) → Result T IoFa
 Works shown (Ok value) expected before after new = IsCoded shown (Ok value) expected × (new ≡ after)
 Works shown (Err why) expected before after new = IsCoded shown (Err why) expected × (new ≡ before)
 
+-- by the codec of one name and the handler of another an answer is their work's, and what it leaves is what a lookup of the
+-- codec's name leaves; a refusal and running out of memory leave all as it was
+abbrev pub WorksByNames : {S H T : Type 0} → (shown : T → List ℕ) → (finds : S → List ℕ → Option (PyCodec S)) → (texts : S → ℕ → Bool) → (work : PyCodec S → HandlerRef H → Coded) → (only_text : Bool) → (name : List ℕ) → (errors : Option (List ℕ)) → (before new : Machine S H) → Result T IoFault → Type 0
+WorksByNames shown finds texts work only_text name errors before new result =
+    Works shown result (worked work (chosen_by finds texts before only_text name errors)) before (looked_up finds before name) new
+
 -- where a codec is known and built in, and the handler is there and refuses every run, a text that is refused is answered with
 -- its refusal, and never with running out of memory
 abbrev pub RefusedFirstBy : {S H T : Type 0} → (known : Option (PyCodec S)) → (errors : Option (HandlerRef H)) → (work : PyCodec S → HandlerRef H → Coded) → Result T IoFault → Type 0
 RefusedFirstBy {S} {H} known errors work result = (encoding : Encoding) (handler : HandlerRef H) → known ≡ Some (Builtin encoding) → errors ≡ Some handler → RefusedFirst handler (work (Builtin encoding) handler) result
+
+-- a text that is refused by the codec of one name and the handler of another is answered first with its refusal, where the
+-- codec is known and built in, and the handler is there and refuses every run
+abbrev pub RefusedFirstByNames : {S H T : Type 0} → (work : PyCodec S → HandlerRef H → Coded) → (name : List ℕ) → (errors : Option (List ℕ)) → Machine S H → Result T IoFault → Type 0
+RefusedFirstByNames work name errors machine result = RefusedFirstBy (known machine name) (handler_of machine (name_or_strict errors)) work result
 
 -- the number that a function is registered under, up to the greatest of its type
 abbrev pub number_or_too_far : ℕ → Result ℕ IoFault

@@ -48,14 +48,14 @@ slot_answer refusal (Ok list) = Ok list
 slot_answer refusal (Err range) = Err (refusal range.0 range.1)
 
 -- the bytes of a text by a codec and a handler
-abbrev pub codec_encoding : {S H : Type 0} → (S → SlotMeaning) → (H → DecodeMeaning) → (H → EncodeMeaning) → PyCodec S → HandlerRef H → (text : List ℕ) → Coded
-codec_encoding slots decodes encodes (Builtin encoding) errors text = list_of (encoding_by encodes errors encoding text)
-codec_encoding slots decodes encodes (Slot owner slot) errors text = slot_answer UnicodeEncodeError (slots owner slot text (meaning_of decodes encodes errors))
+abbrev pub codec_encoding : {S H : Type 0} → (S → SlotMeaning) → (H → DecodeMeaning) → (H → EncodeMeaning) → (text : List ℕ) → PyCodec S → HandlerRef H → Coded
+codec_encoding slots decodes encodes text (Builtin encoding) errors = list_of (encoding_by encodes errors encoding text)
+codec_encoding slots decodes encodes text (Slot owner slot) errors = slot_answer UnicodeEncodeError (slots owner slot text (meaning_of decodes encodes errors))
 
 -- the text of some bytes, after which none follow, by a codec and a handler
-abbrev pub codec_decoding : {S H : Type 0} → (S → SlotMeaning) → (H → DecodeMeaning) → (H → EncodeMeaning) → PyCodec S → HandlerRef H → (bytes : List ℕ) → Coded
-codec_decoding slots decodes encodes (Builtin encoding) errors bytes = list_of (decoding_by decodes errors encoding true bytes)
-codec_decoding slots decodes encodes (Slot owner slot) errors bytes = slot_answer UnicodeDecodeError (slots owner slot bytes (meaning_of decodes encodes errors))
+abbrev pub codec_decoding : {S H : Type 0} → (S → SlotMeaning) → (H → DecodeMeaning) → (H → EncodeMeaning) → (bytes : List ℕ) → PyCodec S → HandlerRef H → Coded
+codec_decoding slots decodes encodes bytes (Builtin encoding) errors = list_of (decoding_by decodes errors encoding true bytes)
+codec_decoding slots decodes encodes bytes (Slot owner slot) errors = slot_answer UnicodeDecodeError (slots owner slot bytes (meaning_of decodes encodes errors))
 
 -- an answer is what was expected, or out of memory; `shown` reads a list off the value
 abbrev pub IsCoded : {T : Type 0} → (shown : T → List ℕ) → Result T IoFault → Coded → Type 0

@@ -40,9 +40,9 @@ impl<S: SearchFunction> PyCodec<S> {
         text: &str,
         errors: HandlerRef<H>,
     ) -> Result<Vec<u8>, IoFault>
-        ensures answer { IsCoded bytes_of result (codec_encoding S.slot_encodes H.decodes H.encodes self.now errors (chars text.now)) }
+        ensures answer { IsCoded bytes_of result (codec_encoding S.slot_encodes H.decodes H.encodes (chars text.now) self.now errors) }
         ensures first { is_built_in self.now ≡ true
-            → RefusedFirst errors (codec_encoding S.slot_encodes H.decodes H.encodes self.now errors (chars text.now)) result }
+            → RefusedFirst errors (codec_encoding S.slot_encodes H.decodes H.encodes (chars text.now) self.now errors) result }
     {
         match self {
             PyCodec::Builtin(encoding) => {
@@ -69,7 +69,7 @@ impl<S: SearchFunction> PyCodec<S> {
         bytes: &[u8],
         errors: HandlerRef<H>,
     ) -> Result<String, IoFault>
-        ensures { IsCoded text_of result (codec_decoding S.slot_decodes H.decodes H.encodes self.now errors bytes.now) }
+        ensures { IsCoded text_of result (codec_decoding S.slot_decodes H.decodes H.encodes bytes.now self.now errors) }
     {
         match self {
             PyCodec::Builtin(encoding) => {

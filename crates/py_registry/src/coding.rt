@@ -2,8 +2,8 @@ ghost use Rattle.std.specs.Prelude.{◌≡◌, true, false, None, Some, chars, o
 ghost use Rattle.py_flat.specs.declared.fault.IoFault.TheVariants.{NoMemory};
 ghost use Rattle.py_codec.specs.Answers.{text_of, bytes_of};
 ghost use Rattle.py_registry.specs.Coding.{codec_encoding, codec_decoding};
-ghost use Rattle.py_registry.specs.Machine.{known, found, handler_of, looked_up};
-ghost use Rattle.py_registry.specs.Answers.{IsExpected, name_or_strict, chosen_by, worked, Works, RefusedFirstBy};
+ghost use Rattle.py_registry.specs.Machine.{known, found, looked_up};
+ghost use Rattle.py_registry.specs.Answers.{IsExpected, name_or_strict, chosen_by, WorksByNames, RefusedFirstByNames};
 
 use crate::{CodecsRegistry, PyCodec, SearchFunction};
 use py_codec::{ErrorHandler, HandlerRef, IoFault};
@@ -65,13 +65,10 @@ impl<S: SearchFunction, H: ErrorHandler> CodecsRegistry<S, H> {
         errors: Option<&str>,
         only_text: bool,
     ) -> Result<Vec<u8>, IoFault>
-        ensures answer { Works bytes_of result (worked
-            (λ codec handler. codec_encoding S.slot_encodes H.decodes H.encodes codec handler (chars text.now))
-            (chosen_by S.finds S.text_slots self.old only_text (chars name.now) (option_map (λ errors. chars errors.now) errors.entry)))
-            self.old (looked_up S.finds self.old (chars name.now)) self.new }
-        ensures first { RefusedFirstBy (known self.old (chars name.now))
-            (handler_of self.old (name_or_strict (option_map (λ errors. chars errors.now) errors.entry)))
-            (λ codec handler. codec_encoding S.slot_encodes H.decodes H.encodes codec handler (chars text.now)) result }
+        ensures answer { WorksByNames bytes_of S.finds S.text_slots (codec_encoding S.slot_encodes H.decodes H.encodes (chars text.now))
+            only_text (chars name.now) (option_map (λ errors. chars errors.now) errors.entry) self.old self.new result }
+        ensures first { RefusedFirstByNames (codec_encoding S.slot_encodes H.decodes H.encodes (chars text.now))
+            (chars name.now) (option_map (λ errors. chars errors.now) errors.entry) self.old result }
     {
         let (codec, handler) = self.choose(alloc, name, errors, only_text)?;
         let bytes = codec.encode(alloc, text, handler)?;
@@ -88,10 +85,8 @@ impl<S: SearchFunction, H: ErrorHandler> CodecsRegistry<S, H> {
         errors: Option<&str>,
         only_text: bool,
     ) -> Result<String, IoFault>
-        ensures { Works text_of result (worked
-            (λ codec handler. codec_decoding S.slot_decodes H.decodes H.encodes codec handler bytes.now)
-            (chosen_by S.finds S.text_slots self.old only_text (chars name.now) (option_map (λ errors. chars errors.now) errors.entry)))
-            self.old (looked_up S.finds self.old (chars name.now)) self.new }
+        ensures { WorksByNames text_of S.finds S.text_slots (codec_decoding S.slot_decodes H.decodes H.encodes bytes.now)
+            only_text (chars name.now) (option_map (λ errors. chars errors.now) errors.entry) self.old self.new result }
     {
         let (codec, handler) = self.choose(alloc, name, errors, only_text)?;
         let text = codec.decode(alloc, bytes, handler)?;
@@ -112,13 +107,10 @@ impl<S: SearchFunction, H: ErrorHandler> CodecsRegistry<S, H> {
         name: &str,
         errors: Option<&str>,
     ) -> Result<Vec<u8>, IoFault>
-        ensures answer { Works bytes_of result (worked
-            (λ codec handler. codec_encoding S.slot_encodes H.decodes H.encodes codec handler (chars text.now))
-            (chosen_by S.finds S.text_slots self.old false (chars name.now) (option_map (λ errors. chars errors.now) errors.entry)))
-            self.old (looked_up S.finds self.old (chars name.now)) self.new }
-        ensures first { RefusedFirstBy (known self.old (chars name.now))
-            (handler_of self.old (name_or_strict (option_map (λ errors. chars errors.now) errors.entry)))
-            (λ codec handler. codec_encoding S.slot_encodes H.decodes H.encodes codec handler (chars text.now)) result }
+        ensures answer { WorksByNames bytes_of S.finds S.text_slots (codec_encoding S.slot_encodes H.decodes H.encodes (chars text.now))
+            false (chars name.now) (option_map (λ errors. chars errors.now) errors.entry) self.old self.new result }
+        ensures first { RefusedFirstByNames (codec_encoding S.slot_encodes H.decodes H.encodes (chars text.now))
+            (chars name.now) (option_map (λ errors. chars errors.now) errors.entry) self.old result }
     {
         self.encode_by(alloc, text, name, errors, false)
     }
@@ -134,10 +126,8 @@ impl<S: SearchFunction, H: ErrorHandler> CodecsRegistry<S, H> {
         name: &str,
         errors: Option<&str>,
     ) -> Result<String, IoFault>
-        ensures { Works text_of result (worked
-            (λ codec handler. codec_decoding S.slot_decodes H.decodes H.encodes codec handler bytes.now)
-            (chosen_by S.finds S.text_slots self.old false (chars name.now) (option_map (λ errors. chars errors.now) errors.entry)))
-            self.old (looked_up S.finds self.old (chars name.now)) self.new }
+        ensures { WorksByNames text_of S.finds S.text_slots (codec_decoding S.slot_decodes H.decodes H.encodes bytes.now)
+            false (chars name.now) (option_map (λ errors. chars errors.now) errors.entry) self.old self.new result }
     {
         self.decode_by(alloc, bytes, name, errors, false)
     }
@@ -150,13 +140,10 @@ impl<S: SearchFunction, H: ErrorHandler> CodecsRegistry<S, H> {
         name: &str,
         errors: Option<&str>,
     ) -> Result<Vec<u8>, IoFault>
-        ensures answer { Works bytes_of result (worked
-            (λ codec handler. codec_encoding S.slot_encodes H.decodes H.encodes codec handler (chars text.now))
-            (chosen_by S.finds S.text_slots self.old true (chars name.now) (option_map (λ errors. chars errors.now) errors.entry)))
-            self.old (looked_up S.finds self.old (chars name.now)) self.new }
-        ensures first { RefusedFirstBy (known self.old (chars name.now))
-            (handler_of self.old (name_or_strict (option_map (λ errors. chars errors.now) errors.entry)))
-            (λ codec handler. codec_encoding S.slot_encodes H.decodes H.encodes codec handler (chars text.now)) result }
+        ensures answer { WorksByNames bytes_of S.finds S.text_slots (codec_encoding S.slot_encodes H.decodes H.encodes (chars text.now))
+            true (chars name.now) (option_map (λ errors. chars errors.now) errors.entry) self.old self.new result }
+        ensures first { RefusedFirstByNames (codec_encoding S.slot_encodes H.decodes H.encodes (chars text.now))
+            (chars name.now) (option_map (λ errors. chars errors.now) errors.entry) self.old result }
     {
         self.encode_by(alloc, text, name, errors, true)
     }
@@ -169,10 +156,8 @@ impl<S: SearchFunction, H: ErrorHandler> CodecsRegistry<S, H> {
         name: &str,
         errors: Option<&str>,
     ) -> Result<String, IoFault>
-        ensures { Works text_of result (worked
-            (λ codec handler. codec_decoding S.slot_decodes H.decodes H.encodes codec handler bytes.now)
-            (chosen_by S.finds S.text_slots self.old true (chars name.now) (option_map (λ errors. chars errors.now) errors.entry)))
-            self.old (looked_up S.finds self.old (chars name.now)) self.new }
+        ensures { WorksByNames text_of S.finds S.text_slots (codec_decoding S.slot_decodes H.decodes H.encodes bytes.now)
+            true (chars name.now) (option_map (λ errors. chars errors.now) errors.entry) self.old self.new result }
     {
         self.decode_by(alloc, bytes, name, errors, true)
     }

@@ -1,6 +1,6 @@
 ghost use Rattle.std.specs.Prelude.{◌≡◌, None, Ok, chars, IfOk, IfErr};
 ghost use Rattle.py_flat.specs.declared.fault.IoFault.TheVariants.{NoMemory, UnknownEncoding};
-ghost use Rattle.py_registry.specs.Machine.{path_of, known, searched, found, settled, standing, looked_up};
+ghost use Rattle.py_registry.specs.Machine.{path_of, cached, known, searched, found, settled, standing, looked_up};
 ghost use Rattle.py_registry.specs.Answers.{IsProbe, Answers, there_or};
 
 use crate::built_in::built_in;
@@ -71,14 +71,15 @@ impl<S: SearchFunction, H: Copy> CodecsRegistry<S, H> {
     /// The last part of a lookup: puts a codec into the cache unless the name has one there, and answers the one that
     /// stands there then.
     ///
-    /// `NoMemory` when out of memory, and all is as before.
+    /// `NoMemory` when out of memory, and all is as before; a name that stands in the cache takes no memory.
     pub fn settle(
         &mut self,
         alloc: Global,
         name: &str,
         codec: PyCodec<S>,
     ) -> Result<PyCodec<S>, IoFault>
-        ensures { Answers result (Ok (standing self.old (chars name.now) codec)) self.old (settled self.old (chars name.now) codec) self.new }
+        ensures answer { Answers result (Ok (standing self.old (chars name.now) codec)) self.old (settled self.old (chars name.now) codec) self.new }
+        ensures stands { IfErr result (λ why. cached self.old (chars name.now) ≡ None) }
     {
         if let Some(stands) = self.cache.get(Spelling::Normal, name) {
             return Ok(stands);

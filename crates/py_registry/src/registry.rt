@@ -105,7 +105,7 @@ impl<S: Copy, H: Copy> CodecsRegistry<S, H> {
     /// next, so that no number is given twice.
     ///
     /// `TooFar`: all numbers are given; `NoMemory` means out of memory.
-    pub fn register(&mut self, function: S) -> Result<u64, IoFault>
+    pub fn register(&mut self, alloc: Global, function: S) -> Result<u64, IoFault>
         ensures { Answers result (number_or_too_far self.old.next) self.old (registered self.old function) self.new }
     {
         let Some(number) = self.next else {

@@ -133,7 +133,7 @@ impl Case {
                 slot: number(word)?,
             },
         };
-        let own = self.registry.register(function)?;
+        let own = self.registry.register(alloc, function)?;
         Ok(format!(in alloc; "number {own}")?)
     }
 
