@@ -1,66 +1,90 @@
 -- Lists of entries: where the first entry stands whose key is accepted, and what an edit leaves of other keys.
-use Rattle.std.proofs.Common.{◌≡◌, ℕ, zero, suc, ◌<◌, Bool, true, false, List, [], ◌∷◌, length, get_or, Option, Some, None, refl, sym, ap, ◌∙◌, arith}
-use Rattle.py_registry.specs.Entries.{first_value, value_where, first_put, put_where, first_left_out, without_where, IsPlace, IsNoPlace}
+use Rattle.std.proofs.Common.{◌≡◌, ℕ, zero, suc, ◌+◌, ◌<◌, nat_lt, Bool, true, false, cond, List, [], ◌∷◌, length, slice_get, Option, Some, None, refl, sym, ap, ◌∙◌, arith}
+use Rattle.std.specs.Map.{lookup, remove_entry}
+use Rattle.std.proofs.lemmas.Bool.{ltb-true, ltb-false}
+use Rattle.std.proofs.lemmas.Option.{same_Some}
+use Rattle.indexmap.specs.IndexMap.{insert_entry}
+use Rattle.py_registry.specs.Entries.{IsEntry, IsNoEntry}
 
 module _ {K V : Type 0} where
+  -- no entry before a place has a key that is accepted
+  abbrev pub NoneBefore : (K → Bool) → List (K × V) → ℕ → Type 0
+  NoneBefore accepts entries place = (k : ℕ) → k < place → (entry : K × V) → slice_get entries k ≡ Some entry → accepts entry.0 ≡ false
+
+  before-next_by : (accepts : K → Bool) (entries : List (K × V)) (place : ℕ) (found : K × V) → NoneBefore accepts entries place → slice_get entries place ≡ Some found → accepts found.0 ≡ false → (k : ℕ) → k < place + 1 → (b : Bool) → nat_lt k place ≡ b → (entry : K × V) → slice_get entries k ≡ Some entry → accepts entry.0 ≡ false
+  before-next_by accepts entries place found before there not k below true is entry at = before k (ltb-true k place is) entry at
+  before-next_by accepts entries place found before there not k below false is entry at =
+      let here : k ≡ place = omega (arith, ltb-false k place is) in
+      let own : entry ≡ found = same_Some entry found (sym at ∙ (ap (slice_get entries) here ∙ there)) in
+      ap (λ (e : K × V). accepts e.0) own ∙ not
+
+  -- where the key at a place isn't accepted either, no entry before the next place has one
+  pub before-next : (accepts : K → Bool) (entries : List (K × V)) (place : ℕ) (found : K × V) → NoneBefore accepts entries place → slice_get entries place ≡ Some found → accepts found.0 ≡ false → NoneBefore accepts entries (place + 1)
+  before-next accepts entries place found before there not k below entry at = before-next_by accepts entries place found before there not k below (nat_lt k place) refl entry at
+
+  entry-found_first : (accepts : K → Bool) (entry found : K × V) (entries : List (K × V)) → Some entry ≡ Some found → accepts found.0 ≡ true → IsEntry accepts (entry ∷ entries) 0 found.1
+  entry-found_first accepts entry found entries same here =
+      let own : entry ≡ found = same_Some entry found same in
+      let accepted : accepts entry.0 ≡ true = ap (λ (e : K × V). accepts e.0) own ∙ here in
+      record {
+        inside = omega arith;
+        found = ap (λ (b : Bool). cond b (Some entry.1) (lookup accepts entries)) accepted ∙ ap (λ (e : K × V). Some e.1) own;
+        without = ap (λ (b : Bool). cond b entries (entry ∷ remove_entry accepts entries)) accepted;
+      }
+
   -- the first entry that is accepted stands where none before it is
-  pub place-found : (accepts : K → Bool) (entries : List (K × V)) (place : ℕ) (other : K × V) → place < length entries → ((k : ℕ) → k < place → accepts (get_or entries k other).0 ≡ false) → accepts (get_or entries place other).0 ≡ true → IsPlace accepts entries place
-  place-found accepts [] place other inside before here = absurd (omega arith)
-  place-found accepts (entry ∷ entries) zero other inside before here = record {
-    inside = inside;
-    value = λ o. ap (λ (b : Bool). first_value b entry.1 (value_where accepts entries)) here;
-    put = λ key value o. ap (λ (b : Bool). first_put b entry value entries (put_where accepts key value entries)) here;
-    without = ap (λ (b : Bool). first_left_out b entry entries (without_where accepts entries)) here;
-  }
-  place-found accepts (entry ∷ entries) (suc place) other inside before here =
-      let behind = place-found accepts entries place other (omega arith) (λ k below. before (suc k) (omega arith)) here in
-      let not : accepts entry.0 ≡ false = before 0 (omega arith) in
+  pub entry-found : (accepts : K → Bool) (entries : List (K × V)) (place : ℕ) (found : K × V) → NoneBefore accepts entries place → slice_get entries place ≡ Some found → accepts found.0 ≡ true → IsEntry accepts entries place found.1
+  entry-found accepts [] place found before there here = absurd (cc)
+  entry-found accepts (entry ∷ entries) zero found before there here = entry-found_first accepts entry found entries there here
+  entry-found accepts (entry ∷ entries) (suc place) found before there here =
+      let behind = entry-found accepts entries place found (λ k below. before (suc k) (omega arith)) there here in
+      let not : accepts entry.0 ≡ false = before 0 (omega arith) entry refl in
+      let inside : place < length entries = behind.inside in
       record {
-        inside = inside;
-        value = λ o. ap (λ (b : Bool). first_value b entry.1 (value_where accepts entries)) not ∙ behind.value o;
-        put = λ key value o. ap (λ (b : Bool). first_put b entry value entries (put_where accepts key value entries)) not ∙ ap (λ (es : List (K × V)). entry ∷ es) (behind.put key value o);
-        without = ap (λ (b : Bool). first_left_out b entry entries (without_where accepts entries)) not ∙ ap (λ (es : List (K × V)). entry ∷ es) behind.without;
+        inside = omega arith;
+        found = ap (λ (b : Bool). cond b (Some entry.1) (lookup accepts entries)) not ∙ behind.found;
+        without = ap (λ (b : Bool). cond b entries (entry ∷ remove_entry accepts entries)) not ∙ ap (λ (es : List (K × V)). entry ∷ es) behind.without;
       }
 
-  -- where no key is accepted there is no place
-  pub place-none : (accepts : K → Bool) (entries : List (K × V)) → ((k : ℕ) → k < length entries → (other : K × V) → accepts (get_or entries k other).0 ≡ false) → IsNoPlace accepts entries
-  place-none accepts [] before = record { value = refl; put = λ key value. refl; without = refl }
-  place-none accepts (entry ∷ entries) before =
-      let behind = place-none accepts entries (λ k below other. before (suc k) (omega arith) other) in
-      let not : accepts entry.0 ≡ false = before 0 (omega arith) entry in
+  -- where no key is accepted there is no entry
+  pub entry-none : (accepts : K → Bool) (entries : List (K × V)) → NoneBefore accepts entries (length entries) → IsNoEntry accepts entries
+  entry-none accepts [] before = record { found = refl; without = refl }
+  entry-none accepts (entry ∷ entries) before =
+      let behind = entry-none accepts entries (λ k below. before (suc k) (omega arith)) in
+      let not : accepts entry.0 ≡ false = before 0 (omega arith) entry refl in
       record {
-        value = ap (λ (b : Bool). first_value b entry.1 (value_where accepts entries)) not ∙ behind.value;
-        put = λ key value. ap (λ (b : Bool). first_put b entry value entries (put_where accepts key value entries)) not ∙ ap (λ (es : List (K × V)). entry ∷ es) (behind.put key value);
-        without = ap (λ (b : Bool). first_left_out b entry entries (without_where accepts entries)) not ∙ ap (λ (es : List (K × V)). entry ∷ es) behind.without;
+        found = ap (λ (b : Bool). cond b (Some entry.1) (lookup accepts entries)) not ∙ behind.found;
+        without = ap (λ (b : Bool). cond b entries (entry ∷ remove_entry accepts entries)) not ∙ ap (λ (es : List (K × V)). entry ∷ es) behind.without;
       }
 
-  put-own_first : (accepts : K → Bool) (entry : K × V) (value : V) (entries behind : List (K × V)) (b : Bool) → accepts entry.0 ≡ b → value_where accepts behind ≡ Some value → value_where accepts (first_put b entry value entries behind) ≡ Some value
-  put-own_first accepts entry value entries behind true is found = ap (λ (b : Bool). first_value b value (value_where accepts entries)) is
-  put-own_first accepts entry value entries behind false is found = ap (λ (b : Bool). first_value b entry.1 (value_where accepts behind)) is ∙ found
+  module _ (eq : K → K → Bool) where
+    put-own_first : (key : K) (entry : K × V) (value : V) (entries behind : List (K × V)) (b : Bool) → eq key entry.0 ≡ b → lookup (eq key) behind ≡ Some value → lookup (eq key) (cond b ((entry.0, value) ∷ entries) (entry ∷ behind)) ≡ Some value
+    put-own_first key entry value entries behind true is found = ap (λ (b : Bool). cond b (Some value) (lookup (eq key) entries)) is
+    put-own_first key entry value entries behind false is found = ap (λ (b : Bool). cond b (Some entry.1) (lookup (eq key) behind)) is ∙ found
 
-  -- a value that was put under a key that is accepted is found
-  pub put-own : (accepts : K → Bool) (key : K) (value : V) (entries : List (K × V)) → accepts key ≡ true → value_where accepts (put_where accepts key value entries) ≡ Some value
-  put-own accepts key value [] own = ap (λ (b : Bool). first_value b value None) own
-  put-own accepts key value (entry ∷ entries) own =
-      put-own_first accepts entry value entries (put_where accepts key value entries) (accepts entry.0) refl (put-own accepts key value entries own)
+    -- a value that was put under a key is found
+    pub put-own : (key : K) (value : V) (entries : List (K × V)) → eq key key ≡ true → lookup (eq key) (insert_entry eq entries key value) ≡ Some value
+    put-own key value [] own = ap (λ (b : Bool). cond b (Some value) None) own
+    put-own key value (entry ∷ entries) own =
+        put-own_first key entry value entries (insert_entry eq entries key value) (eq key entry.0) refl (put-own key value entries own)
 
-  put-other_first : (accepts other : K → Bool) (entry : K × V) (value : V) (entries behind : List (K × V)) (b : Bool) → accepts entry.0 ≡ b → (accepts entry.0 ≡ true → other entry.0 ≡ false) → value_where other behind ≡ value_where other entries → value_where other (first_put b entry value entries behind) ≡ value_where other (entry ∷ entries)
-  put-other_first accepts other entry value entries behind true is apart same =
-      ap (λ (b : Bool). first_value b value (value_where other entries)) (apart is) ∙ sym (ap (λ (b : Bool). first_value b entry.1 (value_where other entries)) (apart is))
-  put-other_first accepts other entry value entries behind false is apart same = ap (λ (found : Option V). first_value (other entry.0) entry.1 found) same
+    put-other_first : (other : K → Bool) (key : K) (entry : K × V) (value : V) (entries behind : List (K × V)) (b : Bool) → eq key entry.0 ≡ b → (eq key entry.0 ≡ true → other entry.0 ≡ false) → lookup other behind ≡ lookup other entries → lookup other (cond b ((entry.0, value) ∷ entries) (entry ∷ behind)) ≡ lookup other (entry ∷ entries)
+    put-other_first other key entry value entries behind true is apart same =
+        ap (λ (b : Bool). cond b (Some value) (lookup other entries)) (apart is) ∙ sym (ap (λ (b : Bool). cond b (Some entry.1) (lookup other entries)) (apart is))
+    put-other_first other key entry value entries behind false is apart same = ap (λ (found : Option V). cond (other entry.0) (Some entry.1) found) same
 
-  -- a key that isn't accepted where the one that is put is accepted has what it had
-  pub put-other : (accepts other : K → Bool) (key : K) (value : V) (entries : List (K × V)) → ((k : K) → accepts k ≡ true → other k ≡ false) → accepts key ≡ true → value_where other (put_where accepts key value entries) ≡ value_where other entries
-  put-other accepts other key value [] apart own = ap (λ (b : Bool). first_value b value None) (apart key own)
-  put-other accepts other key value (entry ∷ entries) apart own =
-      put-other_first accepts other entry value entries (put_where accepts key value entries) (accepts entry.0) refl (apart entry.0) (put-other accepts other key value entries apart own)
+    -- a key that isn't the one that is put has what it had
+    pub put-other : (other : K → Bool) (key : K) (value : V) (entries : List (K × V)) → ((k : K) → eq key k ≡ true → other k ≡ false) → eq key key ≡ true → lookup other (insert_entry eq entries key value) ≡ lookup other entries
+    put-other other key value [] apart own = ap (λ (b : Bool). cond b (Some value) None) (apart key own)
+    put-other other key value (entry ∷ entries) apart own =
+        put-other_first other key entry value entries (insert_entry eq entries key value) (eq key entry.0) refl (apart entry.0) (put-other other key value entries apart own)
 
-  without-other_first : (accepts other : K → Bool) (entry : K × V) (entries behind : List (K × V)) (b : Bool) → accepts entry.0 ≡ b → (accepts entry.0 ≡ true → other entry.0 ≡ false) → value_where other behind ≡ value_where other entries → value_where other (first_left_out b entry entries behind) ≡ value_where other (entry ∷ entries)
-  without-other_first accepts other entry entries behind true is apart same = sym (ap (λ (b : Bool). first_value b entry.1 (value_where other entries)) (apart is))
-  without-other_first accepts other entry entries behind false is apart same = ap (λ (found : Option V). first_value (other entry.0) entry.1 found) same
+  without-other_first : (accepts other : K → Bool) (entry : K × V) (entries behind : List (K × V)) (b : Bool) → accepts entry.0 ≡ b → (accepts entry.0 ≡ true → other entry.0 ≡ false) → lookup other behind ≡ lookup other entries → lookup other (cond b entries (entry ∷ behind)) ≡ lookup other (entry ∷ entries)
+  without-other_first accepts other entry entries behind true is apart same = sym (ap (λ (b : Bool). cond b (Some entry.1) (lookup other entries)) (apart is))
+  without-other_first accepts other entry entries behind false is apart same = ap (λ (found : Option V). cond (other entry.0) (Some entry.1) found) same
 
   -- a key that isn't accepted where the one that is left out is accepted has what it had
-  pub without-other : (accepts other : K → Bool) (entries : List (K × V)) → ((k : K) → accepts k ≡ true → other k ≡ false) → value_where other (without_where accepts entries) ≡ value_where other entries
+  pub without-other : (accepts other : K → Bool) (entries : List (K × V)) → ((k : K) → accepts k ≡ true → other k ≡ false) → lookup other (remove_entry accepts entries) ≡ lookup other entries
   without-other accepts other [] apart = refl
   without-other accepts other (entry ∷ entries) apart =
-      without-other_first accepts other entry entries (without_where accepts entries) (accepts entry.0) refl (apart entry.0) (without-other accepts other entries apart)
+      without-other_first accepts other entry entries (remove_entry accepts entries) (accepts entry.0) refl (apart entry.0) (without-other accepts other entries apart)

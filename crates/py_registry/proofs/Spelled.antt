@@ -9,14 +9,7 @@ use Rattle.py_plain.specs.declared.handler.Handler.{Handler}
 use Rattle.py_plain.specs.declared.handler.Handler.TheVariants.{Strict, Ignore, Replace, XmlCharRefReplace, BackslashReplace, SurrogatePass, SurrogateEscape}
 use Rattle.py_plain.specs.Names.{handler_name}
 use Rattle.std.specs.Cmp.Lexicographic.{bytes_decides}
-use Rattle.py_registry.specs.declared.spelling.Spelling.{Spelling}
-use Rattle.py_registry.specs.declared.spelling.Spelling.TheVariants.{AsGiven, Normal}
-use Rattle.py_registry.specs.Names.{spelled_character, spelled, same_name, is_plain}
-
--- a spelled name is its spelled characters
-pub spelled-cons : (spelling : Spelling) (c : ℕ) (name : List ℕ) → spelled spelling (c ∷ name) ≡ spelled_character spelling c ∷ spelled spelling name
-spelled-cons AsGiven c name = refl
-spelled-cons Normal c name = refl
+use Rattle.py_registry.specs.Names.{normal_character, normal_name, same_name, is_plain}
 
 -- a name is the same as itself
 pub same-self : (name : List ℕ) → same_name name name ≡ true
@@ -31,11 +24,11 @@ pub same-apart : (one other : List ℕ) → same_name one other ≡ false → (k
 same-apart one other apart kept is = ap (λ (k : List ℕ). same_name k other) (same-one kept one is) ∙ apart
 
 -- one character more is spelled
-pub spelled-next : (spelling : Spelling) (c : ℕ) (made more left behind : List ℕ) → left ≡ c ∷ behind → more ≡ made ++ spelled_character spelling c ∷ [] → more ++ spelled spelling behind ≡ made ++ spelled spelling left
-spelled-next spelling c made more left behind left_is more_is =
-    ap (λ (m : List ℕ). m ++ spelled spelling behind) more_is
-    ∙ (append_assoc made (spelled_character spelling c ∷ []) (spelled spelling behind)
-    ∙ ap (λ (s : List ℕ). made ++ s) (sym (ap (spelled spelling) left_is ∙ spelled-cons spelling c behind)))
+pub spelled-next : (c : ℕ) (made more left behind : List ℕ) → left ≡ c ∷ behind → more ≡ made ++ normal_character c ∷ [] → more ++ normal_name behind ≡ made ++ normal_name left
+spelled-next c made more left behind left_is more_is =
+    ap (λ (m : List ℕ). m ++ normal_name behind) more_is
+    ∙ (append_assoc made (normal_character c ∷ []) (normal_name behind)
+    ∙ ap (λ (s : List ℕ). made ++ s) (sym (ap normal_name left_is)))
 
 plain_first : (byte : ℕ) (bytes : List ℕ) (b : Bool) → nat_lt byte 0x80 ≡ b → (b && is_plain bytes) ≡ true → (is_plain bytes ≡ true → IsAscii bytes) → IsAscii (byte ∷ bytes)
 plain_first byte bytes true lt both behind = IsAscii-cons byte bytes (ltb-true byte 0x80 lt) (behind both)

@@ -17,12 +17,12 @@ not-false false is = refl
 module _ {S H : Type 0} where
   -- a name has the codec in the cache that was put there under it
   pub manual-own : (machine : Machine S H) (name : List ℕ) (codec : PyCodec S) → cached (registered_manually machine name codec) name ≡ Some codec
-  manual-own machine name codec = put-own (λ kept. same_name kept (normal_name name)) (normal_name name) codec machine.cache (same-self (normal_name name))
+  manual-own machine name codec = put-own (λ name kept. same_name kept name) (normal_name name) codec machine.cache (same-self (normal_name name))
 
   -- another name than the one that a codec is put under has what it had
   manual-other : (machine : Machine S H) (other name : List ℕ) (codec : PyCodec S) → same_name (normal_name other) (normal_name name) ≡ false → cached (registered_manually machine other codec) name ≡ cached machine name
   manual-other machine other name codec apart =
-      put-other (λ kept. same_name kept (normal_name other)) (λ kept. same_name kept (normal_name name)) (normal_name other) codec machine.cache (same-apart (normal_name other) (normal_name name) apart) (same-self (normal_name other))
+      put-other (λ name kept. same_name kept name) (λ kept. same_name kept (normal_name name)) (normal_name other) codec machine.cache (same-apart (normal_name other) (normal_name name) apart) (same-self (normal_name other))
 
   settled_by : (machine : Machine S H) (name : List ℕ) (codec : PyCodec S) (there : Option (PyCodec S)) → cached machine name ≡ there → cached (settled machine name codec) name ≡ Some (or_given there codec)
   settled_by machine name codec None is =
@@ -120,8 +120,8 @@ module _ {S H : Type 0} where
 
   -- a handler that is registered is the one that its name stands for
   pub error-own : (machine : Machine S H) (name : List ℕ) (handler : HandlerRef H) → handler_of (registered_error machine name handler) name ≡ Some handler
-  error-own machine name handler = put-own (λ kept. same_name kept name) name handler machine.handlers (same-self name)
+  error-own machine name handler = put-own (λ name kept. same_name kept name) name handler machine.handlers (same-self name)
 
   -- another name than the one that a handler is registered under stands for what it stood for
   pub error-other : (machine : Machine S H) (name other : List ℕ) (handler : HandlerRef H) → same_name name other ≡ false → handler_of (registered_error machine name handler) other ≡ handler_of machine other
-  error-other machine name other handler apart = put-other (λ kept. same_name kept name) (λ kept. same_name kept other) name handler machine.handlers (same-apart name other apart) (same-self name)
+  error-other machine name other handler apart = put-other (λ name kept. same_name kept name) (λ kept. same_name kept other) name handler machine.handlers (same-apart name other apart) (same-self name)

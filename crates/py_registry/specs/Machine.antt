@@ -5,7 +5,7 @@ use Rattle.py_codec.specs.declared.handler_ref.HandlerRef.{HandlerRef}
 use Rattle.py_codec.specs.declared.handler_ref.HandlerRef.TheVariants as given
 use Rattle.py_registry.specs.declared.codec.PyCodec.{PyCodec}
 use Rattle.py_registry.specs.declared.codec.PyCodec.TheVariants as codec
-use Rattle.py_registry.specs.Entries.{value_where, without_where}
+use Rattle.std.specs.Map.{lookup, remove_entry}
 use Rattle.py_registry.specs.Names.{Named, normal_name, value_of, with_value, without_name}
 use Rattle.py_registry.specs.BuiltIn.{built_in}
 
@@ -52,11 +52,11 @@ registered machine function = record machine { next = machine.next + 1; function
 
 -- a function of a number stands
 abbrev pub stands : {S : Type 0} → (number : ℕ) → List (ℕ × S) → Bool
-stands number functions = is_some (value_where (λ own. nat_eq own number) functions)
+stands number functions = is_some (lookup (λ own. nat_eq own number) functions)
 
 -- the function of a number goes, and the cache is emptied
 abbrev pub removed : {S H : Type 0} → Machine S H → (number : ℕ) → Machine S H
-removed machine number = record machine { functions = without_where (λ own. nat_eq own number) machine.functions; cache = [] }
+removed machine number = record machine { functions = remove_entry (λ own. nat_eq own number) machine.functions; cache = [] }
 
 -- where the function of a number stands it goes, and the cache is emptied; else all stays
 abbrev pub unregistered : {S H : Type 0} → Machine S H → (number : ℕ) → Machine S H

@@ -2,7 +2,7 @@ ghost use Rattle.std.specs.Prelude.{◌≡◌, true, chars};
 ghost use Rattle.py_registry.specs.Names.{is_plain, normal_name, same_name};
 ghost use Rattle.py_registry.specs.BuiltIn.{utf_8_names, latin_1_names, ascii_names, utf_16_le_names, utf_16_be_names, is_among, built_in};
 
-use crate::spelling::Spelling;
+use crate::spelling::is_spelled;
 use py_codec::Encoding;
 
 /// Whether a name is a kept one of ASCII, spelled as names of encodings are.
@@ -10,7 +10,7 @@ fn is(kept: &str, name: &str) -> bool
     requires { is_plain kept.now ≡ true }
     ensures { result ≡ same_name kept.now (normal_name (chars name.now)) }
 {
-    Spelling::Normal.names(kept, name)
+    is_spelled(kept, name)
 }
 
 /// Whether a name is one of UTF-8.

@@ -4,7 +4,6 @@ ghost use Rattle.py_registry.specs.Machine.{handler_of, registered_error};
 ghost use Rattle.py_registry.specs.Answers.{Answers, there_or};
 
 use crate::CodecsRegistry;
-use crate::spelling::Spelling;
 use py_codec::{HandlerRef, IoFault};
 use std::alloc::Global;
 
@@ -21,8 +20,8 @@ impl<S: Copy, H: Copy> CodecsRegistry<S, H> {
     ) -> Result<Option<HandlerRef<H>>, IoFault>
         ensures { Answers result (Ok (handler_of self.old (chars name.now))) self.old (registered_error self.old (chars name.now) handler) self.new }
     {
-        let before = self.handlers.get(Spelling::AsGiven, name);
-        self.handlers.put(alloc, Spelling::AsGiven, name, handler)?;
+        let before = self.handlers.get(name);
+        self.handlers.put(String::from_str(alloc, name)?, handler)?;
         Ok(before)
     }
 
@@ -30,7 +29,7 @@ impl<S: Copy, H: Copy> CodecsRegistry<S, H> {
     pub fn lookup_error_opt(&self, name: &str) -> Option<HandlerRef<H>>
         ensures { result ≡ handler_of self.now (chars name.now) }
     {
-        self.handlers.get(Spelling::AsGiven, name)
+        self.handlers.get(name)
     }
 
     /// The handler that a name stands for; `UnknownHandler` where it stands for none. It takes no memory.

@@ -4,7 +4,7 @@ ghost use Rattle.py_registry.specs.Machine.{path_of, cached, known, searched, fo
 ghost use Rattle.py_registry.specs.Answers.{IsProbe, Answers, there_or};
 
 use crate::built_in::built_in;
-use crate::spelling::Spelling;
+use crate::spelling::spelled;
 use crate::{CodecsRegistry, Path, Probe, PyCodec, SearchFunction};
 use py_codec::IoFault;
 use std::alloc::{AllocError, Global};
@@ -14,7 +14,7 @@ impl<S: SearchFunction, H: Copy> CodecsRegistry<S, H> {
     pub(crate) fn known(&self, name: &str) -> Option<PyCodec<S>>
         ensures { result ≡ known self.now (chars name.now) }
     {
-        match self.cache.get(Spelling::Normal, name) {
+        match self.cache.get_spelled(name) {
             Some(codec) => Some(codec),
             None => match built_in(name) {
                 Some(encoding) => Some(PyCodec::Builtin(encoding)),
@@ -59,7 +59,7 @@ impl<S: SearchFunction, H: Copy> CodecsRegistry<S, H> {
         ensures found { IfOk result (λ codec. codec ≡ searched S.finds path.now (chars name.now)) }
         ensures err { IfErr result (λ why. why ≡ NoMemory) }
     {
-        let spelled = Spelling::Normal.spell(alloc, name)?;
+        let spelled = spelled(alloc, name)?;
         for function in path.as_slice() {
             if let Some(codec) = function.search(spelled.as_str()) {
                 return Ok(Some(codec));
@@ -81,10 +81,10 @@ impl<S: SearchFunction, H: Copy> CodecsRegistry<S, H> {
         ensures answer { Answers result (Ok (standing self.old (chars name.now) codec)) self.old (settled self.old (chars name.now) codec) self.new }
         ensures stands { IfErr result (λ why. cached self.old (chars name.now) ≡ None) }
     {
-        if let Some(stands) = self.cache.get(Spelling::Normal, name) {
+        if let Some(stands) = self.cache.get_spelled(name) {
             return Ok(stands);
         }
-        self.cache.put(alloc, Spelling::Normal, name, codec)?;
+        self.cache.put(spelled(alloc, name)?, codec)?;
         Ok(codec)
     }
 

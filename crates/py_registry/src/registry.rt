@@ -2,14 +2,14 @@ ghost use Rattle.std.specs.Prelude.{◌≡◌, Ok, chars, nat_eq, MatchOption, I
 ghost use Rattle.py_flat.specs.declared.fault.IoFault.TheVariants.{NoMemory};
 ghost use Rattle.py_codec.specs.declared.handler_ref.HandlerRef.TheVariants as given;
 ghost use Rattle.py_plain.specs.Names.{handler_name};
-ghost use Rattle.py_registry.specs.Entries.{IsPlace, IsNoPlace};
+ghost use Rattle.py_registry.specs.Entries.{IsEntry, IsNoEntry};
 ghost use Rattle.py_registry.specs.Names.{with_value};
 ghost use Rattle.py_registry.specs.Machine.{seven_handlers, fresh, registered, unregistered, cached, forgotten, registered_manually};
 ghost use Rattle.py_registry.specs.Answers.{Answers, number_or_too_far};
 
 use crate::PyCodec;
 use crate::names::Names;
-use crate::spelling::Spelling;
+use crate::spelling::spelled;
 use py_codec::{Handler, HandlerRef, IoFault};
 use std::alloc::{AllocError, Global};
 use std::marker::Model;
@@ -51,9 +51,7 @@ fn put_built_in<H: Copy>(
     ensures { OnOk result (handlers.new ≡ with_value (handler_name handler) (given.Builtin handler) handlers.old) }
 {
     handlers.put(
-        alloc,
-        Spelling::AsGiven,
-        handler.name(),
+        String::from_str(alloc, handler.name())?,
         HandlerRef::Builtin(handler),
     )
 }
@@ -73,14 +71,14 @@ fn seven_handlers<H: Copy>(alloc: Global) -> Result<Names<HandlerRef<H>>, AllocE
     Ok(handlers)
 }
 
-/// The place of the function of a number.
-fn place_of<S: Copy>(functions: &[(u64, S)], number: u64) -> Option<usize>
-    ensures { MatchOption result (IsNoPlace (λ own. nat_eq own number) functions.now)
-        (λ place. IsPlace (λ own. nat_eq own number) functions.now place) }
+/// The place of the function of a number, and the function.
+fn entry_of<S: Copy>(functions: &[(u64, S)], number: u64) -> Option<(usize, S)>
+    ensures { MatchOption result (IsNoEntry (λ own. nat_eq own number) functions.now)
+        (λ entry. IsEntry (λ own. nat_eq own number) functions.now entry.0 entry.1) }
 {
-    for (place, (own, _)) in functions.iter().enumerate() {
+    for (place, (own, function)) in functions.iter().enumerate() {
         if *own == number {
-            return Some(place);
+            return Some((place, *function));
         }
     }
     None
@@ -121,7 +119,7 @@ impl<S: Copy, H: Copy> CodecsRegistry<S, H> {
     pub fn unregister(&mut self, number: u64)
         ensures { self.new ≡ unregistered self.old number }
     {
-        if let Some(place) = place_of(&self.functions, number) {
+        if let Some((place, _)) = entry_of(&self.functions, number) {
             self.functions.remove(place);
             self.cache.clear();
         }
@@ -133,9 +131,7 @@ impl<S: Copy, H: Copy> CodecsRegistry<S, H> {
         ensures codec { result ≡ cached self.old (chars name.now) }
         ensures after { self.new ≡ forgotten self.old (chars name.now) }
     {
-        let codec = self.cache.get(Spelling::Normal, name);
-        self.cache.remove(Spelling::Normal, name);
-        codec
+        self.cache.remove_spelled(name)
     }
 
     /// Puts a codec into the cache under a name, whatever the name had there; also a name that is built in.
@@ -151,7 +147,7 @@ impl<S: Copy, H: Copy> CodecsRegistry<S, H> {
         ensures err { OnErr result (self.new ≡ self.old) }
         ensures memory { IfErr result (λ why. why ≡ NoMemory) }
     {
-        self.cache.put(alloc, Spelling::Normal, name, codec)?;
+        self.cache.put(spelled(alloc, name)?, codec)?;
         Ok(())
     }
 }

@@ -4,4 +4,4 @@ use Rattle.py_registry.proofs.Spelled.{plain-chars}
 use Rattle.py_registry.proofs.built_in.is.Goals as goal
 
 pub returns : goal.returns
-returns c = c.names.ensures ∙ ap (λ (kept : List ℕ). same_name kept (normal_name (chars c.args.name.now))) (plain-chars c.args.kept.now c.requires)
+returns c = c.is_spelled.ensures ∙ ap (λ (kept : List ℕ). same_name kept (normal_name (chars c.args.name.now))) (plain-chars c.args.kept.now c.requires)

@@ -11,4 +11,4 @@ pub returns : goal.returns
 returns g c =
     let Handlers : Type 0 = Named (HandlerRef g.row.H.Denot) in
     let Put : List ℕ → Type 0 = λ name. OnOk c.put.result (◌≡◌ {A = Handlers} c.put.new.self (with_value name (Builtin c.args.handler) c.args.handlers.now)) in
-    subst Put (ap chars c.name.ensures ∙ plain-chars (handler_name c.args.handler) (handler-plain c.args.handler)) c.put.ensures.ok
+    subst Put (ap chars c.in_ok-from_str.ensures.ok ∙ (ap chars c.name.ensures ∙ plain-chars (handler_name c.args.handler) (handler-plain c.args.handler))) c.put.ensures.ok
