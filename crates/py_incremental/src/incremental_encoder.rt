@@ -1,6 +1,8 @@
 ghost use Rattle.std.specs.Prelude.{◌≡◌, chars, IfOk};
 ghost use Rattle.py_codec.specs.Answers.{bytes_of};
-ghost use Rattle.py_incremental.specs.Incremental.{EncoderView, EncoderAnswer};
+ghost use Rattle.py_codec.specs.Refusing.{RefusedFirst};
+ghost use Rattle.py_codec.specs.declared.handler_ref.HandlerRef.TheVariants.{Builtin};
+ghost use Rattle.py_incremental.specs.Incremental.{EncoderView, EncoderAnswer, encoding_with};
 
 use py_codec::{HandlerRef, NoHandler, encode};
 use py_flat::IoFault;
@@ -48,9 +50,11 @@ impl IncrementalEncoder {
     /// The bytes of a piece.
     ///
     /// `UnicodeEncodeError` is the first run that the handler refuses, in characters from the start of the piece. A
-    /// refusal and `NoMemory` leave all as it was, as every call does.
+    /// refusal and `NoMemory` leave all as it was, as every call does. A piece that strict or a handler of surrogates
+    /// refuses is answered with its refusal, never with `NoMemory`.
     pub fn encode(&mut self, alloc: Global, text: &str) -> Result<Vec<u8>, IoFault>
         ensures answer { EncoderAnswer self.old (chars text.now) result }
+        ensures first { RefusedFirst {H = ⊥} (Builtin self.old.handler) (encoding_with self.old (chars text.now)) result }
         ensures same { self.new ≡ self.old }
     {
         let errors = HandlerRef::<NoHandler>::Builtin(self.handler);
