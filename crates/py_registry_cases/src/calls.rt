@@ -1,8 +1,8 @@
 //! The calls of a case.
 use crate::finds::Finds;
-use crate::gives::Gives;
 use crate::shown;
 use anyhow::{Result, anyhow};
+use py_own_codecs::Marks;
 use py_registry::{
     CodecsRegistry, DEFAULT_ENCODING, Handler, HandlerRef, NoHandler, NoSearch, Path, Probe,
     PyCodec,
@@ -12,13 +12,22 @@ use std::alloc::Global;
 /// A registry, and the path that its last probe answered.
 #[derive(Drop)]
 pub(crate) struct Case {
-    registry: CodecsRegistry<Finds, Gives>,
+    registry: CodecsRegistry<Finds, Marks>,
     path: Option<Path<Finds>>,
 }
 
 /// The number of a word.
 fn number(word: &str) -> Result<u32> {
     Ok(word.parse::<u32>()?)
+}
+
+/// A handler of one's own by the mark that it puts.
+fn marks(word: &str) -> Result<Marks> {
+    match word {
+        "<5>" => Ok(Marks { mark: "<5>" }),
+        "<6>" => Ok(Marks { mark: "<6>" }),
+        _ => Err(anyhow!("no such mark")),
+    }
 }
 
 /// A codec by a number: a slot that a function of its own finds.
@@ -49,7 +58,7 @@ fn shown_codec(alloc: Global, codec: Option<PyCodec<Finds>>) -> Result<String> {
 }
 
 /// A handler that is there, or `none`.
-fn shown_handler(alloc: Global, handler: Option<HandlerRef<Gives>>) -> Result<String> {
+fn shown_handler(alloc: Global, handler: Option<HandlerRef<Marks>>) -> Result<String> {
     match handler {
         Some(handler) => Ok(shown::handler(alloc, handler)?),
         None => Ok(String::from_str(alloc, "none")?),
@@ -98,7 +107,7 @@ impl Case {
         let Some(path) = &self.path else {
             return Err(anyhow!("no path"));
         };
-        match CodecsRegistry::<Finds, Gives>::search_path(alloc, path, name) {
+        match CodecsRegistry::<Finds, Marks>::search_path(alloc, path, name) {
             Ok(codec) => shown_codec(alloc, codec),
             Err(fault) => Ok(shown::fault(alloc, fault)?),
         }
@@ -149,9 +158,7 @@ impl Case {
         let (word, name) = split(line);
         let handler = match word {
             "ignore" => HandlerRef::from(Handler::Ignore),
-            word => HandlerRef::Custom(Gives {
-                number: number(word)?,
-            }),
+            word => HandlerRef::Custom(marks(word)?),
         };
         let before = self.registry.register_error(alloc, name, handler)?;
         shown_handler(alloc, before)

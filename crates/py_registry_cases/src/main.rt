@@ -6,7 +6,6 @@
 
 mod calls;
 mod finds;
-mod gives;
 mod shown;
 
 use anyhow::Result;

@@ -1,5 +1,5 @@
 //! Answers as words.
-use crate::gives::Gives;
+use py_own_codecs::Marks;
 use py_registry::{HandlerRef, HandlerRefusal, IoFault, PyCodec, SlotRefusal};
 use std::alloc::{AllocError, Global};
 
@@ -12,10 +12,10 @@ pub(crate) fn codec<S: Copy>(alloc: Global, codec: PyCodec<S>) -> Result<String,
 }
 
 /// A handler.
-pub(crate) fn handler(alloc: Global, handler: HandlerRef<Gives>) -> Result<String, AllocError> {
+pub(crate) fn handler(alloc: Global, handler: HandlerRef<Marks>) -> Result<String, AllocError> {
     match handler {
         HandlerRef::Builtin(own) => format!(in alloc; "builtin {}", own.name()),
-        HandlerRef::Custom(gives) => format!(in alloc; "custom {}", gives.number),
+        HandlerRef::Custom(marks) => format!(in alloc; "custom {}", marks.mark),
     }
 }
 
