@@ -24,7 +24,7 @@ same-text one other one_is other_is =
     (λ same. (bytes_decides (chars one) (chars other)).1 (ap chars ((bytes_decides one other).0 same)))
     (λ same. (bytes_decides one other).1 (sym (encodes-chars one one_is) ∙ (ap encode_utf8_all ((bytes_decides (chars one) (chars other)).0 same) ∙ encodes-chars other other_is)))
 
--- either of two names may stand first
+-- whether two names are the same doesn't depend on which stands first
 same-turned : (one other : List ℕ) → same_name one other ≡ same_name other one
 same-turned one other =
     one-truth (same_name one other) (same_name other one)
@@ -66,7 +66,7 @@ module _ {V : Type 0} where
   slice_get-named entries place text value there =
       slice_get-map (λ (entry : String Global × V). (text_of entry.0, entry.1)) entries place ∙ sym (ap (option_map (λ (entry : String Global × V). (text_of entry.0, entry.1))) there)
 
-  -- there are as many entries
+  -- entries by names are as many as by texts
   pub length-named : (entries : List (String Global × V)) → length (named entries) ≡ length entries
   length-named [] = refl
   length-named (entry ∷ entries) = ap suc (length-named entries)

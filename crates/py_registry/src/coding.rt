@@ -56,7 +56,8 @@ impl<S: SearchFunction, H: ErrorHandler> CodecsRegistry<S, H> {
         Ok(())
     }
 
-    /// The bytes of a text by the codec and the handler of these names.
+    /// The bytes of a text by the codec of one name and the handler of another; `only_text` says that the codec has to be one
+    /// for text.
     fn encode_by(
         &mut self,
         alloc: Global,
@@ -76,7 +77,8 @@ impl<S: SearchFunction, H: ErrorHandler> CodecsRegistry<S, H> {
         Ok(bytes)
     }
 
-    /// The text of some bytes by the codec and the handler of these names.
+    /// The text of some bytes by the codec of one name and the handler of another; `only_text` says that the codec has to be
+    /// one for text.
     fn decode_by(
         &mut self,
         alloc: Global,
@@ -132,7 +134,11 @@ impl<S: SearchFunction, H: ErrorHandler> CodecsRegistry<S, H> {
         self.decode_by(alloc, bytes, name, errors, false)
     }
 
-    /// As `encode`, by a codec that makes bytes of texts; another is an `UnknownEncoding`.
+    /// The bytes of a text by the codec of a name, which has to be a codec for text, and the handler of another; without one
+    /// the handler is that of the name `strict`.
+    ///
+    /// `UnknownEncoding`: there is no codec of that name, or it isn't for text; the other refusals are those of `encode`, and
+    /// come before memory is taken where those do. A refusal leaves the registry as it was.
     pub fn encode_text(
         &mut self,
         alloc: Global,
@@ -148,7 +154,11 @@ impl<S: SearchFunction, H: ErrorHandler> CodecsRegistry<S, H> {
         self.encode_by(alloc, text, name, errors, true)
     }
 
-    /// As `decode`, by a codec that makes bytes of texts; another is an `UnknownEncoding`.
+    /// The text of some bytes, after which none follow, by the codec of a name, which has to be a codec for text, and the
+    /// handler of another; without one the handler is that of the name `strict`.
+    ///
+    /// `UnknownEncoding`: there is no codec of that name, or it isn't for text; the other refusals are those of `decode`. A
+    /// refusal leaves the registry as it was.
     pub fn decode_text(
         &mut self,
         alloc: Global,

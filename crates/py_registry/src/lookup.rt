@@ -23,7 +23,7 @@ impl<S: SearchFunction, H: Copy> CodecsRegistry<S, H> {
         }
     }
 
-    /// The functions in order.
+    /// The search functions in the order of their numbers.
     fn path(&self, alloc: Global) -> Result<Path<S>, AllocError>
         ensures { IfOk result (λ path. path ≡ path_of self.now) }
     {

@@ -19,7 +19,7 @@ impl<S> Model for Path<S> {
 }
 
 impl<S: Copy> Path<S> {
-    /// The functions of a vector. It takes no memory.
+    /// A path of the functions of a vector, in their order. It takes no memory.
     pub(crate) fn from_vec(functions: Vec<S>) -> Self
         ensures { result ≡ functions.items }
     {
