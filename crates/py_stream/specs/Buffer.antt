@@ -10,7 +10,7 @@ use Rattle.py_flat.specs.Bytes.{left_at, lay}
 use Rattle.py_flat.specs.Owed.{Owed}
 use Rattle.py_flat.specs.Causes.{Rose, rose, counted}
 use Rattle.py_flat.specs.FlatFile.{Abilities, Buffering, Buffered, FlatFile}
-use Rattle.py_flat.specs.Calls.{FileCall, Read1, Write, Seek, Flush, Close, FileReply, Bytes, Place, Done, Refused}
+use Rattle.py_flat.specs.Calls.{FileCall, Read1, Write, WriteLines, Seek, Truncate, Flush, Close, FileReply, Bytes, Place, Done, Refused}
 use Rattle.py_flat.specs.Refusals.{refusal, life_refusal, lacks, or_else, refused_if, moved_by, target_refusal}
 use Rattle.py_flat.specs.ExactStep.{is_closed}
 use Rattle.py_flat.specs.BinaryStep.{asks_end, payload, BinaryStep}
@@ -83,6 +83,8 @@ size_shown other = Some 0
 -- calls that may change how many bytes there are, or let go of them
 abbrev pub changes_length : FileCall → Bool
 changes_length (Write bytes) = true
+changes_length (WriteLines lines) = true
+changes_length (Truncate size) = true
 changes_length Close = true
 changes_length call = false
 

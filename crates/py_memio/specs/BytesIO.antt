@@ -1,0 +1,102 @@
+-- A stream of bytes in memory, and the exports of its bytes.
+use Rattle.std.specs.Prelude.{◌≡◌, ℕ, ◌^◌, ◌+◌, ◌<◌, ◌≤◌, Bool, true, false, not, ⊤, IsTrue, List, [], ◌∷◌, ◌++◌, nat_eq, nat_lt, filter, Option, Some, None, Result, Ok, Err}
+use denote.Bor.{Bor}
+use Rattle.std.specs.Borrow.{MutBor}
+use Rattle.std.specs.List.{list_any}
+use Rattle.std.specs.declared.alloc.Global.{Global}
+use Rattle.std.specs.Prelude.{Vec}
+use Rattle.py_flat.specs.declared.fault.IoFault.{IoFault}
+use Rattle.py_flat.specs.declared.fault.IoFault.TheVariants as fault
+use Rattle.py_flat.specs.declared.life.Life.TheVariants as life
+use Rattle.py_flat.specs.Limits.{greatest_count, greatest_place}
+use Rattle.py_flat.specs.FlatFile.{FlatFile}
+use Rattle.py_flat.specs.Refusals.{life_fault, or_else, refused_if}
+
+-- the numbers of the exports that are out, in the order in which they were given; and the number that the next one gets
+pub record Exports : Type 0 where
+  pub out : List ℕ
+  pub next : ℕ
+
+-- what a `BytesIO` is seen as: its flat file, and the exports of its bytes
+pub record BytesView : Type 0 where
+  pub file : FlatFile
+  pub exports : Exports
+
+-- before the first export
+abbrev pub no_exports : Exports
+no_exports = record { out = []; next = 0 }
+
+-- whether a list has something
+abbrev pub has_some : List ℕ → Bool
+has_some [] = false
+has_some (n ∷ ns) = true
+
+-- whether an export is out
+abbrev pub is_lent : BytesView → Bool
+is_lent view = has_some view.exports.out
+
+-- whether the export of a number is out
+abbrev pub is_out : Exports → ℕ → Bool
+is_out exports number = list_any (λ own. nat_eq own number) exports.out
+
+-- the number of the next export, past the greatest of its type where all are given
+abbrev pub next_number : Option ℕ → ℕ
+next_number None = greatest_count + 1
+next_number (Some number) = number
+
+-- a number that is left is one of its type
+abbrev pub IsNext : Option ℕ → Type 0
+IsNext None = ⊤
+IsNext (Some number) = number ≤ greatest_count
+
+-- what holds of every `BytesIO`: its place is one that a stream can have, each export that is out has a number below the next, and a
+-- closed one has none out
+pub record IsBytesIO (place : ℕ) (closed : Bool) (out : List ℕ) (next : Option ℕ) : Type 0 where
+  pub within : place ≤ greatest_place
+  pub number : IsNext next
+  pub given : (own : ℕ) → IsTrue (list_any (λ n. nat_eq n own) out) → own < next_number next
+  pub shut : closed ≡ true → out ≡ []
+
+-- A new export.
+
+-- what refuses a new export
+abbrev pub export_refusal : BytesView → Option IoFault
+export_refusal view = or_else (life_fault view.file.life) (refused_if (nat_lt greatest_count view.exports.next) fault.TooFar)
+
+-- one more export is out, with the next number
+abbrev pub exported : BytesView → BytesView
+exported view = record view { exports = record { out = view.exports.out ++ (view.exports.next ∷ []); next = view.exports.next + 1 } }
+
+-- a new export has the next number; refused, or for want of memory, there is none, and all is as before
+abbrev pub GivesExport : Option IoFault → BytesView → Result ℕ IoFault → BytesView → Type 0
+GivesExport (Some why) before result after = (result ≡ Err why) × (after ≡ before)
+GivesExport None before (Ok number) after = (number ≡ before.exports.next) × (after ≡ exported before)
+GivesExport None before (Err why) after = (why ≡ fault.NoMemory) × (after ≡ before)
+
+-- Exports that are out.
+
+-- what refuses an export to be used: a closed stream has none, and the number has to be out
+abbrev pub use_refusal : BytesView → ℕ → Option IoFault
+use_refusal view number = or_else (life_fault view.file.life) (refused_if (not (is_out view.exports number)) fault.BadArgument)
+
+-- the bytes that an export lends are the flat bytes
+abbrev pub LendsBytes : Option IoFault → List ℕ → Result (Bor (List ℕ)) IoFault → Type 0
+LendsBytes (Some why) bytes result = result ≡ Err why
+LendsBytes None bytes (Ok lent) = lent.now ≡ bytes
+LendsBytes None bytes (Err why) = ⊥
+
+-- the export of a number is out no more
+abbrev pub released : BytesView → ℕ → BytesView
+released view number = record view { exports = record view.exports { out = filter (λ own. not (nat_eq own number)) view.exports.out } }
+
+abbrev pub Releases : Option IoFault → BytesView → ℕ → Result (Unit {0}) IoFault → BytesView → Type 0
+Releases (Some why) before number result after = (result ≡ Err why) × (after ≡ before)
+Releases None before number result after = (result ≡ Ok tt) × (after ≡ released before number)
+
+-- The whole.
+
+-- all bytes, or want of memory
+abbrev pub GivesAll : Option IoFault → List ℕ → Result (Vec ℕ Global) IoFault → Type 0
+GivesAll (Some why) bytes result = result ≡ Err why
+GivesAll None bytes (Ok given) = given.items ≡ bytes
+GivesAll None bytes (Err why) = why ≡ fault.NoMemory

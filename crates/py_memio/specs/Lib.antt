@@ -1,0 +1,3 @@
+pub mod InMemory
+pub mod Replies
+pub mod BytesIO

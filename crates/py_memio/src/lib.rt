@@ -1,0 +1,12 @@
+//! Streams in memory: `BytesIO` over bytes, with exports of them.
+//!
+//! Each call is the exact step of the flat file: nothing waits, and nothing fails but for want of memory, which leaves all as it was.
+//! Where bytes are lent out their number stays, and what would change it is refused.
+#![tactic(auto)]
+
+mod bytes_io;
+mod export;
+
+pub use bytes_io::BytesIO;
+pub use export::Export;
+pub use py_flat::{Data, IoFault, Life, Lines};
