@@ -1,15 +1,15 @@
 -- A stream of bytes in memory, and the exports of its bytes.
-use Rattle.std.specs.Prelude.{◌≡◌, ℕ, ◌^◌, ◌+◌, ◌<◌, ◌≤◌, Bool, true, false, not, ⊤, IsTrue, List, [], ◌∷◌, ◌++◌, nat_eq, nat_lt, filter, Option, Some, None, Result, Ok, Err}
+use Rattle.std.specs.Prelude.{◌≡◌, ℕ, ◌+◌, ◌<◌, ◌≤◌, Bool, true, false, not, ⊤, IsTrue, List, [], ◌∷◌, ◌++◌, nat_eq, nat_lt, length, take, drop, if◌then◌else◌, Option, Some, None, Result, Ok, Err, Vec}
 use denote.Bor.{Bor}
 use Rattle.std.specs.Borrow.{MutBor}
-use Rattle.std.specs.List.{list_any}
+use Rattle.std.specs.List.{list_any, remove}
 use Rattle.std.specs.declared.alloc.Global.{Global}
-use Rattle.std.specs.Prelude.{Vec}
 use Rattle.py_flat.specs.declared.fault.IoFault.{IoFault}
 use Rattle.py_flat.specs.declared.fault.IoFault.TheVariants as fault
 use Rattle.py_flat.specs.declared.life.Life.TheVariants as life
 use Rattle.py_flat.specs.Limits.{greatest_count, greatest_place}
 use Rattle.py_flat.specs.FlatFile.{FlatFile}
+use Rattle.py_memio.specs.declared.export.Export.{Export}
 use Rattle.py_flat.specs.Refusals.{life_fault, or_else, refused_if}
 
 -- the numbers of the exports that are out, in the order in which they were given; and the number that the next one gets
@@ -68,9 +68,9 @@ abbrev pub exported : BytesView → BytesView
 exported view = record view { exports = record { out = view.exports.out ++ (view.exports.next ∷ []); next = view.exports.next + 1 } }
 
 -- a new export has the next number; refused, or for want of memory, there is none, and all is as before
-abbrev pub GivesExport : Option IoFault → BytesView → Result ℕ IoFault → BytesView → Type 0
+abbrev pub GivesExport : Option IoFault → BytesView → Result Export IoFault → BytesView → Type 0
 GivesExport (Some why) before result after = (result ≡ Err why) × (after ≡ before)
-GivesExport None before (Ok number) after = (number ≡ before.exports.next) × (after ≡ exported before)
+GivesExport None before (Ok export) after = (export.0 ≡ before.exports.next) × (after ≡ exported before)
 GivesExport None before (Err why) after = (why ≡ fault.NoMemory) × (after ≡ before)
 
 -- Exports that are out.
@@ -85,9 +85,30 @@ LendsBytes (Some why) bytes result = result ≡ Err why
 LendsBytes None bytes (Ok lent) = lent.now ≡ bytes
 LendsBytes None bytes (Err why) = ⊥
 
+-- the bytes that an export lends to be written are the flat bytes
+abbrev pub LendsBytesMut : Option IoFault → List ℕ → Result (MutBor (List ℕ)) IoFault → Type 0
+LendsBytesMut (Some why) bytes result = result ≡ Err why
+LendsBytesMut None bytes (Ok lent) = lent.now ≡ bytes
+LendsBytesMut None bytes (Err why) = ⊥
+
+-- a stream with these bytes in place of its own, which keep their number: more are cut, and of fewer the old ones behind stay
+abbrev pub with_bytes : BytesView → List ℕ → BytesView
+with_bytes view bytes = record view { file = record view.file { bytes = take (length view.file.bytes) (bytes ++ drop (length bytes) view.file.bytes) } }
+
+-- some numbers without one of them, which stands among them at most once
+abbrev pub without : ℕ → List ℕ → List ℕ
+without number [] = []
+without number (own ∷ more) = if nat_eq own number then more else own ∷ without number more
+
 -- the export of a number is out no more
 abbrev pub released : BytesView → ℕ → BytesView
-released view number = record view { exports = record view.exports { out = filter (λ own. not (nat_eq own number)) view.exports.out } }
+released view number = record view { exports = record view.exports { out = without number view.exports.out } }
+
+-- where a number stands that is out, or why it can't be used
+abbrev pub PlaceOutcome : Option IoFault → List ℕ → ℕ → Result ℕ IoFault → Type 0
+PlaceOutcome (Some why) out number result = result ≡ Err why
+PlaceOutcome None out number (Ok place) = (place < length out) × (remove out place ≡ without number out)
+PlaceOutcome None out number (Err why) = ⊥
 
 abbrev pub Releases : Option IoFault → BytesView → ℕ → Result (Unit {0}) IoFault → BytesView → Type 0
 Releases (Some why) before number result after = (result ≡ Err why) × (after ≡ before)

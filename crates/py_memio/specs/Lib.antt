@@ -1,3 +1,4 @@
 pub mod InMemory
 pub mod Replies
 pub mod BytesIO
+pub mod Lending

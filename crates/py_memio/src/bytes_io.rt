@@ -4,6 +4,11 @@ ghost use Rattle.py_flat.specs.ExactStep.{is_closed};
 ghost use Rattle.py_memio.specs.InMemory.{file_in_memory, OpenOutcome, UnlentOutcome};
 ghost use Rattle.py_memio.specs.BytesIO.{no_exports, is_lent};
 
+mod exports;
+mod moving;
+mod reading;
+mod writing;
+
 use py_flat::IoFault;
 use std::alloc::Global;
 use std::marker::Model;

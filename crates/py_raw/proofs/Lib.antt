@@ -1,3 +1,4 @@
 pub mod Telling
 pub mod ReadingOn
 pub mod ModeLetters
+pub mod Lay

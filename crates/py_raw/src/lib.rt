@@ -8,6 +8,7 @@
 #![tactic(auto)]
 
 mod conversions;
+mod laying;
 mod mode_letters;
 mod opener;
 mod raw_error;
@@ -16,6 +17,7 @@ mod raw_mode;
 mod raw_stream;
 mod zeros;
 
+pub use laying::{fill_front, lay_on};
 pub use mode_letters::compute_mode;
 pub use opener::{OpenError, Opener};
 pub use py_flat::{Chars, Data, IoFault, Life, Lines, ModeError, ParseModeError};

@@ -1,3 +1,2 @@
-pub mod Lay
 pub mod ReadParts
 pub mod Lookups

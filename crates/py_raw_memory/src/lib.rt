@@ -5,7 +5,6 @@
 
 mod cut;
 mod entries;
-mod laying;
 mod mem_opener;
 mod mem_raw;
 

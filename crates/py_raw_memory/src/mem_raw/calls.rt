@@ -6,8 +6,7 @@ ghost use Rattle.py_raw.specs.RawStream.{Keeps, KeepsPlace, StaysOpen, FailsWith
 
 use super::MemRaw;
 use crate::cut::Turn;
-use crate::laying::fill_front;
-use py_raw::{RawError, RawStream};
+use py_raw::{RawError, RawStream, fill_front};
 
 impl RawStream for MemRaw {
     ghost shows = { shown };

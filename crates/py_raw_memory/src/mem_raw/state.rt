@@ -7,8 +7,7 @@ ghost use Rattle.py_raw_memory.specs.MemRaw.{shown, view_of, is_refused, refuses
 use super::MemRaw;
 use crate::Cut;
 use crate::cut::{Turn, read_by, write_by};
-use crate::laying::lay_on;
-use py_raw::{RawError, RawFlags};
+use py_raw::{RawError, RawFlags, lay_on};
 
 impl MemRaw {
     /// An open stream of these bytes, at place 0, with the plan of its transfers and the numbers of the calls that fail.

@@ -2,7 +2,7 @@ ghost use Rattle.std.specs.Prelude.{◌≡◌, ◌+◌, ◌≤◌, ◌++◌, is_
 ghost use Rattle.py_flat.specs.Bytes.{lay};
 ghost use Rattle.py_flat.specs.Limits.{greatest_place};
 
-use py_raw::lengthen;
+use crate::lengthen;
 use std::alloc::AllocError;
 
 /// Writes a piece over what stands at a place.
@@ -14,12 +14,15 @@ fn overwrite(bytes: &mut [u8], place: usize, piece: &[u8])
 }
 
 /// Lays a piece on at a place, zeros up to it where it lies past the end. After an error all is unchanged.
-pub(crate) fn lay_on(bytes: &mut Vec<u8>, place: usize, piece: &[u8]) -> Result<(), AllocError>
+pub fn lay_on(bytes: &mut Vec<u8>, place: usize, piece: &[u8]) -> Result<(), AllocError>
     requires { place + length piece.now ≤ greatest_place }
     ensures { bytes.new.items ≡ (if is_ok result then lay bytes.old.items place piece.now else bytes.old.items) }
 {
     if piece.is_empty() {
         return Ok(());
+    }
+    if place == bytes.len() {
+        return bytes.extend_from_slice(piece);
     }
     let end = place + piece.len();
     lengthen(bytes, end)?;
@@ -28,7 +31,7 @@ pub(crate) fn lay_on(bytes: &mut Vec<u8>, place: usize, piece: &[u8]) -> Result<
 }
 
 /// Copies bytes into the front of a buffer.
-pub(crate) fn fill_front(buf: &mut [u8], given: &[u8])
+pub fn fill_front(buf: &mut [u8], given: &[u8])
     requires { length given.now ≤ length buf.old }
     ensures { buf.new ≡ given.now ++ drop (length given.now) buf.old }
 {

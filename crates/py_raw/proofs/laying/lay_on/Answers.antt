@@ -1,8 +1,8 @@
 use Rattle.std.proofs.Common.{◌≡◌, ◌≤◌, ◌∙◌, ◌-◌, ◌+◌, ◌++◌, length, replicate, arith}
 use Rattle.std.proofs.lemmas.List.{take_at}
 use Rattle.std.proofs.lemmas.Grind.{common_steps}
-use Rattle.py_raw_memory.proofs.Lay.{lay_widened}
-use Rattle.py_raw_memory.proofs.laying.lay_on.Goals as goal
+use Rattle.py_raw.proofs.Lay.{lay_widened}
+use Rattle.py_raw.proofs.laying.lay_on.Goals as goal
 
 pub returns : goal.returns
 returns c =

@@ -1,0 +1,81 @@
+//! Bytes that are lent out, under numbers.
+ghost use Rattle.std.specs.Borrow.{sem};
+ghost use Rattle.std.specs.Prelude.{◌≡◌, position, nat_eq};
+ghost use Rattle.py_memio.specs.BytesIO.{export_refusal, use_refusal, GivesExport, LendsBytes, LendsBytesMut, Releases, PlaceOutcome};
+ghost use Rattle.py_memio.specs.Lending.{WritesBack, WritesThrough};
+
+use super::BytesIO;
+use crate::Export;
+use py_flat::IoFault;
+
+impl BytesIO {
+    /// Lends the bytes out, under a number: 0 for the first export, and one more for each next, so that none is given twice. Until the
+    /// number is released the bytes keep their length: `write`, `writelines`, `truncate` and `close` are refused.
+    ///
+    /// `TooFar`: all numbers are given. `NoMemory` leaves all as it was.
+    pub fn getbuffer(&mut self) -> Result<Export, IoFault>
+        ensures { GivesExport (export_refusal self.old) self.old result self.new }
+    {
+        self.check_open()?;
+        let Some(number) = self.next else {
+            return Err(IoFault::TooFar);
+        };
+        self.out.push(number)?;
+        self.next = number.checked_add(1);
+        Ok(Export(number))
+    }
+
+    /// The bytes that an export lends. `BadArgument`: that number isn't out. It takes no memory.
+    pub fn export_bytes(&self, export: Export) -> Result<&[u8], IoFault>
+        ensures { LendsBytes (use_refusal self.now export.0) self.now.file.bytes result }
+    {
+        self.place_of(export)?;
+        Ok(self.bytes.as_slice())
+    }
+
+    /// The bytes that an export lends, to be written; they keep their number. `BadArgument`: that number isn't out. It takes no memory.
+    pub fn export_bytes_mut(&mut self, export: Export) -> Result<&mut [u8], IoFault>
+        ensures* writes_back { sem 𝓛 (WritesBack self.entry result) }
+        ensures value { LendsBytesMut (use_refusal self.old export.0) self.old.file.bytes result }
+    {
+        match self.place_of(export) {
+            Ok(_) => Ok(self.bytes_mut()),
+            Err(fault) => Err(fault),
+        }
+    }
+
+    /// Takes an export back: its number is out no more. `BadArgument`: it isn't out. It takes no memory.
+    pub fn release(&mut self, export: Export) -> Result<(), IoFault>
+        ensures { Releases (use_refusal self.old export.0) self.old export.0 result self.new }
+    {
+        let place = self.place_of(export)?;
+        self.out.remove(place);
+        Ok(())
+    }
+
+    /// All bytes, to be written; they keep their number.
+    fn bytes_mut(&mut self) -> &mut [u8]
+        ensures* writes_back { sem 𝓛 (WritesThrough self.entry result) }
+        ensures value { result.now ≡ self.old.file.bytes }
+    {
+        self.bytes.as_mut_slice()
+    }
+
+    /// Where the number of an export stands among those that are out; a closed stream has none out.
+    fn place_of(&self, export: Export) -> Result<usize, IoFault>
+        ensures { PlaceOutcome (use_refusal self.now export.0) self.now.exports.out export.0 result }
+    {
+        self.check_open()?;
+        match place_in(&self.out, export.0) {
+            Some(place) => Ok(place),
+            None => Err(IoFault::BadArgument),
+        }
+    }
+}
+
+/// The place of a number among others.
+fn place_in(numbers: &[u64], number: u64) -> Option<usize>
+    ensures { result ≡ position (λ own. nat_eq own number) numbers.now }
+{
+    numbers.iter().position(|own| *own == number)
+}
