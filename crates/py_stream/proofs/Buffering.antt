@@ -12,7 +12,7 @@ use Rattle.py_raw.proofs.Telling.{tells_still, tells_its_bytes}
 use Rattle.py_stream.specs.Stream.{Stream, buffering_of, nothing_owed}
 use Rattle.py_stream.specs.Writing.{OwesRest, PassesFront, PassedOn, PassesOn, LaysInOrder, Writes}
 use Rattle.py_stream.specs.Answers.{Answers, Leaves, IsCounted, GivesWithin, LifeMoves, PlaceMoves, IsReplyTo, SeeksTo, SeeksFromEnd, EndMoves, SeeksByEnd, closes_again}
-use Rattle.py_stream.specs.Buffer.{Buffer, buffer_of, size_shown, LeavesBuffer, closes_twice, GivesAsked, GoesFromEnd, BufferSeeksFromEnd, BufferEndMoves, BufferSeeksByEnd, BufferOwes, BufferPassedOn, BufferPasses, BufferLays, OwesAsItCan, is_made, AnswersAsBuffer}
+use Rattle.py_stream.specs.Buffer.{Buffer, buffer_of, taken_by, size_shown, LeavesBuffer, closes_twice, GivesAsked, GoesFromEnd, BufferSeeksFromEnd, BufferEndMoves, BufferSeeksByEnd, BufferOwes, BufferPassedOn, BufferPasses, BufferLays, OwesAsItCan, is_made, AnswersAsBuffer}
 
 -- the size that is shown is the stream's own
 size_is : (buffer : Option ℕ) → IsSome buffer → size_shown (buffering_of buffer) ≡ buffer
@@ -25,56 +25,58 @@ gives_asked (Some size) (Read1 (Some most)) (Bytes part) some within = within
 gives_asked None call reply some within = absurd (cc)
 gives_asked buffer call reply some within = tt
 
-left_so : (before after : Stream) (expected reply : FileReply) → Leaves before expected reply after → LeavesBuffer (buffer_of before) expected reply (buffer_of after)
-left_so before after expected reply leaves = record { says = leaves.says; same = ap buffer_of leaves.same }
+left_so : (before : Stream) (was : ℕ) (call : FileCall) (expected reply : FileReply) (after : Stream) (taken : ℕ) → taken ≡ taken_by call before.place after.place was → Leaves before expected reply after → LeavesBuffer (buffer_of before was) call expected reply (buffer_of after taken)
+left_so before was call expected reply after taken counts leaves =
+    let stays : taken_by call before.place after.place was ≡ taken_by call before.place before.place was = ap (λ (stream : Stream). taken_by call before.place stream.place was) leaves.same in
+    record { says = leaves.says; same = ap (λ (stream : Stream). buffer_of stream taken) leaves.same ∙ ap (buffer_of (record before { short = false })) (counts ∙ stays) }
 
-closed_so : (before after : Stream) (call : FileCall) (reply : FileReply) → (closes_again before call ≡ true → Leaves before Done reply after) → closes_twice (buffer_of before) call ≡ true → LeavesBuffer (buffer_of before) Done reply (buffer_of after)
-closed_so before after Close reply again closed = left_so before after Done reply (again closed)
-closed_so before after call reply again closed = absurd (cc)
+closed_so : (before : Stream) (was : ℕ) (call : FileCall) (reply : FileReply) (after : Stream) (taken : ℕ) → taken ≡ taken_by call before.place after.place was → (closes_again before call ≡ true → Leaves before Done reply after) → closes_twice (buffer_of before was) call ≡ true → LeavesBuffer (buffer_of before was) call Done reply (buffer_of after taken)
+closed_so before was Close reply after taken counts again closed = left_so before was Close Done reply after taken counts (again closed)
+closed_so before was call reply after taken counts again closed = absurd (cc)
 
 -- A seek from the end.
 
-goes_so : (before after : Stream) (target : Option ℕ) (refused : Option IoFault) (reply : FileReply) → SeeksTo before target refused reply after → GoesFromEnd (buffer_of before) target refused reply (buffer_of after)
-goes_so before after (Some target) None reply goes = goes
-goes_so before after target (Some why) reply goes = record {
+goes_so : (was taken : ℕ) (before after : Stream) (target : Option ℕ) (refused : Option IoFault) (reply : FileReply) → SeeksTo before target refused reply after → GoesFromEnd (buffer_of before was) target refused reply (buffer_of after taken)
+goes_so was taken before after (Some target) None reply goes = goes
+goes_so was taken before after target (Some why) reply goes = record {
   says = goes.says;
   place = ap (λ (stream : Stream). stream.place) goes.same;
   life_is = ap (λ (stream : Stream). stream.life) goes.same;
   owed = ap (λ (stream : Stream). stream.owed) goes.same;
   whole = ap (λ (stream : Stream). stream.short) goes.same;
 }
-goes_so before after None None reply goes = absurd goes
+goes_so was taken before after None None reply goes = absurd goes
 
-from_end_so : (before after : Stream) (offset : ℤ) (reply : FileReply) → SeeksFromEnd before offset reply after → BufferSeeksFromEnd (buffer_of before) offset reply (buffer_of after)
-from_end_so before after offset reply seeks = record {
+from_end_so : (was taken : ℕ) (before after : Stream) (offset : ℤ) (reply : FileReply) → SeeksFromEnd before offset reply after → BufferSeeksFromEnd (buffer_of before was) offset reply (buffer_of after taken)
+from_end_so was taken before after offset reply seeks = record {
   end = seeks.end;
   within = seeks.within;
   told = λ told. seeks.told (tells_its_bytes before.raw told);
-  target = goes_so before after (moved_by seeks.end offset) (target_refusal (moved_by seeks.end offset)) reply seeks.target;
+  target = goes_so was taken before after (moved_by seeks.end offset) (target_refusal (moved_by seeks.end offset)) reply seeks.target;
 }
 
-end_moves_so : (before after : Stream) (offset : ℤ) (reply : FileReply) → EndMoves before offset reply after → BufferEndMoves (buffer_of before) offset reply (buffer_of after)
-end_moves_so before after offset (Refused fault.RawFault) moves = tt
-end_moves_so before after offset (Refused fault.NoMemory) moves = tt
-end_moves_so before after offset (Refused (fault.WouldBlock taken)) moves = tt
-end_moves_so before after offset reply moves = from_end_so before after offset reply moves
+end_moves_so : (was taken : ℕ) (before after : Stream) (offset : ℤ) (reply : FileReply) → EndMoves before offset reply after → BufferEndMoves (buffer_of before was) offset reply (buffer_of after taken)
+end_moves_so was taken before after offset (Refused fault.RawFault) moves = tt
+end_moves_so was taken before after offset (Refused fault.NoMemory) moves = tt
+end_moves_so was taken before after offset (Refused (fault.WouldBlock count)) moves = tt
+end_moves_so was taken before after offset reply moves = from_end_so was taken before after offset reply moves
 
-by_end_so : (before after : Stream) (call : FileCall) (reply : FileReply) → SeeksByEnd before call reply after → BufferSeeksByEnd (buffer_of before) call reply (buffer_of after)
-by_end_so before after (Seek offset (pos (suc (suc zero)))) reply seeks = λ asks. end_moves_so before after offset reply (seeks asks)
-by_end_so before after call reply seeks = tt
+by_end_so : (was taken : ℕ) (before after : Stream) (call : FileCall) (reply : FileReply) → SeeksByEnd before call reply after → BufferSeeksByEnd (buffer_of before was) call reply (buffer_of after taken)
+by_end_so was taken before after (Seek offset (pos (suc (suc zero)))) reply seeks = λ asks. end_moves_so was taken before after offset reply (seeks asks)
+by_end_so was taken before after call reply seeks = tt
 
 -- What is owed, and what is passed on: by whether the stream writes.
 
 rest_so : (before after : Stream) → PassesFront before after → OwesRest before.owed after.owed
 rest_so before after passes = record { passed = passes.passed; bytes = passes.bytes; place = passes.place }
 
-owes_so : (before after : Stream) (call : FileCall) (reply : FileReply) → IsTrue (is_made call) → Writes before call reply after → BufferOwes (buffer_of before) call (buffer_of after)
-owes_so before after (Write bytes) reply made writes = λ up_to. (writes.takes refl up_to).up_to
-owes_so before after (Read1 size) reply made writes = rest_so before after (writes.leaves refl)
-owes_so before after (Seek offset whence) reply made writes = rest_so before after (writes.leaves refl)
-owes_so before after Flush reply made writes = rest_so before after (writes.leaves refl)
-owes_so before after Close reply made writes = rest_so before after (writes.leaves refl)
-owes_so before after call reply made writes = absurd (cc)
+owes_so : (was taken : ℕ) (before after : Stream) (call : FileCall) (reply : FileReply) → IsTrue (is_made call) → Writes before call reply after → BufferOwes (buffer_of before was) call (buffer_of after taken)
+owes_so was taken before after (Write bytes) reply made writes = λ up_to. (writes.takes refl up_to).up_to
+owes_so was taken before after (Read1 size) reply made writes = rest_so before after (writes.leaves refl)
+owes_so was taken before after (Seek offset whence) reply made writes = rest_so before after (writes.leaves refl)
+owes_so was taken before after Flush reply made writes = rest_so before after (writes.leaves refl)
+owes_so was taken before after Close reply made writes = rest_so before after (writes.leaves refl)
+owes_so was taken before after call reply made writes = absurd (cc)
 
 none_left : (before after : Owed) → before.bytes ≡ [] → after.bytes ≡ [] → OwesRest before after
 none_left before after was none = record { passed = 0; bytes = none ∙ sym was; place = λ some. absurd (some none) }
@@ -83,26 +85,26 @@ owes_none_so : (before after : Buffer) (call : FileCall) → before.owed.bytes �
 owes_none_so before after (Write bytes) was none = λ up_to. inl none
 owes_none_so before after call was none = none_left before.owed after.owed was none
 
-passed_so : (before after : Stream) → PassedOn before after → BufferPassedOn (buffer_of before) (buffer_of after)
-passed_so before after passes = record { none = passes.none; holds = passes.holds }
+passed_so : (was taken : ℕ) (before after : Stream) → PassedOn before after → BufferPassedOn (buffer_of before was) (buffer_of after taken)
+passed_so was taken before after passes = record { none = passes.none; holds = passes.holds }
 
-passes_so : (before after : Stream) (call : FileCall) (reply : FileReply) → PassesOn before call reply after → BufferPasses (buffer_of before) call reply (buffer_of after)
-passes_so before after Flush Done passes = passed_so before after passes.0
-passes_so before after Close Done passes = λ live. passed_so before after (passes live)
-passes_so before after call reply passes = tt
+passes_so : (was taken : ℕ) (before after : Stream) (call : FileCall) (reply : FileReply) → PassesOn before call reply after → BufferPasses (buffer_of before was) call reply (buffer_of after taken)
+passes_so was taken before after Flush Done passes = passed_so was taken before after passes.0
+passes_so was taken before after Close Done passes = λ live. passed_so was taken before after (passes live)
+passes_so was taken before after call reply passes = tt
 
 passes_none_so : (before after : Buffer) (call : FileCall) (reply : FileReply) → BufferPassedOn before after → BufferPasses before call reply after
 passes_none_so before after Flush Done passed = passed
 passes_none_so before after Close Done passed = λ live. passed
 passes_none_so before after call reply passed = tt
 
-lays_so : (before : Stream) (call : FileCall) (bytes : List ℕ) → IsTrue (is_made call) → LaysInOrder before call bytes → BufferLays (buffer_of before) (payload call) bytes
-lays_so before (Write own) bytes made lays = record { count = lays.count; bytes = lays.bytes }
-lays_so before (Read1 size) bytes made lays = record { count = lays.count; bytes = lays.bytes }
-lays_so before (Seek offset whence) bytes made lays = record { count = lays.count; bytes = lays.bytes }
-lays_so before Flush bytes made lays = record { count = lays.count; bytes = lays.bytes }
-lays_so before Close bytes made lays = record { count = lays.count; bytes = lays.bytes }
-lays_so before call bytes made lays = absurd (cc)
+lays_so : (was taken : ℕ) (before : Stream) (call : FileCall) (bytes : List ℕ) → IsTrue (is_made call) → LaysInOrder before call bytes → BufferLays (buffer_of before was) (payload call) bytes
+lays_so was taken before (Write own) bytes made lays = record { count = lays.count; bytes = lays.bytes }
+lays_so was taken before (Read1 size) bytes made lays = record { count = lays.count; bytes = lays.bytes }
+lays_so was taken before (Seek offset whence) bytes made lays = record { count = lays.count; bytes = lays.bytes }
+lays_so was taken before Flush bytes made lays = record { count = lays.count; bytes = lays.bytes }
+lays_so was taken before Close bytes made lays = record { count = lays.count; bytes = lays.bytes }
+lays_so was taken before call bytes made lays = absurd (cc)
 
 -- what a call does with what is owed
 record Passing (before : Buffer) (call : FileCall) (reply : FileReply) (after : Buffer) : Type 0 where
@@ -110,35 +112,35 @@ record Passing (before : Buffer) (call : FileCall) (reply : FileReply) (after : 
   lays : IsTrue before.tells → BufferLays before (payload call) after.raw_bytes
   passes : BufferPasses before call reply after
 
-passing_of : (writes : Bool) (before after : Stream) (call : FileCall) (reply : FileReply) → before.can.writable ≡ writes → IsTrue (is_made call) → OwesAsItCan (buffer_of before) → Answers before call reply after → Passing (buffer_of before) call reply (buffer_of after)
-passing_of true before after call reply can made owes answers =
+passing_of : (was taken : ℕ) (writes : Bool) (before after : Stream) (call : FileCall) (reply : FileReply) → before.can.writable ≡ writes → IsTrue (is_made call) → OwesAsItCan (buffer_of before was) → Answers before call reply after → Passing (buffer_of before was) call reply (buffer_of after taken)
+passing_of was taken true before after call reply can made owes answers =
     let writes = answers.writes can in
     record {
-      owes = owes_so before after call reply made writes;
-      lays = λ told. lays_so before call after.raw.bytes made (writes.lays told);
-      passes = passes_so before after call reply writes.passes;
+      owes = owes_so was taken before after call reply made writes;
+      lays = λ told. lays_so was taken before call after.raw.bytes made (writes.lays told);
+      passes = passes_so was taken before after call reply writes.passes;
     }
-passing_of false before after call reply can made owes answers =
+passing_of was taken false before after call reply can made owes answers =
     let none : before.owed ≡ nothing_owed before.place = owes can in
     let spares = answers.spares can none in
-    let was : before.owed.bytes ≡ [] = ap (λ (owed : Owed). owed.bytes) none in
+    let nothing : before.owed.bytes ≡ [] = ap (λ (owed : Owed). owed.bytes) none in
     let left : after.owed.bytes ≡ [] = ap (λ (owed : Owed). owed.bytes) spares.owed in
     let same : WhereTold before.raw (after.raw.bytes ≡ before.raw.bytes) = λ told. spares.bytes (tells_its_bytes before.raw told) in
     record {
-      owes = owes_none_so (buffer_of before) (buffer_of after) call was left;
+      owes = owes_none_so (buffer_of before was) (buffer_of after taken) call nothing left;
       lays = λ told. record { count = 0; bytes = same told };
-      passes = passes_none_so (buffer_of before) (buffer_of after) call reply (record {
+      passes = passes_none_so (buffer_of before was) (buffer_of after taken) call reply (record {
         none = left;
         holds = λ told. same told ∙ sym (ap (λ (owed : Owed). lay before.raw.bytes owed.place owed.bytes) none);
       });
     }
 
 -- an answer of a stream with a buffer is one of a buffered stream
-pub answers_as_buffer : (before : Stream) (call : FileCall) (reply : FileReply) (after : Stream) → Answers before call reply after → IsTrue (is_made call) → IsSome before.buffer → OwesAsItCan (buffer_of before) → AnswersAsBuffer (buffer_of before) call reply (buffer_of after)
-answers_as_buffer before call reply after answers made buffered owes =
+pub answers_as_buffer : (before : Stream) (was : ℕ) (call : FileCall) (reply : FileReply) (after : Stream) (taken : ℕ) → Answers before call reply after → taken ≡ taken_by call before.place after.place was → IsTrue (is_made call) → IsSome before.buffer → OwesAsItCan (buffer_of before was) → AnswersAsBuffer (buffer_of before was) call reply (buffer_of after taken)
+answers_as_buffer before was call reply after taken answers counts made buffered owes =
     let same : size_shown (buffering_of before.buffer) ≡ before.buffer = size_is before.buffer buffered in
     let own : Option ℕ = size_shown (buffering_of before.buffer) in
-    let passing = passing_of before.can.writable before after call reply refl made owes answers in
+    let passing = passing_of was taken before.can.writable before after call reply refl made owes answers in
     record {
       keeps = record {
         tells = tells_still before.raw after.raw answers.keeps.raw;
@@ -150,8 +152,8 @@ answers_as_buffer before call reply after answers made buffered owes =
         faults = answers.keeps.raw.faults;
         waits = answers.keeps.raw.waits;
       };
-      refused = λ why refuses. left_so before after (Refused why) reply (answers.refused why refuses);
-      again = closed_so before after call reply answers.again;
+      refused = λ why refuses. left_so before was call (Refused why) reply after taken counts (answers.refused why refuses);
+      again = closed_so before was call reply after taken counts answers.again;
       causes = record { waits = answers.causes.waits; faults = answers.causes.faults };
       counted = λ exactly.
           let is = subst (λ (buffer : Option ℕ). IsCounted buffer before.raw call reply after.raw after.short) (sym same) (answers.counted exactly) in
@@ -163,11 +165,12 @@ answers_as_buffer before call reply after answers made buffered owes =
         far = answers.moves.far;
         within = gives_asked before.buffer call reply buffered answers.moves.within;
       };
-      ends = by_end_so before after call reply answers.ends;
+      ends = by_end_so was taken before after call reply answers.ends;
       wants = answers.wants;
       answer = λ accepts. subst (λ (buffer : Option ℕ). IsReplyTo buffer before.can.writable call reply) (sym same) (answers.answer accepts);
       complete = answers.complete;
-      told = answers.told;
+      told = λ unlent. answers.told;
+      taken = counts;
       reach = answers.reach;
       hides = answers.hides;
       owes = passing.owes;

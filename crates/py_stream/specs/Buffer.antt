@@ -1,6 +1,6 @@
 -- The one contract of buffered streams for the layer above them: what such a stream shows, over a raw stream or in memory, and what a
 -- call of it may answer and leave.
-use Rattle.std.specs.Prelude.{◌≡◌, ℕ, ◌≤◌, ℤ, pos, suc, zero, Bool, true, false, ◌&&◌, IsTrue, List, [], length, take, max, Option, Some, None, if◌then◌else◌}
+use Rattle.std.specs.Prelude.{◌≡◌, ℕ, ◌-◌, ◌≤◌, ℤ, pos, suc, zero, Bool, true, false, ◌&&◌, IsTrue, List, [], length, take, max, Option, Some, None, Result, Ok, Err, unwrap_or, if◌then◌else◌}
 use Rattle.py_flat.specs.declared.fault.IoFault.{IoFault}
 use Rattle.py_flat.specs.declared.fault.IoFault.TheVariants as fault
 use Rattle.py_flat.specs.declared.life.Life.{Life}
@@ -10,7 +10,7 @@ use Rattle.py_flat.specs.Bytes.{left_at, lay}
 use Rattle.py_flat.specs.Owed.{Owed}
 use Rattle.py_flat.specs.Causes.{Rose, rose, counted}
 use Rattle.py_flat.specs.FlatFile.{Abilities, Buffering, Buffered, FlatFile}
-use Rattle.py_flat.specs.Calls.{FileCall, Read1, Write, WriteLines, Seek, Truncate, Flush, Close, FileReply, Bytes, Place, Done, Refused}
+use Rattle.py_flat.specs.Calls.{FileCall, Read1, Write, WriteLines, Seek, Tell, Truncate, Flush, Close, FileReply, Bytes, Place, Done, Refused}
 use Rattle.py_flat.specs.Refusals.{refusal, life_refusal, lacks, or_else, refused_if, moved_by, target_refusal}
 use Rattle.py_flat.specs.ExactStep.{is_closed}
 use Rattle.py_flat.specs.BinaryStep.{asks_end, payload, BinaryStep}
@@ -22,8 +22,8 @@ use Rattle.py_stream.specs.Answers.{IsAnswerTo, IsReplyTo, IsShort, LifeMoves, P
 
 -- What a buffered stream shows: whether it tells its content; told, the raw's bytes; where the raw stands, as the stream counts; its
 -- own place; what it can do; its life; how large its buffer is, of 0 bytes in memory; whether a wait cut the last answer short; what
--- it owes its raw; its raw's counts of faults and of waits, and whether these are exact; whether it takes memory; and whether bytes
--- of it are lent out, so that its length has to stay. In memory its raw's bytes and place are its own, and it owes nothing
+-- it owes its raw; its raw's counts of faults and of waits, and whether these are exact; whether it takes memory; whether bytes of it
+-- are lent out, so that its length has to stay; and how many bytes of the last write were taken. In memory its raw's bytes and place are its own, and it owes nothing
 pub record Buffer : Type 0 where
   pub tells : Bool
   pub raw_bytes : List ℕ
@@ -39,10 +39,11 @@ pub record Buffer : Type 0 where
   pub counts_exactly : Bool
   pub takes_memory : Bool
   pub exported : Bool
+  pub taken : ℕ
 
--- what a stream over a raw one shows as a buffered stream
-abbrev pub buffer_of : Stream → Buffer
-buffer_of stream = record {
+-- what a stream over a raw one shows as a buffered stream, by how many bytes of its last write were taken
+abbrev pub buffer_of : Stream → ℕ → Buffer
+buffer_of stream taken = record {
   tells = tells stream.raw;
   raw_bytes = stream.raw.bytes;
   raw_place = stream.raw_place;
@@ -57,6 +58,7 @@ buffer_of stream = record {
   counts_exactly = stream.raw.counts_exactly;
   takes_memory = stream.raw.takes_memory;
   exported = false;
+  taken = taken;
 }
 
 -- where a buffered stream tells its content
@@ -92,9 +94,13 @@ changes_length call = false
 abbrev pub refusal_lent : FlatFile → FileCall → Option IoFault
 refusal_lent file call = or_else (life_refusal file call) (or_else (refused_if (lacks file call) fault.Unsupported) (Some fault.BufferError))
 
+-- whether a call is refused as bytes are lent out, whatever the flat file would say of it
+abbrev pub refused_lent : Buffer → FileCall → Bool
+refused_lent buffer call = buffer.exported && changes_length call
+
 -- a close of a closed stream is done again, and a seek from the end has to ask for it first
 abbrev pub refused_here : Buffer → FileCall → Option IoFault
-refused_here buffer call = if asks_end (flat_of buffer) call then None else (if buffer.exported && changes_length call then refusal_lent (flat_of buffer) call else refusal (flat_of buffer) call)
+refused_here buffer call = if asks_end (flat_of buffer) call then None else (if refused_lent buffer call then refusal_lent (flat_of buffer) call else refusal (flat_of buffer) call)
 
 -- What every call keeps.
 
@@ -109,10 +115,16 @@ pub record KeepsBuffer (before after : Buffer) : Type 0 where
   pub faults : before.faults ≤ after.faults
   pub waits : before.waits ≤ after.waits
 
--- the call leaves all as it was, with this answer
-pub record LeavesBuffer (before : Buffer) (expected reply : FileReply) (after : Buffer) : Type 0 where
+-- how many bytes of the last write were taken, after a call that moved the place from one to another: of a write as many as the place
+-- moved by, so all of an answered one, those that a wait says, and none of a refused one; other calls leave it
+abbrev pub taken_by : FileCall → (from to was : ℕ) → ℕ
+taken_by (Write bytes) from to was = to - from
+taken_by call from to was = was
+
+-- the call leaves all as it was, with this answer; of a write nothing was taken
+pub record LeavesBuffer (before : Buffer) (call : FileCall) (expected reply : FileReply) (after : Buffer) : Type 0 where
   pub says : reply ≡ expected
-  pub same : after ≡ record before { short = false }
+  pub same : after ≡ record before { short = false; taken = taken_by call before.place before.place before.taken }
 
 -- whether a call closes a buffered stream that is closed
 abbrev pub closes_twice : Buffer → FileCall → Bool
@@ -228,9 +240,9 @@ pub record AnswersAsBuffer (before : Buffer) (call : FileCall) (reply : FileRepl
   -- what the stream can do, how it is buffered and whether bytes are lent out stays; its counts never fall
   pub keeps : KeepsBuffer before after
   -- what is refused leaves all as it was
-  pub refused : (why : IoFault) → refused_here before call ≡ Some why → LeavesBuffer before (Refused why) reply after
+  pub refused : (why : IoFault) → refused_here before call ≡ Some why → LeavesBuffer before call (Refused why) reply after
   -- a close of a closed stream is done, and leaves all as it was
-  pub again : closes_twice before call ≡ true → LeavesBuffer before Done reply after
+  pub again : closes_twice before call ≡ true → LeavesBuffer before call Done reply after
   -- the causes of short answers and of RawFault
   pub causes : BufferHasCauses before reply after
   -- no fault and no wait goes unanswered where the counts are exact
@@ -247,8 +259,8 @@ pub record AnswersAsBuffer (before : Buffer) (call : FileCall) (reply : FileRepl
   pub answer : refused_here before call ≡ None → IsReplyTo (size_shown before.buffering) before.can.writable call reply
   -- where no count rose, an accepted call is answered in full, or lacks memory
   pub complete : refused_here before call ≡ None → rose before.waits after.waits ≡ false → rose before.faults after.faults ≡ false → IsAnswerTo call reply × (after.short ≡ false)
-  -- told, the call is the step of the model from flat file to flat file
-  pub told : WhereShown before (BinaryStep (flat_of before) call reply after.short (says_fault reply) (flat_of after))
+  -- told, the call is the step of the model from flat file to flat file, but for one that is refused as bytes are lent out
+  pub told : refused_lent before call ≡ false → WhereShown before (BinaryStep (flat_of before) call reply after.short (says_fault reply) (flat_of after))
   -- no reading moves the place past the end of the flat bytes
   pub reach : IsTrue (is_reading call) → WhereShown before (after.place ≤ max before.place (length (flat_of before).bytes))
   -- a wait hides nothing: the raw then stands at the place
@@ -257,5 +269,55 @@ pub record AnswersAsBuffer (before : Buffer) (call : FileCall) (reply : FileRepl
   pub owes : BufferOwes before call after
   -- what the raw's bytes are after a call
   pub lays : WhereShown before (BufferLays before (payload call) after.raw_bytes)
+  -- how many bytes of the last write were taken
+  pub taken : after.taken ≡ taken_by call before.place after.place before.taken
   -- what a call passes on
   pub passes : BufferPasses before call reply after
+
+-- Asking where the stream stands, and where it ends.
+
+-- a call answers a place, or is refused; all is as it was
+abbrev pub SaysPlace : Option IoFault → ℕ → Result ℕ IoFault → Type 0
+SaysPlace (Some why) place result = result ≡ Err why
+SaysPlace None place result = result ≡ Ok place
+
+-- `tell` answers the place, where the stream can be moved, or is refused, and asks no raw: all is as it was
+pub record TellsPlace (before : Buffer) (result : Result ℕ IoFault) (after : Buffer) : Type 0 where
+  pub says : SaysPlace (refusal (flat_of before) Tell) before.place result
+  pub same : after ≡ record before { short = false }
+
+-- the end was asked: all is as it was but for the counts of the raw, which rise by no wait or fault that isn't answered
+pub record AsksForEnd (before after : Buffer) : Type 0 where
+  pub same : after ≡ record before { short = false; faults = after.faults; waits = after.waits; life = after.life }
+  pub faults : before.faults ≤ after.faults
+  pub waits : before.waits ≤ after.waits
+  pub no_wait : IsTrue before.counts_exactly → after.waits ≡ before.waits
+
+-- the end is that of the flat bytes, where the stream tells them, and one that a stream can have
+pub record SaysEnd (before : Buffer) (end : ℕ) (after : Buffer) : Type 0 where
+  pub asks : AsksForEnd before after
+  pub life_is : after.life ≡ before.life
+  pub within : end ≤ greatest_place
+  pub told : WhereShown before (end ≡ length (flat_of before).bytes)
+  pub no_fault : IsTrue before.counts_exactly → after.faults ≡ before.faults
+
+-- asking for the end failed, which fails the stream
+pub record FailsAtEnd (before after : Buffer) : Type 0 where
+  pub asks : AsksForEnd before after
+  pub life_is : after.life ≡ life.Failed
+  pub cause : Rose before.faults after.faults
+
+-- an accepted `end`: the end, a fault of the raw, or want of memory, of a stream that takes some
+abbrev pub EndsAt : Buffer → Result ℕ IoFault → Buffer → Type 0
+EndsAt before (Ok end) after = SaysEnd before end after
+EndsAt before (Err fault.RawFault) after = FailsAtEnd before after
+EndsAt before (Err fault.NoMemory) after = IsTrue before.takes_memory × AsksForEnd before after × (after.life ≡ before.life)
+EndsAt before (Err why) after = ⊥
+
+abbrev pub EndsBy : Option IoFault → Buffer → Result ℕ IoFault → Buffer → Type 0
+EndsBy (Some why) before result after = (result ≡ Err why) × (after ≡ record before { short = false })
+EndsBy None before result after = EndsAt before result after
+
+-- `end` answers how many bytes there are, and keeps the place; it is refused where `tell` is
+abbrev pub AnswersEnd : Buffer → Result ℕ IoFault → Buffer → Type 0
+AnswersEnd before result after = EndsBy (refusal (flat_of before) Tell) before result after

@@ -12,7 +12,7 @@ ghost use Rattle.py_flat.specs.ExactStep.{rest, one_transfer, buffer_full};
 ghost use Rattle.py_flat.specs.BinaryStep.{Transfers};
 ghost use Rattle.py_stream.specs.Stream.{Stream, file_of};
 ghost use Rattle.py_stream.specs.Answers.{Answers};
-ghost use Rattle.py_stream.specs.Buffer.{buffer_of, OwesAsItCan, is_made, AnswersAsBuffer};
+ghost use Rattle.py_stream.specs.Buffer.{buffer_of, taken_by, OwesAsItCan, is_made, AnswersAsBuffer};
 ghost use Rattle.py_stream.specs.Laws.{ComesBack, GoesSmoothly, GivesJust, GivesJustLines, TakesJust};
 
 /// A stream that told its place, and was then moved there from its start, stands where it stood. Over a raw that tells, its
@@ -53,7 +53,8 @@ pub fn a_smooth_write_takes_all()
 {}
 
 /// What a stream with a buffer answers to a `read1`, `write`, `seek`, `flush` or `close` is what the layer above asks of every buffered
-/// stream, over a raw stream or in memory. The stream owes nothing where it doesn't write, as every one of the library does.
+/// stream, over a raw stream or in memory. The stream owes nothing where it doesn't write, as every one of the library does, and counts
+/// how many bytes of its last write were taken.
 pub fn a_stream_answers_as_a_buffered_one()
-    ensures { (before : Stream) (call : FileCall) (reply : FileReply) (after : Stream) → Answers before call reply after → IsTrue (is_made call) → IsSome before.buffer → OwesAsItCan (buffer_of before) → AnswersAsBuffer (buffer_of before) call reply (buffer_of after) }
+    ensures { (before : Stream) (was : ℕ) (call : FileCall) (reply : FileReply) (after : Stream) (taken : ℕ) → Answers before call reply after → taken ≡ taken_by call before.place after.place was → IsTrue (is_made call) → IsSome before.buffer → OwesAsItCan (buffer_of before was) → AnswersAsBuffer (buffer_of before was) call reply (buffer_of after taken) }
 {}

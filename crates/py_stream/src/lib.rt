@@ -3,6 +3,7 @@
 #![tactic(auto)]
 
 mod access;
+mod buffered_stream;
 mod detached;
 mod laws;
 mod moving;
@@ -11,6 +12,7 @@ mod opening;
 mod stop;
 
 pub use access::Access;
+pub use buffered_stream::BufferedStream;
 pub use detached::Detached;
 pub use laws::{
     a_seek_to_the_told_place_keeps_all, a_smooth_line_is_the_first_that_is_left,

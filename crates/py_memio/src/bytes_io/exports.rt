@@ -2,7 +2,7 @@
 ghost use Rattle.std.specs.Borrow.{sem};
 ghost use Rattle.std.specs.Prelude.{◌≡◌, position, nat_eq};
 ghost use Rattle.py_memio.specs.BytesIO.{export_refusal, use_refusal, GivesExport, LendsBytes, LendsBytesMut, Releases, PlaceOutcome};
-ghost use Rattle.py_memio.specs.Lending.{WritesBack, WritesThrough};
+ghost use Rattle.py_memio.specs.Lending.{WritesThrough};
 
 use super::BytesIO;
 use crate::Export;
@@ -35,13 +35,10 @@ impl BytesIO {
 
     /// The bytes that an export lends, to be written; they keep their number. `BadArgument`: that number isn't out. It takes no memory.
     pub fn export_bytes_mut(&mut self, export: Export) -> Result<&mut [u8], IoFault>
-        ensures* writes_back { sem 𝓛 (WritesBack self.entry result) }
-        ensures value { LendsBytesMut (use_refusal self.old export.0) self.old.file.bytes result }
+        ensures { LendsBytesMut (use_refusal self.old export.0) self.old.file.bytes result }
     {
-        match self.place_of(export) {
-            Ok(_) => Ok(self.bytes_mut()),
-            Err(fault) => Err(fault),
-        }
+        self.place_of(export)?;
+        Ok(self.bytes_mut())
     }
 
     /// Takes an export back: its number is out no more. `BadArgument`: it isn't out. It takes no memory.
