@@ -9,6 +9,8 @@ use Rattle.py_flat.specs.declared.fault.IoFault.TheVariants as fault
 use Rattle.py_flat.specs.declared.life.Life.TheVariants as life
 use Rattle.py_flat.specs.Limits.{greatest_count, greatest_place}
 use Rattle.py_flat.specs.FlatFile.{FlatFile}
+use Rattle.py_stream.specs.Stream.{nothing_owed}
+use Rattle.py_stream.specs.Buffer.{Buffer}
 use Rattle.py_memio.specs.declared.export.Export.{Export}
 use Rattle.py_flat.specs.Refusals.{life_fault, or_else, refused_if}
 
@@ -17,10 +19,11 @@ pub record Exports : Type 0 where
   pub out : List ℕ
   pub next : ℕ
 
--- what a `BytesIO` is seen as: its flat file, and the exports of its bytes
+-- what a `BytesIO` is seen as: its flat file, the exports of its bytes, and how many bytes of the last write were taken
 pub record BytesView : Type 0 where
   pub file : FlatFile
   pub exports : Exports
+  pub taken : ℕ
 
 -- before the first export
 abbrev pub no_exports : Exports
@@ -73,6 +76,29 @@ GivesExport (Some why) before result after = (result ≡ Err why) × (after ≡ 
 GivesExport None before (Ok export) after = (export.0 ≡ before.exports.next) × (after ≡ exported before)
 GivesExport None before (Err why) after = (why ≡ fault.NoMemory) × (after ≡ before)
 
+-- A stream that may change its length.
+
+-- what refuses that: the stream is closed, or an export is out
+abbrev pub resize_refusal : BytesView → Option IoFault
+resize_refusal view = or_else (life_fault view.file.life) (refused_if (is_lent view) fault.BufferError)
+
+-- a borrowed stream is handed on as it is
+pub record HandsOn (given handed : MutBor BytesView) : Type 0 where
+  pub now : handed.now ≡ given.now
+  pub same_reference : handed.ghost_name ≡ given.ghost_name
+
+-- the stream as it is, or what refuses it
+abbrev pub MayResize : Option IoFault → MutBor BytesView → Result (MutBor BytesView) IoFault → Type 0
+MayResize (Some why) given result = result ≡ Err why
+MayResize None given (Ok handed) = HandsOn given handed
+MayResize None given (Err why) = ⊥
+
+-- the stream as it is, or none where something refuses it
+abbrev pub MayResizeIf : Option IoFault → MutBor BytesView → Option (MutBor BytesView) → Type 0
+MayResizeIf (Some why) given result = result ≡ None
+MayResizeIf None given (Some handed) = HandsOn given handed
+MayResizeIf None given None = ⊥
+
 -- Exports that are out.
 
 -- what refuses an export to be used: a closed stream has none, and the number has to be out
@@ -113,6 +139,29 @@ PlaceOutcome None out number (Err why) = ⊥
 abbrev pub Releases : Option IoFault → BytesView → ℕ → Result (Unit {0}) IoFault → BytesView → Type 0
 Releases (Some why) before number result after = (result ≡ Err why) × (after ≡ before)
 Releases None before number result after = (result ≡ Ok tt) × (after ≡ released before number)
+
+-- As a buffered stream.
+
+-- a stream in memory shows its own bytes and place as a raw's: it owes nothing, never waits or fails, takes memory, and moves all that is
+-- asked for at once, as it has no buffer
+abbrev pub as_buffer : BytesView → Buffer
+as_buffer view = record {
+  tells = true;
+  raw_bytes = view.file.bytes;
+  raw_place = view.file.place;
+  place = view.file.place;
+  can = view.file.can;
+  life = view.file.life;
+  buffering = view.file.buffering;
+  short = false;
+  owed = nothing_owed view.file.place;
+  faults = 0;
+  waits = 0;
+  counts_exactly = true;
+  takes_memory = true;
+  exported = is_lent view;
+  taken = view.taken;
+}
 
 -- The whole.
 

@@ -7,15 +7,17 @@ ghost use Rattle.py_memio.specs.BytesIO.{no_exports, is_lent};
 mod exports;
 mod moving;
 mod reading;
+mod resizing;
 mod writing;
 
 use py_flat::IoFault;
+pub use resizing::Resizable;
 use std::alloc::Global;
 use std::marker::Model;
 
 /// Bytes in memory that are read and written as a stream: Python's `io.BytesIO`.
 ///
-/// Contracts see the flat file, and the exports: which are out, and the number of the next.
+/// Contracts see the flat file; the exports: which are out, and the number of the next; and how many bytes of the last write were taken.
 #[derive(Debug, Drop)]
 pub struct BytesIO {
     bytes: Vec<u8>,
@@ -23,6 +25,7 @@ pub struct BytesIO {
     closed: bool,
     out: Vec<u64>,
     next: Option<u64>,
+    taken: u64,
 }
 
 // A function's proof knows the invariant where the function uses a field: so some begin with `let _ = &self.bytes;`.
@@ -32,7 +35,7 @@ impl Model for BytesIO {
 
     ghost Value = { BytesView };
 
-    ghost view = { λ b. record { file = file_in_memory b.bytes.items b.place b.closed; exports = record { out = b.out.items; next = next_number b.next } } };
+    ghost view = { λ b. record { file = file_in_memory b.bytes.items b.place b.closed; exports = record { out = b.out.items; next = next_number b.next }; taken = b.taken } };
 
     ghost invariant = { λ b. IsBytesIO b.place b.closed b.out.items b.next };
 }
@@ -42,6 +45,7 @@ impl BytesIO {
     pub fn new(alloc: Global, bytes: Vec<u8>) -> Self
         ensures file { result.file ≡ file_in_memory bytes.items 0 false }
         ensures exports { result.exports ≡ no_exports }
+        ensures taken { result.taken ≡ 0 }
     {
         BytesIO {
             bytes,
@@ -49,6 +53,7 @@ impl BytesIO {
             closed: false,
             out: Vec::new(alloc),
             next: Some(0),
+            taken: 0,
         }
     }
 

@@ -7,6 +7,6 @@
 mod bytes_io;
 mod export;
 
-pub use bytes_io::BytesIO;
+pub use bytes_io::{BytesIO, Resizable};
 pub use export::Export;
 pub use py_flat::{Data, IoFault, Life, Lines};

@@ -14,6 +14,7 @@ impl BytesIO {
     pub fn seek(&mut self, offset: i64, whence: i32) -> Result<u64, IoFault>
         ensures answer { AnswersInMemory (is_lent self.old) self.old.file (Seek offset whence) (place_reply result) self.new.file }
         ensures exports { self.new.exports ≡ self.old.exports }
+        ensures taken { self.new.taken ≡ self.old.taken }
     {
         self.check_open()?;
         let base = match whence {
@@ -39,6 +40,7 @@ impl BytesIO {
     pub fn flush(&mut self) -> Result<(), IoFault>
         ensures answer { AnswersInMemory (is_lent self.old) self.old.file Flush (done_reply result) self.new.file }
         ensures exports { self.new.exports ≡ self.old.exports }
+        ensures taken { self.new.taken ≡ self.old.taken }
     {
         self.check_open()
     }
@@ -47,6 +49,7 @@ impl BytesIO {
     pub fn close(&mut self) -> Result<(), IoFault>
         ensures answer { AnswersInMemory (is_lent self.old) self.old.file Close (done_reply result) self.new.file }
         ensures exports { self.new.exports ≡ self.old.exports }
+        ensures taken { self.new.taken ≡ self.old.taken }
     {
         self.check_unlent()?;
         self.closed = true;

@@ -44,6 +44,7 @@ impl BytesIO {
     pub fn read(&mut self, alloc: Global, size: Option<usize>) -> Result<Vec<u8>, IoFault>
         ensures answer { AnswersInMemory (is_lent self.old) self.old.file (Read size) (given_reply result) self.new.file }
         ensures exports { self.new.exports ≡ self.old.exports }
+        ensures taken { self.new.taken ≡ self.old.taken }
     {
         self.check_open()?;
         let given = Vec::from_slice(alloc, self.next_bytes(size))?;
@@ -55,6 +56,7 @@ impl BytesIO {
     pub fn read1(&mut self, alloc: Global, size: Option<usize>) -> Result<Vec<u8>, IoFault>
         ensures answer { AnswersInMemory (is_lent self.old) self.old.file (Read1 size) (given_reply result) self.new.file }
         ensures exports { self.new.exports ≡ self.old.exports }
+        ensures taken { self.new.taken ≡ self.old.taken }
     {
         let _ = &self.bytes;
         self.read(alloc, size)
@@ -65,6 +67,7 @@ impl BytesIO {
     pub fn readinto(&mut self, buffer: &mut [u8]) -> Result<usize, IoFault>
         ensures answer { AnswersInMemory (is_lent self.old) self.old.file (ReadInto (length buffer.old)) (filled_reply result buffer.new) self.new.file }
         ensures exports { self.new.exports ≡ self.old.exports }
+        ensures taken { self.new.taken ≡ self.old.taken }
         ensures front { FillsFront result buffer.old buffer.new }
     {
         self.check_open()?;
@@ -79,6 +82,7 @@ impl BytesIO {
     pub fn readinto1(&mut self, buffer: &mut [u8]) -> Result<usize, IoFault>
         ensures answer { AnswersInMemory (is_lent self.old) self.old.file (ReadInto1 (length buffer.old)) (filled_reply result buffer.new) self.new.file }
         ensures exports { self.new.exports ≡ self.old.exports }
+        ensures taken { self.new.taken ≡ self.old.taken }
         ensures front { FillsFront result buffer.old buffer.new }
     {
         let _ = &self.bytes;
@@ -89,6 +93,7 @@ impl BytesIO {
     pub fn readline(&mut self, alloc: Global, limit: Option<usize>) -> Result<Vec<u8>, IoFault>
         ensures answer { AnswersInMemory (is_lent self.old) self.old.file (ReadLine limit) (given_reply result) self.new.file }
         ensures exports { self.new.exports ≡ self.old.exports }
+        ensures taken { self.new.taken ≡ self.old.taken }
     {
         self.check_open()?;
         let line = line_of(alloc, self.rest(), limit)?;
@@ -100,6 +105,7 @@ impl BytesIO {
     pub fn readlines(&mut self, alloc: Global, hint: Option<usize>) -> Result<Lines, IoFault>
         ensures answer { AnswersInMemory (is_lent self.old) self.old.file (ReadLines hint) (given_lines_reply result) self.new.file }
         ensures exports { self.new.exports ≡ self.old.exports }
+        ensures taken { self.new.taken ≡ self.old.taken }
     {
         self.check_open()?;
         let (lines, total) = lines_of(alloc, self.rest(), hint)?;

@@ -1,5 +1,5 @@
 //! Writings, and cutting.
-ghost use Rattle.std.specs.Prelude.{◌≡◌, IfOk};
+ghost use Rattle.std.specs.Prelude.{◌≡◌, ◌-◌, IfOk};
 ghost use Rattle.py_flat.specs.Lines.{joined};
 ghost use Rattle.py_flat.specs.Calls.{Write, WriteLines, Truncate};
 ghost use Rattle.py_stream.specs.Replies.{count_reply, place_reply, done_reply};
@@ -30,7 +30,9 @@ impl BytesIO {
     pub fn write(&mut self, bytes: &[u8]) -> Result<usize, IoFault>
         ensures answer { AnswersInMemory (is_lent self.old) self.old.file (Write bytes.now) (count_reply result) self.new.file }
         ensures exports { self.new.exports ≡ self.old.exports }
+        ensures taken { self.new.taken ≡ self.new.file.place - self.old.file.place }
     {
+        self.taken = 0;
         self.check_open()?;
         self.check_unlent()?;
         if bytes.len() as u64 > GREATEST_PLACE - self.place {
@@ -38,6 +40,7 @@ impl BytesIO {
         }
         lay_on(&mut self.bytes, self.place as usize, bytes)?;
         self.place += bytes.len() as u64;
+        self.taken = bytes.len() as u64;
         Ok(bytes.len())
     }
 
@@ -45,7 +48,9 @@ impl BytesIO {
     pub fn writelines(&mut self, alloc: Global, lines: &Lines) -> Result<(), IoFault>
         ensures answer { AnswersInMemory (is_lent self.old) self.old.file (WriteLines lines.now) (done_reply result) self.new.file }
         ensures exports { self.new.exports ≡ self.old.exports }
+        ensures taken { self.new.taken ≡ self.new.file.place - self.old.file.place }
     {
+        self.taken = 0;
         self.check_open()?;
         self.check_unlent()?;
         if end_of_lines(self.place, lines).is_none() {
@@ -63,6 +68,7 @@ impl BytesIO {
     pub fn truncate(&mut self, size: Option<u64>) -> Result<u64, IoFault>
         ensures answer { AnswersInMemory (is_lent self.old) self.old.file (Truncate size) (place_reply result) self.new.file }
         ensures exports { self.new.exports ≡ self.old.exports }
+        ensures taken { self.new.taken ≡ self.old.taken }
     {
         self.check_open()?;
         self.check_unlent()?;

@@ -11,7 +11,7 @@ returns c =
       (
         refl,
         λ w.
-            ap (λ (n : ℕ). let view : BytesView = record { file = file_in_memory (take n (w ++ drop (length w) inside.bytes.items)) inside.place inside.closed; exports = record { out = inside.out.items; next = next_number inside.next } } in view) counts
+            ap (λ (n : ℕ). let view : BytesView = record { file = file_in_memory (take n (w ++ drop (length w) inside.bytes.items)) inside.place inside.closed; exports = record { out = inside.out.items; next = next_number inside.next }; taken = inside.taken } in view) counts
             ∙ ap (λ (view : BytesView). with_bytes view w) same,
       ),
       record { writes_back = tt; value = c.as_mut_slice.ensures.value ∙ ap (λ (view : BytesView). view.file.bytes) same },

@@ -33,5 +33,5 @@ returns c =
     let inside = c.self.inside in
     let used = uses_place (use_refusal now number) now.exports.out number c.in_ok-place.place c.in_ok-place.ensures in
     releases_place (use_refusal now number) now number _ used.accepts (
-    ap (λ (out : List ℕ). let view : BytesView = record { file = file_in_memory inside.bytes.items inside.place inside.closed; exports = record { out = out; next = next_number inside.next } } in view) (left c)
+    ap (λ (out : List ℕ). let view : BytesView = record { file = file_in_memory inside.bytes.items inside.place inside.closed; exports = record { out = out; next = next_number inside.next }; taken = inside.taken } in view) (left c)
     ∙ ap (λ (view : BytesView). released view number) c.self.view_is)
