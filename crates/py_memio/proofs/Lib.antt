@@ -1,3 +1,5 @@
 pub mod Collecting
 pub mod Steps
 pub mod Numbers
+pub mod Calm
+pub mod AsBuffer

@@ -144,24 +144,27 @@ Releases None before number result after = (result ≡ Ok tt) × (after ≡ rele
 
 -- a stream in memory shows its own bytes and place as a raw's: it owes nothing, never waits or fails, takes memory, and moves all that is
 -- asked for at once, as it has no buffer
-abbrev pub as_buffer : BytesView → Buffer
-as_buffer view = record {
+abbrev pub buffer_with : FlatFile → (lent : Bool) → (taken : ℕ) → Buffer
+buffer_with file lent taken = record {
   tells = true;
-  raw_bytes = view.file.bytes;
-  raw_place = view.file.place;
-  place = view.file.place;
-  can = view.file.can;
-  life = view.file.life;
-  buffering = view.file.buffering;
+  raw_bytes = file.bytes;
+  raw_place = file.place;
+  place = file.place;
+  can = file.can;
+  life = file.life;
+  buffering = file.buffering;
   short = false;
-  owed = nothing_owed view.file.place;
+  owed = nothing_owed file.place;
   faults = 0;
   waits = 0;
   counts_exactly = true;
   takes_memory = true;
-  exported = is_lent view;
-  taken = view.taken;
+  exported = lent;
+  taken = taken;
 }
+
+abbrev pub as_buffer : BytesView → Buffer
+as_buffer view = buffer_with view.file (is_lent view) view.taken
 
 -- The whole.
 

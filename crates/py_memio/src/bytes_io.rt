@@ -4,6 +4,7 @@ ghost use Rattle.py_flat.specs.ExactStep.{is_closed};
 ghost use Rattle.py_memio.specs.InMemory.{file_in_memory, OpenOutcome, UnlentOutcome};
 ghost use Rattle.py_memio.specs.BytesIO.{no_exports, is_lent};
 
+mod as_buffer;
 mod exports;
 mod moving;
 mod reading;

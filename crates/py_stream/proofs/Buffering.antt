@@ -81,7 +81,7 @@ owes_so was taken before after call reply made writes = absurd (cc)
 none_left : (before after : Owed) → before.bytes ≡ [] → after.bytes ≡ [] → OwesRest before after
 none_left before after was none = record { passed = 0; bytes = none ∙ sym was; place = λ some. absurd (some none) }
 
-owes_none_so : (before after : Buffer) (call : FileCall) → before.owed.bytes ≡ [] → after.owed.bytes ≡ [] → BufferOwes before call after
+pub owes_none_so : (before after : Buffer) (call : FileCall) → before.owed.bytes ≡ [] → after.owed.bytes ≡ [] → BufferOwes before call after
 owes_none_so before after (Write bytes) was none = λ up_to. inl none
 owes_none_so before after call was none = none_left before.owed after.owed was none
 

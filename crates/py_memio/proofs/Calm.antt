@@ -1,0 +1,111 @@
+-- A call that neither waits nor fails of a stream in memory, as one of a buffered stream.
+use Rattle.std.proofs.Common.{◌≡◌, ℕ, zero, suc, ◌≤◌, ℤ, pos, max, Bool, true, false, ◌&&◌, IsTrue, List, [], length, Option, Some, None, refl, sym, ap, subst, ◌∙◌, arith, if◌then◌else◌}
+use Rattle.py_flat.specs.declared.fault.IoFault.{IoFault}
+use Rattle.py_flat.specs.declared.fault.IoFault.TheVariants as fault
+use Rattle.py_flat.specs.declared.life.Life.{Life}
+use Rattle.py_flat.specs.declared.life.Life.TheVariants as life
+use Rattle.py_flat.specs.Limits.{greatest_place}
+use Rattle.py_flat.specs.Calls.{FileCall, Read1, Write, Seek, Flush, Close, FileReply, Bytes, Done, Refused}
+use Rattle.py_flat.specs.FlatFile.{FlatFile, Buffering}
+use Rattle.py_flat.specs.Refusals.{refusal}
+use Rattle.py_flat.specs.AllowedStep.{settled}
+use Rattle.py_flat.specs.BinaryStep.{asks_end, payload, SettledBy, BinaryStep}
+use Rattle.py_flat.proofs.Settling.{blames}
+use Rattle.py_stream.specs.Kinds.{is_reading, says_fault, says_wait}
+use Rattle.py_stream.specs.Answers.{IsAnswerTo, IsReplyTo, IsShort, LifeMoves, PlaceMoves}
+use Rattle.py_stream.specs.Buffer.{Buffer, flat_of, size_shown, taken_by, refused_here, refused_lent, LeavesBuffer, closes_twice, GivesAsked, BufferMoves, BufferSeeksByEnd, BufferPasses, BufferLays, AnswersAsBuffer}
+use Rattle.py_stream.proofs.Buffering.{owes_none_so}
+use Rattle.py_memio.specs.BytesIO.{buffer_with}
+
+-- what is to be shown of a call that neither waits nor fails
+pub record Calmly (file : FlatFile) (lent : Bool) (was : ℕ) (call : FileCall) (reply : FileReply) (left : FlatFile) (taken : ℕ) : Type 0 where
+  pub can : left.can ≡ file.can
+  pub buffering : left.buffering ≡ file.buffering
+  pub counts : taken ≡ taken_by call file.place left.place was
+  pub quiet : says_fault reply ≡ false
+  pub refused : (why : IoFault) → refused_here (buffer_with file lent was) call ≡ Some why → LeavesBuffer (buffer_with file lent was) call (Refused why) reply (buffer_with left lent taken)
+  pub again : closes_twice (buffer_with file lent was) call ≡ true → LeavesBuffer (buffer_with file lent was) call Done reply (buffer_with left lent taken)
+  pub shorts : IsShort call reply false
+  pub moves : BufferMoves (buffer_with file lent was) call reply (buffer_with left lent taken)
+  pub ends : BufferSeeksByEnd (buffer_with file lent was) call reply (buffer_with left lent taken)
+  pub answer : refused_here (buffer_with file lent was) call ≡ None → IsReplyTo (size_shown file.buffering) file.can.writable call reply × IsAnswerTo call reply
+  pub told : refused_lent (buffer_with file lent was) call ≡ false → BinaryStep file call reply false false left
+  pub reach : IsTrue (is_reading call) → left.place ≤ max file.place (length file.bytes)
+  pub lays : BufferLays (buffer_with file lent was) (payload call) left.bytes
+  pub passes : BufferPasses (buffer_with file lent was) call reply (buffer_with left lent taken)
+
+pub calm : (file : FlatFile) (lent : Bool) (was : ℕ) (call : FileCall) (reply : FileReply) (left : FlatFile) (taken : ℕ) → Calmly file lent was call reply left taken → AnswersAsBuffer (buffer_with file lent was) call reply (buffer_with left lent taken)
+calm file lent was call reply left taken calmly =
+    let quiet = calmly.quiet in
+    record {
+      keeps = record { tells = refl; can = calmly.can; buffering = calmly.buffering; counts_exactly = refl; takes_memory = refl; exported = refl; faults = omega arith; waits = omega arith };
+      refused = calmly.refused;
+      again = calmly.again;
+      causes = record { waits = λ short. absurd (cc); faults = λ fails. absurd (cc) };
+      counted = λ exactly. record { faults = λ none. refl; waits = λ whole on. refl; once = λ short on. absurd (cc) };
+      shorts = calmly.shorts;
+      moves = calmly.moves;
+      ends = calmly.ends;
+      wants = λ lacks room. refl;
+      answer = λ accepts. (calmly.answer accepts).0;
+      complete = λ accepts waits fails. ((calmly.answer accepts).1, refl);
+      told = λ unlent told. subst (λ (faulted : Bool). BinaryStep file call reply false faulted left) (sym quiet) (calmly.told unlent);
+      reach = λ reads told. calmly.reach reads;
+      hides = λ short. absurd (cc);
+      owes = owes_none_so (buffer_with file lent was) (buffer_with left lent taken) call refl refl;
+      lays = λ told. calmly.lays;
+      taken = calmly.counts;
+      passes = calmly.passes;
+    }
+
+-- Refusals.
+
+pub whole_refused : (call : FileCall) (why : IoFault) → blames why ≡ false → IsShort call (Refused why) false
+whole_refused call (fault.WouldBlock taken) own = absurd (cc)
+whole_refused (Read1 size) why own = refl
+whole_refused call why own = refl
+
+pub life_refused : (buffer : Option ℕ) (call : FileCall) (why : IoFault) (current : Life) → blames why ≡ false → LifeMoves buffer call (Refused why) current current
+life_refused buffer call fault.RawFault current own = absurd (cc)
+life_refused buffer call fault.NoMemory current own = absurd (cc)
+life_refused buffer Close why current own = refl
+life_refused buffer call why current own = refl
+
+pub place_refused : (buffer : Option ℕ) (call : FileCall) (why : IoFault) (current : Life) (place : ℕ) → blames why ≡ false → PlaceMoves buffer call (Refused why) current place place
+place_refused buffer call fault.RawFault current place own = absurd (cc)
+place_refused buffer call fault.NoMemory current place own = absurd (cc)
+place_refused buffer call (fault.WouldBlock taken) current place own = absurd (cc)
+place_refused buffer (Write bytes) why current place own = refl
+place_refused buffer call why current place own = refl
+
+gives_refused : (buffering : Buffering) (call : FileCall) (why : IoFault) → GivesAsked buffering call (Refused why)
+gives_refused buffering (Read1 size) why = tt
+gives_refused buffering call why = tt
+
+passes_refused : (before after : Buffer) (call : FileCall) (why : IoFault) → BufferPasses before call (Refused why) after
+passes_refused before after Flush why = tt
+passes_refused before after Close why = tt
+passes_refused before after call why = tt
+
+quiet_refused : (why : IoFault) → blames why ≡ false → says_fault (Refused why) ≡ false
+quiet_refused fault.RawFault own = absurd (cc)
+quiet_refused why own = refl
+
+-- a refused call leaves all as it was
+pub refusedly : (file : FlatFile) (lent : Bool) (was : ℕ) (call : FileCall) (why : IoFault) (taken : ℕ) → blames why ≡ false → taken ≡ taken_by call file.place file.place was → file.place ≤ greatest_place → ((other : IoFault) → refused_here (buffer_with file lent was) call ≡ Some other → why ≡ other) → closes_twice (buffer_with file lent was) call ≡ false → BufferSeeksByEnd (buffer_with file lent was) call (Refused why) (buffer_with file lent taken) → (refused_here (buffer_with file lent was) call ≡ None → IsReplyTo (size_shown file.buffering) file.can.writable call (Refused why) × IsAnswerTo call (Refused why)) → (refused_lent (buffer_with file lent was) call ≡ false → refusal file call ≡ Some why) → Calmly file lent was call (Refused why) file taken
+refusedly file lent was call why taken own counts far only once ends answer told = record {
+  can = refl;
+  buffering = refl;
+  counts = counts;
+  quiet = quiet_refused why own;
+  refused = λ other here. record { says = ap Refused (only other here); same = ap (buffer_with file lent) counts };
+  again = λ twice. absurd (cc);
+  shorts = whole_refused call why own;
+  moves = record { life_is = life_refused (size_shown file.buffering) call why file.life own; place = place_refused (size_shown file.buffering) call why file.life file.place own; far = far; within = gives_refused file.buffering call why };
+  ends = ends;
+  answer = answer;
+  told = λ unlent. settled (subst (λ (refused : Option IoFault). SettledBy file call refused (Refused why) file) (sym (told unlent)) (refl, refl));
+  reach = λ reads. omega arith;
+  lays = record { count = 0; bytes = refl };
+  passes = passes_refused (buffer_with file lent was) (buffer_with file lent taken) call why;
+}
