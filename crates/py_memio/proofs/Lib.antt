@@ -1,5 +1,6 @@
 pub mod Collecting
 pub mod Steps
 pub mod Numbers
+pub mod Lent
 pub mod Calm
 pub mod AsBuffer

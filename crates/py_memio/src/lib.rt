@@ -6,7 +6,9 @@
 
 mod bytes_io;
 mod export;
+mod laws;
 
 pub use bytes_io::{BytesIO, Resizable};
 pub use export::Export;
+pub use laws::lent_bytes_keep_their_number;
 pub use py_flat::{Data, IoFault, Life, Lines};
