@@ -1,22 +1,20 @@
 -- A stream in memory is a buffered stream.
-use Rattle.std.proofs.Common.{◌≡◌, ℕ, zero, suc, ◌+◌, ◌-◌, ◌≤◌, ℤ, pos, negsuc, max, inl, inr, ◌⊎◌, Bool, true, false, ◌&&◌, ◌||◌, IsTrue, List, [], ◌∷◌, length, take, drop, Option, Some, None, is_none, nat_lt, option_and_then, unwrap_or, refl, sym, ap, subst, ◌∙◌, arith, if◌then◌else◌}
+use Rattle.std.proofs.Common.{◌≡◌, ℕ, zero, suc, ◌+◌, ◌-◌, ◌≤◌, ℤ, pos, inl, inr, ◌⊎◌, Bool, true, false, ◌&&◌, ◌||◌, IsTrue, List, [], length, drop, Option, Some, None, is_none, nat_lt, unwrap_or, refl, sym, ap, subst, ◌∙◌, arith, if◌then◌else◌}
 use Rattle.std.proofs.lemmas.List.{length-take, length-drop}
-use borrow.Author.Tests.{ltb-false}
 use Rattle.py_flat.specs.declared.fault.IoFault.{IoFault}
 use Rattle.py_flat.specs.declared.fault.IoFault.TheVariants as fault
-use Rattle.py_flat.specs.declared.life.Life.TheVariants as life
 use Rattle.py_flat.specs.Limits.{greatest_place}
-use Rattle.py_flat.specs.Bytes.{lay, first_of}
+use Rattle.py_flat.specs.Bytes.{lay}
 use Rattle.py_flat.specs.Calls.{FileCall, Read1, Write, Seek, Flush, Close, FileReply, Bytes, Count, Place, Done, Refused}
 use Rattle.py_flat.specs.FlatFile.{FlatFile, InMemory}
-use Rattle.py_flat.specs.Refusals.{refusal, too_far, target_refusal, seek_refusal, seek_base, moved_by}
-use Rattle.py_flat.specs.ExactStep.{rest, after_read, after_write, one_transfer, seek_target, carried_out}
+use Rattle.py_flat.specs.Refusals.{refusal, too_far, target_refusal, moved_by}
+use Rattle.py_flat.specs.ExactStep.{one_transfer, seek_target, carried_out}
 use Rattle.py_flat.specs.AllowedStep.{settled, out_of_memory}
-use Rattle.py_flat.specs.BinaryStep.{asks_end, payload, SettledBy, is_live, reaches_raw, BinaryStep}
+use Rattle.py_flat.specs.BinaryStep.{SettledBy}
 use Rattle.py_flat.proofs.Laying.{lay_reads_back}
 use Rattle.py_flat.proofs.Settling.{blames, may_blame, refusal_blames_nobody}
 use Rattle.py_stream.specs.Answers.{IsAnswerTo, IsReplyTo, SeekGoes, Within}
-use Rattle.py_stream.specs.Buffer.{Buffer, flat_of, taken_by, changes_length, refusal_lent, refused_here, refused_lent, asks_for, closes_twice, GoesFromEnd, BufferSeeksFromEnd, BufferEndMoves, BufferSeeksByEnd, is_made, AnswersAsBuffer}
+use Rattle.py_stream.specs.Buffer.{Buffer, taken_by, refusal_lent, refused_here, asks_for, closes_twice, GoesFromEnd, BufferSeeksFromEnd, BufferEndMoves, BufferSeeksByEnd, is_made, AnswersAsBuffer}
 use Rattle.py_memio.specs.InMemory.{file_in_memory, refusal_in_memory, may_lack_memory, CarriedOutInMemory, AnswersWith, AnswersInMemory}
 use Rattle.py_memio.specs.BytesIO.{Exports, BytesView, has_some, is_lent, buffer_with, as_buffer}
 use Rattle.py_memio.proofs.Calm.{Calmly, calm, refusedly}

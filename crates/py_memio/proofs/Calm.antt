@@ -1,19 +1,18 @@
 -- A call that neither waits nor fails of a stream in memory, as one of a buffered stream.
-use Rattle.std.proofs.Common.{◌≡◌, ℕ, zero, suc, ◌≤◌, ℤ, pos, max, Bool, true, false, ◌&&◌, IsTrue, List, [], length, Option, Some, None, refl, sym, ap, subst, ◌∙◌, arith, if◌then◌else◌}
+use Rattle.std.proofs.Common.{◌≡◌, ℕ, ◌≤◌, max, Bool, true, false, IsTrue, length, Option, Some, None, refl, sym, ap, subst, arith}
 use Rattle.py_flat.specs.declared.fault.IoFault.{IoFault}
 use Rattle.py_flat.specs.declared.fault.IoFault.TheVariants as fault
 use Rattle.py_flat.specs.declared.life.Life.{Life}
-use Rattle.py_flat.specs.declared.life.Life.TheVariants as life
 use Rattle.py_flat.specs.Limits.{greatest_place}
-use Rattle.py_flat.specs.Calls.{FileCall, Read1, Write, Seek, Flush, Close, FileReply, Bytes, Done, Refused}
+use Rattle.py_flat.specs.Calls.{FileCall, Read1, Write, Flush, Close, FileReply, Done, Refused}
 use Rattle.py_flat.specs.FlatFile.{FlatFile, Buffering}
 use Rattle.py_flat.specs.Refusals.{refusal}
 use Rattle.py_flat.specs.AllowedStep.{settled}
-use Rattle.py_flat.specs.BinaryStep.{asks_end, payload, SettledBy, BinaryStep}
+use Rattle.py_flat.specs.BinaryStep.{payload, SettledBy, BinaryStep}
 use Rattle.py_flat.proofs.Settling.{blames}
-use Rattle.py_stream.specs.Kinds.{is_reading, says_fault, says_wait}
+use Rattle.py_stream.specs.Kinds.{is_reading, says_fault}
 use Rattle.py_stream.specs.Answers.{IsAnswerTo, IsReplyTo, IsShort, LifeMoves, PlaceMoves}
-use Rattle.py_stream.specs.Buffer.{Buffer, flat_of, size_shown, taken_by, refused_here, refused_lent, LeavesBuffer, closes_twice, GivesAsked, BufferMoves, BufferSeeksByEnd, BufferPasses, BufferLays, AnswersAsBuffer}
+use Rattle.py_stream.specs.Buffer.{Buffer, size_shown, taken_by, refused_here, refused_lent, LeavesBuffer, closes_twice, GivesAsked, BufferMoves, BufferSeeksByEnd, BufferPasses, BufferLays, AnswersAsBuffer}
 use Rattle.py_stream.proofs.Buffering.{owes_none_so}
 use Rattle.py_memio.specs.BytesIO.{buffer_with}
 

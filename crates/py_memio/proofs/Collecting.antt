@@ -1,10 +1,9 @@
 -- What a collector has that was handed all bytes at once.
-use Rattle.std.proofs.Common.{◌≡◌, ℕ, ◌≤◌, List, [], ◌++◌, length, take, Result, Ok, refl, sym, ap, subst, ◌∙◌, arith}
+use Rattle.std.proofs.Common.{◌≡◌, ℕ, ◌≤◌, List, [], ◌++◌, length, take, Ok, sym, ap, ◌∙◌, arith}
 use Rattle.std.proofs.lemmas.List.{append-nil, length-take-le}
-use Rattle.std.specs.declared.alloc.AllocError.{AllocError}
 use Rattle.py_lines.specs.declared.collector.Collected.{Collected}
 use Rattle.py_lines.specs.declared.collector.Collected.TheVariants as collected
-use Rattle.py_lines.specs.Collecting.{CollectOutcome, HasEnough, WantsMore}
+use Rattle.py_lines.specs.Collecting.{CollectOutcome}
 
 -- how many of some bytes a collector took
 abbrev pub used_of : Collected → ℕ → ℕ

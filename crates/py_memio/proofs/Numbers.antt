@@ -1,5 +1,5 @@
 -- Numbers of exports.
-use Rattle.std.proofs.Common.{◌≡◌, ℕ, suc, ◌<◌, ◌≤◌, Bool, true, false, not, ◌||◌, cond, nat_eq, nat_lt, IsTrue, List, [], ◌∷◌, length, position, Option, Some, None, Result, Ok, Err, refl, sym, ap, subst, ◌∙◌, arith, if◌then◌else◌}
+use Rattle.std.proofs.Common.{◌≡◌, ℕ, suc, ◌<◌, ◌≤◌, Bool, true, false, not, ◌||◌, cond, nat_eq, nat_lt, IsTrue, List, [], ◌∷◌, length, position, Option, Some, None, Ok, Err, refl, sym, ap, subst, ◌∙◌, arith, if◌then◌else◌}
 use borrow.Author.Tests.{ltb-true, ltb-false}
 use Rattle.std.specs.List.{list_any, remove, position_or_len}
 use Rattle.py_flat.specs.declared.fault.IoFault.{IoFault}

@@ -1,7 +1,6 @@
 -- Calls of a stream in memory that come to the same.
-use Rattle.std.proofs.Common.{◌≡◌, ℕ, Bool, true, false, IsTrue, List, Option, Some, None, refl, sym, ap, subst, ◌∙◌}
+use Rattle.std.proofs.Common.{◌≡◌, ℕ, Bool, true, false, IsTrue, List, Option, Some, None, refl, sym, subst, ◌∙◌}
 use Rattle.py_flat.specs.declared.fault.IoFault.{IoFault}
-use Rattle.py_flat.specs.declared.fault.IoFault.TheVariants as fault
 use Rattle.py_flat.specs.FlatFile.{FlatFile}
 use Rattle.py_flat.specs.Calls.{FileCall, Read, Read1, ReadInto, ReadInto1, FileReply, Refused}
 use Rattle.py_flat.specs.ExactStep.{carried_out}

@@ -6,7 +6,6 @@ use Rattle.std.specs.List.{list_any, remove}
 use Rattle.std.specs.declared.alloc.Global.{Global}
 use Rattle.py_flat.specs.declared.fault.IoFault.{IoFault}
 use Rattle.py_flat.specs.declared.fault.IoFault.TheVariants as fault
-use Rattle.py_flat.specs.declared.life.Life.TheVariants as life
 use Rattle.py_flat.specs.Limits.{greatest_count, greatest_place}
 use Rattle.py_flat.specs.FlatFile.{FlatFile}
 use Rattle.py_stream.specs.Stream.{nothing_owed}

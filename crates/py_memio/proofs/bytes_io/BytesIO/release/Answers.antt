@@ -1,4 +1,4 @@
-use Rattle.std.proofs.Common.{List, ℕ, [], ◌≡◌, nat_eq, IsTrue, ap, sym, subst, ◌∙◌}
+use Rattle.std.proofs.Common.{List, ℕ, ◌≡◌, nat_eq, IsTrue, ap, sym, subst, ◌∙◌}
 use Rattle.std.specs.List.{list_any, remove}
 use Rattle.py_memio.specs.InMemory.{file_in_memory}
 use Rattle.py_memio.specs.BytesIO.{BytesView, use_refusal, without, released, next_number}

@@ -1,4 +1,4 @@
-use Rattle.std.proofs.Common.{List, ℕ, length, ap, ◌∙◌, ◌≤◌, arith}
+use Rattle.std.proofs.Common.{length, ap, ◌∙◌, arith}
 use Rattle.py_flat.specs.Lines.{Lf, first_line}
 use Rattle.py_lines.specs.Collecting.{LineView, line_wanted}
 use Rattle.py_memio.proofs.Collecting.{has_all}

@@ -1,6 +1,6 @@
-use Rattle.std.proofs.Common.{List, ℕ, [], ◌++◌, length, ap, sym, ◌∙◌, ◌≡◌, ◌≤◌, arith}
+use Rattle.std.proofs.Common.{List, ℕ, [], ◌++◌, length, ap, sym, ◌∙◌, ◌≡◌, arith}
 use Rattle.py_flat.specs.Lines.{lines_within, joined}
-use Rattle.py_lines.specs.Collecting.{LinesView, lines_wanted, lines_collected}
+use Rattle.py_lines.specs.Collecting.{lines_wanted, lines_collected}
 use Rattle.py_lines.specs.declared.collector.Collected.{Collected}
 use Rattle.py_lines.proofs.Lines.{lines_left}
 use Rattle.py_memio.proofs.Collecting.{used_of, has_all}

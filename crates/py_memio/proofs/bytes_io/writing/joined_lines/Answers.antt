@@ -1,5 +1,4 @@
-use Rattle.std.proofs.Common.{◌≡◌, ℕ, List, ◌++◌, take, ap, sym, ◌∙◌, arith}
-use Rattle.std.proofs.lemmas.Grind.{common_steps}
+use Rattle.std.proofs.Common.{ℕ, List, ◌++◌, take, ap, sym, ◌∙◌, arith}
 use Rattle.py_flat.specs.Lines.{joined}
 use Rattle.py_stream.proofs.Joined.{joined_more}
 use Rattle.py_memio.proofs.bytes_io.writing.joined_lines.Goals as goal

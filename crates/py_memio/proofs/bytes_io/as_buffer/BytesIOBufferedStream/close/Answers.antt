@@ -1,4 +1,4 @@
-use Rattle.std.proofs.Common.{ℕ, ◌≤◌, length, refl, subst, arith}
+use Rattle.std.proofs.Common.{◌≤◌, length, refl, subst, arith}
 use Rattle.py_flat.specs.Limits.{greatest_place}
 use Rattle.py_flat.specs.Calls.{Close}
 use Rattle.py_stream.specs.Replies.{done_reply}

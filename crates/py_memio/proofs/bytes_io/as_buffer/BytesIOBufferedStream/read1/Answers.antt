@@ -1,4 +1,4 @@
-use Rattle.std.proofs.Common.{◌≡◌, ℕ, ◌≤◌, length, refl, sym, ap, subst, ◌∙◌, arith}
+use Rattle.std.proofs.Common.{◌≡◌, ◌≤◌, length, refl, sym, ap, subst, ◌∙◌, arith}
 use Rattle.py_flat.specs.Limits.{greatest_place}
 use Rattle.py_flat.specs.Calls.{FileReply, Read1}
 use Rattle.py_stream.specs.Replies.{bytes_reply}

@@ -1,4 +1,4 @@
-use Rattle.std.proofs.Common.{ℕ, ℤ, to_z, of_z, w32, w64, ◌≤◌, length, refl, subst, arith}
+use Rattle.std.proofs.Common.{ℤ, to_z, of_z, w32, w64, ◌≤◌, length, refl, subst, arith}
 use Rattle.std.proofs.lemmas.Int.{to_z-of_z}
 use Rattle.py_flat.specs.Limits.{greatest_place}
 use Rattle.py_flat.specs.Calls.{Seek}
