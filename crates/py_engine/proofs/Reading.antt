@@ -8,7 +8,7 @@ use Rattle.py_flat.specs.Calls.{FileCall, Refused}
 use Rattle.py_stream.specs.Answers.{Answers}
 use Rattle.py_stream.specs.Reading.{StarvesReading, wanted_by, GatherOutcome}
 use Rattle.py_stream.proofs.ReadingAnswers.{Reads, ReadingBegins}
-use Rattle.py_stream.proofs.ReadingCalls.{by_several}
+use Rattle.py_stream.specs.Kinds.{by_several}
 use Rattle.py_stream.proofs.ReadingOn.{WantsSize, gathers_size, refuses_size, refused_stop}
 use Rattle.py_engine.specs.declared.data.reading.Progress.{Progress}
 use Rattle.py_engine.specs.Engine.{EngineView, BeginOutcome}

@@ -22,7 +22,7 @@ use Rattle.py_stream.specs.Keeping.{IsSound, KeepsOn, OwesBehind}
 use Rattle.py_stream.specs.Taking.{Calm, WaitsAsOne}
 use Rattle.py_stream.proofs.Completing.{completes}
 use Rattle.py_stream.proofs.Accepting.{works_unrefused}
-use Rattle.py_stream.proofs.Alone.{Begins, begins_in_vain}
+use Rattle.py_stream.proofs.Alone.{Begins}
 use Rattle.py_stream.proofs.Stopping.{GivesNone, gives_none}
 use Rattle.py_stream.proofs.Fronts.{LaidInOrder, lays_front}
 use Rattle.py_stream.proofs.Owing.{owes_both}
@@ -51,34 +51,21 @@ pub record IsGiving (call : FileCall) : Type 0 where
   pub getter : is_getter call ≡ false
   pub other : is_other_getter call ≡ false
   pub tells : (is_getter call || is_tell call) ≡ false
-  pub begins_in_vain : (before after : Stream) (why : IoFault) → IsPlaced before → Begins before (Err why) after → Answers before call (Refused why) after
   pub ends : (before : Stream) (reply : FileReply) (after : Stream) → SeeksByEnd before call reply after
   pub passes : (before : Stream) (reply : FileReply) (after : Stream) → PassesOn before call reply after
   pub lays : (before : Stream) (after : List ℕ) → LaysFront before (payload call) after → LaysInOrder before call after
   pub reads : is_reading call ≡ false
   pub unheld : (before : Stream) → InHandOf before call → ⊥
+  pub some : (buffer : Option ℕ) → asks_none buffer call ≡ false
+  pub calls : (buffer : Option ℕ) (writes : Bool) → calls_none buffer writes call ≡ false
+  pub lasts : outlasts (Some 0) call ≡ true
 
 -- what is alike of both calls holds of each call that gives bytes
 pub is_giving : (call : FileCall) → is_writing call ≡ true → IsGiving call
 is_giving call writing = of_both IsGiving
-    (λ bytes. record { closes = λ stream. refl; asks = λ file. refl; refuses = λ file. refl; getter = refl; other = refl; tells = refl; begins_in_vain = λ before after why placed begins. begins_in_vain before after (Write bytes) why placed refl refl refl refl begins; ends = λ before reply after. tt; passes = λ before reply after. tt; lays = λ before after laid. laid; reads = refl; unheld = λ before never. never })
-    (λ lines. record { closes = λ stream. refl; asks = λ file. refl; refuses = λ file. refl; getter = refl; other = refl; tells = refl; begins_in_vain = λ before after why placed begins. begins_in_vain before after (WriteLines lines) why placed refl refl refl refl begins; ends = λ before reply after. tt; passes = λ before reply after. tt; lays = λ before after laid. laid; reads = refl; unheld = λ before never. never })
+    (λ bytes. record { closes = λ stream. refl; asks = λ file. refl; refuses = λ file. refl; getter = refl; other = refl; tells = refl; ends = λ before reply after. tt; passes = λ before reply after. tt; lays = λ before after laid. laid; reads = refl; unheld = λ before never. never; some = λ buffer. refl; calls = λ buffer writes. refl; lasts = refl })
+    (λ lines. record { closes = λ stream. refl; asks = λ file. refl; refuses = λ file. refl; getter = refl; other = refl; tells = refl; ends = λ before reply after. tt; passes = λ before reply after. tt; lays = λ before after laid. laid; reads = refl; unheld = λ before never. never; some = λ buffer. refl; calls = λ buffer writes. refl; lasts = refl })
     call writing
-
--- a call that gives bytes asks for them to be moved, whatever the buffer, and without one each wait ends the call
-record Works (buffer : Option ℕ) (call : FileCall) : Type 0 where
-  pub some : asks_none buffer call ≡ false
-  pub calls : (writes : Bool) → calls_none buffer writes call ≡ false
-  pub calm : (old new : Raw) → outlasts buffer call ≡ false → Calm buffer old new → NoWait old new
-  pub once : (old new : Raw) → outlasts buffer call ≡ false → WaitsAsOne buffer old new → WaitsOnce old new
-
-works_all : (buffer : Option ℕ) (call : FileCall) → is_writing call ≡ true → Works buffer call
-works_all buffer call writing = of_all Works
-    (λ size bytes. record { some = refl; calls = λ writes. refl; calm = λ old new ends. absurd (cc); once = λ old new ends. absurd (cc) })
-    (λ bytes. record { some = refl; calls = λ writes. refl; calm = λ old new ends calm. calm; once = λ old new ends once. once })
-    (λ size lines. record { some = refl; calls = λ writes. refl; calm = λ old new ends. absurd (cc); once = λ old new ends. absurd (cc) })
-    (λ lines. record { some = refl; calls = λ writes. refl; calm = λ old new ends calm. calm; once = λ old new ends once. once })
-    buffer call writing
 
 -- What refuses a call that gives bytes.
 
@@ -173,7 +160,6 @@ pub answers_coming : (old new : Stream) (call : FileCall) (reply : FileReply) (s
 answers_coming old new call reply short may comes =
     let left : Stream = record new { short = short } in
     let giving : IsGiving call = is_giving call may.writing in
-    let all : Works old.buffer call = works_all old.buffer call may.writing in
     let gives : GivesNone call = gives_none call giving.reads in
     let unrefused : refused_by old call ≡ None = refused_alone old call (giving.asks (file_of old)) ∙ accepted old call may in
     let answers : IsReplyTo old.buffer old.can.writable call reply = subst (λ (writes : Bool). IsReplyTo old.buffer writes call reply) (sym may.can) comes.answers in
@@ -190,11 +176,11 @@ answers_coming old new call reply short may comes =
       wants = λ wanting room. comes.wants wanting;
       starves = λ wanting reads. absurd (cc (gives.going_on));
       first = λ wanting first. absurd (cc (gives.first));
-      nothing = λ asks. absurd (cc (all.some));
-      idle = λ keeps. absurd (cc (all.calls old.can.writable));
+      nothing = λ asks. absurd (cc (giving.some old.buffer));
+      idle = λ keeps. absurd (cc (giving.calls old.buffer old.can.writable));
       single = λ single none. comes.one single;
       in_hand = λ has. absurd (giving.unheld old has.of);
-      needs = λ reads. absurd (cc (gives.going_on));
+      needs = λ reads. absurd (cc (gives.several old.buffer));
       spares = λ reads. absurd (cc (may.can));
       writes = λ can. coming_writes old new call reply short may comes;
       answer = λ accepts. answers;
@@ -208,11 +194,13 @@ answers_coming old new call reply short may comes =
 
 -- no wait ends a call but where it is counted
 pub calm_counts : (buffer : Option ℕ) (call : FileCall) (old new : Raw) → is_writing call ≡ true → Calm buffer old new → outlasts buffer call ≡ false → NoWait old new
-calm_counts buffer call old new writing calm ends = (works_all buffer call writing).calm old new ends calm
+calm_counts None call old new writing calm ends = calm
+calm_counts (Some size) call old new writing calm ends = absurd (let lasts = (is_giving call writing).lasts in cc)
 
 -- one wait is counted of a call that each wait ends
 pub one_counts : (buffer : Option ℕ) (call : FileCall) (old new : Raw) → is_writing call ≡ true → WaitsAsOne buffer old new → outlasts buffer call ≡ false → WaitsOnce old new
-one_counts buffer call old new writing once ends = (works_all buffer call writing).once old new ends once
+one_counts None call old new writing once ends = once
+one_counts (Some size) call old new writing once ends = absurd (let lasts = (is_giving call writing).lasts in cc)
 
 -- a call that gives bytes isn't a `tell`
 pub no_tell : (call : FileCall) → is_writing call ≡ true → is_tell call ≡ false

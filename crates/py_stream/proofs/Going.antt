@@ -19,7 +19,6 @@ use Rattle.py_raw.proofs.Telling.{tells_its_bytes}
 use Rattle.py_raw.proofs.ReadingOn.{no_fault_then, no_wait_then}
 use Rattle.py_stream.specs.Stream.{Span, Stream, file_of, nothing_owed}
 use Rattle.py_stream.specs.Writing.{LaysFront}
-use Rattle.py_stream.specs.Kinds.{calls_none}
 use Rattle.py_stream.specs.Answers.{Answers, Leaves, SeekGoes, SeeksTo, SeeksFromEnd, IsShort, LifeMoves, PlaceMoves, Covers, InHandOf, InHand, SparesBytes}
 use Rattle.py_stream.specs.Keeping.{KeepsOn, OwesBehind}
 use Rattle.py_stream.specs.Taking.{Took, PassAllOutcome}
@@ -89,11 +88,6 @@ found_end old found end asks = record { stands = asks.stands; counts = asks.coun
 spared : (old new : Stream) (left : Life) → StandsAsBefore old new → old.owed ≡ nothing_owed old.place → SparesBytes old (record new { life = left })
 spared old new left stands bare = record { bytes = stands.bytes; written = stands.answered; owed = stands.owed ∙ bare ∙ ap nothing_owed (sym stands.place) }
 
--- a seek goes to the raw, whatever the buffer
-seek_busy : (buffer : Option ℕ) (writes : Bool) (offset whence : ℤ) → calls_none buffer writes (Seek offset whence) ≡ false
-seek_busy (Some size) writes offset whence = refl
-seek_busy None writes offset whence = refl
-
 -- a seek that goes to the raw is asked of it
 reaching : (old : Stream) (offset whence : ℤ) → MaySeek old → ReachesRaw old offset whence → Asked old (Seek offset whence)
 reaching old offset whence may to = record {
@@ -103,7 +97,7 @@ reaching old offset whence may to = record {
   none = seek_moves_none offset whence;
   passes = to.passes;
   again = refl;
-  busy = seek_busy old.buffer old.can.writable offset whence;
+  busy = refl;
   reaches = to.reaches;
 }
 
@@ -144,7 +138,7 @@ end_refuses old new offset why end may asks refuses =
       far = asks.stands.kept.sound.far;
       ends = at.ends old new seeks;
       wants = λ wants. absurd (cc (at.no_want));
-      idle = λ idle. absurd (cc (seek_busy old.buffer old.can.writable offset (pos 2)));
+      idle = λ idle. absurd (cc);
       in_hand = λ has. absurd has.of;
       spares = λ _. spared old new new.life asks.stands;
       writes = λ _. passing_writes old call (Refused why) new (seek_moves_none offset (pos 2)) (record {

@@ -10,7 +10,7 @@ use Rattle.py_flat.specs.BinaryStep.{BinaryStep, does_work}
 use Rattle.py_raw.specs.RawStream.{WhereTold}
 use Rattle.py_raw.proofs.Telling.{tells_its_bytes}
 use Rattle.py_stream.specs.Stream.{Stream, size_of, buffering_of, file_of, nothing_owed}
-use Rattle.py_stream.specs.Kinds.{is_reading, reads_on, makes_one, has_room, asks_none, says_fault, says_no_memory}
+use Rattle.py_stream.specs.Kinds.{is_reading, reads_on, makes_one, has_room, asks_none, says_fault, says_no_memory, by_several}
 use Rattle.py_stream.specs.Writing.{Writes}
 use Rattle.py_stream.specs.Answers.{Answers, IsReplyTo, IsShort, LifeMoves, PlaceMoves, GivesWithin, WantsMemory, Starves, HasCauses, IsCounted, StarvesFirst, InHandOf, AsksNoMore, refused_by}
 use Rattle.py_stream.specs.Reading.{KeepsReading, OneTransfer, Reaches}
@@ -19,7 +19,7 @@ use Rattle.py_stream.proofs.Begun.{answers_whole}
 use Rattle.py_stream.proofs.Completing.{completes}
 use Rattle.py_stream.proofs.Refusing.{IsPlaced, refused_alone}
 use Rattle.py_stream.proofs.Alone.{Begins, begins_in_vain}
-use Rattle.py_stream.proofs.ReadingCalls.{IsReadingCall, reading_call, uses_raw, never_blocks, by_several}
+use Rattle.py_stream.proofs.ReadingCalls.{IsReadingCall, reading_call, never_blocks}
 use Rattle.py_stream.proofs.ReadingSteps.{near_seen}
 
 -- How a reading begins.
@@ -122,7 +122,7 @@ answers_coming before mid call reply short reads has begun comes =
       starves = comes.starves;
       first = comes.first;
       nothing = λ asks. record { raw = comes.nothing asks; fault = comes.sound asks };
-      idle = λ keeps. absurd (let never = uses_raw before.buffer before.can.writable call reads in cc);
+      idle = λ keeps. absurd (let never = is.kept before.buffer before.can.writable in cc);
       single = λ one none. comes.one one;
       in_hand = λ in_hand. record { raw = comes.in_hand in_hand.buffered in_hand.of; fault = comes.ready in_hand.buffered in_hand.of };
       needs = λ on none. comes.needs on;

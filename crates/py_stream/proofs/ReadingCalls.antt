@@ -12,7 +12,7 @@ use Rattle.py_flat.specs.Refusals.{refusal, is_getter, is_other_getter, is_close
 use Rattle.py_flat.specs.ExactStep.{rest}
 use Rattle.py_flat.specs.BinaryStep.{asks_end, is_tell, Fails, FaultedBy, WaitedBy, StarvedBy}
 use Rattle.py_stream.specs.Stream.{Stream}
-use Rattle.py_stream.specs.Kinds.{is_reading, reads_on, goes_on, makes_one, is_writing, takes_space_first, asks_none, asks_nothing, keeps_raw, calls_none, waits_unready, says_fault, says_no_memory}
+use Rattle.py_stream.specs.Kinds.{is_reading, reads_on, goes_on, by_several, makes_one, is_writing, takes_space_first, asks_none, calls_none, waits_unready, says_fault, says_no_memory}
 use Rattle.py_stream.specs.Writing.{LaysInOrder, PassesOn, BlocksFull, OwesNoneOfIts}
 use Rattle.py_stream.specs.Answers.{IsReplyTo, IsShort, LifeMoves, PlaceMoves, PlaceFails, PlaceStarves, moves_most, StarvesTo, GivesWithin, SeeksByEnd, InHandOf, IsWhole, closes_again}
 use Rattle.py_stream.specs.Reading.{wanted_by, reply_by, WantsHeld}
@@ -27,7 +27,8 @@ pub record IsReadingCall (call : FileCall) : Type 0 where
   pub closes : is_close call ≡ false
   pub detaches : is_detach call ≡ false
   pub writing : is_writing call ≡ false
-  pub kept : (writes : Bool) → keeps_raw writes call ≡ false
+  pub unready : (buffer : Option ℕ) → waits_unready buffer call ≡ true
+  pub kept : (buffer : Option ℕ) (writes : Bool) → calls_none buffer writes call ≡ false
   pub unended : (file : FlatFile) → asks_end file call ≡ false
   pub ends : (before : Stream) (reply : FileReply) (after : Stream) → SeeksByEnd before call reply after
   pub again : (stream : Stream) → closes_again stream call ≡ false
@@ -77,7 +78,8 @@ reading_call call reads = record {
   closes = refl;
   detaches = refl;
   writing = refl;
-  kept = λ writes. refl;
+  unready = λ buffer. refl;
+  kept = λ buffer writes. refl;
   unended = λ file. refl;
   ends = λ before reply after. tt;
   again = λ stream. refl;
@@ -107,23 +109,12 @@ reading_call call reads = record {
   want_answers = λ buffer writes. tt;
 }
 
--- a call that reads calls the raw
-pub uses_raw : (buffer : Option ℕ) (writes : Bool) (call : FileCall) → is_reading call ≡ true → calls_none buffer writes call ≡ false
-uses_raw (Some size) writes call reads = (reading_call call reads).kept writes
-uses_raw None writes call reads = (reading_call call reads).kept false
-
--- a call that reads answers a wait with not ready
-pub waits_so : (buffer : Option ℕ) (call : FileCall) → is_reading call ≡ true → waits_unready buffer call ≡ true
-waits_so (Some size) call reads = reads
-waits_so None (Write bytes) reads = absurd (cc)
-waits_so None call reads = reads
-
 -- no answer of a call that reads says how much was taken
 pub never_blocks : (buffer : Option ℕ) (writes : Bool) (call : FileCall) (reply : FileReply) (after : Stream) → is_reading call ≡ true → IsReplyTo buffer writes call reply → BlocksFull call reply after
 never_blocks buffer writes (Write bytes) reply after reads answers = absurd (cc)
 never_blocks buffer writes (WriteLines lines) reply after reads answers = absurd (cc)
 never_blocks buffer writes Tell reply after reads answers = absurd (cc)
-never_blocks buffer true call (Refused (fault.WouldBlock taken)) after reads answers = absurd (let waits = waits_so buffer call reads in cc)
+never_blocks buffer true call (Refused (fault.WouldBlock taken)) after reads answers = absurd (let waits = (reading_call call reads).unready buffer in cc)
 never_blocks buffer false call (Refused (fault.WouldBlock taken)) after reads answers = absurd (cc)
 never_blocks buffer writes call reply after reads answers = tt
 
@@ -167,44 +158,28 @@ space_first call takes = absurd (cc)
 
 -- Readings that go on.
 
--- each reading that goes on is a call that reads
-pub reading_on : (call : FileCall) → reads_on call ≡ true → is_reading call ≡ true
-reading_on (Read size) on = refl
-reading_on (ReadLine limit) on = refl
-reading_on (ReadLines hint) on = refl
-reading_on (ReadInto size) on = refl
-reading_on call on = absurd (cc)
-
--- whether a reading goes on by several transfers: without a buffer one of a size makes a single one
-abbrev pub by_several : Option ℕ → FileCall → Bool
-by_several buffer call = reads_on call && goes_on buffer call
-
 and_left : (first second : Bool) → (first && second) ≡ true → first ≡ true
 and_left true second both = refl
 and_left false second both = absurd (cc)
 
-and_right : (first second : Bool) → (first && second) ≡ true → second ≡ true
-and_right true second both = both
-and_right false second both = absurd (cc)
+-- each reading that goes on is a call that reads
+pub reading_on : (call : FileCall) → reads_on call ≡ true → is_reading call ≡ true
+reading_on call on = and_left (is_reading call) (goes_on (Some 0) call) on
 
--- a reading by several transfers is one that goes on
-pub several_on : (buffer : Option ℕ) (call : FileCall) → by_several buffer call ≡ true → reads_on call ≡ true
-several_on buffer call several = and_left (reads_on call) (goes_on buffer call) several
+-- what a reading by several transfers is
+pub record IsSeveral (buffer : Option ℕ) (call : FileCall) : Type 0 where
+  pub on : reads_on call ≡ true
+  pub goes : goes_on buffer call ≡ true
+  pub many : makes_one buffer call ≡ false
 
--- a reading by several transfers may make several
-pub several_goes : (buffer : Option ℕ) (call : FileCall) → by_several buffer call ≡ true → goes_on buffer call ≡ true
-several_goes buffer call several = and_right (reads_on call) (goes_on buffer call) several
-
--- a reading by several transfers isn't one of a single transfer
-pub many : (buffer : Option ℕ) (call : FileCall) → by_several buffer call ≡ true → makes_one buffer call ≡ false
-many (Some size) (Read bytes) several = refl
-many (Some size) (ReadLine limit) several = refl
-many (Some size) (ReadLines hint) several = refl
-many (Some size) (ReadInto bytes) several = refl
-many None (Read None) several = refl
-many None (ReadLine limit) several = refl
-many None (ReadLines hint) several = refl
-many buffer call several = absurd (cc)
+-- without a buffer a reading of a size makes a single transfer
+pub is_several : (buffer : Option ℕ) (call : FileCall) → by_several buffer call ≡ true → IsSeveral buffer call
+is_several (Some size) (Read bytes) several = record { on = refl; goes = refl; many = refl }
+is_several None (Read None) several = record { on = refl; goes = refl; many = refl }
+is_several buffer (ReadLine limit) several = record { on = refl; goes = refl; many = refl }
+is_several buffer (ReadLines hint) several = record { on = refl; goes = refl; many = refl }
+is_several (Some size) (ReadInto bytes) several = record { on = refl; goes = refl; many = refl }
+is_several buffer call several = absurd (cc)
 
 -- a stream that reads has what a reading that goes on needs
 pub on_suits : (file : FlatFile) (call : FileCall) → reads_on call ≡ true → file.can.readable ≡ true → lacks file call ≡ false
@@ -214,21 +189,12 @@ on_suits file (ReadLines hint) on reads = ap not reads
 on_suits file (ReadInto size) on reads = ap not reads
 on_suits file call on reads = absurd (cc)
 
-none_asked : (buffer : Option ℕ) (call : FileCall) → IsTrue (asks_none buffer call) → IsTrue (asks_nothing call)
-none_asked (Some size) call asks = asks
-none_asked None (ReadLine (Some zero)) asks = refl
-none_asked None call asks = absurd (cc)
-
--- a reading that asks for no byte wants none of what is left
-wants_nothing : (call : FileCall) → reads_on call ≡ true → IsTrue (asks_nothing call) → (left : List ℕ) → wanted_by call left ≡ []
-wants_nothing (Read (Some zero)) on asks left = refl
-wants_nothing (ReadInto zero) on asks left = refl
-wants_nothing (ReadLine (Some zero)) on asks left = refl
-wants_nothing call on asks left = absurd (cc)
-
 -- a reading that asks for nothing over a buffer, or without one, wants none of what is left
-pub wants_none : (buffer : Option ℕ) (call : FileCall) → reads_on call ≡ true → IsTrue (asks_none buffer call) → (left : List ℕ) → wanted_by call left ≡ []
-wants_none buffer call on asks left = wants_nothing call on (none_asked buffer call asks) left
+wants_none : (buffer : Option ℕ) (call : FileCall) → reads_on call ≡ true → IsTrue (asks_none buffer call) → (left : List ℕ) → wanted_by call left ≡ []
+wants_none (Some size) (Read (Some zero)) on asks left = refl
+wants_none (Some size) (ReadInto zero) on asks left = refl
+wants_none buffer (ReadLine (Some zero)) on asks left = refl
+wants_none buffer call on asks left = absurd (cc)
 
 -- a reading that asks for nothing wants no more than is held
 pub nothing_held : (before : Stream) (call : FileCall) → reads_on call ≡ true → IsTrue (asks_none before.buffer call) → WantsHeld (wanted_by call) before

@@ -18,10 +18,10 @@ use Rattle.py_raw.specs.RawStream.{WhereTold}
 use Rattle.py_stream.specs.declared.stop.Stop.{Stop}
 use Rattle.py_stream.specs.declared.stop.Stop.TheVariants as stops
 use Rattle.py_stream.specs.Stream.{Stream, file_of}
-use Rattle.py_stream.specs.Kinds.{goes_on, has_room, takes_space_first, asks_none}
+use Rattle.py_stream.specs.Kinds.{goes_on, has_room, takes_space_first, asks_none, by_several}
 use Rattle.py_stream.specs.Answers.{Answers, ahead}
 use Rattle.py_stream.specs.Reading.{ComesNext, Gives, StarvesReading, StopOutcome, RestOutcome, has_answer, answered_at, wanted_by, reply_by, GathersEnough, GathersFront, Gathers, IsOpen, WantsHeld, GatherOutcome}
-use Rattle.py_stream.proofs.ReadingCalls.{reading_on, by_several, several_on, several_goes, many, on_suits, nothing_held, in_hand_held, wanted_within}
+use Rattle.py_stream.proofs.ReadingCalls.{reading_on, on_suits, nothing_held, in_hand_held, wanted_within, is_several}
 use Rattle.py_stream.proofs.ReadingSteps.{next_parts}
 use Rattle.py_stream.proofs.ReadingAnswers.{Reads, ReadingBegins, answers_begun}
 use Rattle.py_stream.proofs.ReadingStops.{needs_enough, needs_open, answers_all, answers_part, answers_unready, several_asks, answers_faulted, unmoved, answers_failing}
@@ -50,7 +50,7 @@ unready_stopped before mid after call part stops.End empty several begun outcome
 unready_stopped before mid after call part stops.Waits false several begun outcome none unready is = absurd (cc)
 unready_stopped before mid after call part stops.Waits true several begun outcome none unready is =
     let stopped = outcome.stops in
-    let on = several_on before.buffer call several in
+    let on = (is_several before.buffer call several).on in
     let given : Gives before [] mid = subst (λ (bytes : List ℕ). Gives before bytes mid) (none refl) stopped.0 in
     subst (Answers before call NotReady) (sym is) (answers_unready before mid call (reading_on call on) (on_suits (file_of before) call on begun.readable) begun given stopped.1 stopped.2 stopped.3 (several_asks before mid call several (λ held. (outcome.idle held).0) stopped.4))
 
@@ -65,16 +65,16 @@ or_right false second is = is
 -- where memory ran out, before anything moved or after bytes had left the raw
 starved : (before after : Stream) (call : FileCall) (part : List ℕ) → by_several before.buffer call ≡ true → Reads before → StarvesReading before after → GatherOutcome (wanted_by call) before (Err fault.NoMemory) part after → (IsTrue (has_room call || takes_space_first call) → IsTrue before.raw.takes_memory) → Answers before call (Refused fault.NoMemory) after
 starved before after call part several begun (inl same) outcome takes =
-    let on = several_on before.buffer call several in
+    let on = (is_several before.buffer call several).on in
     subst (Answers before call (Refused fault.NoMemory)) (sym same) (unmoved before call (reading_on call on) (on_suits (file_of before) call on begun.readable) begun (λ room. takes (ap (λ (has : Bool). has || takes_space_first call) room)))
 starved before after call part several begun (inr fails) outcome takes =
-    answers_failing before after call several begun fails (λ bound is. outcome.within bound (wanted_within call bound (several_on before.buffer call several) is)) (λ room. takes (ap (λ (has : Bool). has || takes_space_first call) room)) (λ first. takes (or_right (has_room call) (takes_space_first call) first)) (λ held. (outcome.idle held).0) (outcome.starves fails.failed)
+    answers_failing before after call several begun fails (λ bound is. outcome.within bound (wanted_within call bound (is_several before.buffer call several).on is)) (λ room. takes (ap (λ (has : Bool). has || takes_space_first call) room)) (λ first. takes (or_right (has_room call) (takes_space_first call) first)) (λ held. (outcome.idle held).0) (outcome.starves fails.failed)
 
 -- a reading that was refused once it had begun
 pub refused_stop : (before after : Stream) (call : FileCall) (part : List ℕ) (why : IoFault) → by_several before.buffer call ≡ true → Reads before → GatherOutcome (wanted_by call) before (Err why) part after → (why ≡ fault.NoMemory → IsTrue (has_room call || takes_space_first call) → IsTrue before.raw.takes_memory) → Answers before call (Refused why) after
 refused_stop before after call part fault.RawFault several begun outcome takes =
-    let on = several_on before.buffer call several in
-    answers_faulted before after call (reading_on call on) (on_suits (file_of before) call on begun.readable) begun outcome.stops (λ bound is. outcome.within bound (wanted_within call bound on is)) (λ stays. absurd (let goes = several_goes before.buffer call several in cc)) (not_asked (asks_none before.buffer call) (λ asks. (outcome.idle (nothing_held before call on asks)).1 refl)) (λ single. absurd (let never = many before.buffer call several in cc)) (λ buffered has. (outcome.idle (in_hand_held before call on has)).1 refl)
+    let on = (is_several before.buffer call several).on in
+    answers_faulted before after call (reading_on call on) (on_suits (file_of before) call on begun.readable) begun outcome.stops (λ bound is. outcome.within bound (wanted_within call bound on is)) (λ stays. absurd (let goes = (is_several before.buffer call several).goes in cc)) (not_asked (asks_none before.buffer call) (λ asks. (outcome.idle (nothing_held before call on asks)).1 refl)) (λ single. absurd (let never = (is_several before.buffer call several).many in cc)) (λ buffered has. (outcome.idle (in_hand_held before call on has)).1 refl)
 refused_stop before after call part fault.NoMemory several begun outcome takes = starved before after call part several begun outcome.stops outcome (takes refl)
 refused_stop before after call part why several begun outcome takes = absurd outcome.stops
 

@@ -18,11 +18,11 @@ use Rattle.py_flat.proofs.Cutting.{joined_lines}
 use Rattle.py_lines.proofs.Lines.{lines_left}
 use Rattle.py_raw.specs.RawStream.{WhereTold, NoWait, WaitsOnce, LeavesCounts}
 use Rattle.py_stream.specs.Stream.{Stream, size_of, buffering_of, file_of}
-use Rattle.py_stream.specs.Kinds.{is_reading, reads_on, goes_on, makes_one, has_room, takes_space_first, asks_none}
+use Rattle.py_stream.specs.Kinds.{is_reading, reads_on, goes_on, makes_one, has_room, takes_space_first, asks_none, by_several}
 use Rattle.py_stream.specs.Answers.{Answers, IsShort, PlaceMoves, PlaceFails, PlaceStarves, MovesForth, moves_most, StarvesTo, GivesWithin, InHandOf, IsWhole, AsksNoMore}
 use Rattle.py_stream.specs.Reading.{KeepsReading, EachBrings, OneTransfer, IsNeeded, Gives, FailsReading, FailsMoved, wanted_by, reply_by, GathersEnough, GathersFront, IsOpen, WantsHeld}
 use Rattle.py_stream.proofs.Accepting.{work_reaches}
-use Rattle.py_stream.proofs.ReadingCalls.{IsReadingCall, reading_call, waits_so, unready_within, refused_within, unready_waited, starved_by_none, starved_by_failing, space_first, reading_on, by_several, several_on, several_goes, many, on_suits, nothing_held, in_hand_held}
+use Rattle.py_stream.proofs.ReadingCalls.{IsReadingCall, reading_call, unready_within, refused_within, unready_waited, starved_by_none, starved_by_failing, space_first, reading_on, on_suits, nothing_held, in_hand_held, is_several}
 use Rattle.py_stream.proofs.ReadingSteps.{file_after, file_same, file_fails, next_reaches, keeps_self, uncounted}
 use Rattle.py_stream.proofs.ReadingAnswers.{accepted, works, Reads, answers_coming}
 
@@ -138,9 +138,9 @@ pub record AsksRaw (before : Stream) (call : FileCall) (mid : Stream) : Type 0 w
 -- what a reading that goes on asked of its raw, which isn't called where no more is wanted than is held
 pub several_asks : (before mid : Stream) (call : FileCall) → by_several before.buffer call ≡ true → (WantsHeld (wanted_by call) before → mid.raw ≡ before.raw) → EachBrings 1 before mid → AsksRaw before call mid
 several_asks before mid call several idle each = record {
-  nothing = λ asks. idle (nothing_held before call (several_on before.buffer call several) asks);
-  one = λ single. absurd (let never = many before.buffer call several in cc);
-  in_hand = λ buffered has. idle (in_hand_held before call (several_on before.buffer call several) has);
+  nothing = λ asks. idle (nothing_held before call (is_several before.buffer call several).on asks);
+  one = λ single. absurd (let never = (is_several before.buffer call several).many in cc);
+  in_hand = λ buffered has. idle (in_hand_held before call (is_several before.buffer call several).on has);
   each = λ _. each;
 }
 
@@ -161,7 +161,7 @@ record Given (before : Stream) (call : FileCall) (part : List ℕ) (short : Bool
 
 answers_given : (before mid : Stream) (call : FileCall) (part : List ℕ) (short : Bool) → by_several before.buffer call ≡ true → Reads before → Given before call part short mid → Answers before call (reply_by call part) (record mid { short = short })
 answers_given before mid call part short several begun given =
-    let on : reads_on call ≡ true = several_on before.buffer call several in
+    let on : reads_on call ≡ true = (is_several before.buffer call several).on in
     let is : IsReadingCall call = reading_call call (reading_on call on) in
     let kept : Gives before part mid = given.gives in
     let asks : AsksRaw before call mid = several_asks before mid call several given.idle given.needs.last in
@@ -193,7 +193,7 @@ answers_given before mid call part short several begun given =
 pub answers_all : (before mid : Stream) (call : FileCall) (part : List ℕ) → by_several before.buffer call ≡ true → Reads before → Gives before part mid → NoWait before.raw mid.raw → (WantsHeld (wanted_by call) before → mid.raw ≡ before.raw) → Needs (wanted_by call) before part mid → GathersEnough (wanted_by call) before part → Answers before call (reply_by call part) (record mid { short = false })
 answers_all before mid call part several begun given no_wait idle needs gathered =
     let file : FlatFile = file_of before in
-    let on : reads_on call ≡ true = several_on before.buffer call several in
+    let on : reads_on call ≡ true = (is_several before.buffer call several).on in
     answers_given before mid call part false several begun (record {
       gives = given;
       waits = λ short. absurd (cc);
@@ -211,7 +211,7 @@ answers_all before mid call part several begun given no_wait idle needs gathered
 -- a reading that a wait of the raw cut short
 pub answers_part : (before mid : Stream) (call : FileCall) (part : List ℕ) → by_several before.buffer call ≡ true → Reads before → Gives before part mid → Rose before.raw.waits mid.raw.waits → mid.raw_place ≡ mid.place → WaitsOnce before.raw mid.raw → (WantsHeld (wanted_by call) before → mid.raw ≡ before.raw) → Needs (wanted_by call) before part mid → part ≢ [] → GathersFront (wanted_by call) before part → Answers before call (reply_by call part) (record mid { short = true })
 answers_part before mid call part several begun given waits hides once idle needs some gathered =
-    let on : reads_on call ≡ true = several_on before.buffer call several in
+    let on : reads_on call ≡ true = (is_several before.buffer call several).on in
     answers_given before mid call part true several begun (record {
       gives = given;
       waits = λ short. waits;
@@ -252,7 +252,7 @@ answers_unready before mid call reads has begun given waits hides once asks =
       ready = λ _ _. refl;
       in_hand = asks.in_hand;
       needs = λ several. asks_ungiven before mid call NotReady true is.unready_whole (asks.each several);
-      answers = waits_so before.buffer call reads;
+      answers = is.unready before.buffer;
       told = λ tells. waited_for refl (works before call reads has begun.live, unready_waited (file_of before) call (file_of mid) reads (file_same before mid begun.bare given.kept same stays tells));
       reach = next_reaches before mid [] given.place given.told;
       hides = λ short. hides;
@@ -374,7 +374,7 @@ starving_fails false before after is failed = absurd (cc)
 -- a reading that memory ran out for once bytes had left the raw, some of them wanted
 pub answers_failing : (before after : Stream) (call : FileCall) → by_several before.buffer call ≡ true → Reads before → FailsMoved before after → ((bound : ℕ) → moves_most call ≡ Some bound → after.place ≤ before.place + bound) → (IsTrue (has_room call) → IsTrue before.raw.takes_memory) → (IsTrue (takes_space_first call) → IsTrue before.raw.takes_memory) → (WantsHeld (wanted_by call) before → after.raw ≡ before.raw) → WhereTold before.raw (wanted_by call (rest (file_of before)) ≢ []) → Answers before call (Refused fault.NoMemory) after
 answers_failing before after call several begun fails within room space idle some =
-    let on : reads_on call ≡ true = several_on before.buffer call several in
+    let on : reads_on call ≡ true = (is_several before.buffer call several).on in
     let reads : is_reading call ≡ true = reading_on call on in
     let has : lacks (file_of before) call ≡ false = on_suits (file_of before) call on begun.readable in
     let is : IsReadingCall call = reading_call call reads in
@@ -387,7 +387,7 @@ answers_failing before after call several begun fails within room space idle som
       causes = record { waits = λ short. absurd (cc); faults = λ faulted. absurd (cc) };
       counted = λ exactly. record { faults = λ sound. fails.counts.no_fault exactly; waits = λ whole writes. fails.counts.no_wait exactly; once = λ short. absurd (cc) };
       shorts = is.want_short;
-      life_is = is.want_lives before.buffer before.life after.life (starving_fails (goes_on before.buffer call) before.life after.life (several_goes before.buffer call several) fails.failed);
+      life_is = is.want_lives before.buffer before.life after.life (starving_fails (goes_on before.buffer call) before.life after.life (is_several before.buffer call several).goes fails.failed);
       place = is.want_moves before.buffer after.life before.place after.place (starves_where (moves_most call) after.life before.place after.place (λ living. absurd (dead living)) (forth_by (moves_most call) before.place after.place fails.forth within));
       within = refused_within (size_of before) call fault.NoMemory;
       wants = λ wanting has_room. room has_room;

@@ -12,7 +12,7 @@ use Rattle.py_flat.specs.ExactStep.{is_closed}
 use Rattle.py_flat.specs.BinaryStep.{BinaryStep, asks_end, reaches_raw, does_work, is_tell, WaitedBy, StarvedBy}
 use Rattle.py_raw.specs.RawStream.{WhereTold}
 use Rattle.py_stream.specs.Stream.{Stream, size_of, buffering_of, file_of, nothing_owed}
-use Rattle.py_stream.specs.Kinds.{is_reading, is_writing, asks_none, calls_none, makes_one, says_fault, says_no_memory}
+use Rattle.py_stream.specs.Kinds.{is_reading, is_writing, calls_none, makes_one, says_fault, says_no_memory}
 use Rattle.py_stream.specs.Writing.{NoneAtPlace, PassesFront, LaysFront, LaysInOrder, PassesOn, BlocksFull, OwesNoneOfIts, Writes}
 use Rattle.py_stream.specs.Answers.{Answers, KeepsStream, Leaves, ClosedWith, parts_at_close, closes_again, IsReplyTo, HasCauses, IsCounted, InHand, AsksNothing, IsIdle, IsShort, LifeMoves, PlaceMoves, refused_by, SeeksByEnd, SparesBytes, IsNear}
 use Rattle.py_stream.specs.Keeping.{IsSound}
@@ -28,38 +28,26 @@ pub record MovesNone (call : FileCall) : Type 0 where
   pub writing : is_writing call ≡ false
   pub reading : is_reading call ≡ false
   pub telling : is_tell call ≡ false
+  pub one : (buffer : Option ℕ) → makes_one buffer call ≡ false
   pub lays : (before : Stream) (after : List ℕ) → LaysFront before [] after → LaysInOrder before call after
   pub waits : (file : FlatFile) → WaitedBy file call (Refused (fault.WouldBlock 0)) file
   pub starves : (file : FlatFile) → StarvedBy file call file
 
 -- a seek moves no bytes to or from its caller
 pub seek_moves_none : (offset whence : ℤ) → MovesNone (Seek offset whence)
-seek_moves_none offset whence = record { writing = refl; reading = refl; telling = refl; lays = λ before after is. is; waits = λ file. (refl, refl); starves = λ file. refl }
+seek_moves_none offset whence = record { writing = refl; reading = refl; telling = refl; one = λ buffer. refl; lays = λ before after is. is; waits = λ file. (refl, refl); starves = λ file. refl }
 
 -- a `flush` moves none
 pub flush_moves_none : MovesNone Flush
-flush_moves_none = record { writing = refl; reading = refl; telling = refl; lays = λ before after is. is; waits = λ file. (refl, refl); starves = λ file. refl }
+flush_moves_none = record { writing = refl; reading = refl; telling = refl; one = λ buffer. refl; lays = λ before after is. is; waits = λ file. (refl, refl); starves = λ file. refl }
 
 -- a `close` moves none
 pub close_moves_none : MovesNone Close
-close_moves_none = record { writing = refl; reading = refl; telling = refl; lays = λ before after is. is; waits = λ file. (refl, refl); starves = λ file. refl }
+close_moves_none = record { writing = refl; reading = refl; telling = refl; one = λ buffer. refl; lays = λ before after is. is; waits = λ file. (refl, refl); starves = λ file. refl }
 
 -- a `detach` moves none
 pub detach_moves_none : MovesNone Detach
-detach_moves_none = record { writing = refl; reading = refl; telling = refl; lays = λ before after is. is; waits = λ file. (refl, refl); starves = λ file. refl }
-
--- a call that doesn't read isn't a reading that asks for no byte, whatever the buffer
-asks_some : (buffer : Option ℕ) (call : FileCall) → is_reading call ≡ false → asks_none buffer call ≡ false
-asks_some (Some size) call reads = (gives_none call reads).nothing
-asks_some None (ReadLine limit) reads = absurd (cc)
-asks_some None call reads = refl
-
-makes_none : (buffer : Option ℕ) (call : FileCall) → is_reading call ≡ false → is_writing call ≡ false → makes_one buffer call ≡ false
-makes_none (Some size) call reads writes = (gives_none call reads).single
-makes_none None (Read size) reads writes = absurd (cc)
-makes_none None (ReadInto size) reads writes = absurd (cc)
-makes_none None (Write bytes) reads writes = absurd (cc)
-makes_none None call reads writes = (gives_none call reads).single
+detach_moves_none = record { writing = refl; reading = refl; telling = refl; one = λ buffer. refl; lays = λ before after is. is; waits = λ file. (refl, refl); starves = λ file. refl }
 
 -- What a call that moves no bytes answers.
 
@@ -107,11 +95,11 @@ shows_answers before call reply after none shows =
       wants = λ wanting room. shows.wants wanting;
       starves = λ _ reads. absurd (cc (gives.going_on));
       first = λ _ takes. absurd (cc (gives.first));
-      nothing = λ asks. absurd (cc (asks_some before.buffer call none.reading));
+      nothing = λ asks. absurd (cc (gives.nothing before.buffer));
       idle = shows.idle;
-      single = λ single. absurd (cc (makes_none before.buffer call none.reading none.writing));
+      single = λ single. absurd (cc (none.one before.buffer));
       in_hand = shows.in_hand;
-      needs = λ reads. absurd (cc (gives.going_on));
+      needs = λ reads. absurd (cc (gives.several before.buffer));
       spares = shows.spares;
       writes = shows.writes;
       answer = λ _. shows.answer;
@@ -225,14 +213,9 @@ pub record IsWriting (old : Stream) : Type 0 where
 pub flush_asked : (old : Stream) → IsWriting old → Accepts old Flush
 flush_asked old is = asked_unrefused old Flush is.sound is.live is.whole flush_moves_none refl (busy_writing old.buffer is.size old.can.writable Flush is.buffered is.writes refl) refl refl (lives_through old Flush is.live)
 
--- a `close` of a live stream is accepted, whatever it can do
-busy_closing : (buffer : Option ℕ) (writes : Bool) → calls_none buffer writes Close ≡ false
-busy_closing (Some size) writes = refl
-busy_closing None writes = refl
-
 -- a `close` of a live stream is accepted
 pub close_asked : (old : Stream) → IsSound old → old.life ≡ life.Live → old.short ≡ false → Accepts old Close
-close_asked old sound live whole = asked_unrefused old Close sound live whole close_moves_none (ap is_closed live) (busy_closing old.buffer old.can.writable) refl refl (lives_through old Close live)
+close_asked old sound live whole = asked_unrefused old Close sound live whole close_moves_none (ap is_closed live) refl refl refl (lives_through old Close live)
 
 detach_unrefused : (old : Stream) (size : ℕ) → old.buffer ≡ Some size → old.life ≡ life.Live → refusal (file_of old) Detach ≡ None
 detach_unrefused old size buffered live = ap (λ (current : Life). refusal (file_of (record old { life = current })) Detach) live ∙ ap (λ (buffer : Option ℕ). refusal (file_of (record old { life = life.Live; buffer = buffer })) Detach) buffered

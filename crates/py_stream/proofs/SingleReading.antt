@@ -16,10 +16,9 @@ use Rattle.py_flat.specs.AllowedStep.{settled}
 use Rattle.py_flat.specs.BinaryStep.{IsFrontOf, Transfers, Accepted, SettledBy}
 use Rattle.py_raw.specs.RawStream.{WhereTold, WaitsOnce, LeavesCounts}
 use Rattle.py_stream.specs.Stream.{Stream, size_of, buffering_of, file_of}
-use Rattle.py_stream.specs.Kinds.{is_reading, reads_on, is_single, goes_on, has_room, asks_none}
+use Rattle.py_stream.specs.Kinds.{is_reading, reads_on, is_single, goes_on, has_room, asks_none, by_several}
 use Rattle.py_stream.specs.Answers.{Answers, IsReplyTo, IsShort, LifeMoves, PlaceMoves, GivesWithin, InHandOf, ahead}
 use Rattle.py_stream.specs.Reading.{KeepsReading, OneTransfer, Gives, FailsReading}
-use Rattle.py_stream.proofs.ReadingCalls.{by_several}
 use Rattle.py_stream.proofs.ReadingSteps.{file_after}
 use Rattle.py_stream.proofs.ReadingAnswers.{accepted, Reads, answers_coming}
 use Rattle.py_stream.proofs.ReadingStops.{answers_unready, answers_faulted, answers_wanting, unmoved}

@@ -8,7 +8,7 @@ use Rattle.py_flat.specs.Lines.{joined}
 use Rattle.py_flat.specs.Calls.{FileCall, Read, Read1, ReadLine, ReadLines, Peek, ReadInto, ReadInto1, Write, WriteLines, Seek, Tell, Close, Detach, FileReply, Refused}
 use Rattle.py_flat.specs.BinaryStep.{is_tell}
 use Rattle.py_stream.specs.Stream.{Stream}
-use Rattle.py_stream.specs.Kinds.{is_reading, reads_on, is_single, takes_space_first, asks_nothing, is_writing, goes_on, says_would_block}
+use Rattle.py_stream.specs.Kinds.{is_reading, reads_on, by_several, takes_space_first, asks_none, is_writing, goes_on, says_would_block}
 use Rattle.py_stream.specs.Writing.{BlocksFull}
 use Rattle.py_stream.specs.Answers.{IsReplyTo, IsShort, StarvesTo, LifeMoves, MovesForth, PlaceFails, PlaceStarves, PlaceMoves, moves_most, GivesWithin, SeeksByEnd}
 use Rattle.py_stream.proofs.Refused.{is_own}
@@ -19,8 +19,8 @@ use Rattle.py_stream.proofs.Refused.{is_own}
 pub record GivesNone (call : FileCall) : Type 0 where
   pub going_on : reads_on call ≡ false
   pub first : takes_space_first call ≡ false
-  pub nothing : asks_nothing call ≡ false
-  pub single : is_single call ≡ false
+  pub several : (buffer : Option ℕ) → by_several buffer call ≡ false
+  pub nothing : (buffer : Option ℕ) → asks_none buffer call ≡ false
   pub within : (size : ℕ) (reply : FileReply) → GivesWithin size call reply
 
 -- each call that doesn't read is one that gives no bytes
@@ -32,7 +32,7 @@ gives_none (ReadLines hint) reads = absurd (cc)
 gives_none Peek reads = absurd (cc)
 gives_none (ReadInto size) reads = absurd (cc)
 gives_none (ReadInto1 size) reads = absurd (cc)
-gives_none call reads = record { going_on = refl; first = refl; nothing = refl; single = refl; within = λ size reply. tt }
+gives_none call reads = record { going_on = refl; first = refl; several = λ buffer. refl; nothing = λ buffer. refl; within = λ size reply. tt }
 
 -- Whatever stops a call.
 

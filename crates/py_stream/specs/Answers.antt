@@ -14,7 +14,7 @@ use Rattle.py_flat.specs.ExactStep.{is_closed}
 use Rattle.py_flat.specs.BinaryStep.{asks_end, BinaryStep}
 use Rattle.py_raw.specs.RawStream.{Raw, Keeps, WhereTold, WhereBytes, WherePlace, WhereTransfers, KeepsBytes, AnswersFor}
 use Rattle.py_stream.specs.Stream.{Span, Stream, size_of, buffering_of, file_of, nothing_owed}
-use Rattle.py_stream.specs.Kinds.{is_reading, reads_on, goes_on, makes_one, has_room, takes_space_first, asks_none, calls_none, waits_unready, outlasts, says_wait, says_fault, says_no_memory}
+use Rattle.py_stream.specs.Kinds.{profile, is_reading, reads_on, by_several, has_room, takes_space_first, calls_none, says_wait, says_fault, says_no_memory}
 use Rattle.py_stream.specs.Writing.{Writes}
 
 -- What every call keeps.
@@ -74,9 +74,9 @@ IsAnswerTo call reply = ⊥
 
 -- the replies of an accepted call, also of one whose raw would have blocked or failed, which stop no `tell`
 abbrev pub IsReplyTo : Option ℕ → Bool → FileCall → FileReply → Type 0
-IsReplyTo buffer writes call NotReady = IsTrue (waits_unready buffer call)
+IsReplyTo buffer writes call NotReady = IsTrue (profile buffer call).unready
 IsReplyTo buffer writes Tell (Refused (fault.WouldBlock taken)) = ⊥
-IsReplyTo buffer writes call (Refused (fault.WouldBlock taken)) = IsTrue (writes && not (waits_unready buffer call))
+IsReplyTo buffer writes call (Refused (fault.WouldBlock taken)) = IsTrue (writes && not (profile buffer call).unready)
 IsReplyTo buffer writes Tell (Refused fault.RawFault) = ⊥
 IsReplyTo buffer writes call (Refused fault.RawFault) = Unit {0}
 IsReplyTo buffer writes call reply = IsAnswerTo call reply
@@ -92,8 +92,8 @@ pub record HasCauses (old : Raw) (reply : FileReply) (new : Raw) (short : Bool) 
 -- have room for what is left
 pub record IsCounted (buffer : Option ℕ) (old : Raw) (call : FileCall) (reply : FileReply) (new : Raw) (short : Bool) : Type 0 where
   pub faults : says_fault reply ≡ false → new.faults ≡ old.faults
-  pub waits : short ≡ false → outlasts buffer call ≡ false → new.waits ≡ old.waits
-  pub once : IsTrue short → outlasts buffer call ≡ false → new.waits ≡ counted old.waits 1
+  pub waits : short ≡ false → (profile buffer call).outlasts ≡ false → new.waits ≡ old.waits
+  pub once : IsTrue short → (profile buffer call).outlasts ≡ false → new.waits ≡ counted old.waits 1
 
 -- what is short: each reply that says by itself that the raw would have blocked, always; some bytes, never none; nothing else
 abbrev pub IsShort : FileCall → FileReply → Bool → Type 0
@@ -117,7 +117,7 @@ LifeMoves buffer Close Done before after = after ≡ life.Closed
 LifeMoves buffer Close (Refused fault.RawFault) before after = after ≡ life.Closed
 LifeMoves buffer Detach (Unwritten bytes place) before after = after ≡ life.Detached
 LifeMoves buffer call (Refused fault.RawFault) before after = after ≡ life.Failed
-LifeMoves buffer call (Refused fault.NoMemory) before after = StarvesTo (goes_on buffer call) before after
+LifeMoves buffer call (Refused fault.NoMemory) before after = StarvesTo (profile buffer call).many before after
 LifeMoves buffer call reply before after = after ≡ before
 
 -- where an answered seek goes: so far from the start, or from the place; one from the end goes by what the raw answered
@@ -162,7 +162,7 @@ PlaceMoves buffer call (Bytes part) current before after = after ≡ before + le
 PlaceMoves buffer call (Lines lines) current before after = after ≡ before + length (joined lines)
 PlaceMoves buffer (Seek offset whence) (Place place) current before after = (after ≡ place) × SeekGoes before offset whence place
 PlaceMoves buffer Tell (Place place) current before after = (place ≡ before) × (after ≡ before)
-PlaceMoves buffer call (Refused fault.RawFault) current before after = PlaceFails (goes_on buffer call) (moves_most call) before after
+PlaceMoves buffer call (Refused fault.RawFault) current before after = PlaceFails (profile buffer call).many (moves_most call) before after
 PlaceMoves buffer call (Refused fault.NoMemory) current before after = PlaceStarves current (moves_most call) before after
 PlaceMoves buffer (Write bytes) (Count count) current before after = TakesOf buffer bytes count × (after ≡ before + count)
 PlaceMoves buffer (Write bytes) (Refused (fault.WouldBlock taken)) current before after = (taken < length bytes) × (after ≡ before + taken)
@@ -358,15 +358,15 @@ pub record AnswersWith (room : FileCall → Bool) (before : Stream) (call : File
   -- a call that takes its space first leaves all as it was where there is none
   pub first : StarvesFirst before call reply after
   -- calls that ask no raw leave the raw as it was, and answer no fault
-  pub nothing : IsTrue (asks_none before.buffer call) → AsksNothing before reply after
+  pub nothing : IsTrue (profile before.buffer call).none → AsksNothing before reply after
   -- calls that call no raw at all: neither a raw nor running out of memory refuses them
   pub idle : IsTrue (calls_none before.buffer before.can.writable call) → IsIdle before reply after
   -- calls that make at most one transfer, where nothing was owed
-  pub single : IsTrue (makes_one before.buffer call) → before.owed.bytes ≡ [] → AtMostOne before after
+  pub single : IsTrue (profile before.buffer call).one → before.owed.bytes ≡ [] → AtMostOne before after
   -- what the bytes held answer by themselves asks the raw for nothing
   pub in_hand : InHand before call → AsksNothing before reply after
   -- a reading that goes on asks for no more than it answers with
-  pub needs : IsTrue (reads_on call && goes_on before.buffer call) → before.owed.bytes ≡ [] → AsksNoMore before call reply after
+  pub needs : IsTrue (by_several before.buffer call) → before.owed.bytes ≡ [] → AsksNoMore before call reply after
   -- a stream that doesn't write leaves the raw's bytes, and owes nothing
   pub spares : before.can.writable ≡ false → before.owed ≡ nothing_owed before.place → SparesBytes before after
   -- what a stream that writes does with the bytes that it took
