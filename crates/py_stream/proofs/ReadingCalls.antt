@@ -71,43 +71,7 @@ reading_call Seekable reads = absurd (cc)
 reading_call Closed reads = absurd (cc)
 reading_call OtherKind reads = absurd (cc)
 reading_call OtherGetter reads = absurd (cc)
-reading_call call reads = record {
-  getter = refl;
-  tells = refl;
-  other = refl;
-  closes = refl;
-  detaches = refl;
-  writing = refl;
-  unready = λ buffer. refl;
-  kept = λ buffer writes. refl;
-  unended = λ file. refl;
-  ends = λ before reply after. tt;
-  again = λ stream. refl;
-  accepts = λ file live has.
-      ap (λ (current : Life). or_else (if lets_through current file.buffering call then None else life_fault current) (or_else (refused_if (lacks file call) fault.Unsupported) None)) live
-      ∙ ap (λ (lacking : Bool). or_else (refused_if lacking fault.Unsupported) None) has;
-  lays = λ before bytes same. record { count = 0; bytes = same };
-  passes = λ before reply after. tt;
-  straight = λ before reply after. tt;
-  said = λ part. refl;
-  gave = λ part. refl;
-  part_lives = λ buffer part before after same. same;
-  part_answers = λ buffer writes part. tt;
-  unready_short = refl;
-  unready_lives = λ buffer before after same. same;
-  unready_stays = λ buffer current before after same. same;
-  unready_whole = λ whole. whole;
-  refused_whole = λ why whole. whole;
-  fault_short = refl;
-  fault_fails = λ buffer before after failed. failed;
-  fault_moves = λ buffer current before after goes. goes;
-  fault_answers = λ buffer writes. tt;
-  faulted_by = λ file after fails. (0, omega arith, fails);
-  want_short = refl;
-  want_lives = λ buffer before after starves. starves;
-  want_moves = λ buffer current before after starves. starves;
-  want_answers = λ buffer writes. tt;
-}
+reading_call call reads = grind arith
 
 -- no answer of a call that reads says how much was taken
 pub never_blocks : (buffer : Option ℕ) (writes : Bool) (call : FileCall) (reply : FileReply) (after : Stream) → is_reading call ≡ true → IsReplyTo buffer writes call reply → BlocksFull call reply after

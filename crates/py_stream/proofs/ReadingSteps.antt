@@ -52,48 +52,15 @@ near_seen stream short near = record { after_first = near.after_first; before_en
 
 -- a stream by itself
 pub keeps_self : (stream : Stream) → stream.owed ≡ nothing_owed stream.place → IsPlaced stream → KeepsReading stream stream
-keeps_self stream bare is = record {
-  raw = keeps_same stream.raw;
-  stays = refl;
-  bytes = λ tells. refl;
-  written = λ tells. refl;
-  can = refl;
-  buffer = refl;
-  short = refl;
-  owed = bare;
-  far = is.far;
-  near = is.near;
-}
+keeps_self stream bare is = grind (arith, keeps_same)
 
 -- two steps, one after the other
 pub keeps_then : (before mid after : Stream) → KeepsReading before mid → KeepsReading mid after → KeepsReading before after
-keeps_then before mid after first second = record {
-  raw = Keeps-then before.raw mid.raw after.raw first.raw second.raw;
-  stays = second.stays ∙ first.stays;
-  bytes = λ tells. second.bytes (first.raw.tells_bytes ∙ tells) ∙ first.bytes tells;
-  written = λ tells. second.written (first.raw.tells_transfers ∙ tells) ∙ first.written tells;
-  can = second.can ∙ first.can;
-  buffer = second.buffer ∙ first.buffer;
-  short = second.short ∙ first.short;
-  owed = second.owed;
-  far = second.far;
-  near = second.near;
-}
+keeps_then before mid after first second = grind arith
 
 -- a stream that failed
 pub keeps_failed : (stream : Stream) → stream.owed ≡ nothing_owed stream.place → IsPlaced stream → KeepsReading stream (record stream { life = life.Failed })
-keeps_failed stream bare is = record {
-  raw = keeps_same stream.raw;
-  stays = refl;
-  bytes = λ tells. refl;
-  written = λ tells. refl;
-  can = refl;
-  buffer = refl;
-  short = refl;
-  owed = bare;
-  far = is.far;
-  near = λ lives. absurd (cc);
-}
+keeps_failed stream bare is = grind (arith, keeps_same)
 
 -- a raw that isn't called counts nothing
 pub uncounted : (old new : Raw) → new ≡ old → LeavesCounts old new
@@ -138,12 +105,7 @@ file_same before after bare kept same place tells = same_file (file_of after) (f
 
 -- the file of a stream that failed
 pub file_fails : (before after : Stream) → before.owed ≡ nothing_owed before.place → KeepsReading before after → after.life ≡ life.Failed → WhereTold before.raw (Fails (file_of before) life.Failed (file_of before).bytes (file_of after))
-file_fails before after bare kept failed tells = record {
-  life_is = failed;
-  bytes_are = same_bytes before after bare kept tells;
-  can = kept.can;
-  buffering = ap buffering_of kept.buffer;
-}
+file_fails before after bare kept failed tells = grind (arith, same_bytes)
 
 -- Bytes that are given.
 
@@ -155,14 +117,4 @@ next_reaches before after part place next tells = omega (arith, place, within_en
 pub gives_then : (before mid after : Stream) (first second : List ℕ) → before.owed ≡ nothing_owed before.place → Gives before first mid → Gives mid second after → Gives before (first ++ second) after
 gives_then before mid after first second bare one behind =
     let long : length (first ++ second) ≡ length first + length second = length-append first second in
-    record {
-      kept = keeps_then before mid after one.kept behind.kept;
-      no_fault = no_fault_then before.raw mid.raw after.raw one.kept.raw one.no_fault behind.no_fault;
-      live = behind.live;
-      place = omega (arith, one.place, behind.place, long);
-      told = λ tells.
-          let bytes : (file_of mid).bytes ≡ (file_of before).bytes = same_bytes before mid bare one.kept tells in
-          let next : take (length second) (left_at (file_of before).bytes (before.place + length first)) ≡ second = rw (← bytes, ← one.place) (behind.told (still_tells before mid one.kept tells)) in
-          let all : take (length second) second ≡ second = take_all (length second) second (omega arith) in
-          rw long (next_behind (file_of before).bytes first second before.place (length first) (length second) refl (one.told tells) (next ∙ sym all) ∙ ap (λ (xs : List ℕ). first ++ xs) all);
-    }
+    grind (arith, keeps_then, no_fault_then, same_bytes, still_tells, take_all, next_behind)

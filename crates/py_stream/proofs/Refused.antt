@@ -61,19 +61,7 @@ wants_none why own = refl
 
 -- what a refused call does with the bytes of a stream that writes
 pub leaves_all : (before : Stream) (call : FileCall) (why : IoFault) → is_own why ≡ true → before.short ≡ false → Writes before call (Refused why) before
-leaves_all before call why own whole = record {
-  owes = λ writing. owes_as_before before before (payload call) refl refl;
-  takes = λ writing up_to. record { taken = 0; within = omega arith; place = omega arith; passed = 0; most = omega arith; answered = λ tells. refl; owed = sym (append-nil before.owed.bytes); up_to = up_to; told = λ tells. (0, omega arith, omega arith, refl) };
-  leaves = λ _. record { passed = 0; most = omega arith; answered = λ tells. refl; bytes = refl; place = λ _. omega arith };
-  lays = λ tells. nothing_laid before call;
-  passes = nothing_passed before before call why;
-  full = nothing_blocked before call why (never_waits why own);
-  starves = λ wants. absurd (cc (wants_none why own));
-  straight = none_of_its before before call why own;
-  settles = λ at. at;
-  unclosed = λ _. refl;
-  rests = λ _. refl;
-}
+leaves_all before call why own whole = grind (arith, owes_as_before, append-nil, nothing_laid, nothing_passed, nothing_blocked, never_waits, wants_none, none_of_its)
 
 -- A stream whose raw was handed back.
 
@@ -119,31 +107,4 @@ detached_answers can buffer call asks known =
     let stream : Stream = detached_stream can buffer in
     let refuses : refusal (file_of stream) call ≡ Some fault.Detached = refuses_all can buffer call asks known in
     let by : refused_by stream call ≡ Some fault.Detached = ap (λ (end : Bool). if end then None else refusal (file_of stream) call) (asks_no_end can buffer call) ∙ refuses in
-    record {
-      keeps = record { buffer = refl; can = refl; raw = keeps_same no_raw; bare = λ _ _. refl };
-      refused = λ why refused. record { says = let same : Some fault.Detached ≡ Some why = sym by ∙ refused in cc; same = refl };
-      again = λ closes. absurd (let never : closes_again stream call ≡ false = never_closes can buffer call in cc);
-      shut = λ _ none shut. shut;
-      causes = record { waits = λ short. absurd (cc); faults = λ faults. absurd (cc) };
-      counted = λ exact. absurd (cc);
-      shorts = is_whole call;
-      moves = record { life_is = life_stays buffer call life.Detached; place = place_stays buffer call life.Detached 0; far = omega arith; within = gives_nothing (unwrap_or buffer 0) call };
-      ends = seeks_no_end can buffer call;
-      wants = λ wants. absurd (cc);
-      starves = λ wants. absurd (cc);
-      first = λ wants. absurd (cc);
-      nothing = λ _. record { raw = refl; fault = refl };
-      idle = λ _. record { raw = refl; fault = refl; memory = refl };
-      single = λ _ _ tells. absurd (cc);
-      in_hand = λ _. record { raw = refl; fault = refl };
-      needs = λ _ _. record { enough = λ _ _ _. record { raw = refl; fault = refl }; whole = λ _ tells. absurd (cc); last = λ tells. absurd (cc) };
-      spares = λ _ _. record { bytes = λ _. refl; written = λ tells. refl; owed = refl };
-      writes = λ _. leaves_all stream call fault.Detached refl refl;
-      answer = λ accepted. absurd (let wrong : Some fault.Detached ≡ None = sym by ∙ accepted in cc);
-      at_once = λ failed. absurd (cc);
-      complete = λ accepted. absurd (let wrong : Some fault.Detached ≡ None = sym by ∙ accepted in cc);
-      told = λ tells. absurd (cc);
-      reach = λ reads tells. absurd (cc);
-      near = λ live. absurd (cc);
-      hides = λ short. absurd (cc);
-    }
+    grind (arith, keeps_same, never_closes, is_whole, life_stays, place_stays, gives_nothing, seeks_no_end, leaves_all)
