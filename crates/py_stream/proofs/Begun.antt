@@ -1,5 +1,5 @@
 -- What a call answers doesn't hang on whether the answer before was short.
-use Rattle.std.proofs.Common.{◌≡◌, ℕ, ℤ, pos, suc, zero, Bool, true, false, IsTrue, List, Option, Some, None}
+use Rattle.std.proofs.Common.{◌≡◌, ℕ, ℤ, pos, suc, zero, Bool, true, false, IsTrue, List, Option, Some, None, arith, rules}
 use Rattle.py_flat.specs.declared.fault.IoFault.{IoFault}
 use Rattle.py_flat.specs.declared.fault.IoFault.TheVariants as fault
 use Rattle.py_flat.specs.Refusals.{moved_by, target_refusal}
@@ -30,12 +30,7 @@ module _ (short : Bool) where
   seeks_to before after None None reply sought = absurd sought
 
   from_end : (before after : Stream) (offset : ℤ) (reply : FileReply) → SeeksFromEnd (seen short before) offset reply after → SeeksFromEnd before offset reply after
-  from_end before after offset reply sought = record {
-    end = sought.end;
-    within = sought.within;
-    told = sought.told;
-    target = seeks_to before after (moved_by sought.end offset) (target_refusal (moved_by sought.end offset)) reply sought.target;
-  }
+  from_end before after offset reply sought = grind (arith, seeks_to)
 
   end_moves : (before after : Stream) (offset : ℤ) (reply : FileReply) → EndMoves (seen short before) offset reply after → EndMoves before offset reply after
   end_moves before after offset (Refused fault.RawFault) moves = tt
@@ -149,31 +144,4 @@ answers_seen short room before after call reply answers = answers_as before.shor
 
 -- an answer of a stream is one also where fewer calls are said to have their room
 pub answers_with : (room less : FileCall → Bool) (before after : Stream) (call : FileCall) (reply : FileReply) → (IsTrue (less call) → IsTrue (room call)) → AnswersWith room before call reply after → AnswersWith less before call reply after
-answers_with room less before after call reply fewer answers = record {
-  keeps = answers.keeps;
-  refused = answers.refused;
-  again = answers.again;
-  shut = answers.shut;
-  causes = answers.causes;
-  counted = answers.counted;
-  shorts = answers.shorts;
-  moves = answers.moves;
-  ends = answers.ends;
-  wants = λ wanting has. answers.wants wanting (fewer has);
-  starves = answers.starves;
-  first = answers.first;
-  nothing = answers.nothing;
-  idle = answers.idle;
-  single = answers.single;
-  in_hand = answers.in_hand;
-  needs = answers.needs;
-  spares = answers.spares;
-  writes = answers.writes;
-  answer = answers.answer;
-  at_once = answers.at_once;
-  complete = answers.complete;
-  told = answers.told;
-  reach = answers.reach;
-  near = answers.near;
-  hides = answers.hides;
-}
+answers_with room less before after call reply fewer answers = grind (arith, again)

@@ -1,5 +1,5 @@
 -- A raw that is closed with its stream.
-use Rattle.std.proofs.Common.{◌≡◌, Bool, false, ◌&&◌, is_some, ap, refl, ◌∙◌}
+use Rattle.std.proofs.Common.{◌≡◌, Bool, false, ◌&&◌, is_some, ap, refl, ◌∙◌, arith, rules}
 use Rattle.std.proofs.Math.Bool.{and-false}
 use Rattle.py_flat.specs.declared.fault.IoFault.TheVariants as fault
 use Rattle.py_flat.specs.Calls.{FileCall, Close, FileReply, Refused}

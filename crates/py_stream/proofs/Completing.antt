@@ -1,5 +1,5 @@
 -- Answers that are complete where nothing went wrong.
-use Rattle.std.proofs.Common.{◌≡◌, ℕ, Option, Bool, true, false, IsTrue, refl}
+use Rattle.std.proofs.Common.{◌≡◌, ℕ, Option, Bool, true, false, IsTrue, refl, arith, rules}
 use Rattle.std.proofs.lemmas.Bool.{le-leb}
 use Rattle.py_flat.specs.declared.fault.IoFault.TheVariants as fault
 use Rattle.py_flat.specs.Causes.{Rose, rose, counted}

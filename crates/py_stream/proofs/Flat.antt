@@ -1,6 +1,6 @@
 -- What bytes that a stream takes, and those that it passes on, are to the flat file that it stands for: of one that owes what lies
 -- right before its place.
-use Rattle.std.proofs.Common.{◌≡◌, ℕ, ◌+◌, ◌-◌, ◌<◌, ◌≤◌, List, [], ◌++◌, length, take, drop, sym, ◌∙◌, ap, subst, arith, ⊎_elim, append_assoc, length-append, length-drop}
+use Rattle.std.proofs.Common.{◌≡◌, ℕ, ◌+◌, ◌-◌, ◌<◌, ◌≤◌, List, [], ◌++◌, length, take, drop, sym, ◌∙◌, ap, subst, arith, ⊎_elim, append_assoc, length-append, length-drop, rules}
 use Rattle.std.proofs.Math.ListN.{drop_of_length-le}
 use Rattle.std.proofs.Math.Seq.{take-append-add}
 use Rattle.std.proofs.lemmas.Bool.{cases_lt}
@@ -152,26 +152,11 @@ pub lays_taken : (old new : Stream) (own : List ℕ) (taken : ℕ) → taken ≤
 lays_taken old new own taken fits took tells =
     let owed : List ℕ = old.owed.bytes in
     let more : ℕ = took.passed - length owed in
-    record {
-      owed = took.passed;
-      more = more;
-      order = λ some. omega (arith, some);
-      bytes = took.told tells
-          ∙ laid_in_order old.raw.bytes old.owed.place owed (take taken own) took.passed
-          ∙ ap (lay (lay old.raw.bytes old.owed.place (take took.passed owed)) (old.owed.place + length owed)) (sym (take_front [] own taken more fits (omega (arith, took.within, length-take-le taken own fits))))
-          ∙ ap (λ (place : ℕ). lay (lay old.raw.bytes old.owed.place (take took.passed owed)) place (take more own)) took.was.ends;
-    }
+    grind (arith, laid_in_order, take_front, length-take-le)
 
 -- told: the raw has the bytes in order, where it failed
 pub fails_lays : (old new : Stream) (bytes : List ℕ) → FailsTaking old bytes new → WhereTold old.raw (LaidInOrder old bytes new.raw.bytes)
 fails_lays old new bytes fails tells =
     let further = fails.told tells in
     let owed : List ℕ = old.owed.bytes in
-    record {
-      owed = further.laid;
-      more = further.laid - length owed;
-      order = λ some. omega (arith, some);
-      bytes = further.bytes
-          ∙ laid_in_order old.raw.bytes old.owed.place owed bytes further.laid
-          ∙ ap (λ (place : ℕ). lay (lay old.raw.bytes old.owed.place (take further.laid owed)) place (take (further.laid - length owed) bytes)) fails.was.ends;
-    }
+    grind (arith, laid_in_order)

@@ -1,5 +1,5 @@
 -- Flushing a stream that owes nothing: there is nothing to pass on.
-use Rattle.std.proofs.Common.{◌≡◌, true, false, Option, None, Result, Ok, Err, if◌then◌else◌, refl, sym, ap, subst, arith}
+use Rattle.std.proofs.Common.{◌≡◌, true, false, Option, None, Result, Ok, Err, if◌then◌else◌, refl, sym, ap, subst, arith, rules}
 use Rattle.py_flat.specs.declared.fault.IoFault.{IoFault}
 use Rattle.py_flat.specs.declared.life.Life.{Life}
 use Rattle.py_flat.specs.declared.life.Life.TheVariants as life
@@ -25,42 +25,7 @@ pub flush_is_done : (before : Stream) → IsPlaced before → before.life ≡ li
 flush_is_done before is live bare stands =
     let none : refused_by before Flush ≡ None = flush_passes before live in
     let after : Stream = record before { short = false } in
-    shows_answers before Flush Done after flush_moves_none (record {
-      keeps = record { buffer = refl; can = refl; raw = keeps_same before.raw; bare = λ _ _. bare };
-      passes = none;
-      again = λ again. absurd (cc);
-      shut = λ _ none shut. shut;
-      causes = record { waits = λ short. absurd (cc); faults = λ faults. absurd (cc) };
-      counted = λ _. record { faults = λ _. refl; waits = λ _ _. refl; once = λ short. absurd (cc) };
-      shorts = refl;
-      life_is = refl;
-      place = refl;
-      far = is.far;
-      ends = tt;
-      wants = λ wants. absurd (cc);
-      idle = λ _. record { raw = refl; fault = refl; memory = refl };
-      in_hand = λ has. absurd has.of;
-      spares = λ _ _. record { bytes = λ _. refl; written = λ _. refl; owed = bare };
-      writes = λ can. passing_writes before Flush Done after flush_moves_none (record {
-        leaves = record { passed = 0; most = omega arith; answered = λ tells. refl; bytes = refl; place = λ _. omega arith };
-        lays = λ tells. record { count = 0; bytes = refl };
-        passes = (
-          record {
-            none = ap (λ (owed : Owed). owed.bytes) bare;
-            holds = λ tells. sym (ap (λ (owed : Owed). lay before.raw.bytes owed.place owed.bytes) bare);
-          },
-          stands can,
-        );
-        full = tt;
-        settles = λ at. at;
-        unclosed = λ _. refl;
-        rests = λ _. refl;
-      });
-      at_once = λ failed is. absurd (cc);
-      answer = tt;
-      told = λ _. settled (subst (λ (refused : Option IoFault). SettledBy (file_of before) Flush refused Done (file_of before)) (sym none) refl);
-      near = λ lives. let near = is.near lives in record { after_first = near.after_first; before_end = near.before_end; fits = near.fits; read_ahead = near.read_ahead; ahead = near.ahead; behind = near.behind; stands = near.stands };
-    })
+    shows_answers before Flush Done after flush_moves_none (grind (arith, keeps_same, passing_writes, flush_moves_none))
 
 -- a `flush`, by what begins it
 pub flush_answers : (before after : Stream) (result : Result (Unit {0}) IoFault) → IsPlaced before → before.owed ≡ nothing_owed before.place → (before.can.writable ≡ true → before.raw_place ≡ before.place) → Begins before result after → Answers before Flush (done_reply result) after

@@ -1,5 +1,5 @@
 -- The answers of the calls that give bytes to a stream, by what their steps came to.
-use Rattle.std.proofs.Common.{◌≡◌, ℕ, ◌+◌, ◌-◌, ◌<◌, ◌≤◌, inl, inr, Bool, true, false, IsTrue, List, [], ◌++◌, length, take, drop, Option, Result, Ok, Err, refl, sym, ap, ◌∙◌, subst, arith}
+use Rattle.std.proofs.Common.{◌≡◌, ℕ, ◌+◌, ◌-◌, ◌<◌, ◌≤◌, inl, inr, Bool, true, false, IsTrue, List, [], ◌++◌, length, take, drop, Option, Result, Ok, Err, refl, sym, ap, ◌∙◌, subst, arith, rules}
 use Rattle.std.proofs.Math.Seq.{take-append_seam}
 use Rattle.std.proofs.lemmas.List.{length-take-le, take_all, take-append-le, append-nil, drop-take}
 use Rattle.py_flat.specs.declared.fault.IoFault.{IoFault}
@@ -173,11 +173,7 @@ wants_answers old new call may takes took calm one straight =
 
 -- a raw stands where what is owed belongs, and past the place of a call it took some of that call's own bytes
 took_own : (old new : Stream) (bytes : List ℕ) → Took old bytes new → old.place < new.owed.place → TookOwn old (record new { life = life.Failed; short = false })
-took_own old new bytes took past = record {
-  further = omega (arith, past, took.behind.stands);
-  stands = λ tells. omega (arith, past, took.behind.stands, (took.kept.sound.near took.live).stands (took.kept.raw.tells_place ∙ tells));
-  answered = λ _ tells. omega (arith, past, took.place, took.was.ends, took.answered tells);
-}
+took_own old new bytes took past = grind arith
 
 -- memory ran out after the raw took some of the call's own bytes: the stream fails
 pub midway_answers : (old between : Stream) (call : FileCall) (taken : ℕ) → MayWrite old call → goes_on old.buffer call ≡ true → taken ≤ length (payload call) → IsTrue old.raw.takes_memory → Took old (take taken (payload call)) between → Calm old.buffer old.raw between.raw → OneTransfer old call between → old.place < between.owed.place → OwesNoneOfIts old call (Refused fault.NoMemory) (record between { life = life.Failed; short = false }) → Answers old call (Refused fault.NoMemory) (record between { life = life.Failed; short = false })
@@ -225,19 +221,7 @@ lets_go : (old between new : Stream) (front : List ℕ) → between.owed.place �
 lets_go old between new front before took cut =
     let owed : List ℕ = old.owed.bytes in
     let within : took.passed ≤ length owed = omega (arith, before, took.place, took.was.ends) in
-    record {
-      kept = record { raw = subst (Keeps old.raw) (sym cut.raw) took.kept.raw; stays = cut.kept.stays ∙ took.kept.stays; buffer = cut.kept.buffer ∙ took.kept.buffer; can = cut.kept.can ∙ took.kept.can; short = cut.kept.short ∙ took.kept.short; sound = cut.kept.sound };
-      was = took.was;
-      behind = cut.behind;
-      live = cut.life_is ∙ took.live;
-      no_fault = subst (NoFault old.raw) (sym cut.raw) took.no_fault;
-      passed = took.passed;
-      within = omega (arith, within);
-      answered = subst (AnswersFor took.passed old.raw) (sym cut.raw) took.answered;
-      place = cut.place ∙ took.place;
-      owed = cut.owed ∙ ap (take (old.place - between.owed.place)) took.owed ∙ cut_bytes owed front took.passed (old.place - between.owed.place) within (omega (arith, took.place, took.was.ends));
-      told = λ tells. ap (λ (raw : Raw). raw.bytes) cut.raw ∙ took.told tells ∙ ap (lay old.raw.bytes old.owed.place) (take-append-le took.passed owed front within ∙ sym (take-append-le took.passed owed [] within));
-    }
+    grind (arith, cut_bytes, take-append-le)
 
 -- a stream whose last answer is known to be short or not
 said_short : (stream : Stream) (short : Bool) → stream.short ≡ short → record stream { short = short } ≡ stream

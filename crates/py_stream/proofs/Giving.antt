@@ -1,5 +1,5 @@
 -- A call that gives bytes to a stream: what it is, whichever of the two it is, with a buffer or without, and what makes its answer.
-use Rattle.std.proofs.Common.{◌≡◌, ℕ, ◌+◌, ◌<◌, ◌≤◌, inl, inr, Bool, true, false, not, ◌||◌, IsTrue, List, [], length, take, drop, Option, Some, None, Ok, Err, is_some, if◌then◌else◌, refl, sym, ap, ◌∙◌, subst, le-ltb, lt-ltb, arith, add-zero}
+use Rattle.std.proofs.Common.{◌≡◌, ℕ, ◌+◌, ◌<◌, ◌≤◌, inl, inr, Bool, true, false, not, ◌||◌, IsTrue, List, [], length, take, drop, Option, Some, None, Ok, Err, is_some, if◌then◌else◌, refl, sym, ap, ◌∙◌, subst, le-ltb, lt-ltb, arith, add-zero, rules}
 use Rattle.std.proofs.lemmas.List.{take_all, length-take-le, take-append-drop}
 use Rattle.py_flat.specs.declared.fault.IoFault.{IoFault}
 use Rattle.py_flat.specs.declared.fault.IoFault.TheVariants as fault
@@ -141,19 +141,7 @@ coming_writes old new call reply short may comes =
     let left : Stream = record new { short = short } in
     let giving : IsGiving call = is_giving call may.writing in
     let up_to : OwesUpTo old.owed old.place = inr may.behind.ends in
-    record {
-      owes = λ writing. owes_both old (payload call) left up_to comes.takes;
-      takes = λ writing up_to. comes.takes;
-      leaves = λ other. absurd (cc (may.writing));
-      lays = λ tells. giving.lays old new.raw.bytes (lays_front old (payload call) new.raw.bytes up_to (comes.lays tells));
-      passes = giving.passes old reply left;
-      full = comes.full;
-      starves = λ wanting writing. comes.starves wanting;
-      straight = comes.straight;
-      settles = λ at none. omega (arith, ap length none, comes.behind.ends);
-      unclosed = λ owing. comes.kept.stays;
-      rests = λ dead. absurd (dead may.live);
-    }
+    grind (arith, owes_both, lays_front)
 
 -- what a call that gives bytes left answers it
 pub answers_coming : (old new : Stream) (call : FileCall) (reply : FileReply) (short : Bool) → MayWrite old call → Comes old call reply short new → Answers old call reply (record new { short = short })
@@ -239,19 +227,7 @@ lines_taken old count buffer lines after all is = is ∙ ap (after_write (file_o
 -- each call that gives bytes has the answer of one that took n bytes
 pub is_taken : (old : Stream) (count : ℕ) (buffer : Option ℕ) (call : FileCall) → is_writing call ≡ true → IsTaken old count buffer call
 is_taken old count buffer call writing = of_all (IsTaken old count)
-    (λ size bytes. record {
-      no_fault = refl;
-      no_want = refl;
-      shorts = refl;
-      life_is = λ before after same. same;
-      place = λ current before after fits all at. (all, at);
-      full = λ after. tt;
-      straight = λ after. tt;
-      answers = tt;
-      carried = λ after fits all is.
-          let file : FlatFile = file_of (record old { buffer = Some size }) in
-          ap (λ (left : FlatFile). (Count count, left)) (is ∙ ap (after_write file) (all_taken bytes count all)) ∙ ap (λ (n : ℕ). (Count n, after_write file bytes)) all;
-    })
+    (λ size bytes. (grind (arith, all_taken)))
     (λ bytes. record {
       no_fault = refl;
       no_want = refl;

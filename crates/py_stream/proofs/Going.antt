@@ -1,5 +1,5 @@
 -- The answers of `seek`, as its steps come: where it goes, what is passed on before, and the moving.
-use Rattle.std.proofs.Common.{◌≡◌, ℕ, ◌+◌, suc, zero, ℤ, pos, max, nat_eq, Bool, true, false, List, [], ◌∷◌, length, Option, Some, None, IsSome, Result, Ok, Err, ne_eqb, if◌then◌else◌, refl, sym, ap, ◌∙◌, subst, subst₂, arith, zero-le}
+use Rattle.std.proofs.Common.{◌≡◌, ℕ, ◌+◌, suc, zero, ℤ, pos, max, nat_eq, Bool, true, false, List, [], ◌∷◌, length, Option, Some, None, IsSome, Result, Ok, Err, ne_eqb, if◌then◌else◌, refl, sym, ap, ◌∙◌, subst, subst₂, arith, zero-le, rules}
 use Rattle.std.proofs.lemmas.List.{append-nil}
 use Rattle.py_flat.specs.declared.fault.IoFault.{IoFault}
 use Rattle.py_flat.specs.declared.fault.IoFault.TheVariants as fault
@@ -58,15 +58,7 @@ same_stream old new left stands is =
     all
 
 stands_then : (old mid new : Stream) → StandsAsBefore old mid → StandsAsBefore mid new → StandsAsBefore old new
-stands_then old mid new first second = record {
-  kept = keeps_then old mid new first.kept second.kept;
-  bytes = λ tells. second.bytes (first.kept.raw.tells_bytes ∙ tells) ∙ first.bytes tells;
-  answered = answers_still old.raw mid.raw new.raw 0 first.kept.raw first.answered second.answered;
-  place = second.place ∙ first.place;
-  raw_place = second.raw_place ∙ first.raw_place;
-  owed = second.owed ∙ first.owed;
-  held = second.held ∙ first.held;
-}
+stands_then old mid new first second = grind (arith, keeps_then, answers_still)
 
 -- what was found out before the stream is moved leaves it as it was
 pub record FoundOut (old found : Stream) : Type 0 where
@@ -75,11 +67,7 @@ pub record FoundOut (old found : Stream) : Type 0 where
   pub life_is : found.life ≡ old.life
 
 found_nothing : (old found : Stream) → MaySeek old → found ≡ old → FoundOut old found
-found_nothing old found may same = subst (FoundOut old) (sym same) (record {
-  stands = stands_itself old may.sound;
-  counts = record { no_fault = λ _. refl; no_wait = λ _. refl };
-  life_is = refl;
-})
+found_nothing old found may same = subst (FoundOut old) (sym same) (grind (arith, stands_itself))
 
 found_end : (old found : Stream) (end : ℕ) → AsksEnd old end found → FoundOut old found
 found_end old found end asks = record { stands = asks.stands; counts = asks.counts; life_is = asks.life_is }
@@ -90,16 +78,7 @@ spared old new left stands bare = record { bytes = stands.bytes; written = stand
 
 -- a seek that goes to the raw is asked of it
 reaching : (old : Stream) (offset whence : ℤ) → MaySeek old → ReachesRaw old offset whence → Asked old (Seek offset whence)
-reaching old offset whence may to = record {
-  sound = may.sound;
-  live = may.live;
-  whole = may.whole;
-  none = seek_moves_none offset whence;
-  passes = to.passes;
-  again = refl;
-  busy = refl;
-  reaches = to.reaches;
-}
+reaching old offset whence may to = grind (arith, seek_moves_none)
 
 -- a raw that failed to say where it ends, or to move, fails the stream
 pub fault_fails_seek : (offset whence : ℤ) → FaultLeaves (Seek offset whence) life.Failed
@@ -115,10 +94,7 @@ end_refuses old new offset why end may asks refuses =
     let passes : PassesSome old new = passes_nothing old new asks.stands in
     let at : RefusesPlace offset why = refuses_place offset why (target_why (moved_by end offset) why refuses) in
     let short : new.short ≡ false = asks.stands.kept.short ∙ may.whole in
-    let left : Leaves old (Refused why) (Refused why) (record new { raw = old.raw }) = record {
-      says = refl;
-      same = ap (λ (stream : Stream). record stream { raw = old.raw }) (same_stream old new old.life asks.stands asks.life_is) ∙ ap (λ (said : Bool). record old { short = said }) may.whole;
-    } in
+    let left : Leaves old (Refused why) (Refused why) (record new { raw = old.raw }) = grind (arith, same_stream) in
     let seeks : SeeksFromEnd old offset (Refused why) new = record {
       end = end;
       within = answered.within;
@@ -293,10 +269,7 @@ going_refused old found new offset whence target fault.RawFault may finds fails 
     let out : StandsAsBefore old found = finds.out.stands in
     let stands : StandsAsBefore old new = stands_then old found new out fails.0.stands in
     fault_fails old new (Seek offset whence) (reaching old offset whence may finds.to.asks)
-    (record {
-      in_hand = λ has. absurd (fails.1 (reads_still old found offset whence target finds has) (buffered_still old found offset whence target finds has) (held_still old found offset whence target finds has));
-      spares = λ _. spared old new life.Failed stands;
-    })
+    (grind (arith, reads_still, buffered_still, held_still, spared))
     (fault_fails_seek offset whence) (passes_nothing old new stands) fails.0.failed (faulted_then old.raw found.raw new.raw out.kept.raw fails.0.cause) (no_wait_then old.raw found.raw new.raw out.kept.raw finds.out.counts.no_wait fails.0.no_wait)
 going_refused old found new offset whence target fault.NoMemory may finds wants =
     let out : FoundOut old found = finds.out in
@@ -315,14 +288,7 @@ going_answers old found new offset whence target may none finds goes =
     let out : FoundOut (begun old) found = finds.out in
     answers_whole old new (Seek offset whence) (Place target)
     (gone (begun old) found new offset whence target may finds.to
-    (record {
-      in_hand = λ has. record { raw = goes.still (reads_still (begun old) found offset whence target finds has) (buffered_still (begun old) found offset whence target finds has) (held_still (begun old) found offset whence target finds has) ∙ finds.still has.of; fault = refl };
-      spares = λ _ _. record {
-        bytes = λ tells. goes.bytes (out.stands.kept.raw.tells_bytes ∙ tells) ∙ out.stands.bytes tells;
-        written = answers_still old.raw found.raw new.raw 0 out.stands.kept.raw out.stands.answered goes.answered;
-        owed = goes.owed ∙ ap nothing_owed (sym goes.place);
-      };
-    })
+    (search (rules, goes, reads_still, begun, buffered_still, held_still, answers_still))
     (passes_nothing (begun old) found out.stands) (ap (λ (owed : Owed). owed.bytes) (out.stands.owed ∙ none)) out.counts.no_fault out.counts.no_wait goes)
 
 -- A stream that owes what lies right before its place passes this on before it is moved.
@@ -352,19 +318,7 @@ not_held old offset whence seeks has = seeks_apart old offset whence seeks.reads
 
 -- the looking took nothing, and passed nothing on
 found_took : (old found : Stream) → SeeksWriting old → FoundOut old found → Took old [] found
-found_took old found seeks out = record {
-  kept = out.stands.kept;
-  was = seeks.behind;
-  behind = record { ends = ap (λ (owed : Owed). owed.place + length owed.bytes) out.stands.owed ∙ seeks.behind.ends ∙ sym out.stands.place; stands = out.stands.raw_place ∙ seeks.behind.stands ∙ sym (ap (λ (owed : Owed). owed.place) out.stands.owed) };
-  live = out.life_is ∙ seeks.may.live;
-  no_fault = out.counts.no_fault;
-  passed = 0;
-  within = omega arith;
-  answered = out.stands.answered;
-  place = omega (arith, ap (λ (owed : Owed). owed.place) out.stands.owed);
-  owed = ap (λ (owed : Owed). owed.bytes) out.stands.owed ∙ sym (append-nil old.owed.bytes);
-  told = λ tells. out.stands.bytes (tells_its_bytes old.raw tells);
-}
+found_took old found seeks out = grind (arith, append-nil, tells_its_bytes)
 
 passes_all_then : (old mid new : Stream) (result : Result (Unit {0}) IoFault) → Took old [] mid → NoWait old.raw mid.raw → PassAllOutcome mid result new → PassAllOutcome old result new
 passes_all_then old mid new (Ok done) took no_wait passed = (took_on old mid new [] took passed.0, no_wait_then old.raw mid.raw new.raw took.kept.raw no_wait passed.1, passed.2)
@@ -383,18 +337,7 @@ passes_all_then old mid new (Err why) took no_wait never = absurd never
 passes_still : (old mid new : Stream) → PassesSome old mid → StandsAsBefore mid new → PassesSome old new
 passes_still old mid new passes stands =
     let bytes : WhereTold old.raw (new.raw.bytes ≡ mid.raw.bytes) = λ tells. stands.bytes (passes.kept.raw.tells_bytes ∙ tells_its_bytes old.raw tells) in
-    record {
-      kept = keeps_then old mid new passes.kept stands.kept;
-      passed = passes.passed;
-      within = passes.within;
-      answered = answers_still old.raw mid.raw new.raw passes.passed passes.kept.raw passes.answered stands.answered;
-      place = ap (λ (owed : Owed). owed.place) stands.owed ∙ passes.place;
-      owed = ap (λ (owed : Owed). owed.bytes) stands.owed ∙ passes.owed;
-      still = stands.place ∙ passes.still;
-      at = λ at none. ap (λ (owed : Owed). owed.place) stands.owed ∙ passes.at at (sym (ap (λ (owed : Owed). owed.bytes) stands.owed) ∙ none) ∙ sym stands.place;
-      lays = λ tells. subst (LaysFront old []) (sym (bytes tells)) (passes.lays tells);
-      told = λ tells. let laid = passes.told tells in (laid.0, laid.1, laid.2, bytes tells ∙ laid.3);
-    }
+    grind (arith, keeps_then, answers_still)
 
 -- the raw failed to move, or wanted memory
 moving_fails : (old mid new : Stream) (offset whence : ℤ) (target : ℕ) (why : IoFault) → SeeksWriting old → Goes old offset whence target → PassAllOutcome old (Ok tt) mid → GoOutcome mid target (Err why) new → Answers old (Seek offset whence) (Refused why) new

@@ -1,5 +1,5 @@
 -- Handing a stream's raw back.
-use Rattle.std.proofs.Common.{◌≡◌, ℕ, ◌≤◌, ◌⊎◌, inl, inr, Bool, true, false, List, [], length, Option, Some, None, Ok, Err, if◌then◌else◌, refl, sym, ap, ◌∙◌, subst, arith, zero-le}
+use Rattle.std.proofs.Common.{◌≡◌, ℕ, ◌≤◌, ◌⊎◌, inl, inr, Bool, true, false, List, [], length, Option, Some, None, Ok, Err, if◌then◌else◌, refl, sym, ap, ◌∙◌, subst, arith, zero-le, rules}
 use Rattle.py_flat.specs.declared.fault.IoFault.{IoFault}
 use Rattle.py_flat.specs.declared.fault.IoFault.TheVariants as fault
 use Rattle.py_flat.specs.declared.life.Life.{Life}
@@ -69,13 +69,7 @@ abbrev pub AtOnce : Stream → Type 0
 AtOnce old = (old.life ≡ life.Failed) ⊎ ((old.life ≡ life.Live) × (old.can.writable ≡ false) × (old.owed ≡ nothing_owed old.place))
 
 hands_told : (old : Stream) → AtOnce old → DetachesIn old.life (file_of old) (unwritten old) (file_of (given old))
-hands_told old (inl failed) = subst (λ (current : Life). DetachesIn current (file_of old) (unwritten old) (file_of (given old))) (sym failed) (record {
-  bytes = old.owed.bytes;
-  place = place_handed old old.owed;
-  says = refl;
-  stand = stands_there old.raw.bytes old.owed.bytes old.owed.place old.can.seekable;
-  leaves = refl;
-})
+hands_told old (inl failed) = subst (λ (current : Life). DetachesIn current (file_of old) (unwritten old) (file_of (given old))) (sym failed) (grind (arith, stands_there))
 hands_told old (inr (live, reads, none)) = subst (λ (current : Life). DetachesIn current (file_of old) (unwritten old) (file_of (given old))) (sym live)
     (ap (λ (owed : Owed). (Unwritten owed.bytes (place_handed old owed), file_of (given old))) none)
 
@@ -98,36 +92,7 @@ let_go old size buffered (inl failed) = detaches_in old size life.Failed buffere
 let_go old size buffered (inr (live, reads, none)) = detaches_in old size life.Live buffered live refl
 
 hands_back : (old : Stream) (size : ℕ) → old.buffer ≡ Some size → AtOnce old → old.place ≤ greatest_place → (old.owed.bytes ≡ [] → old.owed.place ≡ old.place) → Answers old Detach (unwritten old) (given old)
-hands_back old size buffered at_once far at = shows_answers old Detach (unwritten old) (given old) detach_moves_none (record {
-  keeps = record { buffer = refl; can = refl; raw = keeps_same old.raw; bare = λ bare. absurd (cc (buffered)) };
-  passes = let_go old size buffered at_once;
-  again = λ closes. absurd (cc);
-  shut = λ _ none closed. closed ∙ still_open old at_once;
-  causes = record { waits = λ waited. absurd (cc); faults = λ faults. absurd (cc) };
-  counted = λ exact. record { faults = λ _. refl; waits = λ _ _. refl; once = λ waited. absurd (cc) };
-  shorts = refl;
-  life_is = refl;
-  place = refl;
-  far = far;
-  ends = tt;
-  wants = λ wanting. absurd (cc);
-  idle = λ idle. record { raw = refl; fault = refl; memory = refl };
-  in_hand = λ has. absurd has.of;
-  spares = λ reads none. record { bytes = λ tells. refl; written = λ tells. refl; owed = none };
-  writes = λ can. passing_writes old Detach (unwritten old) (given old) detach_moves_none (record {
-    leaves = record { passed = 0; most = omega arith; answered = λ tells. refl; bytes = refl; place = λ some. omega arith };
-    lays = λ tells. record { count = 0; bytes = refl };
-    passes = λ live. absurd (never_passes old at_once can live);
-    full = tt;
-    settles = λ _. at;
-    unclosed = λ some. refl;
-    rests = λ dead. refl;
-  });
-  at_once = λ _ _. (old.owed.bytes, place_handed old old.owed, refl);
-  answer = tt;
-  told = λ tells. settled (subst (λ (refused : Option IoFault). SettledBy (file_of old) Detach refused (unwritten old) (file_of (given old))) (sym (let_go old size buffered at_once)) (hands_told old at_once));
-  near = λ lives. absurd (cc);
-})
+hands_back old size buffered at_once far at = shows_answers old Detach (unwritten old) (given old) detach_moves_none (grind (arith, keeps_same, let_go, still_open, passing_writes, detach_moves_none, never_passes, hands_told))
 
 same_owed : (old : Stream) → AtOnce old → owed_then old.life old ≡ old.owed
 same_owed old (inl failed) = ap (λ (current : Life). owed_then current old) failed
@@ -135,12 +100,7 @@ same_owed old (inr (live, reads, none)) = ap (λ (current : Life). owed_then cur
 
 -- a stream whose raw is handed back as it is
 pub hands_at_once : (old : Stream) (size : ℕ) → old.buffer ≡ Some size → AtOnce old → old.place ≤ greatest_place → (old.owed.bytes ≡ [] → old.owed.place ≡ old.place) → HandsOver old old.raw old.owed.bytes (place_handed old old.owed) (left_behind old)
-hands_at_once old size buffered at_once far at = record {
-  answers = subst (λ (owed : Owed). Answers old Detach (unwritten old) (handed_over old old.raw owed)) (sym (same_owed old at_once)) (hands_back old size buffered at_once far at);
-  unwritten_is = ap (λ (owed : Owed). owed.bytes) (sym (same_owed old at_once));
-  place_is = ap (place_handed old) (sym (same_owed old at_once));
-  left = refl;
-}
+hands_at_once old size buffered at_once far at = grind (arith, same_owed, hands_back)
 
 -- A live stream that writes, once nothing is owed.
 
@@ -198,12 +158,7 @@ hands_live old new live is far passed =
     let owed : owed_then old.life old ≡ none = ap (λ (current : Life). owed_then current old) live in
     let handed : place_handed old new.owed ≡ place_handed old none = ap (λ (at : ℕ). if old.can.seekable then Some at else None) place in
     let answers : Answers old Detach (Unwritten [] (place_handed old none)) (handed_over old new.raw none) = answers_whole old (handed_over old new.raw none) Detach _ (detached_live (begun old) new is far passed) in
-    record {
-      answers = rw (owed, passed.2, handed) answers;
-      unwritten_is = passed.2 ∙ ap (λ (owed : Owed). owed.bytes) (sym owed);
-      place_is = handed ∙ ap (place_handed old) (sym owed);
-      left = refl;
-    }
+    search rules
 
 -- a stream that writes, and that is handed over: a live one or a failed one
 pub hands_over : (old new : Stream) (current : Life) → old.life ≡ current → (current ≡ life.Live → IsWriting (begun old)) → (size : ℕ) → old.buffer ≡ Some size → old.place ≤ greatest_place → (old.owed.bytes ≡ [] → old.owed.place ≡ old.place) → BeginDetachIn current (begun old) (Ok tt) new → HandsOver old new.raw new.owed.bytes (place_handed old new.owed) (left_behind old)

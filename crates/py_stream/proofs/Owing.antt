@@ -1,5 +1,5 @@
 -- What is owed after a write, wherever it was made.
-use Rattle.std.proofs.Common.{◌≡◌, ◌≢◌, ℕ, zero, suc, ◌+◌, ◌-◌, ◌<◌, ◌≤◌, ◌⊎◌, inl, inr, ⊎_elim, max, List, [], ◌∷◌, ◌++◌, length, take, drop, refl, sym, ap, ◌∙◌, subst, arith, length-append, length-drop, length-take}
+use Rattle.std.proofs.Common.{◌≡◌, ◌≢◌, ℕ, zero, suc, ◌+◌, ◌-◌, ◌<◌, ◌≤◌, ◌⊎◌, inl, inr, ⊎_elim, max, List, [], ◌∷◌, ◌++◌, length, take, drop, refl, sym, ap, ◌∙◌, subst, arith, length-append, length-drop, length-take, rules}
 use Rattle.std.proofs.Math.Seq.{take-nil, drop-nil, drop-append-add}
 use Rattle.std.proofs.lemmas.Bool.{cases_lt}
 use Rattle.std.proofs.lemmas.List.{append-nil, take_all, take_min, drop_all, drop-append-le, take_at, length-take-le}
@@ -143,13 +143,4 @@ front_of_all count whole = ap (λ (n : ℕ). take n whole) (length-take count wh
 pub owes_as_before : (before after : Stream) (bytes : List ℕ) → after.place ≡ before.place → after.owed ≡ before.owed → OwesBoth before bytes after
 owes_as_before before after bytes place same =
     let owed : Owed = before.owed in
-    subst (λ (left : Owed). OwesBoth before bytes (record after { owed = left })) (sym same) (record {
-      taken = 0;
-      within = omega arith;
-      place = omega (arith, place);
-      from = λ some. first_owed owed.bytes owed.place before.place some;
-      to = λ some. refl;
-      new = λ some. has_none owed.bytes owed.place before.place;
-      old = λ some. let none : owed.place - owed.place ≡ 0 = omega arith in has_part owed.bytes owed.place (take (before.place - owed.place) owed.bytes) owed.place (omega arith) (rw none (front_of_all (before.place - owed.place) owed.bytes));
-      behind = λ some. let far : max owed.place (before.place + 0) - owed.place ≡ before.place + 0 - owed.place = omega arith in has_part owed.bytes owed.place (drop (before.place + 0 - owed.place) owed.bytes) (max owed.place (before.place + 0)) (omega arith) (rw far (take_all (length (drop (before.place + 0 - owed.place) owed.bytes)) (drop (before.place + 0 - owed.place) owed.bytes) (omega arith)));
-    })
+    subst (λ (left : Owed). OwesBoth before bytes (record after { owed = left })) (sym same) (grind (arith, first_owed, has_none, has_part, front_of_all, take_all))

@@ -3,7 +3,7 @@ use Rattle.py_flat.specs.Owed.{Owed}
 use Rattle.py_raw.proofs.Telling.{tells_its_bytes}
 use Rattle.py_stream.proofs.Taking.{keeps_itself}
 use Rattle.py_stream.specs.Moving.{StandsAsBefore}
-use Rattle.std.proofs.Common.{IsTrue, ◌≡◌, ℕ, suc, zero, ◌+◌, ◌≤◌, inr, Bool, true, false, List, [], ◌++◌, length, take, drop, Option, Some, Err, refl, sym, ap, ◌∙◌, subst, arith, length-drop}
+use Rattle.std.proofs.Common.{IsTrue, ◌≡◌, ℕ, suc, zero, ◌+◌, ◌≤◌, inr, Bool, true, false, List, [], ◌++◌, length, take, drop, Option, Some, Err, refl, sym, ap, ◌∙◌, subst, arith, length-drop, rules}
 use Rattle.std.proofs.lemmas.List.{append-nil}
 use Rattle.py_flat.specs.declared.fault.IoFault.{IoFault}
 use Rattle.py_flat.specs.declared.fault.IoFault.TheVariants as fault
@@ -56,18 +56,7 @@ passes_nothing old new stands =
     let bytes : WhereTold old.raw (new.raw.bytes ≡ old.raw.bytes) = λ tells. stands.bytes (tells_its_bytes old.raw tells) in
     let place : new.owed.place ≡ old.owed.place = ap (λ (owed : Owed). owed.place) stands.owed in
     let owed : new.owed.bytes ≡ old.owed.bytes = ap (λ (owed : Owed). owed.bytes) stands.owed in
-    record {
-      kept = stands.kept;
-      passed = 0;
-      within = omega arith;
-      answered = stands.answered;
-      place = omega (arith, place);
-      owed = owed;
-      still = stands.place;
-      at = λ at none. place ∙ at (sym owed ∙ none) ∙ sym stands.place;
-      lays = λ tells. record { count = 0; bytes = bytes tells };
-      told = λ tells. (0, omega arith, omega arith, bytes tells);
-    }
+    grind arith
 
 -- a stream itself passed nothing on
 pub passes_itself : (stream : Stream) → IsSound stream → PassesSome stream stream
@@ -89,18 +78,7 @@ took_passes old new took =
     let within : took.passed ≤ length old.owed.bytes = omega (arith, took.within) in
     let owed : new.owed.bytes ≡ drop took.passed old.owed.bytes = took.owed ∙ ap (drop took.passed) all in
     let told : WhereTold old.raw (new.raw.bytes ≡ lay old.raw.bytes old.owed.place (take took.passed old.owed.bytes)) = λ tells. took.told tells ∙ ap (λ (bytes : List ℕ). lay old.raw.bytes old.owed.place (take took.passed bytes)) all in
-    record {
-      kept = took.kept;
-      passed = took.passed;
-      within = within;
-      answered = took.answered;
-      place = took.place;
-      owed = owed;
-      still = omega (arith, took.was.ends, took.behind.ends, took.place, within, ap length owed, length-drop took.passed old.owed.bytes);
-      at = λ _. none_owed_at new took.behind.ends;
-      lays = lays_some old new (inr took.was.ends) (λ tells. (took.passed, told tells));
-      told = λ tells. (took.passed, omega arith, within, told tells);
-    }
+    grind (arith, length-drop, none_owed_at, lays_some)
 
 take_of_none : (count : ℕ) (bytes : List ℕ) → bytes ≡ [] → take count bytes ≡ []
 take_of_none zero bytes none = refl
@@ -117,18 +95,7 @@ failing_passes old new fails =
     let told : WhereTold old.raw ((laid : ℕ) × (fails.passed ≤ laid) × (laid ≤ length old.owed.bytes) × (new.raw.bytes ≡ lay old.raw.bytes old.owed.place (take laid old.owed.bytes))) = λ tells.
     let laid = fails.told tells in
     (laid.laid, laid.least_is, omega (arith, laid.most, ap length all), laid.bytes ∙ ap (λ (bytes : List ℕ). lay old.raw.bytes old.owed.place (take laid.laid bytes)) all) in
-    record {
-      kept = fails.kept;
-      passed = fails.passed;
-      within = within;
-      answered = fails.answered;
-      place = fails.place;
-      owed = owed;
-      still = omega (arith, fails.was.ends, fails.behind.ends, fails.place, within, ap length owed, length-drop fails.passed old.owed.bytes);
-      at = λ _. none_owed_at new fails.behind.ends;
-      lays = lays_some old new (inr fails.was.ends) (λ tells. let laid = told tells in (laid.0, laid.3));
-      told = told;
-    }
+    grind (arith, length-drop, none_owed_at, lays_some)
 
 -- What passing on leaves.
 

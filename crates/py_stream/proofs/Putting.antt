@@ -1,5 +1,5 @@
 -- Taking all bytes of a call, piece by piece and line by line.
-use Rattle.std.proofs.Common.{◌≡◌, ◌≢◌, ℕ, ◌+◌, ◌≤◌, ◌<◌, Bool, true, false, List, [], ◌++◌, length, take, drop, get_or, Result, Ok, Err, refl, sym, ap, subst, arith, length-drop}
+use Rattle.std.proofs.Common.{◌≡◌, ◌≢◌, ℕ, ◌+◌, ◌≤◌, ◌<◌, Bool, true, false, List, [], ◌++◌, length, take, drop, get_or, Result, Ok, Err, refl, sym, ap, subst, arith, length-drop, rules}
 use Rattle.std.proofs.Math.Seq.{take-add}
 use Rattle.std.proofs.lemmas.List.{length-take-le, take-append-drop}
 use Rattle.py_flat.specs.declared.fault.IoFault.{IoFault}
@@ -20,10 +20,7 @@ takes_nothing stream sound behind live = record { took = took_none stream sound 
 
 -- a piece that was taken after others is taken with them
 pub takes_then : (old mid new : Stream) (front more : List ℕ) → TookAll old front mid → TookAll mid more new → TookAll old (front ++ more) new
-takes_then old mid new front more first second = record {
-  took = took_then old mid new front more first.took second.took;
-  calm = calm_then old.buffer mid.buffer old.raw mid.raw new.raw first.took.kept.buffer first.took.kept.raw first.calm second.calm;
-}
+takes_then old mid new front more first second = grind (arith, took_then, calm_then)
 
 -- an answer of a front of the bytes, but that all of it was taken, is one of all of them
 pub put_more : (old new : Stream) (bytes more : List ℕ) (start : ℕ) (result : Result Bool IoFault) → PutsOutcome old bytes start result new → (result ≢ Ok true) → PutsOutcome old (bytes ++ more) start result new

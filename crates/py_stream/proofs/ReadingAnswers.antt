@@ -1,5 +1,5 @@
 -- What an accepted reading answers, however it came out.
-use Rattle.std.proofs.Common.{◌≡◌, Bool, true, false, ◌&&◌, IsTrue, [], Some, None, IsSome, Err, sym, ap, ◌∙◌, subst, arith}
+use Rattle.std.proofs.Common.{◌≡◌, Bool, true, false, ◌&&◌, IsTrue, [], Some, None, IsSome, Err, sym, ap, ◌∙◌, subst, arith, rules}
 use Rattle.py_flat.specs.declared.fault.IoFault.{IoFault}
 use Rattle.py_flat.specs.declared.life.Life.TheVariants as life
 use Rattle.py_flat.specs.Calls.{FileCall, FileReply, Refused}
@@ -63,19 +63,7 @@ passes_nothing before mid short call reply reads begun kept answers =
     let is : IsReadingCall call = reading_call call reads in
     let after : Stream = record mid { short = short } in
     let none : mid.owed.bytes ≡ [] = ap (λ (owed : Owed). owed.bytes) kept.owed in
-    record {
-      owes = λ writing. absurd (let never = is.writing in cc);
-      takes = λ writing. absurd (let never = is.writing in cc);
-      leaves = λ _. record { passed = 0; most = omega arith; answered = kept.written; bytes = none ∙ sym (ap (λ (owed : Owed). owed.bytes) begun.bare); place = λ some. absurd (some none) };
-      lays = λ tells. is.lays before after.raw.bytes (kept.bytes (tells_its_bytes before.raw tells));
-      passes = is.passes before reply after;
-      full = never_blocks before.buffer before.can.writable call reply after reads answers;
-      starves = λ wants writing. absurd (let never = is.writing in cc);
-      straight = is.straight before reply after;
-      settles = λ _ _. ap (λ (owed : Owed). owed.place) kept.owed;
-      unclosed = λ some. absurd (some none);
-      rests = λ dead. absurd (dead begun.live);
-    }
+    grind (arith, tells_its_bytes, never_blocks)
 
 -- a reading that was answered, and what it left, but for whether a wait cut it short
 pub record Comes (before : Stream) (call : FileCall) (reply : FileReply) (short : Bool) (mid : Stream) : Type 0 where
@@ -108,31 +96,4 @@ answers_coming before mid call reply short reads has begun comes =
     let unrefused : refused_by before call ≡ None = refused_alone before call (is.unended (file_of before)) ∙ accepted before call reads has begun.live in
     let after : Stream = record mid { short = short } in
     let kept : KeepsReading before mid = comes.kept in
-    record {
-      keeps = record { buffer = kept.buffer; can = kept.can; raw = kept.raw; bare = λ _ _. kept.owed };
-      refused = λ why refuses. absurd (let wrong : None ≡ Some why = sym unrefused ∙ refuses in cc);
-      again = λ closes. absurd (let never = is.again before in cc);
-      shut = λ _ none closed. kept.stays ∙ closed ∙ ap is_closed begun.live ∙ sym comes.is_open;
-      causes = comes.causes;
-      counted = comes.counted;
-      shorts = comes.shorts;
-      moves = record { life_is = comes.life_is; place = comes.place; far = kept.far; within = comes.within };
-      ends = is.ends before reply after;
-      wants = comes.wants;
-      starves = comes.starves;
-      first = comes.first;
-      nothing = λ asks. record { raw = comes.nothing asks; fault = comes.sound asks };
-      idle = λ keeps. absurd (let never = is.kept before.buffer before.can.writable in cc);
-      single = λ one none. comes.one one;
-      in_hand = λ in_hand. record { raw = comes.in_hand in_hand.buffered in_hand.of; fault = comes.ready in_hand.buffered in_hand.of };
-      needs = λ on none. comes.needs on;
-      spares = λ _ _. record { bytes = kept.bytes; written = kept.written; owed = kept.owed };
-      writes = λ can. passes_nothing before mid short call reply reads begun kept comes.answers;
-      answer = λ _. comes.answers;
-      at_once = λ failed. absurd (let live = begun.live in cc);
-      complete = λ _ calm sound. completes before.raw mid.raw before.buffer before.can.writable call reply short comes.causes comes.shorts comes.answers calm sound;
-      told = comes.told;
-      reach = λ _. comes.reach;
-      near = λ lives. near_seen mid short (kept.near lives);
-      hides = λ shortened _ _. comes.hides shortened;
-    }
+    search (rules, passes_nothing, completes, near_seen)

@@ -1,5 +1,5 @@
 -- What a reading that goes on answers, by where it stopped: of all that is left, of a size, of a line, of lines.
-use Rattle.std.proofs.Common.{◌≡◌, ◌≢◌, ℕ, zero, suc, ◌+◌, ◌<◌, ◌≤◌, inl, inr, Bool, true, false, ◌||◌, IsTrue, List, [], ◌∷◌, ◌++◌, length, take, drop, replicate, Option, None, Result, Ok, Err, refl, sym, ap, ◌∙◌, subst, arith}
+use Rattle.std.proofs.Common.{◌≡◌, ◌≢◌, ℕ, zero, suc, ◌+◌, ◌<◌, ◌≤◌, inl, inr, Bool, true, false, ◌||◌, IsTrue, List, [], ◌∷◌, ◌++◌, length, take, drop, replicate, Option, None, Result, Ok, Err, refl, sym, ap, ◌∙◌, subst, arith, rules}
 use Rattle.std.proofs.lemmas.List.{append-nil, nil_from_length, length-append, length-replicate, take_all, take-take, take-append-drop}
 use Rattle.std.proofs.Math.ListN.{drop_of_length-le}
 use Rattle.std.proofs.Math.Seq.{take-append_seam}
@@ -194,10 +194,7 @@ idle_size before after call size wants idle held = idle (size_bound call size (a
 -- a reading of n bytes
 pub gathers_size : (before after : Stream) (call : FileCall) (size : ℕ) (part : List ℕ) (stop : Stop) → WantsSize call size → length part ≤ size → (stop ≡ stops.Enough → length part ≡ size) → (stop ≢ stops.Enough → length part < size) → StopOutcome before part (Ok stop) after → (size ≤ ahead before → after.raw ≡ before.raw) → GatherOutcome (wanted_by call) before (Ok stop) part after
 gathers_size before after call size part stops.Enough wants fits full less outcome idle =
-    gathers_ok (wanted_by call) before stops.Enough part after outcome (record {
-      alone = wants part ∙ take_all size part fits;
-      exact = λ tells. wants (rest (file_of before)) ∙ ap (λ (n : ℕ). take n (rest (file_of before))) (sym (full refl)) ∙ outcome.0.told tells;
-    }) (idle_size before after call size wants idle)
+    gathers_ok (wanted_by call) before stops.Enough part after outcome (grind (arith, take_all)) (idle_size before after call size wants idle)
 gathers_size before after call size part stops.End wants fits full less outcome idle =
     gathers_ok (wanted_by call) before stops.End part after outcome (
       gathers_at_end (wanted_by call) before part (wants part ∙ take_all size part fits) outcome.0.told (λ tells. let place = outcome.0.place in omega (arith, place, outcome.2 tells)),
@@ -205,10 +202,7 @@ gathers_size before after call size part stops.End wants fits full less outcome 
     ) (idle_size before after call size wants idle)
 gathers_size before after call size part stops.Waits wants fits full less outcome idle =
     gathers_ok (wanted_by call) before stops.Waits part after outcome (
-      record {
-        alone = wants part ∙ take_all size part fits;
-        front = λ tells. subst (IsFrontOf part) (sym (wants (rest (file_of before)))) (comes_front (take size (rest (file_of before))) part (take-take (length part) size (rest (file_of before)) fits ∙ outcome.0.told tells));
-      },
+      (search (rules, take_all, comes_front, take-take)),
       open_size call size part wants (less (λ same. cc)),
     ) (idle_size before after call size wants idle)
 

@@ -1,5 +1,5 @@
 -- What a reading answers, by what it gave and where it stopped.
-use Rattle.std.proofs.Common.{◌≡◌, ◌≢◌, ℕ, ◌+◌, ◌≤◌, inl, inr, Bool, true, false, IsTrue, List, [], ◌++◌, length, take, Option, Some, None, IsSome, refl, sym, ap, ◌∙◌, subst, arith}
+use Rattle.std.proofs.Common.{◌≡◌, ◌≢◌, ℕ, ◌+◌, ◌≤◌, inl, inr, Bool, true, false, IsTrue, List, [], ◌++◌, length, take, Option, Some, None, IsSome, refl, sym, ap, ◌∙◌, subst, arith, rules}
 use Rattle.std.proofs.lemmas.List.{length-take}
 use Rattle.py_flat.specs.declared.fault.IoFault.{IoFault}
 use Rattle.py_flat.specs.declared.fault.IoFault.TheVariants as fault
@@ -114,19 +114,11 @@ needs_open wanted before part after each goes_on = record { enough = λ whole. a
 
 -- what a call that gave bytes asked of its raw
 asks_given : (before mid : Stream) (call : FileCall) (part : List ℕ) (short : Bool) → reads_on call ≡ true → Needs (wanted_by call) before part mid → AsksNoMore before call (reply_by call part) (record mid { short = short })
-asks_given before mid call part short on needs = record {
-  enough = λ whole within buffered. record { raw = needs.enough (whole_wanted call part on whole) buffered within; fault = (reading_call call (reading_on call on)).said part };
-  whole = λ whole tells. omega (arith, needs.whole (whole_wanted call part on whole) tells);
-  last = λ tells. omega (arith, needs.last tells);
-}
+asks_given before mid call part short on needs = grind (arith, whole_wanted, reading_call, reading_on)
 
 -- what a call that gave none asked of its raw
 asks_ungiven : (before mid : Stream) (call : FileCall) (reply : FileReply) (short : Bool) → (IsWhole call reply → ⊥) → EachBrings 1 before mid → AsksNoMore before call reply (record mid { short = short })
-asks_ungiven before mid call reply short never each = record {
-  enough = λ whole. absurd (never whole);
-  whole = λ whole. absurd (never whole);
-  last = λ tells. omega (arith, each tells);
-}
+asks_ungiven before mid call reply short never each = grind arith
 
 -- what a reading asked of its raw, whether it goes on or makes one transfer
 pub record AsksRaw (before : Stream) (call : FileCall) (mid : Stream) : Type 0 where
@@ -137,12 +129,7 @@ pub record AsksRaw (before : Stream) (call : FileCall) (mid : Stream) : Type 0 w
 
 -- what a reading that goes on asked of its raw, which isn't called where no more is wanted than is held
 pub several_asks : (before mid : Stream) (call : FileCall) → by_several before.buffer call ≡ true → (WantsHeld (wanted_by call) before → mid.raw ≡ before.raw) → EachBrings 1 before mid → AsksRaw before call mid
-several_asks before mid call several idle each = record {
-  nothing = λ asks. idle (nothing_held before call (is_several before.buffer call several).on asks);
-  one = λ single. absurd (let never = (is_several before.buffer call several).many in cc);
-  in_hand = λ buffered has. idle (in_hand_held before call (is_several before.buffer call several).on has);
-  each = λ _. each;
-}
+several_asks before mid call several idle each = grind (arith, nothing_held, is_several, in_hand_held)
 
 -- Answers.
 
@@ -234,29 +221,7 @@ answers_unready before mid call reads has begun given waits hides once asks =
     let is : IsReadingCall call = reading_call call reads in
     let same : mid.life ≡ before.life = given.live ∙ sym begun.live in
     let stays : mid.place ≡ before.place = omega (arith, given.place) in
-    answers_coming before mid call NotReady true reads has begun (record {
-      kept = given.kept;
-      is_open = ap is_closed given.live;
-      causes = record { waits = λ short. waits; faults = λ faulted. absurd (cc) };
-      counted = λ exactly. record { faults = λ sound. given.no_fault exactly; waits = λ whole writes. absurd (cc); once = λ short writes. once exactly };
-      shorts = is.unready_short;
-      life_is = is.unready_lives before.buffer before.life mid.life same;
-      place = is.unready_stays before.buffer mid.life before.place mid.place stays;
-      within = unready_within (size_of before) call;
-      wants = λ wanting room. absurd (cc);
-      starves = λ wanting goes. absurd (cc);
-      first = λ wanting takes none. absurd (cc);
-      sound = λ _. refl;
-      nothing = asks.nothing;
-      one = asks.one;
-      ready = λ _ _. refl;
-      in_hand = asks.in_hand;
-      needs = λ several. asks_ungiven before mid call NotReady true is.unready_whole (asks.each several);
-      answers = is.unready before.buffer;
-      told = λ tells. waited_for refl (works before call reads has begun.live, unready_waited (file_of before) call (file_of mid) reads (file_same before mid begun.bare given.kept same stays tells));
-      reach = next_reaches before mid [] given.place given.told;
-      hides = λ short. hides;
-    })
+    answers_coming before mid call NotReady true reads has begun (grind (arith, unready_within, asks_ungiven, works, unready_waited, file_same, next_reaches))
 
 -- an answer that wasn't short leaves the stream as the reading left it
 pub unshortened : (before after : Stream) (call : FileCall) (reply : FileReply) → Reads before → KeepsReading before after → Answers before call reply (record after { short = false }) → Answers before call reply after
@@ -283,29 +248,7 @@ starves_where most current before after same forth = forth
 pub answers_faulted : (before after : Stream) (call : FileCall) → is_reading call ≡ true → lacks (file_of before) call ≡ false → Reads before → FailsReading before after → ((bound : ℕ) → moves_most call ≡ Some bound → after.place ≤ before.place + bound) → (goes_on before.buffer call ≡ false → after.place ≡ before.place) → asks_none before.buffer call ≡ false → (IsTrue (makes_one before.buffer call) → OneTransfer before after) → (IsSome before.buffer → InHandOf before call → ⊥) → Answers before call (Refused fault.RawFault) after
 answers_faulted before after call reads has begun fails within stays asks_some one apart =
     let is : IsReadingCall call = reading_call call reads in
-    unshortened before after call (Refused fault.RawFault) begun fails.kept (answers_coming before after call (Refused fault.RawFault) false reads has begun (record {
-      kept = fails.kept;
-      is_open = ap is_closed fails.failed;
-      causes = record { waits = λ short. absurd (cc); faults = λ faulted. fails.cause };
-      counted = λ exactly. record { faults = λ sound. absurd (cc); waits = λ whole writes. fails.no_wait exactly; once = λ short. absurd (cc) };
-      shorts = is.fault_short;
-      life_is = is.fault_fails before.buffer before.life after.life fails.failed;
-      place = is.fault_moves before.buffer after.life before.place after.place (fails_where (goes_on before.buffer call) (moves_most call) before.place after.place fails.forth within stays);
-      within = refused_within (size_of before) call fault.RawFault;
-      wants = λ wanting room. absurd (cc);
-      starves = λ wanting on. absurd (cc);
-      first = λ wanting takes none. absurd (cc);
-      sound = λ asks. absurd (cc);
-      nothing = λ asks. absurd (cc);
-      one = one;
-      ready = λ buffered in_hand. absurd (apart buffered in_hand);
-      in_hand = λ buffered in_hand. absurd (apart buffered in_hand);
-      needs = λ on. asks_ungiven before after call (Refused fault.RawFault) false (is.refused_whole fault.RawFault) fails.each;
-      answers = is.fault_answers before.buffer before.can.writable;
-      told = λ tells. raw_faulted refl refl (work_reaches (file_of before) call (works before call reads has begun.live), is.faulted_by (file_of before) (file_of after) (file_fails before after begun.bare fails.kept fails.failed tells));
-      reach = fails.reach;
-      hides = λ short. absurd (cc);
-    }))
+    unshortened before after call (Refused fault.RawFault) begun fails.kept (answers_coming before after call (Refused fault.RawFault) false reads has begun (grind (arith, fails_where, refused_within, asks_ungiven, work_reaches, works, file_fails)))
 
 starving_stays : (may : Bool) (before after : Life) → after ≡ before → StarvesTo may before after
 starving_stays true before after same = inl same

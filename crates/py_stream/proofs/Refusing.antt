@@ -1,5 +1,5 @@
 -- What a stream refuses by itself, whatever the call: nothing but the reply tells that the call came.
-use Rattle.std.proofs.Common.{◌≡◌, ℕ, ◌≤◌, Bool, true, false, ◌&&◌, not, pos, suc, zero, Option, Some, None, if◌then◌else◌, refl, sym, ap, ◌∙◌, subst, arith}
+use Rattle.std.proofs.Common.{◌≡◌, ℕ, ◌≤◌, Bool, true, false, ◌&&◌, not, pos, suc, zero, Option, Some, None, if◌then◌else◌, refl, sym, ap, ◌∙◌, subst, arith, rules}
 use Rattle.std.proofs.Math.Bool.{and-false}
 use Rattle.py_flat.specs.declared.fault.IoFault.{IoFault}
 use Rattle.py_flat.specs.declared.fault.IoFault.TheVariants as fault

@@ -1,5 +1,5 @@
 -- A stream that is moved to the place that it told.
-use Rattle.std.proofs.Common.{◌≡◌, ℕ, ◌+◌, pos, Bool, Option, Some, None, ap, ◌∙◌, arith}
+use Rattle.std.proofs.Common.{◌≡◌, ℕ, ◌+◌, pos, Bool, Option, Some, None, ap, ◌∙◌, arith, rules}
 use Rattle.py_flat.specs.declared.fault.IoFault.{IoFault}
 use Rattle.py_flat.specs.declared.fault.IoFault.TheVariants as fault
 use Rattle.py_flat.specs.Calls.{FileReply, Seek, Tell, Place, Refused}
@@ -48,9 +48,4 @@ comes_back before mid told back after tells seeks =
     moved_leaves (file_of mid) told back after.short _ (file_of after) (seeks.told (tells_still before.raw mid.raw tells.keeps.raw ∙ tell))
     ∙ ap (λ (file : FlatFile). record file { place = 0 + told }) one
     ∙ ap (λ (place : ℕ). record (file_of before) { place = place }) (let same : 0 + told ≡ before.place = omega arith in same) in
-    record {
-      says = says;
-      place = seeks.moves.place.0 ∙ says ∙ there;
-      file = file;
-      left = λ tell. ap rest (file tell);
-    }
+    grind arith

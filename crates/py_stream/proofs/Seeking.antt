@@ -1,5 +1,5 @@
 -- Moving a stream, whatever is below it: where a seek goes, what refuses it, and what an answer of it comes to.
-use Rattle.std.proofs.Common.{◌≡◌, ℕ, ◌≤◌, suc, zero, ◌⊎◌, inl, inr, ℤ, pos, Bool, true, false, not, ◌&&◌, ◌||◌, IsTrue, length, Option, Some, None, Result, Ok, Err, nat_lt, is_none, unwrap_or, option_and_then, le-ltb, if◌then◌else◌, refl, sym, ap, ◌∙◌, subst}
+use Rattle.std.proofs.Common.{◌≡◌, ℕ, ◌≤◌, suc, zero, ◌⊎◌, inl, inr, ℤ, pos, Bool, true, false, not, ◌&&◌, ◌||◌, IsTrue, length, Option, Some, None, Result, Ok, Err, nat_lt, is_none, unwrap_or, option_and_then, le-ltb, if◌then◌else◌, refl, sym, ap, ◌∙◌, subst, arith, rules}
 use Rattle.py_flat.specs.declared.fault.IoFault.{IoFault}
 use Rattle.py_flat.specs.declared.fault.IoFault.TheVariants as fault
 use Rattle.py_flat.specs.declared.life.Life.{Life}
@@ -105,10 +105,7 @@ pub record ReachesRaw (before : Stream) (offset whence : ℤ) : Type 0 where
 pub end_reaches : (before : Stream) (offset : ℤ) → MaySeek before → ReachesRaw before offset (pos 2)
 end_reaches before offset may =
     let works : Bool = does_work (file_of before) (Seek offset (pos 2)) in
-    record {
-      passes = ap (λ (asks : Bool). if asks then None else refusal (file_of before) (Seek offset (pos 2))) (asks_where_it_ends before offset may);
-      reaches = ap (λ (asks : Bool). works || asks) (asks_where_it_ends before offset may) ∙ or_true works;
-    }
+    grind (arith, asks_where_it_ends, or_true)
 
 -- a seek that isn't refused does work
 pub seek_works : (before : Stream) (offset whence : ℤ) → MaySeek before → refusal (file_of before) (Seek offset whence) ≡ None → IsTrue (does_work (file_of before) (Seek offset whence))
@@ -169,16 +166,7 @@ goes_from_place before offset whence base target may unasked ends to from moved 
     let none : refusal (file_of before) (Seek offset whence) ≡ None = seek_refusal_is before offset whence may ∙ ap (λ (place : Option ℕ). seek_refusal place offset) from ∙ lies_within base offset target moved in
     let there : seek_target (file_of before) offset whence ≡ target = ap (λ (place : Option ℕ). unwrap_or (option_and_then (λ (base : ℕ). moved_by base offset) place) 0) from ∙ target_is base offset target moved in
     let works : IsTrue (does_work (file_of before) (Seek offset whence)) = seek_works before offset whence may none in
-    record {
-      asks = record {
-        passes = refused_alone before (Seek offset whence) unasked ∙ none;
-        reaches = ap (λ (does : Bool). does || asks_end (file_of before) (Seek offset whence)) works;
-      };
-      works = λ _. works;
-      ends = ends;
-      to = to;
-      lies = λ _. (there, none);
-    }
+    grind (arith, refused_alone)
 
 -- a target that was found says where an accepted seek goes
 pub goes : (before : Stream) (offset whence : ℤ) (target : ℕ) → MaySeek before → TargetOf before offset whence (Ok target) → Goes before offset whence target

@@ -1,5 +1,5 @@
 -- A call that moves no bytes to its caller or from it: a seek, a flush, a close, a detaching. What makes its answer.
-use Rattle.std.proofs.Common.{◌≡◌, ◌≢◌, ℕ, ℤ, ◌≤◌, Bool, true, false, ◌||◌, IsTrue, List, [], Option, Some, None, if◌then◌else◌, refl, sym, ap, ◌∙◌}
+use Rattle.std.proofs.Common.{◌≡◌, ◌≢◌, ℕ, ℤ, ◌≤◌, Bool, true, false, ◌||◌, IsTrue, List, [], Option, Some, None, if◌then◌else◌, refl, sym, ap, ◌∙◌, arith, rules}
 use Rattle.py_flat.specs.declared.fault.IoFault.{IoFault}
 use Rattle.py_flat.specs.declared.fault.IoFault.TheVariants as fault
 use Rattle.py_flat.specs.declared.life.Life.{Life}
@@ -82,34 +82,7 @@ not_refused before call expected reply after why none some = let wrong : None �
 pub shows_answers : (before : Stream) (call : FileCall) (reply : FileReply) (after : Stream) → MovesNone call → Shows before call reply after → Answers before call reply after
 shows_answers before call reply after none shows =
     let gives : GivesNone call = gives_none call none.reading in
-    record {
-      keeps = shows.keeps;
-      refused = λ why refused. not_refused before call (Refused why) reply after why shows.passes refused;
-      again = shows.again;
-      shut = shows.shut;
-      causes = shows.causes;
-      counted = shows.counted;
-      shorts = shows.shorts;
-      moves = record { life_is = shows.life_is; place = shows.place; far = shows.far; within = gives.within (size_of before) reply };
-      ends = shows.ends;
-      wants = λ wanting room. shows.wants wanting;
-      starves = λ _ reads. absurd (cc (gives.going_on));
-      first = λ _ takes. absurd (cc (gives.first));
-      nothing = λ asks. absurd (cc (gives.nothing before.buffer));
-      idle = shows.idle;
-      single = λ single. absurd (cc (none.one before.buffer));
-      in_hand = shows.in_hand;
-      needs = λ reads. absurd (cc (gives.several before.buffer));
-      spares = shows.spares;
-      writes = shows.writes;
-      answer = λ _. shows.answer;
-      at_once = λ failed is _. shows.at_once failed is;
-      complete = λ _ calm sound. completes before.raw after.raw before.buffer before.can.writable call reply after.short shows.causes shows.shorts shows.answer calm sound;
-      told = shows.told;
-      reach = λ reads. absurd (cc (none.reading));
-      near = shows.near;
-      hides = λ _ reads. absurd (cc (none.reading));
-    }
+    search (rules, not_refused, completes)
 
 -- Writing: what a call that moves no bytes does with what is owed.
 
@@ -130,19 +103,7 @@ pub record PassesBytes (before : Stream) (call : FileCall) (reply : FileReply) (
 
 -- a call that passes on a front of what is owed writes just so
 pub passing_writes : (before : Stream) (call : FileCall) (reply : FileReply) (after : Stream) → MovesNone call → PassesBytes before call reply after → Writes before call reply after
-passing_writes before call reply after none is = record {
-  owes = λ writing. absurd (cc (none.writing));
-  takes = λ writing. absurd (cc (none.writing));
-  leaves = λ other. is.leaves;
-  lays = λ tells. none.lays before after.raw.bytes (is.lays tells);
-  passes = is.passes;
-  full = is.full;
-  starves = λ wanting writing. absurd (cc (none.writing));
-  straight = not_one_write before after call reply none.writing;
-  settles = is.settles;
-  unclosed = is.unclosed;
-  rests = is.rests;
-}
+passing_writes before call reply after none is = grind (arith, not_one_write)
 
 -- What is accepted.
 
@@ -175,19 +136,7 @@ beside_writing old call reply new can apart = record { in_hand = λ has. absurd 
 pub asked_unrefused : (old : Stream) (call : FileCall) → IsSound old → old.life ≡ life.Live → old.short ≡ false → MovesNone call → closes_again old call ≡ false → calls_none old.buffer old.can.writable call ≡ false → asks_end (file_of old) call ≡ false → (is_getter call || is_tell call) ≡ false → refusal (file_of old) call ≡ None → Accepts old call
 asked_unrefused old call sound live whole none again busy alone asks unrefused =
     let work : IsTrue (does_work (file_of old) call) = works_unrefused (file_of old) call live unrefused asks in
-    record {
-      asked = record {
-        sound = sound;
-        live = live;
-        whole = whole;
-        none = none;
-        passes = refused_alone old call alone ∙ unrefused;
-        again = again;
-        busy = busy;
-        reaches = work_reaches (file_of old) call work;
-      };
-      works = λ _. work;
-    }
+    grind (arith, refused_alone, work_reaches)
 
 -- a call that a life lets through isn't refused by it
 pub let_through : (old : Stream) (call : FileCall) → lets_through old.life (buffering_of old.buffer) call ≡ true → or_else (life_refusal (file_of old) call) None ≡ None

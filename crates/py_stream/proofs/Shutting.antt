@@ -1,6 +1,6 @@
 -- The answers of `flush` and `close` of a stream with a buffer that writes.
 use Rattle.py_stream.specs.Keeping.{IsSound, KeepsOn}
-use Rattle.std.proofs.Common.{◌≡◌, ℕ, ◌≤◌, IsTrue, Bool, true, false, [], length, Option, Result, Ok, Err, refl, sym, ap, ◌∙◌, subst, arith, zero-le}
+use Rattle.std.proofs.Common.{◌≡◌, ℕ, ◌≤◌, IsTrue, Bool, true, false, [], length, Option, Result, Ok, Err, refl, sym, ap, ◌∙◌, subst, arith, zero-le, rules}
 use Rattle.py_flat.specs.declared.fault.IoFault.{IoFault}
 use Rattle.py_flat.specs.declared.fault.IoFault.TheVariants as fault
 use Rattle.py_flat.specs.declared.life.Life.{Life}
@@ -199,36 +199,7 @@ fault_shuts = record { shorts = λ short whole. whole; life_is = λ buffer curre
 
 shut_answers : (old new : Stream) (reply : FileReply) → Asked old Close → IsShutting reply → ShutsDown old new → ClosesWith old new reply → Answers old Close reply new
 shut_answers old new reply asked shutting shuts closes =
-    shows_answers old Close reply new asked.none (record {
-      keeps = shuts.keeps;
-      passes = asked.passes;
-      again = λ closes. absurd (cc (asked.again));
-      shut = λ _ none shut. shuts.closed ∙ sym (ap is_closed shuts.life_is);
-      causes = closes.causes;
-      counted = closes.counted;
-      shorts = shutting.shorts new.short shuts.short;
-      life_is = subst (LifeMoves old.buffer Close reply old.life) (sym shuts.life_is) (shutting.life_is old.buffer old.life);
-      place = subst (PlaceMoves old.buffer Close reply new.life old.place) (sym shuts.place) (shutting.place old.buffer new.life old.place);
-      far = shuts.far;
-      ends = tt;
-      wants = λ wanting. absurd (cc (shutting.no_want));
-      idle = λ idle. absurd (cc (asked.busy));
-      in_hand = λ has. absurd has.of;
-      spares = λ reads _. shuts.spares reads;
-      writes = λ _. passing_writes old Close reply new asked.none (record {
-        leaves = shuts.leaves;
-        lays = shuts.lays;
-        passes = shutting.passes old new (record { none = shuts.none; holds = shuts.holds });
-        full = shutting.full new;
-        settles = λ held _. shuts.at held;
-        unclosed = λ some. absurd (some shuts.none);
-        rests = λ dead. absurd (dead asked.live);
-      });
-      at_once = λ failed is. absurd (cc);
-      answer = shutting.answer old.buffer old.can.writable;
-      told = closes.told;
-      near = λ lives. absurd (let dead : life.Closed ≡ life.Live = sym shuts.life_is ∙ lives in cc);
-    })
+    shows_answers old Close reply new asked.none (grind (arith, passing_writes))
 
 closes_raw : (old mid new : Stream) (result : Result (Unit {0}) IoFault) → ReadyToClose old mid → CloseRawOutcome mid result new → Answers old Close (done_reply result) new
 closes_raw old mid new (Ok done) ready closes =
@@ -266,15 +237,7 @@ pub close_answers : (old started mid new : Stream) (result : Result (Unit {0}) I
 close_answers old started mid new result is begins passed closes = answers_whole old new Close (done_reply result) (closes_raw (begun old) mid new result (ready_writing (begun old) mid is (subst (λ (stream : Stream). PassAllOutcome stream (Ok tt) mid) begins.1 passed)) closes)
 
 ready_at_once : (old : Stream) → IsSound old → old.life ≡ life.Live → old.short ≡ false → old.owed ≡ nothing_owed old.place → ReadyToClose old old
-ready_at_once old sound live whole none = record {
-  asked = (close_asked old sound live whole).asked;
-  passes = passes_itself old sound;
-  none = ap (λ (owed : Owed). owed.bytes) none;
-  live = live;
-  no_fault = λ _. refl;
-  no_wait = λ _. refl;
-  spares = λ reads. record { bytes = λ tells. refl; written = λ tells. refl; owed = none };
-}
+ready_at_once old sound live whole none = grind (arith, close_asked, passes_itself)
 
 -- a `close` of a stream that owes nothing is answered by the closing of the raw
 pub close_answers_at_once : (old started new : Stream) (result : Result (Unit {0}) IoFault) → IsSound (begun old) → old.owed ≡ nothing_owed old.place → Begins old (Ok tt) started → CloseRawOutcome started result new → Answers old Close (done_reply result) new

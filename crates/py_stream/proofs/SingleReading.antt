@@ -1,5 +1,5 @@
 -- What a reading by at most one transfer answers.
-use Rattle.std.proofs.Common.{◌≡◌, ◌≢◌, ℕ, suc, zero, ◌+◌, ◌<◌, ◌≤◌, Bool, true, false, ◌||◌, not, IsTrue, List, [], length, take, max, Option, Some, None, IsSome, unwrap_or, if◌then◌else◌, refl, sym, ap, ◌∙◌, subst, arith}
+use Rattle.std.proofs.Common.{◌≡◌, ◌≢◌, ℕ, suc, zero, ◌+◌, ◌<◌, ◌≤◌, Bool, true, false, ◌||◌, not, IsTrue, List, [], length, take, max, Option, Some, None, IsSome, unwrap_or, if◌then◌else◌, refl, sym, ap, ◌∙◌, subst, arith, rules}
 use Rattle.std.proofs.lemmas.Bool.{ne_eqb}
 use Rattle.std.proofs.lemmas.List.{length-append, length-take, length-drop}
 use Rattle.py_flat.specs.declared.fault.IoFault.{IoFault}
@@ -163,12 +163,7 @@ answers_once before mid call part once begun gives =
 pub unready_once : (before mid : Stream) (call : FileCall) → reads_once before.buffer call ≡ true → asks_none before.buffer call ≡ false → Reads before → Gives before [] mid → Rose before.raw.waits mid.raw.waits → mid.raw_place ≡ mid.place → WaitsOnce before.raw mid.raw → OneTransfer before mid → (IsSome before.buffer → 0 < ahead before → ⊥) → Answers before call NotReady (record mid { short = true })
 unready_once before mid call once asks begun given waits hides alone one none =
     let is : IsSingleCall before.buffer call = single_call before.buffer call once in
-    answers_unready before mid call is.reads (is.suits (file_of before) begun.readable) begun given waits hides alone (record {
-      nothing = λ nothing. absurd (cc);
-      one = λ _. one;
-      in_hand = λ buffered has. absurd (none buffered (is.ahead_is before buffered has));
-      each = λ several. absurd (let never = is.stops in cc);
-    })
+    answers_unready before mid call is.reads (is.suits (file_of before) begun.readable) begun given waits hides alone (grind arith)
 
 -- a reading whose transfer failed
 pub faulted_once : (before after : Stream) (call : FileCall) → reads_once before.buffer call ≡ true → asks_none before.buffer call ≡ false → Reads before → FailsReading before after → after.place ≡ before.place → OneTransfer before after → (IsSome before.buffer → 0 < ahead before → ⊥) → Answers before call (Refused fault.RawFault) after
@@ -186,12 +181,4 @@ unmoved_once before call once begun takes =
 pub wanting_once : (before after : Stream) (call : FileCall) → reads_once before.buffer call ≡ true → asks_none before.buffer call ≡ false → Reads before → KeepsReading before after → LeavesCounts before.raw after.raw → after.life ≡ life.Live → after.place ≡ before.place → has_room call ≡ false → reads_on call ≡ false → OneTransfer before after → (IsSome before.buffer → 0 < ahead before → after.raw ≡ before.raw) → Answers before call (Refused fault.NoMemory) after
 wanting_once before after call once asks begun kept counts live place room ends one still =
     let is : IsSingleCall before.buffer call = single_call before.buffer call once in
-    answers_wanting before after call is.reads (is.suits (file_of before) begun.readable) begun (record {
-      kept = kept;
-      counts = counts;
-      live = live;
-      place = place;
-      room = λ has. absurd (cc);
-      unmoved = λ on. absurd (cc);
-      asks = record { nothing = λ nothing. absurd (cc); one = λ _. one; in_hand = λ buffered has. still buffered (is.ahead_is before buffered has); each = λ several. absurd (let never = is.stops in cc) };
-    })
+    answers_wanting before after call is.reads (is.suits (file_of before) begun.readable) begun (grind (arith, unmoved))

@@ -1,5 +1,5 @@
 -- What a call answers where nothing stands in its way.
-use Rattle.std.proofs.Common.{◌≡◌, ◌≢◌, ℕ, ◌+◌, ◌≤◌, Bool, true, false, not, ◌||◌, List, length, Option, Some, None, IsSome, if◌then◌else◌, refl, ap, ◌∙◌, subst, subst₂, le-ltb}
+use Rattle.std.proofs.Common.{◌≡◌, ◌≢◌, ℕ, ◌+◌, ◌≤◌, Bool, true, false, not, ◌||◌, List, length, Option, Some, None, IsSome, if◌then◌else◌, refl, ap, ◌∙◌, subst, subst₂, le-ltb, arith, rules}
 use Rattle.py_flat.specs.declared.fault.IoFault.{IoFault}
 use Rattle.py_flat.specs.declared.fault.IoFault.TheVariants as fault
 use Rattle.py_flat.specs.declared.life.Life.{Life}

@@ -1,5 +1,5 @@
 -- What one step of a call that gives bytes after another takes and passes on.
-use Rattle.std.proofs.Common.{◌≡◌, ℕ, ◌+◌, ◌<◌, ◌≤◌, Option, Some, None, IsTrue, List, [], ◌++◌, length, take, drop, refl, sym, ap, ◌∙◌, subst, arith, add-zero, append_assoc, length-append, length-drop}
+use Rattle.std.proofs.Common.{◌≡◌, ℕ, ◌+◌, ◌<◌, ◌≤◌, Option, Some, None, IsTrue, List, [], ◌++◌, length, take, drop, refl, sym, ap, ◌∙◌, subst, arith, add-zero, append_assoc, length-append, length-drop, rules}
 use Rattle.std.proofs.Math.Seq.{take-append-add, take-add}
 use Rattle.std.proofs.lemmas.List.{length-take-le, take-append-le, drop-append-le, drop-drop, append-nil}
 use Rattle.py_flat.specs.declared.life.Life.TheVariants as life
@@ -44,14 +44,7 @@ keeps_itself stream sound = record { raw = keeps_same stream.raw; stays = refl; 
 
 -- two steps, one after the other, keep what each keeps
 pub keeps_then : (old mid new : Stream) → KeepsOn old mid → KeepsOn mid new → KeepsOn old new
-keeps_then old mid new first second = record {
-  raw = Keeps-then old.raw mid.raw new.raw first.raw second.raw;
-  stays = second.stays ∙ first.stays;
-  buffer = second.buffer ∙ first.buffer;
-  can = second.can ∙ first.can;
-  short = second.short ∙ first.short;
-  sound = second.sound;
-}
+keeps_then old mid new first second = grind arith
 
 -- a stream that fails after a step
 pub fails_sound : (stream : Stream) → IsSound stream → IsSound (record stream { life = life.Failed })
@@ -106,19 +99,7 @@ answers_still old mid new count kept one two = subst (λ (more : ℕ). AnswersFo
 
 -- a step that takes nothing and passes nothing on
 pub took_none : (stream : Stream) → IsSound stream → OwesBehind stream → stream.life ≡ life.Live → Took stream [] stream
-took_none stream sound behind live = record {
-  kept = keeps_itself stream sound;
-  was = behind;
-  behind = behind;
-  live = live;
-  no_fault = λ exact. refl;
-  passed = 0;
-  within = omega arith;
-  answered = λ tells. refl;
-  place = sym (add-zero stream.owed.place);
-  owed = sym (append-nil stream.owed.bytes);
-  told = λ tells. refl;
-}
+took_none stream sound behind live = grind (arith, keeps_itself, add-zero, append-nil)
 
 -- what two steps leave owed
 owed_then : (owed mid new front more : List ℕ) (first second : ℕ) → first ≤ length owed + length front → mid ≡ drop first (owed ++ front) → new ≡ drop second (mid ++ more) → new ≡ drop (first + second) (owed ++ (front ++ more))
@@ -231,10 +212,7 @@ fails_more old new bytes more fails =
 
 -- memory that runs out in a step after another
 pub lacks_then : (old mid new : Stream) (front more : List ℕ) → Took old front mid → Lacks mid more new → Lacks old (front ++ more) new
-lacks_then old mid new front more first second = record {
-  takes = subst IsTrue first.kept.raw.takes_memory second.takes;
-  took = took_then old mid new front more first second.took;
-}
+lacks_then old mid new front more first second = grind (arith, took_then)
 
 -- a call that runs out of memory in a step after another
 pub starves_then : (old mid new : Stream) (front more : List ℕ) (start : ℕ) → TookAll old front mid → StarvesTaking mid more start new → StarvesTaking old (front ++ more) start new
@@ -249,14 +227,7 @@ starves_then old mid new front more start so second = record {
 
 -- memory that ran out for some bytes ran out for more bytes too, that were never reached
 pub starves_more : (old new : Stream) (bytes more : List ℕ) (start : ℕ) → StarvesTaking old bytes start new → StarvesTaking old (bytes ++ more) start new
-starves_more old new bytes more start starves = record {
-  taken = starves.taken;
-  fits = omega (arith, starves.fits, length-append bytes more);
-  between = starves.between;
-  lacks = subst (λ (xs : List ℕ). Lacks old xs starves.between) (sym (take-append-le starves.taken bytes more starves.fits)) starves.lacks;
-  calm = starves.calm;
-  starved = starves.starved;
-}
+starves_more old new bytes more start starves = grind (arith, length-append, take-append-le)
 
 -- a wait in a step after another
 pub fills_then : (old mid new : Stream) (front more : List ℕ) → TookAll old front mid → FillsUp mid more new → FillsUp old (front ++ more) new
@@ -271,14 +242,7 @@ fills_then old mid new front more so second = record {
 
 -- a wait that stopped some bytes stopped more bytes too, that were never reached
 pub fills_more : (old new : Stream) (bytes more : List ℕ) → FillsUp old bytes new → FillsUp old (bytes ++ more) new
-fills_more old new bytes more fills = record {
-  taken = fills.taken;
-  less = omega (arith, fills.less, length-append bytes more);
-  took = subst (λ (xs : List ℕ). Took old xs new) (sym (take-append-le fills.taken bytes more (omega (arith, fills.less)))) fills.took;
-  full = fills.full;
-  waited = fills.waited;
-  once = fills.once;
-}
+fills_more old new bytes more fills = grind (arith, length-append, take-append-le)
 
 -- After a step: a failing, or running out of memory, of a step that takes nothing.
 
