@@ -30,6 +30,4 @@ uncaused old new false caused calm = refl
 
 -- an answer to an accepted call is complete where neither the waits nor the faults of the raw rose
 pub completes : (old new : Raw) (buffer : Option ℕ) (writes : Bool) (call : FileCall) (reply : FileReply) (short : Bool) → HasCauses old reply new short → IsShort call reply short → IsReplyTo buffer writes call reply → rose old.waits new.waits ≡ false → rose old.faults new.faults ≡ false → IsAnswerTo call reply × (short ≡ false)
-completes old new buffer writes call reply short causes shorts answers calm sound =
-    let whole : short ≡ false = uncaused old.waits new.waits short causes.waits calm in
-    (answers_whole buffer writes call reply short answers shorts whole (uncaused old.faults new.faults (says_fault reply) causes.faults sound), whole)
+completes old new buffer writes call reply short causes shorts answers calm sound = grind (arith, uncaused, answers_whole)

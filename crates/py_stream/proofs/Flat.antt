@@ -25,9 +25,7 @@ took_ends old new bytes took = omega (arith, took.was.ends, took.behind.ends, to
 
 -- the stream's place once the first n bytes were taken, and the raw failed
 pub fails_ends : (old new : Stream) (bytes : List ℕ) (fails : FailsTaking old bytes new) → new.place ≡ old.place + fails.taken
-fails_ends old new bytes fails =
-    let front : List ℕ = take fails.taken bytes in
-    omega (arith, fails.was.ends, fails.behind.ends, fails.within, fails.place, ap length fails.owed, length-drop fails.passed (old.owed.bytes ++ front), length-append old.owed.bytes front, length-take-le fails.taken bytes fails.fits)
+fails_ends old new bytes fails = grind (arith, length-drop, length-append, length-take-le)
 
 -- Over plain lists: a raw's bytes, those that it is owed, and a call's own after them.
 
@@ -36,9 +34,7 @@ flat_laid : (raw : List ℕ) (place : ℕ) (owed own : List ℕ) (kept laid : �
 flat_laid raw place owed own kept laid fits within = lay_resumes raw place (owed ++ own) kept laid fits (omega (arith, length-append owed own)) ∙ sym (lay_behind raw place owed own)
 
 laid_within : (raw : List ℕ) (place : ℕ) (owed own : List ℕ) (count : ℕ) → count ≤ length owed → lay raw place (take count (owed ++ own)) ≡ lay (lay raw place (take count owed)) (place + length owed) (take (count - length owed) own)
-laid_within raw place owed own count within =
-    let none : count - length owed ≡ 0 = omega arith in
-    rw none (ap (lay raw place) (take-append-le count owed own within))
+laid_within raw place owed own count within = grind (arith, take-append-le)
 
 laid_beyond : (raw : List ℕ) (place : ℕ) (owed own : List ℕ) (count : ℕ) → length owed ≤ count → lay raw place (take count (owed ++ own)) ≡ lay (lay raw place owed) (place + length owed) (take (count - length owed) own)
 laid_beyond raw place owed own count beyond =
@@ -98,25 +94,15 @@ flat_of stream = (file_of stream).bytes
 
 -- told: the flat file has the bytes that were taken, after the place
 pub took_bytes : (old new : Stream) (bytes : List ℕ) → Took old bytes new → WhereTold old.raw (flat_of new ≡ lay (flat_of old) old.place bytes)
-took_bytes old new bytes took tells =
-    rw (took.told tells, took.place, took.owed) (flat_laid old.raw.bytes old.owed.place old.owed.bytes bytes took.passed took.passed (omega arith) took.within)
-    ∙ ap (λ (place : ℕ). lay (flat_of old) place bytes) took.was.ends
+took_bytes old new bytes took tells = grind (arith, flat_laid)
 
 -- a live stream's file, by its bytes and its place
 pub file_now : (old new : Stream) → KeepsOn old new → new.life ≡ old.life → file_of new ≡ record (file_of old) { bytes = flat_of new; place = new.place }
-file_now old new kept same =
-    let buffering : buffering_of new.buffer ≡ buffering_of old.buffer = ap buffering_of kept.buffer in
-    let can : new.can ≡ old.can = kept.can in
-    cc
+file_now old new kept same = grind arith
 
 -- the stream's flat file once bytes were taken is as after a write
 pub took_file : (old new : Stream) (bytes : List ℕ) → old.life ≡ life.Live → Took old bytes new → WhereTold old.raw (file_of new ≡ after_write (file_of old) bytes)
-took_file old new bytes live took tells =
-    let laid : flat_of new ≡ lay (flat_of old) old.place bytes = took_bytes old new bytes took tells in
-    let place : new.place ≡ old.place + length bytes = took_ends old new bytes took in
-    file_now old new took.kept (took.live ∙ sym live)
-    ∙ ap (λ (all : List ℕ). record (file_of old) { bytes = all; place = new.place }) laid
-    ∙ ap (λ (at : ℕ). record (file_of old) { bytes = lay (flat_of old) old.place bytes; place = at }) place
+took_file old new bytes live took tells = grind (arith, took_bytes, took_ends, file_now)
 
 -- the stream's place where no bytes were taken
 pub took_none_ends : (old new : Stream) → Took old [] new → new.place ≡ old.place
@@ -149,14 +135,8 @@ fails_bytes old new bytes fails tells =
 
 -- told: the raw has the bytes in order, of which the first were taken
 pub lays_taken : (old new : Stream) (own : List ℕ) (taken : ℕ) → taken ≤ length own → Took old (take taken own) new → WhereTold old.raw (LaidInOrder old own new.raw.bytes)
-lays_taken old new own taken fits took tells =
-    let owed : List ℕ = old.owed.bytes in
-    let more : ℕ = took.passed - length owed in
-    grind (arith, laid_in_order, take_front, length-take-le)
+lays_taken old new own taken fits took tells = grind (arith, laid_in_order, take_front, length-take-le)
 
 -- told: the raw has the bytes in order, where it failed
 pub fails_lays : (old new : Stream) (bytes : List ℕ) → FailsTaking old bytes new → WhereTold old.raw (LaidInOrder old bytes new.raw.bytes)
-fails_lays old new bytes fails tells =
-    let further = fails.told tells in
-    let owed : List ℕ = old.owed.bytes in
-    grind (arith, laid_in_order)
+fails_lays old new bytes fails tells = grind (arith, laid_in_order)

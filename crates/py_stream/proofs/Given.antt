@@ -279,12 +279,7 @@ pub record GoesOn (buffer : Option ℕ) (call : FileCall) : Type 0 where
   pub fails : (taken : ℕ) → taken ≤ length (payload call) → FailsCount buffer call taken
 
 goes_on_all : (buffer : Option ℕ) (call : FileCall) → is_writing call ≡ true → goes_on buffer call ≡ true → GoesOn buffer call
-goes_on_all buffer call writing = of_all (λ (buffer : Option ℕ) (call : FileCall). goes_on buffer call ≡ true → GoesOn buffer call)
-    (λ size bytes goes. record { all = refl; waits = λ taken less. less; says = λ taken. refl; fails = λ taken fits. fits })
-    (λ bytes goes. absurd (cc))
-    (λ size lines goes. record { all = refl; waits = λ taken less. less; says = λ taken. refl; fails = λ taken fits. fits })
-    (λ lines goes. record { all = refl; waits = λ taken less. less; says = λ taken. refl; fails = λ taken fits. fits })
-    buffer call writing
+goes_on_all buffer call writing = grind (arith, of_all)
 
 -- a call that took all of its bytes
 pub giving_takes : (first old new : Stream) (call : FileCall) → Begun first old call → TookAll old (payload call) new → Answers first call (taken_reply call (length (payload call))) new

@@ -62,20 +62,13 @@ pub record IsGiving (call : FileCall) : Type 0 where
 
 -- what is alike of both calls holds of each call that gives bytes
 pub is_giving : (call : FileCall) → is_writing call ≡ true → IsGiving call
-is_giving call writing = of_both IsGiving
-    (λ bytes. record { closes = λ stream. refl; asks = λ file. refl; refuses = λ file. refl; getter = refl; other = refl; tells = refl; ends = λ before reply after. tt; passes = λ before reply after. tt; lays = λ before after laid. laid; reads = refl; unheld = λ before never. never; some = λ buffer. refl; calls = λ buffer writes. refl; lasts = refl })
-    (λ lines. record { closes = λ stream. refl; asks = λ file. refl; refuses = λ file. refl; getter = refl; other = refl; tells = refl; ends = λ before reply after. tt; passes = λ before reply after. tt; lays = λ before after laid. laid; reads = refl; unheld = λ before never. never; some = λ buffer. refl; calls = λ buffer writes. refl; lasts = refl })
-    call writing
+is_giving call writing = grind (arith, of_both)
 
 -- What refuses a call that gives bytes.
 
 -- a live stream that takes bytes refuses a call only for the place of the bytes
 live_refusal : (stream : Stream) (call : FileCall) → is_writing call ≡ true → stream.life ≡ life.Live → stream.can.writable ≡ true → refusal (file_of stream) call ≡ too_far (stream.place + length (payload call))
-live_refusal stream call writing live can =
-    let far : Option IoFault = too_far (stream.place + length (payload call)) in
-    (is_giving call writing).refuses (file_of stream)
-    ∙ ap (λ (current : Life). or_else (if lets_through current (buffering_of stream.buffer) call then None else life_fault current) (or_else (refused_if (not stream.can.writable) fault.Unsupported) far)) live
-    ∙ ap (λ (writes : Bool). or_else (refused_if (not writes) fault.Unsupported) far) can
+live_refusal stream call writing live can = grind (arith, is_giving)
 
 -- a live stream refuses what would go past the greatest place
 pub writing_too_far : (before after : Stream) (call : FileCall) → is_writing call ≡ true → IsPlaced before → before.can.writable ≡ true → Begins before (Ok tt) after → greatest_place < before.place + length (payload call) → Answers before call (Refused fault.TooFar) after
@@ -108,8 +101,7 @@ pub record MayWrite (old : Stream) (call : FileCall) : Type 0 where
 
 -- a stream that may place a call's bytes doesn't refuse the call
 pub accepted : (old : Stream) (call : FileCall) → MayWrite old call → refusal (file_of old) call ≡ None
-accepted old call may = live_refusal old call may.writing may.live may.can
-    ∙ ap (λ (beyond : Bool). refused_if beyond fault.TooFar) (le-ltb greatest_place (old.place + length (payload call)) may.within)
+accepted old call may = grind (arith, live_refusal, le-ltb)
 
 -- the raw may be called
 pub works : (old : Stream) (call : FileCall) → MayWrite old call → IsTrue (does_work (file_of old) call)
@@ -137,11 +129,7 @@ pub record Comes (old : Stream) (call : FileCall) (reply : FileReply) (short : B
 
 -- what a call that gives bytes did with them
 coming_writes : (old new : Stream) (call : FileCall) (reply : FileReply) (short : Bool) → MayWrite old call → Comes old call reply short new → Writes old call reply (record new { short = short })
-coming_writes old new call reply short may comes =
-    let left : Stream = record new { short = short } in
-    let giving : IsGiving call = is_giving call may.writing in
-    let up_to : OwesUpTo old.owed old.place = inr may.behind.ends in
-    grind (arith, owes_both, lays_front)
+coming_writes old new call reply short may comes = grind (arith, is_giving, owes_both, lays_front)
 
 -- what a call that gives bytes left answers it
 pub answers_coming : (old new : Stream) (call : FileCall) (reply : FileReply) (short : Bool) → MayWrite old call → Comes old call reply short new → Answers old call reply (record new { short = short })
@@ -277,12 +265,7 @@ none_written file bytes taken none = ap (λ (n : ℕ). after_write file (take n 
 
 -- each call that gives bytes has the answer of one that had to wait
 pub is_blocked : (old : Stream) (taken : ℕ) (buffer : Option ℕ) (call : FileCall) → is_writing call ≡ true → IsBlocked old taken buffer call
-is_blocked old taken buffer call writing = of_all (IsBlocked old taken)
-    (λ size bytes. record { no_fault = refl; no_want = refl; shorts = refl; life_is = λ before after same. same; place = λ current before after less at. (less, at); full = λ after is. is; straight = λ after. tt; answers = refl; waited = λ after less is. record { taken = taken; less = less; says = refl; leaves = is } })
-    (λ bytes. record { no_fault = refl; no_want = refl; shorts = refl; life_is = λ before after same. same; place = λ current before after none at. omega (arith, none, at); full = λ after is. tt; straight = λ after. tt; answers = refl; waited = λ after none is. (refl, is ∙ none_written (file_of (record old { buffer = None })) bytes taken none) })
-    (λ size lines. record { no_fault = refl; no_want = refl; shorts = refl; life_is = λ before after same. same; place = λ current before after less at. (less, at); full = λ after is. is; straight = λ after. tt; answers = refl; waited = λ after less is. record { taken = taken; less = less; says = refl; leaves = is } })
-    (λ lines. record { no_fault = refl; no_want = refl; shorts = refl; life_is = λ before after same. same; place = λ current before after less at. (less, at); full = λ after is. is; straight = λ after. tt; answers = refl; waited = λ after less is. record { taken = taken; less = less; says = refl; leaves = is } })
-    buffer call writing
+is_blocked old taken buffer call writing = grind (arith, of_all, none_written)
 
 -- the raw failed, or memory ran out once it took some: no byte is counted of a `write` without a buffer
 abbrev pub FailsCount : Option ℕ → FileCall → ℕ → Type 0
@@ -301,9 +284,4 @@ pub record IsFaulted (old : Stream) (taken : ℕ) (buffer : Option ℕ) (call : 
 
 -- each call that gives bytes has the answer of one that was stopped
 pub is_faulted : (old : Stream) (taken : ℕ) (buffer : Option ℕ) (call : FileCall) → is_writing call ≡ true → IsFaulted old taken buffer call
-is_faulted old taken buffer call writing = of_all (IsFaulted old taken)
-    (λ size bytes. record { life_is = λ before. refl; place = λ current before after fits at. (omega (arith, at), omega (arith, at, fits)); faulted = λ after fails. fails; starved_life = λ before goes. inr refl; starved_place = λ before after fits at. (omega (arith, at), omega (arith, at, fits)); starved = λ after fails. inr fails; same = λ after is. inl is })
-    (λ bytes. record { life_is = λ before. refl; place = λ current before after none at. omega (arith, at, none); faulted = λ after fails. fails; starved_life = λ before goes. absurd (cc); starved_place = λ before after fits at. (omega (arith, at), omega (arith, at, fits)); starved = λ after fails. inr fails; same = λ after is. inl is })
-    (λ size lines. record { life_is = λ before. refl; place = λ current before after fits at. (omega (arith, at), omega (arith, at, fits)); faulted = λ after fails. fails; starved_life = λ before goes. inr refl; starved_place = λ before after fits at. (omega (arith, at), omega (arith, at, fits)); starved = λ after fails. inr fails; same = λ after is. inl is })
-    (λ lines. record { life_is = λ before. refl; place = λ current before after fits at. (omega (arith, at), omega (arith, at, fits)); faulted = λ after fails. fails; starved_life = λ before goes. inr refl; starved_place = λ before after fits at. (omega (arith, at), omega (arith, at, fits)); starved = λ after fails. inr fails; same = λ after is. inl is })
-    buffer call writing
+is_faulted old taken buffer call writing = grind (arith, of_all)

@@ -53,9 +53,7 @@ made raw place raw_place can current buffer short owed held = record { raw = raw
 -- the stream is as it was, but for its raw and its life
 same_stream : (old new : Stream) (left : Life) → StandsAsBefore old new → new.life ≡ left → new ≡ record old { raw = new.raw; life = left }
 unfolding made
-same_stream old new left stands is =
-    let all : made new.raw new.place new.raw_place new.can new.life new.buffer new.short new.owed new.held ≡ made new.raw old.place old.raw_place old.can left old.buffer old.short old.owed old.held = cc (is, stands.place, stands.raw_place, stands.owed, stands.held, stands.kept.buffer, stands.kept.can, stands.kept.short) in
-    all
+same_stream old new left stands is = grind (arith, made)
 
 stands_then : (old mid new : Stream) → StandsAsBefore old mid → StandsAsBefore mid new → StandsAsBefore old new
 stands_then old mid new first second = grind (arith, keeps_then, answers_still)
@@ -149,9 +147,7 @@ target_refuses : (old new : Stream) (offset whence : ℤ) (why : IoFault) → Ma
 target_refuses old new offset (pos zero) why may found = argument_refuses old new offset (pos zero) why may refl found.0 (bad_place_is_own why (target_why (moved_by 0 offset) why found.0)) found.1
 target_refuses old new offset (pos (suc zero)) why may found = argument_refuses old new offset (pos (suc zero)) why may refl found.0 (bad_place_is_own why (target_why (moved_by old.place offset) why found.0)) found.1
 target_refuses old new offset (pos (suc (suc zero))) why may found = from_end_refuses old new offset why may found
-target_refuses old new offset whence why may found =
-    let own : why ≡ fault.BadWhence = let same : Err why ≡ Err fault.BadWhence = found.0 in cc in
-    argument_refuses old new offset whence why may refl (ap (λ (fault : IoFault). Some fault) (sym own)) (ap is_own own) found.1
+target_refuses old new offset whence why may found = grind (arith, argument_refuses, is_own)
 
 -- a seek that found no target
 pub seek_finds_nothing : (old started new : Stream) (offset whence : ℤ) (why : IoFault) → MaySeek (begun old) → Begins old (Ok tt) started → TargetOutcome started offset whence (Err why) new → Answers old (Seek offset whence) (Refused why) new
@@ -185,9 +181,7 @@ finds_target old found offset whence target may wrong = let never : Ok target �
 
 -- a seek that found its target
 pub seek_finds : (old started found : Stream) (offset whence : ℤ) (target : ℕ) → MaySeek (begun old) → Begins old (Ok tt) started → TargetOutcome started offset whence (Ok target) found → Finds (begun old) offset whence target found
-seek_finds old started found offset whence target may begins outcome =
-    let is = finds_target (begun old) found offset whence target may (subst (λ (stream : Stream). TargetOutcome stream offset whence (Ok target) found) begins.1 outcome) in
-    record { out = is.0; still = is.1; to = goes (begun old) offset whence target may is.2 }
+seek_finds old started found offset whence target may begins outcome = grind (arith, finds_target, begun, goes)
 
 -- a seek that the bytes held answer by themselves goes to a place that they cover
 module _ (old found : Stream) (offset whence : ℤ) (target : ℕ) (finds : Finds old offset whence target found) (has : InHand old (Seek offset whence)) where
@@ -265,17 +259,8 @@ gone old mid new offset whence target may to beside passes empty no_fault no_wai
 
 -- the raw failed to move, or wanted memory
 going_refused : (old found new : Stream) (offset whence : ℤ) (target : ℕ) (why : IoFault) → MaySeek old → Finds old offset whence target found → GoOutcome found target (Err why) new → Answers old (Seek offset whence) (Refused why) new
-going_refused old found new offset whence target fault.RawFault may finds fails =
-    let out : StandsAsBefore old found = finds.out.stands in
-    let stands : StandsAsBefore old new = stands_then old found new out fails.0.stands in
-    fault_fails old new (Seek offset whence) (reaching old offset whence may finds.to.asks)
-    (grind (arith, reads_still, buffered_still, held_still, spared))
-    (fault_fails_seek offset whence) (passes_nothing old new stands) fails.0.failed (faulted_then old.raw found.raw new.raw out.kept.raw fails.0.cause) (no_wait_then old.raw found.raw new.raw out.kept.raw finds.out.counts.no_wait fails.0.no_wait)
-going_refused old found new offset whence target fault.NoMemory may finds wants =
-    let out : FoundOut old found = finds.out in
-    subst (λ (after : Stream). Answers old (Seek offset whence) (Refused fault.NoMemory) after) (sym wants.1)
-    (lacking_answers old found (Seek offset whence) (reaching old offset whence may finds.to.asks) (record { in_hand = λ has. record { raw = finds.still has.of; fault = refl }; spares = λ _. spared old found found.life out.stands })
-    (sym out.stands.kept.raw.takes_memory ∙ wants.0) (passes_nothing old found out.stands) (out.life_is ∙ may.live) out.counts.no_fault out.counts.no_wait)
+going_refused old found new offset whence target fault.RawFault may finds fails = grind (arith, stands_then, fault_fails, reaching, reads_still, buffered_still, held_still, spared, fault_fails_seek, passes_nothing, faulted_then, no_wait_then)
+going_refused old found new offset whence target fault.NoMemory may finds wants = grind (arith, lacking_answers, reaching, spared, passes_nothing)
 going_refused old found new offset whence target why may finds never = absurd never
 
 -- a stream that owes nothing fails to move
@@ -322,29 +307,18 @@ found_took old found seeks out = grind (arith, append-nil, tells_its_bytes)
 
 passes_all_then : (old mid new : Stream) (result : Result (Unit {0}) IoFault) → Took old [] mid → NoWait old.raw mid.raw → PassAllOutcome mid result new → PassAllOutcome old result new
 passes_all_then old mid new (Ok done) took no_wait passed = (took_on old mid new [] took passed.0, no_wait_then old.raw mid.raw new.raw took.kept.raw no_wait passed.1, passed.2)
-passes_all_then old mid new (Err (fault.WouldBlock taken)) took no_wait waits = (
-  waits.0,
-  subst (λ (short : Bool). Took old [] (record new { short = short })) took.kept.short (took_on old mid (record new { short = mid.short }) [] took waits.1),
-  waits.2,
-  waited_then old.raw mid.raw new.raw took.kept.raw waits.3,
-  waits_once_then old.raw mid.raw new.raw took.kept.raw no_wait waits.4,
-)
+passes_all_then old mid new (Err (fault.WouldBlock taken)) took no_wait waits = grind (arith, took_on, waited_then, waits_once_then)
 passes_all_then old mid new (Err fault.RawFault) took no_wait fails = (fails_on old mid new [] (record { took = took; calm = calm_of old.buffer old.raw mid.raw no_wait }) fails.0, no_wait_then old.raw mid.raw new.raw took.kept.raw no_wait fails.1, fails.2)
 passes_all_then old mid new (Err fault.NoMemory) took no_wait lacks = (lacks_on old mid new [] took lacks.0, no_wait_then old.raw mid.raw new.raw took.kept.raw no_wait lacks.1)
 passes_all_then old mid new (Err why) took no_wait never = absurd never
 
 -- the raw was left alone after some was passed on
 passes_still : (old mid new : Stream) → PassesSome old mid → StandsAsBefore mid new → PassesSome old new
-passes_still old mid new passes stands =
-    let bytes : WhereTold old.raw (new.raw.bytes ≡ mid.raw.bytes) = λ tells. stands.bytes (passes.kept.raw.tells_bytes ∙ tells_its_bytes old.raw tells) in
-    grind (arith, keeps_then, answers_still)
+passes_still old mid new passes stands = grind (arith, tells_its_bytes, keeps_then, answers_still)
 
 -- the raw failed to move, or wanted memory
 moving_fails : (old mid new : Stream) (offset whence : ℤ) (target : ℕ) (why : IoFault) → SeeksWriting old → Goes old offset whence target → PassAllOutcome old (Ok tt) mid → GoOutcome mid target (Err why) new → Answers old (Seek offset whence) (Refused why) new
-moving_fails old mid new offset whence target fault.RawFault seeks to passed fails =
-    let took : Took old [] mid = passed.0 in
-    fault_fails old new (Seek offset whence) (reaching old offset whence seeks.may to.asks) (beside_writing old (Seek offset whence) (Refused fault.RawFault) (record new { life = life.Failed }) seeks.writes (not_held old offset whence seeks)) (fault_fails_seek offset whence)
-    (passes_still old mid new (took_passes old mid took) fails.0.stands) fails.0.failed (faulted_then old.raw mid.raw new.raw took.kept.raw fails.0.cause) (no_wait_then old.raw mid.raw new.raw took.kept.raw passed.1 fails.0.no_wait)
+moving_fails old mid new offset whence target fault.RawFault seeks to passed fails = search (rules, fault_fails, reaching, beside_writing, not_held, fault_fails_seek, passes_still, took_passes, faulted_then, no_wait_then)
 moving_fails old mid new offset whence target fault.NoMemory seeks to passed wants =
     let took : Took old [] mid = passed.0 in
     subst (λ (after : Stream). Answers old (Seek offset whence) (Refused fault.NoMemory) after) (sym wants.1)
@@ -355,10 +329,7 @@ moving_fails old mid new offset whence target why seeks to passed never = absurd
 
 -- a stop of the passing on answers the seek
 pub seek_stops : (old found new : Stream) (offset whence : ℤ) (target : ℕ) (why : IoFault) → SeeksWriting (begun old) → Finds (begun old) offset whence target found → PassAllOutcome found (Err why) new → Answers old (Seek offset whence) (Refused why) new
-seek_stops old found new offset whence target why seeks finds stops =
-    answers_whole old new (Seek offset whence) (Refused why)
-    (pass_all_refuses (begun old) new (Seek offset whence) seeks.size why (accepts_seek (begun old) offset whence target seeks finds.to) seeks.buffered seeks.writes (not_held (begun old) offset whence seeks) (fault_fails_seek offset whence)
-    (passes_all_then (begun old) found new (Err why) (found_took (begun old) found seeks finds.out) finds.out.counts.no_wait stops))
+seek_stops old found new offset whence target why seeks finds stops = search (rules, answers_whole, pass_all_refuses, begun, accepts_seek, not_held, fault_fails_seek, passes_all_then, found_took)
 
 -- a failing of the moving answers the seek
 pub seek_fails : (old found mid new : Stream) (offset whence : ℤ) (target : ℕ) (why : IoFault) → SeeksWriting (begun old) → Finds (begun old) offset whence target found → PassAllOutcome found (Ok tt) mid → GoOutcome mid target (Err why) new → Answers old (Seek offset whence) (Refused why) new

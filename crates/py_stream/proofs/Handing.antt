@@ -34,9 +34,7 @@ fault_fails_detach = record { dead = refl; life_is = λ buffer current. refl; st
 
 -- a closed stream has its raw no more to give
 pub closed_detach : (old : Stream) → old.life ≡ life.Closed → old.place ≤ greatest_place → Answers old Detach (Refused fault.Closed) (begun old)
-closed_detach old closed far =
-    refused_by_life old (begun old) Detach fault.Closed (record { far = far; near = λ live. absurd (let dead : life.Closed ≡ life.Live = sym closed ∙ live in cc) })
-    refl refl (ap (λ (current : Life). lets_through current (buffering_of old.buffer) Detach) closed) (ap life_fault closed) refl
+closed_detach old closed far = grind (arith, refused_by_life, begun)
 
 -- what stops the passing on refuses a `detach` of a stream with a buffer that writes
 pub detach_refuses : (old new : Stream) (current : Life) (why : IoFault) → old.life ≡ current → (current ≡ life.Live → IsWriting (begun old)) → old.place ≤ greatest_place → BeginDetachIn current (begun old) (Err why) new → Answers old Detach (Refused why) new
@@ -44,9 +42,7 @@ detach_refuses old new life.Live why is writing far stops =
     let may : IsWriting (begun old) = writing refl in
     answers_whole old new Detach (Refused why) (pass_all_refuses (begun old) new Detach may.size why (detach_asked (begun old) may) may.buffered may.writes (λ has. has.of) fault_fails_detach stops)
 detach_refuses old new life.Failed why is writing far stops = absurd (let wrong : Err why ≡ Ok tt = stops.0 in cc)
-detach_refuses old new life.Closed why is writing far stops =
-    let own : why ≡ fault.Closed = let same : Err why ≡ Err fault.Closed = stops.0 in cc in
-    rw (own, stops.1) (closed_detach old is far)
+detach_refuses old new life.Closed why is writing far stops = grind (arith, closed_detach)
 detach_refuses old new life.Detached why is writing far never = absurd never
 
 -- The raw is handed back as it is.
@@ -70,8 +66,7 @@ AtOnce old = (old.life ≡ life.Failed) ⊎ ((old.life ≡ life.Live) × (old.ca
 
 hands_told : (old : Stream) → AtOnce old → DetachesIn old.life (file_of old) (unwritten old) (file_of (given old))
 hands_told old (inl failed) = subst (λ (current : Life). DetachesIn current (file_of old) (unwritten old) (file_of (given old))) (sym failed) (grind (arith, stands_there))
-hands_told old (inr (live, reads, none)) = subst (λ (current : Life). DetachesIn current (file_of old) (unwritten old) (file_of (given old))) (sym live)
-    (ap (λ (owed : Owed). (Unwritten owed.bytes (place_handed old owed), file_of (given old))) none)
+hands_told old (inr (live, reads, none)) = grind arith
 
 never_passes : (old : Stream) → AtOnce old → old.can.writable ≡ true → old.life ≡ life.Live → ⊥
 never_passes old (inl failed) writes live = let dead : life.Failed ≡ life.Live = sym failed ∙ live in cc
@@ -82,10 +77,7 @@ still_open old (inl failed) = ap is_closed failed
 still_open old (inr (live, reads, none)) = ap is_closed live
 
 detaches_in : (old : Stream) (size : ℕ) (current : Life) → old.buffer ≡ Some size → old.life ≡ current → lets_through current (buffering_of (Some size)) Detach ≡ true → refusal (file_of old) Detach ≡ None
-detaches_in old size current buffered is through =
-    ap (λ (left : Life). refusal (file_of (record old { life = left })) Detach) is
-    ∙ ap (λ (buffer : Option ℕ). refusal (file_of (record old { life = current; buffer = buffer })) Detach) buffered
-    ∙ ap (λ (lets : Bool). or_else (if lets then None else life_fault current) None) through
+detaches_in old size current buffered is through = grind arith
 
 let_go : (old : Stream) (size : ℕ) → old.buffer ≡ Some size → AtOnce old → refusal (file_of old) Detach ≡ None
 let_go old size buffered (inl failed) = detaches_in old size life.Failed buffered failed refl

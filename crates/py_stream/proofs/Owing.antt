@@ -14,24 +14,15 @@ has_none whole begins place = let none : 0 - (begins - place) ≡ 0 = omega arit
 
 -- a list that begins with what is left of a part, in or behind its beginning
 has_front : (part more : List ℕ) (begins place : ℕ) → place ≤ begins → HasAt (drop (begins - place) part ++ more) begins part place
-has_front part more begins place before =
-    let none : place - begins ≡ 0 = omega arith in
-    rw none (take_at (drop (begins - place) part) more (length part - (begins - place)) (length-drop (begins - place) part))
+has_front part more begins place before = grind (arith, take_at, length-drop)
 
 -- a list has the part that stands behind a front of it, at the place after that front
 has_behind : (front part : List ℕ) (begins place : ℕ) → place ≡ begins + length front → HasAt (front ++ part) begins part place
-has_behind front part begins place is =
-    let far : place - begins ≡ length front = omega (arith, is) in
-    let none : begins - place ≡ 0 = omega (arith, is) in
-    let all : drop (length front + 0) (front ++ part) ≡ drop 0 part = drop-append-add front part 0 in
-    let zero_more : length front + 0 ≡ length front = omega arith in
-    rw (far, none) (ap (take (length part - 0)) (rw zero_more at all) ∙ take_all (length part - 0) part (omega arith))
+has_behind front part begins place is = grind (arith, drop-append-add, take_all)
 
 -- a list that begins after the end of a part has what reaches into it of that part: none
 has_past : (whole : List ℕ) (begins : ℕ) (part : List ℕ) (place : ℕ) → place + length part ≤ begins → HasAt whole begins part place
-has_past whole begins part place past =
-    let none : length part - (begins - place) ≡ 0 = omega (arith, past) in
-    rw none (sym (drop_all (begins - place) part (omega (arith, past))))
+has_past whole begins part place past = grind (arith, drop_all)
 
 -- Where what is owed ends at the place.
 
@@ -45,9 +36,7 @@ module _ (old taken : List ℕ) (start place passed at : ℕ) (new : List ℕ) (
 
   -- once all that was owed is passed on, what is left is the end of what was taken
   in_taken : length old ≤ passed → (new ≡ drop (passed - length old) taken) × (at ≡ place + (passed - length old))
-  in_taken late =
-      let split : length old + (passed - length old) ≡ passed = omega (arith, late) in
-      (is ∙ ap (λ (n : ℕ). drop n (old ++ taken)) (sym split) ∙ drop-append-add old taken (passed - length old), omega (arith, many, ends, some, late))
+  in_taken late = grind (arith, drop-append-add, many)
 
   has_new : HasAt new at taken place
   has_new = ⊎_elim
@@ -58,12 +47,7 @@ module _ (old taken : List ℕ) (start place passed at : ℕ) (new : List ℕ) (
       (cases_lt passed (length old))
 
   has_old : start + length old ≡ place → HasAt new at old start
-  has_old whole = ⊎_elim
-      (λ (early : passed < length old). let here = in_old (omega (arith, early)) in
-      let front : new ≡ drop (at - start) old ++ taken = here.0 ∙ ap (λ (n : ℕ). drop n old ++ taken) (omega (arith, here.1, whole, length-drop passed old, early)) in
-      subst (λ (whole : List ℕ). HasAt whole at old start) (sym front) (has_front old taken at start (omega (arith, here.1, whole, length-drop passed old, early))))
-      (λ (late : length old ≤ passed). let here = in_taken late in has_past new at old start (omega (arith, here.1, whole)))
-      (cases_lt passed (length old))
+  has_old whole = grind (arith, in_old, length-drop, has_front, in_taken, has_past, cases_lt)
 
 -- the place of the first of both
 begins_by : (old : List ℕ) (start place at : ℕ) → (old ≡ []) ⊎ (start + length old ≡ place) → place ≤ at + length old → first_of_both old start place ≤ at
@@ -131,16 +115,11 @@ first_owed (byte ∷ more) start place some = omega arith
 
 -- a part that stands in a list
 has_part : (whole : List ℕ) (begins : ℕ) (part : List ℕ) (place : ℕ) → begins ≤ place → take (length part) (drop (place - begins) whole) ≡ part → HasAt whole begins part place
-has_part whole begins part place behind is =
-    let none : begins - place ≡ 0 = omega (arith, behind) in
-    let all : length part - 0 ≡ length part = omega arith in
-    rw (none, all) is
+has_part whole begins part place behind is = grind arith
 
 front_of_all : (count : ℕ) (whole : List ℕ) → take (length (take count whole)) whole ≡ take count whole
 front_of_all count whole = ap (λ (n : ℕ). take n whole) (length-take count whole) ∙ take_min count whole
 
 -- a call that took nothing, and left what was owed, owes what is owed after a write of none
 pub owes_as_before : (before after : Stream) (bytes : List ℕ) → after.place ≡ before.place → after.owed ≡ before.owed → OwesBoth before bytes after
-owes_as_before before after bytes place same =
-    let owed : Owed = before.owed in
-    subst (λ (left : Owed). OwesBoth before bytes (record after { owed = left })) (sym same) (grind (arith, first_owed, has_none, has_part, front_of_all, take_all))
+owes_as_before before after bytes place same = grind (arith, first_owed, has_none, has_part, front_of_all, take_all)

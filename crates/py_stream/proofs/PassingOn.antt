@@ -52,11 +52,7 @@ stands_itself stream sound = record { kept = keeps_itself stream sound; bytes = 
 
 -- a stream that stands as it stood passed nothing on
 pub passes_nothing : (old new : Stream) → StandsAsBefore old new → PassesSome old new
-passes_nothing old new stands =
-    let bytes : WhereTold old.raw (new.raw.bytes ≡ old.raw.bytes) = λ tells. stands.bytes (tells_its_bytes old.raw tells) in
-    let place : new.owed.place ≡ old.owed.place = ap (λ (owed : Owed). owed.place) stands.owed in
-    let owed : new.owed.bytes ≡ old.owed.bytes = ap (λ (owed : Owed). owed.bytes) stands.owed in
-    grind arith
+passes_nothing old new stands = grind (arith, tells_its_bytes)
 
 -- a stream itself passed nothing on
 pub passes_itself : (stream : Stream) → IsSound stream → PassesSome stream stream
@@ -73,12 +69,7 @@ lays_some old new up_to laid tells = lays_front old [] new.raw.bytes up_to (reco
 
 -- a step that took nothing passed on a front
 pub took_passes : (old new : Stream) → Took old [] new → PassesSome old new
-took_passes old new took =
-    let all : old.owed.bytes ++ [] ≡ old.owed.bytes = append-nil old.owed.bytes in
-    let within : took.passed ≤ length old.owed.bytes = omega (arith, took.within) in
-    let owed : new.owed.bytes ≡ drop took.passed old.owed.bytes = took.owed ∙ ap (drop took.passed) all in
-    let told : WhereTold old.raw (new.raw.bytes ≡ lay old.raw.bytes old.owed.place (take took.passed old.owed.bytes)) = λ tells. took.told tells ∙ ap (λ (bytes : List ℕ). lay old.raw.bytes old.owed.place (take took.passed bytes)) all in
-    grind (arith, length-drop, none_owed_at, lays_some)
+took_passes old new took = grind (arith, append-nil, length-drop, none_owed_at, lays_some)
 
 take_of_none : (count : ℕ) (bytes : List ℕ) → bytes ≡ [] → take count bytes ≡ []
 take_of_none zero bytes none = refl
@@ -86,24 +77,13 @@ take_of_none (suc count) bytes none = ap (take (suc count)) none
 
 -- a failing that had nothing of its own to take passed on a front
 pub failing_passes : (old new : Stream) → FailsTaking old [] new → PassesSome old new
-failing_passes old new fails =
-    let all : old.owed.bytes ++ [] ≡ old.owed.bytes = append-nil old.owed.bytes in
-    let none : take fails.taken (let no : List ℕ = [] in no) ≡ [] = take_of_none fails.taken [] refl in
-    let taken : fails.taken ≡ 0 = omega (arith, fails.fits) in
-    let within : fails.passed ≤ length old.owed.bytes = omega (arith, fails.within, taken) in
-    let owed : new.owed.bytes ≡ drop fails.passed old.owed.bytes = fails.owed ∙ ap (λ (more : List ℕ). drop fails.passed (old.owed.bytes ++ more)) none ∙ ap (drop fails.passed) all in
-    let told : WhereTold old.raw ((laid : ℕ) × (fails.passed ≤ laid) × (laid ≤ length old.owed.bytes) × (new.raw.bytes ≡ lay old.raw.bytes old.owed.place (take laid old.owed.bytes))) = λ tells.
-    let laid = fails.told tells in
-    (laid.laid, laid.least_is, omega (arith, laid.most, ap length all), laid.bytes ∙ ap (λ (bytes : List ℕ). lay old.raw.bytes old.owed.place (take laid.laid bytes)) all) in
-    grind (arith, length-drop, none_owed_at, lays_some)
+failing_passes old new fails = grind (arith, append-nil, take_of_none, length-drop, none_owed_at, lays_some)
 
 -- What passing on leaves.
 
 -- the flat file's bytes are as they were
 pub passing_keeps_bytes : (old new : Stream) → PassesSome old new → WhereTold old.raw (flat_of new ≡ flat_of old)
-passing_keeps_bytes old new passes tells =
-    let laid = passes.told tells in
-    rw (passes.place, passes.owed, laid.3) (lay_resumes old.raw.bytes old.owed.place old.owed.bytes passes.passed laid.0 laid.1 laid.2)
+passing_keeps_bytes old new passes tells = grind (arith, lay_resumes)
 
 -- told, the raw has all flat bytes once nothing is owed
 pub passed_all : (old new : Stream) → PassesSome old new → new.owed.bytes ≡ [] → WhereTold old.raw (new.raw.bytes ≡ flat_of old)
@@ -119,10 +99,7 @@ passing_keeps old new left short passes = record { buffer = passes.kept.buffer; 
 
 -- the flat file is as it was, where a front was passed on
 pub passing_file : (old new : Stream) → PassesSome old new → new.life ≡ old.life → WhereTold old.raw (file_of new ≡ file_of old)
-passing_file old new passes same tells =
-    file_now old new passes.kept same
-    ∙ ap (λ (all : List ℕ). record (file_of old) { bytes = all; place = new.place }) (passing_keeps_bytes old new passes tells)
-    ∙ ap (λ (at : ℕ). record (file_of old) { place = at }) passes.still
+passing_file old new passes same tells = grind (arith, file_now, passing_keeps_bytes)
 
 -- What stops a call that passes on.
 
@@ -212,39 +189,7 @@ pub record FaultLeaves (call : FileCall) (left : Life) : Type 0 where
 
 -- the raw failed
 pub failing_answers : (old failed : Stream) (call : FileCall) (left : Life) → Asked old call → Beside old call (Refused fault.RawFault) (record failed { life = left }) → FaultLeaves call left → PassesSome old failed → Rose old.raw.faults failed.raw.faults → NoWait old.raw failed.raw → (failed.owed.bytes ≡ [] → is_closed left ≡ false) → Answers old call (Refused fault.RawFault) (record failed { life = left })
-failing_answers old failed call left asked beside leaves passes cause no_wait alive =
-    let new : Stream = record failed { life = left } in
-    let short : failed.short ≡ false = passes.kept.short ∙ asked.whole in
-    shows_answers old call (Refused fault.RawFault) new asked.none (record {
-      keeps = passing_keeps old failed left failed.short passes;
-      passes = asked.passes;
-      again = λ closes. absurd (cc (asked.again));
-      shut = λ _ none closed. passes.kept.stays ∙ stays_open old left asked.live (alive none) closed;
-      causes = record { waits = λ waited. absurd (cc); faults = λ _. cause };
-      counted = λ exact. record { faults = λ sound. absurd (cc); waits = λ _ _. no_wait exact; once = λ waited. absurd (cc) };
-      shorts = subst (IsShort call (Refused fault.RawFault)) (sym short) (says_short call fault.RawFault);
-      life_is = leaves.life_is old.buffer old.life;
-      place = subst (PlaceMoves old.buffer call (Refused fault.RawFault) left old.place) (sym passes.still) (fails_there old.buffer call left old.place);
-      far = passes.kept.sound.far;
-      ends = needs_no_end old call fault.RawFault new refl;
-      wants = λ wanting. absurd (cc);
-      idle = λ idle. absurd (cc (asked.busy));
-      in_hand = beside.in_hand;
-      spares = beside.spares;
-      writes = λ _. passing_writes old call (Refused fault.RawFault) new asked.none (record {
-        leaves = passing_front old failed left failed.short passes;
-        lays = passes.lays;
-        passes = nothing_passed old new call fault.RawFault;
-        full = nothing_blocked new call fault.RawFault refl;
-        settles = passes.at;
-        unclosed = λ some. passes.kept.stays;
-        rests = λ dead. absurd (dead asked.live);
-      });
-      at_once = λ failed. absurd (cc (asked.live));
-      answer = fault_answers old.buffer old.can.writable call asked.none.telling;
-      told = λ tells. raw_faulted refl refl (asked.reaches, leaves.step (file_of old) (file_of new) (record { life_is = refl; bytes_are = passing_keeps_bytes old failed passes tells; can = passes.kept.can; buffering = ap buffering_of passes.kept.buffer }));
-      near = λ live. absurd (let dead : is_live left ≡ false = leaves.dead in let alive : is_live left ≡ true = ap is_live live in cc);
-    })
+failing_answers old failed call left asked beside leaves passes cause no_wait alive = grind (arith, shows_answers, passing_keeps, stays_open, says_short, fails_there, needs_no_end, passing_writes, passing_front, nothing_passed, nothing_blocked, fault_answers, passing_keeps_bytes)
 
 -- What stops a passing on of all stops the call.
 

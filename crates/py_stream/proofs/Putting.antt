@@ -68,9 +68,7 @@ lines_stopped old now new lines i line piece start result within is same took pu
 
 -- one more line was taken after those so far
 pub lines_taken : (old now new : Stream) (lines : List (List ℕ)) (i : ℕ) (line piece : List ℕ) → i < length lines → line ≡ get_or lines i line → piece ≡ line → TookAll old (joined (take i lines)) now → TookAll now piece new → TookAll old (joined (take (i + 1) lines)) new
-lines_taken old now new lines i line piece within is same took more =
-    subst (λ (all : List ℕ). TookAll old all new) (sym (joined_more lines i line within is))
-    (takes_then old now new (joined (take i lines)) line took (subst (λ (some : List ℕ). TookAll now some new) same more))
+lines_taken old now new lines i line piece within is same took more = grind (arith, joined_more, takes_then)
 
 -- the next line has an end that a stream can have
 pub line_within : (old now : Stream) (lines all : List (List ℕ)) (i start : ℕ) (line piece : List ℕ) → lines ≡ all → i < length lines → line ≡ get_or lines i line → piece ≡ line → Took old (joined (take i lines)) now → start ≡ old.place → start + length (joined all) ≤ greatest_place → now.place + length piece ≤ greatest_place

@@ -64,9 +64,7 @@ or_right false second is = is
 
 -- where memory ran out, before anything moved or after bytes had left the raw
 starved : (before after : Stream) (call : FileCall) (part : List ℕ) → by_several before.buffer call ≡ true → Reads before → StarvesReading before after → GatherOutcome (wanted_by call) before (Err fault.NoMemory) part after → (IsTrue (has_room call || takes_space_first call) → IsTrue before.raw.takes_memory) → Answers before call (Refused fault.NoMemory) after
-starved before after call part several begun (inl same) outcome takes =
-    let on = (is_several before.buffer call several).on in
-    subst (Answers before call (Refused fault.NoMemory)) (sym same) (unmoved before call (reading_on call on) (on_suits (file_of before) call on begun.readable) begun (λ room. takes (ap (λ (has : Bool). has || takes_space_first call) room)))
+starved before after call part several begun (inl same) outcome takes = grind (arith, is_several, unmoved, reading_on, on_suits)
 starved before after call part several begun (inr fails) outcome takes =
     answers_failing before after call several begun fails (λ bound is. outcome.within bound (wanted_within call bound (is_several before.buffer call several).on is)) (λ room. takes (ap (λ (has : Bool). has || takes_space_first call) room)) (λ first. takes (or_right (has_room call) (takes_space_first call) first)) (λ held. (outcome.idle held).0) (outcome.starves fails.failed)
 
@@ -263,7 +261,4 @@ none_counted items count empty size is none = nil_from_length items (sym size �
 
 -- where some items are counted, there are some
 pub some_counted : {A : Type 0} → (items : List A) (count : ℕ) (empty : Bool) → count ≡ length items → empty ≡ (count == 0) → empty ≡ false → items ≢ []
-some_counted items count empty size is some none =
-    let zeros : count ≡ 0 = size ∙ ap length none in
-    let tested : empty ≡ true = is ∙ ap (λ (n : ℕ). n == 0) zeros in
-    absurd (cc)
+some_counted items count empty size is some none = grind arith

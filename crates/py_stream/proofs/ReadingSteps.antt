@@ -90,10 +90,7 @@ same_bytes before after bare kept tells = bare_bytes after kept.owed ∙ (kept.b
 
 -- files that have the same of all are the same
 same_file : (first second : FlatFile) → first.bytes ≡ second.bytes → first.place ≡ second.place → first.can ≡ second.can → first.buffering ≡ second.buffering → first.life ≡ second.life → first ≡ second
-same_file first second bytes place can buffering current =
-    let of : List ℕ → ℕ → Abilities → Buffering → Life → FlatFile = λ xs at may by now. record { bytes = xs; place = at; can = may; buffering = by; life = now } in
-    let same : of first.bytes first.place first.can first.buffering first.life ≡ of second.bytes second.place second.can second.buffering second.life = rw (bytes, place, can, buffering, current) refl in
-    same
+same_file first second bytes place can buffering current = grind arith
 
 -- the file of a stream that gave some bytes
 pub file_after : (before after : Stream) (count : ℕ) → before.owed ≡ nothing_owed before.place → KeepsReading before after → after.life ≡ before.life → after.place ≡ before.place + count → WhereTold before.raw (file_of after ≡ after_read (file_of before) count)

@@ -217,11 +217,7 @@ answers_part before mid call part several begun given waits hides once idle need
 
 -- a reading that the raw made wait before anything came, whether it goes on or makes one transfer
 pub answers_unready : (before mid : Stream) (call : FileCall) → is_reading call ≡ true → lacks (file_of before) call ≡ false → Reads before → Gives before [] mid → Rose before.raw.waits mid.raw.waits → mid.raw_place ≡ mid.place → WaitsOnce before.raw mid.raw → AsksRaw before call mid → Answers before call NotReady (record mid { short = true })
-answers_unready before mid call reads has begun given waits hides once asks =
-    let is : IsReadingCall call = reading_call call reads in
-    let same : mid.life ≡ before.life = given.live ∙ sym begun.live in
-    let stays : mid.place ≡ before.place = omega (arith, given.place) in
-    answers_coming before mid call NotReady true reads has begun (grind (arith, unready_within, asks_ungiven, works, unready_waited, file_same, next_reaches))
+answers_unready before mid call reads has begun given waits hides once asks = grind (arith, reading_call, answers_coming, unready_within, asks_ungiven, works, unready_waited, file_same, next_reaches)
 
 -- an answer that wasn't short leaves the stream as the reading left it
 pub unshortened : (before after : Stream) (call : FileCall) (reply : FileReply) → Reads before → KeepsReading before after → Answers before call reply (record after { short = false }) → Answers before call reply after

@@ -97,14 +97,8 @@ never_closes can buffer Close = refl
 never_closes can buffer call = refl
 
 refuses_all : (can : Abilities) (buffer : Option ℕ) (call : FileCall) → is_getter call ≡ false → is_other_getter call ≡ false → refusal (file_of (detached_stream can buffer)) call ≡ Some fault.Detached
-refuses_all can buffer call asks known =
-    let refused : Bool → Bool → Option IoFault = λ (getter other : Bool). if getter then None else or_else (refused_if other fault.Unsupported) (Some fault.Detached) in
-    ap (λ (getter : Bool). refused getter (is_other_getter call)) asks ∙ ap (refused false) known
+refuses_all can buffer call asks known = grind arith
 
 -- a call of a detached stream is refused, and leaves the stream as it is
 pub detached_answers : (can : Abilities) (buffer : Option ℕ) (call : FileCall) → is_getter call ≡ false → is_other_getter call ≡ false → Answers (detached_stream can buffer) call (Refused fault.Detached) (detached_stream can buffer)
-detached_answers can buffer call asks known =
-    let stream : Stream = detached_stream can buffer in
-    let refuses : refusal (file_of stream) call ≡ Some fault.Detached = refuses_all can buffer call asks known in
-    let by : refused_by stream call ≡ Some fault.Detached = ap (λ (end : Bool). if end then None else refusal (file_of stream) call) (asks_no_end can buffer call) ∙ refuses in
-    grind (arith, keeps_same, never_closes, is_whole, life_stays, place_stays, gives_nothing, seeks_no_end, leaves_all)
+detached_answers can buffer call asks known = grind (arith, refuses_all, asks_no_end, keeps_same, never_closes, is_whole, life_stays, place_stays, gives_nothing, seeks_no_end, leaves_all)

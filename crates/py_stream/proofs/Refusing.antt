@@ -134,13 +134,7 @@ closes_no_more stream call stopped = refl
 
 -- what a file refuses by its life
 life_refuses : (file : FlatFile) (call : FileCall) (why : IoFault) → is_getter call ≡ false → is_other_getter call ≡ false → lets_through file.life file.buffering call ≡ false → life_fault file.life ≡ Some why → refusal file call ≡ Some why
-life_refuses file call why works own stopped by =
-    let ability : Option IoFault = or_else (refused_if (lacks file call) fault.Unsupported) (argument_refusal file call) in
-    let later : Option IoFault = or_else (life_refusal file call) ability in
-    ap (λ (getter : Bool). if getter then None else or_else (refused_if (is_other_getter call) fault.Unsupported) later) works
-    ∙ ap (λ (other : Bool). or_else (refused_if other fault.Unsupported) later) own
-    ∙ ap (λ (through : Bool). or_else (if through then None else life_fault file.life) ability) stopped
-    ∙ ap (λ (refused : Option IoFault). or_else refused ability) by
+life_refuses file call why works own stopped by = grind arith
 
 -- A call that the life doesn't let through.
 pub refused_by_life : (before after : Stream) (call : FileCall) (why : IoFault) → IsPlaced before → is_getter call ≡ false → is_other_getter call ≡ false → lets_through before.life (buffering_of before.buffer) call ≡ false → life_fault before.life ≡ Some why → after ≡ record before { short = false } → Answers before call (Refused why) after
@@ -152,13 +146,7 @@ refused_by_life before after call why is works own stopped fails same =
 
 -- what a live file refuses for want of an ability
 ability_refuses : (file : FlatFile) (call : FileCall) → is_getter call ≡ false → is_other_getter call ≡ false → file.life ≡ life.Live → lacks file call ≡ true → refusal file call ≡ Some fault.Unsupported
-ability_refuses file call works own live wants =
-    let ability : Bool → Option IoFault = λ (lacking : Bool). or_else (refused_if lacking fault.Unsupported) (argument_refusal file call) in
-    let later : Option IoFault = or_else (life_refusal file call) (ability (lacks file call)) in
-    ap (λ (getter : Bool). if getter then None else or_else (refused_if (is_other_getter call) fault.Unsupported) later) works
-    ∙ ap (λ (other : Bool). or_else (refused_if other fault.Unsupported) later) own
-    ∙ ap (λ (current : Life). or_else (if lets_through current file.buffering call then None else life_fault current) (ability (lacks file call))) live
-    ∙ ap ability wants
+ability_refuses file call works own live wants = grind arith
 
 lacks_no_end : (file : FlatFile) (call : FileCall) → lacks file call ≡ true → asks_end file call ≡ false
 lacks_no_end file (Seek offset (pos (suc (suc zero)))) wants = ap (λ (lacking : Bool). is_live file.life && not lacking) wants ∙ and-false (is_live file.life)
@@ -171,6 +159,4 @@ live_not_closed stream call live = refl
 
 -- A call of a live stream that lacks what the call needs.
 pub refused_by_ability : (before after : Stream) (call : FileCall) → IsPlaced before → is_getter call ≡ false → is_other_getter call ≡ false → before.life ≡ life.Live → lacks (file_of before) call ≡ true → after ≡ record before { short = false } → Answers before call (Refused fault.Unsupported) after
-refused_by_ability before after call is works own live wants same =
-    let file : FlatFile = file_of before in
-    refused_with before after call fault.Unsupported is (ability_refuses file call works own live wants) (lacks_no_end file call wants) refl (live_not_closed before call live) same
+refused_by_ability before after call is works own live wants same = search (rules, refused_with, ability_refuses, lacks_no_end, live_not_closed)

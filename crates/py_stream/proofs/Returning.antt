@@ -38,14 +38,4 @@ moved_leaves file told back waited faulted after (out_of_memory said left) = let
 
 -- a stream that is moved to the place that it told stands where it stood
 pub comes_back : (before mid : Stream) (told back : ℕ) (after : Stream) → Answers before Tell (Place told) mid → Answers mid (Seek (pos told) (pos 0)) (Place back) after → ComesBack before told back after
-comes_back before mid told back after tells seeks =
-    let there : told ≡ before.place = tells.moves.place.0 in
-    let there_again : Some (0 + told) ≡ Some back = seeks.moves.place.1 in
-    let back_is : 0 + told ≡ back = cc in
-    let says : back ≡ told = omega arith in
-    let file : WhereTold before.raw (file_of after ≡ file_of before) = λ tell.
-    let one : file_of mid ≡ file_of before = told_leaves (file_of before) told mid.short _ (file_of mid) (tells.told tell) in
-    moved_leaves (file_of mid) told back after.short _ (file_of after) (seeks.told (tells_still before.raw mid.raw tells.keeps.raw ∙ tell))
-    ∙ ap (λ (file : FlatFile). record file { place = 0 + told }) one
-    ∙ ap (λ (place : ℕ). record (file_of before) { place = place }) (let same : 0 + told ≡ before.place = omega arith in same) in
-    grind arith
+comes_back before mid told back after tells seeks = grind (arith, told_leaves, moved_leaves, tells_still)

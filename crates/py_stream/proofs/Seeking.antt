@@ -40,11 +40,7 @@ placed_of stream sound = record { far = sound.far; near = sound.near }
 
 -- only its target or its whence refuses a seek of a stream that may be moved
 pub seek_refusal_is : (before : Stream) (offset whence : ℤ) → MaySeek before → refusal (file_of before) (Seek offset whence) ≡ seek_refusal (seek_base (file_of before) whence) offset
-seek_refusal_is before offset whence may =
-    let behind : Option IoFault = seek_refusal (seek_base (file_of before) whence) offset in
-    ap (λ (current : Life). or_else (if lets_through current (buffering_of before.buffer) (Seek offset whence) then None else life_fault current) (or_else (refused_if (not before.can.seekable || before.can.appending) fault.Unsupported) behind)) may.live
-    ∙ ap (λ (seekable : Bool). or_else (refused_if (not seekable || before.can.appending) fault.Unsupported) behind) may.seeks
-    ∙ ap (λ (appending : Bool). or_else (refused_if (not true || appending) fault.Unsupported) behind) may.free
+seek_refusal_is before offset whence may = grind arith
 
 -- a target is refused by where it lies
 abbrev pub AtBadPlace : IoFault → Type 0
@@ -82,19 +78,13 @@ pub record RefusesPlace (offset : ℤ) (why : IoFault) : Type 0 where
 
 -- each refusal of a target says and leaves what one of a seek from the end does
 pub refuses_place : (offset : ℤ) (why : IoFault) → AtBadPlace why → RefusesPlace offset why
-refuses_place offset why at = at_bad_place (RefusesPlace offset)
-    (record { no_fault = refl; no_want = refl; short = refl; life_is = λ _ _. refl; place = λ _ _ _. refl; passes = λ _ _. tt; full = λ _. tt; ends = λ before after found _. found; answer = λ _ _. tt })
-    (record { no_fault = refl; no_want = refl; short = refl; life_is = λ _ _. refl; place = λ _ _ _. refl; passes = λ _ _. tt; full = λ _. tt; ends = λ before after found _. found; answer = λ _ _. tt })
-    why at
+refuses_place offset why at = grind (arith, at_bad_place)
 
 -- Where the raw is asked.
 
 -- a seek from the end asks the raw where that is
 pub asks_where_it_ends : (before : Stream) (offset : ℤ) → MaySeek before → asks_end (file_of before) (Seek offset (pos 2)) ≡ true
-asks_where_it_ends before offset may =
-    ap (λ (current : Life). is_live current && not (not before.can.seekable || before.can.appending)) may.live
-    ∙ ap (λ (seekable : Bool). not (not seekable || before.can.appending)) may.seeks
-    ∙ ap (λ (appending : Bool). not (not true || appending)) may.free
+asks_where_it_ends before offset may = grind arith
 
 -- a seek that goes to the raw: it isn't refused before, and may blame the raw
 pub record ReachesRaw (before : Stream) (offset whence : ℤ) : Type 0 where
@@ -103,22 +93,17 @@ pub record ReachesRaw (before : Stream) (offset whence : ℤ) : Type 0 where
 
 -- a seek from the end goes to the raw
 pub end_reaches : (before : Stream) (offset : ℤ) → MaySeek before → ReachesRaw before offset (pos 2)
-end_reaches before offset may =
-    let works : Bool = does_work (file_of before) (Seek offset (pos 2)) in
-    grind (arith, asks_where_it_ends, or_true)
+end_reaches before offset may = grind (arith, asks_where_it_ends, or_true)
 
 -- a seek that isn't refused does work
 pub seek_works : (before : Stream) (offset whence : ℤ) → MaySeek before → refusal (file_of before) (Seek offset whence) ≡ None → IsTrue (does_work (file_of before) (Seek offset whence))
-seek_works before offset whence may none =
-    ap (λ (current : Life). is_live current && is_none (refusal (file_of before) (Seek offset whence)) && true) may.live
-    ∙ ap (λ (why : Option IoFault). is_none why && true) none
+seek_works before offset whence may none = grind (arith, is_none)
 
 -- Where a seek goes.
 
 -- a target that was found isn't refused
 pub lies_within : (base : ℕ) (offset : ℤ) (target : ℕ) → MovedBy base offset (Ok target) → target_refusal (moved_by base offset) ≡ None
-lies_within base offset target moved =
-    ap target_refusal moved.0 ∙ ap (λ (far : Bool). refused_if far fault.TooFar) (le-ltb greatest_place target moved.1)
+lies_within base offset target moved = grind (arith, le-ltb)
 
 target_is : (base : ℕ) (offset : ℤ) (target : ℕ) → MovedBy base offset (Ok target) → unwrap_or (moved_by base offset) 0 ≡ target
 target_is base offset target moved = ap (λ (place : Option ℕ). unwrap_or place 0) moved.0
@@ -162,11 +147,7 @@ goes_from_end before offset target end may answered moved =
     }
 
 goes_from_place : (before : Stream) (offset whence : ℤ) (base target : ℕ) → MaySeek before → asks_end (file_of before) (Seek offset whence) ≡ false → ((after : Stream) → SeeksByEnd before (Seek offset whence) (Place target) after) → SeekGoes before.place offset whence target → seek_base (file_of before) whence ≡ Some base → MovedBy base offset (Ok target) → Goes before offset whence target
-goes_from_place before offset whence base target may unasked ends to from moved =
-    let none : refusal (file_of before) (Seek offset whence) ≡ None = seek_refusal_is before offset whence may ∙ ap (λ (place : Option ℕ). seek_refusal place offset) from ∙ lies_within base offset target moved in
-    let there : seek_target (file_of before) offset whence ≡ target = ap (λ (place : Option ℕ). unwrap_or (option_and_then (λ (base : ℕ). moved_by base offset) place) 0) from ∙ target_is base offset target moved in
-    let works : IsTrue (does_work (file_of before) (Seek offset whence)) = seek_works before offset whence may none in
-    grind (arith, refused_alone)
+goes_from_place before offset whence base target may unasked ends to from moved = grind (arith, seek_refusal_is, lies_within, unwrap_or, option_and_then, target_is, seek_works, refused_alone)
 
 -- a target that was found says where an accepted seek goes
 pub goes : (before : Stream) (offset whence : ℤ) (target : ℕ) → MaySeek before → TargetOf before offset whence (Ok target) → Goes before offset whence target
@@ -184,5 +165,4 @@ seeks_nowhere before None why after left = left
 
 -- a target that isn't in the stream, or a whence that isn't known, refuses the seek before the raw is asked
 pub argument_refuses : (before after : Stream) (offset whence : ℤ) (why : IoFault) → MaySeek before → asks_end (file_of before) (Seek offset whence) ≡ false → seek_refusal (seek_base (file_of before) whence) offset ≡ Some why → is_own why ≡ true → after ≡ before → Answers before (Seek offset whence) (Refused why) after
-argument_refuses before after offset whence why may unasked refuses own same =
-    refused_with before after (Seek offset whence) why (placed_of before may.sound) (seek_refusal_is before offset whence may ∙ refuses) unasked own refl (same ∙ ap (λ (short : Bool). record before { short = short }) may.whole)
+argument_refuses before after offset whence why may unasked refuses own same = grind (arith, refused_with, placed_of, seek_refusal_is)

@@ -80,9 +80,7 @@ not_refused before call expected reply after why none some = let wrong : None �
 
 -- what a call has of its own answers it
 pub shows_answers : (before : Stream) (call : FileCall) (reply : FileReply) (after : Stream) → MovesNone call → Shows before call reply after → Answers before call reply after
-shows_answers before call reply after none shows =
-    let gives : GivesNone call = gives_none call none.reading in
-    search (rules, not_refused, completes)
+shows_answers before call reply after none shows = search (rules, gives_none, not_refused, completes)
 
 -- Writing: what a call that moves no bytes does with what is owed.
 
@@ -134,9 +132,7 @@ beside_writing old call reply new can apart = record { in_hand = λ has. absurd 
 
 -- a call that a live stream doesn't refuse is accepted
 pub asked_unrefused : (old : Stream) (call : FileCall) → IsSound old → old.life ≡ life.Live → old.short ≡ false → MovesNone call → closes_again old call ≡ false → calls_none old.buffer old.can.writable call ≡ false → asks_end (file_of old) call ≡ false → (is_getter call || is_tell call) ≡ false → refusal (file_of old) call ≡ None → Accepts old call
-asked_unrefused old call sound live whole none again busy alone asks unrefused =
-    let work : IsTrue (does_work (file_of old) call) = works_unrefused (file_of old) call live unrefused asks in
-    grind (arith, refused_alone, work_reaches)
+asked_unrefused old call sound live whole none again busy alone asks unrefused = grind (arith, works_unrefused, refused_alone, work_reaches)
 
 -- a call that a life lets through isn't refused by it
 pub let_through : (old : Stream) (call : FileCall) → lets_through old.life (buffering_of old.buffer) call ≡ true → or_else (life_refusal (file_of old) call) None ≡ None

@@ -167,13 +167,7 @@ shut_bytes : (old new : Stream) → ShutsDown old new → WhereTold old.raw (fla
 shut_bytes old new shuts tells = ap (lay new.raw.bytes new.owed.place) shuts.none ∙ shuts.holds tells
 
 closed_file : (old new : Stream) → ShutsDown old new → WhereTold old.raw (file_of new ≡ in_life (file_of old) life.Closed)
-closed_file old new shuts tells =
-    let bytes : flat_of new ≡ flat_of old = shut_bytes old new shuts tells in
-    let place : new.place ≡ old.place = shuts.place in
-    let can : new.can ≡ old.can = shuts.keeps.can in
-    let buffering : buffering_of new.buffer ≡ buffering_of old.buffer = ap buffering_of shuts.keeps.buffer in
-    let dead : new.life ≡ life.Closed = shuts.life_is in
-    cc
+closed_file old new shuts tells = grind (arith, flat_of, shut_bytes)
 
 -- what the closing of the raw answers: the raw closed, or failed
 record ClosesWith (old new : Stream) (reply : FileReply) : Type 0 where
@@ -198,8 +192,7 @@ fault_shuts : IsShutting (Refused fault.RawFault)
 fault_shuts = record { shorts = λ short whole. whole; life_is = λ buffer current. refl; place = λ buffer current place. fails_there buffer Close current place; no_want = refl; passes = λ before after passed. tt; full = λ after. tt; answer = λ buffer writes. tt }
 
 shut_answers : (old new : Stream) (reply : FileReply) → Asked old Close → IsShutting reply → ShutsDown old new → ClosesWith old new reply → Answers old Close reply new
-shut_answers old new reply asked shutting shuts closes =
-    shows_answers old Close reply new asked.none (grind (arith, passing_writes))
+shut_answers old new reply asked shutting shuts closes = grind (arith, shows_answers, passing_writes)
 
 closes_raw : (old mid new : Stream) (result : Result (Unit {0}) IoFault) → ReadyToClose old mid → CloseRawOutcome mid result new → Answers old Close (done_reply result) new
 closes_raw old mid new (Ok done) ready closes =

@@ -121,8 +121,7 @@ pub record GivesOnce (before : Stream) (call : FileCall) (part : List ℕ) (afte
 
 -- a front of what is left moves the place no further than the end
 front_reaches : (wanted part bytes : List ℕ) (before after : ℕ) → length wanted ≤ length (left_at bytes before) → IsFrontOf part wanted → after ≤ before + length part → after ≤ max before (length bytes)
-front_reaches wanted part bytes before after left front moved =
-    omega (arith, moved, left, length-drop before bytes, ap length front.1, length-append part front.0)
+front_reaches wanted part bytes before after left front moved = grind (arith, length-drop, length-append)
 
 -- a reading by one transfer that gave bytes
 pub answers_once : (before mid : Stream) (call : FileCall) (part : List ℕ) → reads_once before.buffer call ≡ true → Reads before → GivesOnce before call part mid → Answers before call (Bytes part) (record mid { short = false })
@@ -161,24 +160,16 @@ answers_once before mid call part once begun gives =
 
 -- a reading that the raw made wait: its place stays
 pub unready_once : (before mid : Stream) (call : FileCall) → reads_once before.buffer call ≡ true → asks_none before.buffer call ≡ false → Reads before → Gives before [] mid → Rose before.raw.waits mid.raw.waits → mid.raw_place ≡ mid.place → WaitsOnce before.raw mid.raw → OneTransfer before mid → (IsSome before.buffer → 0 < ahead before → ⊥) → Answers before call NotReady (record mid { short = true })
-unready_once before mid call once asks begun given waits hides alone one none =
-    let is : IsSingleCall before.buffer call = single_call before.buffer call once in
-    answers_unready before mid call is.reads (is.suits (file_of before) begun.readable) begun given waits hides alone (grind arith)
+unready_once before mid call once asks begun given waits hides alone one none = grind (arith, single_call, answers_unready)
 
 -- a reading whose transfer failed
 pub faulted_once : (before after : Stream) (call : FileCall) → reads_once before.buffer call ≡ true → asks_none before.buffer call ≡ false → Reads before → FailsReading before after → after.place ≡ before.place → OneTransfer before after → (IsSome before.buffer → 0 < ahead before → ⊥) → Answers before call (Refused fault.RawFault) after
-faulted_once before after call once asks begun fails stays one none =
-    let is : IsSingleCall before.buffer call = single_call before.buffer call once in
-    answers_faulted before after call is.reads (is.suits (file_of before) begun.readable) begun fails (λ bound most. omega (arith, stays)) (λ _. stays) asks (λ _. one) (λ buffered has. none buffered (is.ahead_is before buffered has))
+faulted_once before after call once asks begun fails stays one none = grind (arith, single_call, answers_faulted)
 
 -- a reading that wanted memory before anything moved
 pub unmoved_once : (before : Stream) (call : FileCall) → reads_once before.buffer call ≡ true → Reads before → IsTrue before.raw.takes_memory → Answers before call (Refused fault.NoMemory) before
-unmoved_once before call once begun takes =
-    let is : IsSingleCall before.buffer call = single_call before.buffer call once in
-    unmoved before call is.reads (is.suits (file_of before) begun.readable) begun (λ room. takes)
+unmoved_once before call once begun takes = grind (arith, single_call, unmoved)
 
 -- a reading that wanted memory of its own once its transfer was made
 pub wanting_once : (before after : Stream) (call : FileCall) → reads_once before.buffer call ≡ true → asks_none before.buffer call ≡ false → Reads before → KeepsReading before after → LeavesCounts before.raw after.raw → after.life ≡ life.Live → after.place ≡ before.place → has_room call ≡ false → reads_on call ≡ false → OneTransfer before after → (IsSome before.buffer → 0 < ahead before → after.raw ≡ before.raw) → Answers before call (Refused fault.NoMemory) after
-wanting_once before after call once asks begun kept counts live place room ends one still =
-    let is : IsSingleCall before.buffer call = single_call before.buffer call once in
-    answers_wanting before after call is.reads (is.suits (file_of before) begun.readable) begun (grind (arith, unmoved))
+wanting_once before after call once asks begun kept counts live place room ends one still = grind (arith, single_call, answers_wanting, unmoved)

@@ -28,16 +28,11 @@ step_settles file call reply after (out_of_memory said left) memory = absurd (me
 
 -- a smooth call of a stream is refused as it has to be, or carried out
 pub smooth_settles : (before : Stream) (call : FileCall) (reply : FileReply) (after : Stream) → Answers before call reply after → GoesSmoothly before reply after → Settled (file_of before) call reply (file_of after)
-smooth_settles before call reply after answers goes =
-    let whole : after.short ≡ false = uncaused before.raw.waits after.raw.waits after.short answers.causes.waits goes.no_wait in
-    let sound : says_fault reply ≡ false = uncaused before.raw.faults after.raw.faults (says_fault reply) answers.causes.faults goes.no_fault in
-    step_settles (file_of before) call reply (file_of after)
-    (subst₂ (λ (waited faulted : Bool). BinaryStep (file_of before) call reply waited faulted (file_of after)) whole sound (answers.told goes.told)) goes.memory
+smooth_settles before call reply after answers goes = grind (arith, uncaused, step_settles)
 
 -- a smooth call isn't refused, so it is carried out
 pub smooth_accepts : (before : Stream) (call : FileCall) (reply : FileReply) (after : Stream) → Answers before call reply after → GoesSmoothly before reply after → refusal (file_of before) call ≡ None → Accepted (file_of before) call reply (file_of after)
-smooth_accepts before call reply after answers goes none =
-    subst (λ (refused : Option IoFault). SettledBy (file_of before) call refused reply (file_of after)) none (smooth_settles before call reply after answers goes)
+smooth_accepts before call reply after answers goes none = grind (arith, smooth_settles)
 
 -- Which calls aren't refused.
 
@@ -55,18 +50,9 @@ reading_passes file size (Read most) reads live can buffered = let_through file 
 reading_passes file size (ReadLine limit) reads live can buffered = let_through file (ReadLine limit) (or_else (refused_if (not file.can.readable) fault.Unsupported) None) live ∙ ap (λ (able : Bool). or_else (refused_if (not able) fault.Unsupported) None) can
 reading_passes file size (ReadLines hint) reads live can buffered = let_through file (ReadLines hint) (or_else (refused_if (not file.can.readable) fault.Unsupported) None) live ∙ ap (λ (able : Bool). or_else (refused_if (not able) fault.Unsupported) None) can
 reading_passes file size (ReadInto most) reads live can buffered = let_through file (ReadInto most) (or_else (refused_if (not file.can.readable) fault.Unsupported) None) live ∙ ap (λ (able : Bool). or_else (refused_if (not able) fault.Unsupported) None) can
-reading_passes file size (Read1 most) reads live can buffered =
-    let_through file (Read1 most) (or_else (refused_if (not file.can.readable || is_unbuffered file.buffering) fault.Unsupported) None) live
-    ∙ ap (λ (able : Bool). or_else (refused_if (not able || is_unbuffered file.buffering) fault.Unsupported) None) can
-    ∙ ap (λ (buffering : Buffering). or_else (refused_if (not true || is_unbuffered buffering) fault.Unsupported) None) buffered
-reading_passes file size (ReadInto1 most) reads live can buffered =
-    let_through file (ReadInto1 most) (or_else (refused_if (not file.can.readable || is_unbuffered file.buffering) fault.Unsupported) None) live
-    ∙ ap (λ (able : Bool). or_else (refused_if (not able || is_unbuffered file.buffering) fault.Unsupported) None) can
-    ∙ ap (λ (buffering : Buffering). or_else (refused_if (not true || is_unbuffered buffering) fault.Unsupported) None) buffered
-reading_passes file size Peek reads live can buffered =
-    let_through file Peek (or_else (refused_if (not file.can.readable || not (is_buffered file.buffering)) fault.Unsupported) None) live
-    ∙ ap (λ (able : Bool). or_else (refused_if (not able || not (is_buffered file.buffering)) fault.Unsupported) None) can
-    ∙ ap (λ (buffering : Buffering). or_else (refused_if (not true || not (is_buffered buffering)) fault.Unsupported) None) buffered
+reading_passes file size (Read1 most) reads live can buffered = grind (arith, let_through)
+reading_passes file size (ReadInto1 most) reads live can buffered = grind (arith, let_through)
+reading_passes file size Peek reads live can buffered = grind (arith, let_through)
 reading_passes file size call reads live can buffered = absurd (cc)
 
 within_passes : (end : ℕ) → end ≤ greatest_place → or_else (refused_if (not true) fault.Unsupported) (too_far end) ≡ None
@@ -74,17 +60,11 @@ within_passes end fits = ap (λ (far : Bool). refused_if far fault.TooFar) (le-l
 
 -- a live file that can be written refuses no write whose end it can have
 pub write_passes : (file : FlatFile) (bytes : List ℕ) → file.life ≡ life.Live → file.can.writable ≡ true → file.place + length bytes ≤ greatest_place → refusal file (Write bytes) ≡ None
-write_passes file bytes live can fits =
-    let_through file (Write bytes) (or_else (refused_if (not file.can.writable) fault.Unsupported) (too_far (file.place + length bytes))) live
-    ∙ ap (λ (able : Bool). or_else (refused_if (not able) fault.Unsupported) (too_far (file.place + length bytes))) can
-    ∙ within_passes (file.place + length bytes) fits
+write_passes file bytes live can fits = grind (arith, let_through, within_passes)
 
 -- a live file that can be written refuses no lines whose end it can have
 pub lines_pass : (file : FlatFile) (lines : List (List ℕ)) → file.life ≡ life.Live → file.can.writable ≡ true → file.place + length (joined lines) ≤ greatest_place → refusal file (WriteLines lines) ≡ None
-lines_pass file lines live can fits =
-    let_through file (WriteLines lines) (or_else (refused_if (not file.can.writable) fault.Unsupported) (too_far (file.place + length (joined lines)))) live
-    ∙ ap (λ (able : Bool). or_else (refused_if (not able) fault.Unsupported) (too_far (file.place + length (joined lines)))) can
-    ∙ within_passes (file.place + length (joined lines)) fits
+lines_pass file lines live can fits = grind (arith, let_through, within_passes)
 
 -- What smooth calls answer.
 

@@ -103,11 +103,7 @@ took_none stream sound behind live = grind (arith, keeps_itself, add-zero, appen
 
 -- what two steps leave owed
 owed_then : (owed mid new front more : List ℕ) (first second : ℕ) → first ≤ length owed + length front → mid ≡ drop first (owed ++ front) → new ≡ drop second (mid ++ more) → new ≡ drop (first + second) (owed ++ (front ++ more))
-owed_then owed mid new front more first second within one two =
-    two
-    ∙ (ap (λ (xs : List ℕ). drop second (xs ++ more)) one
-    ∙ (drop_twice (owed ++ front) more first second (omega (arith, length-append owed front))
-    ∙ ap (drop (first + second)) (append_assoc owed front more)))
+owed_then owed mid new front more first second within one two = grind (arith, drop_twice, length-append, append_assoc)
 
 -- how much two steps can pass on
 within_then : (owed mid front more : List ℕ) (first second : ℕ) → first ≤ length owed + length front → mid ≡ drop first (owed ++ front) → second ≤ length mid + length more → first + second ≤ length owed + length (front ++ more)
@@ -181,32 +177,7 @@ fails_then old mid new front more so second = record {
 
 -- a failing with more bytes after, that were never reached
 pub fails_more : (old new : Stream) (bytes more : List ℕ) → FailsTaking old bytes new → FailsTaking old (bytes ++ more) new
-fails_more old new bytes more fails =
-    let same : take fails.taken (bytes ++ more) ≡ take fails.taken bytes = take-append-le fails.taken bytes more fails.fits in
-    record {
-      kept = fails.kept;
-      was = fails.was;
-      behind = fails.behind;
-      failed = fails.failed;
-      cause = fails.cause;
-      calm = fails.calm;
-      taken = fails.taken;
-      fits = omega (arith, fails.fits, length-append bytes more);
-      passed = fails.passed;
-      within = fails.within;
-      answered = fails.answered;
-      place = fails.place;
-      owed = fails.owed ∙ ap (λ (xs : List ℕ). drop fails.passed (old.owed.bytes ++ xs)) (sym same);
-      told = λ tells.
-          let lays = fails.told tells in
-          record {
-            laid = lays.laid;
-            least_is = lays.least_is;
-            most = omega (arith, lays.most, length-append old.owed.bytes bytes, length-append old.owed.bytes (bytes ++ more), length-append bytes more);
-            owes = subst (λ (xs : List ℕ). fails.passed < length (old.owed.bytes ++ xs) → lays.laid ≤ length (old.owed.bytes ++ xs)) (sym same) lays.owes;
-            bytes = lays.bytes ∙ ap (lay old.raw.bytes old.owed.place) (sym (take-append-le lays.laid (old.owed.bytes ++ bytes) more lays.most) ∙ ap (take lays.laid) (append_assoc old.owed.bytes bytes more));
-          };
-    }
+fails_more old new bytes more fails = grind (arith, take-append-le, length-append, append_assoc)
 
 -- Running out of memory, and a buffer that is full.
 
