@@ -1,5 +1,5 @@
 -- The engine with which a call begins, and what a stream without a buffer refuses by itself.
-use Rattle.std.proofs.Common.{◌≡◌, true, false, Some, Err, Ok, refl, sym, ap, subst, arith, add-zero, ◌∙◌, ℕ, None, IsSome, Option, Result}
+use Rattle.std.proofs.Common.{◌≡◌, true, false, Some, Err, Ok, refl, sym, ap, subst, arith, add-zero, ◌∙◌, ℕ, None, IsSome, Option, Result, rules}
 use Rattle.py_flat.specs.declared.fault.IoFault.{IoFault}
 use Rattle.py_flat.specs.declared.fault.IoFault.TheVariants as fault
 use Rattle.py_flat.specs.declared.life.Life.{Life}
@@ -41,14 +41,7 @@ owes_behind engine = record { ends = add-zero engine.place; stands = refl }
 
 -- what every step keeps of an engine it keeps of its stream
 pub keeps_on : (old new : EngineView) → KeepsEngine old new → KeepsOn (stream_of old) (stream_of new)
-keeps_on old new kept = record {
-  raw = kept.raw;
-  stays = kept.stays;
-  buffer = refl;
-  can = ap (λ (opened : Access). can_of opened new.raw.seekable) kept.access ∙ ap (can_of old.access) kept.raw.seekable;
-  short = kept.short;
-  sound = is_sound new kept.is;
-}
+keeps_on old new kept = grind (arith, is_sound)
 
 -- the engine with which a call begins
 abbrev pub begun : EngineView → EngineView

@@ -1,5 +1,5 @@
 -- How a gathering comes from one byte to the next, and what it ends with.
-use Rattle.std.proofs.Common.{◌≡◌, ◌≢◌, ℕ, ◌+◌, ◌<◌, ◌≤◌, Bool, true, false, List, [], ◌++◌, length, take, Ok, Err, refl, sym, ap, ◌∙◌, subst, arith, append_assoc}
+use Rattle.std.proofs.Common.{◌≡◌, ◌≢◌, ℕ, ◌+◌, ◌<◌, ◌≤◌, Bool, true, false, List, [], ◌++◌, length, take, Ok, Err, refl, sym, ap, ◌∙◌, subst, arith, append_assoc, rules}
 use Rattle.std.proofs.lemmas.List.{append-nil, length-append, take_all, length-take-le}
 use Rattle.py_flat.specs.declared.fault.IoFault.{IoFault}
 use Rattle.py_flat.specs.declared.fault.IoFault.TheVariants as fault
@@ -73,20 +73,8 @@ module _ (wanted : List ℕ → List ℕ) (old now : EngineView) (part : List �
 
   -- the raw failed, or ran out of memory
   pub gather_refused : (before : List ℕ) (why : IoFault) (after any : List ℕ) (new : EngineView) → TransferOutcome now moved before (Err why) after new → GatherOutcome wanted (stream_of old) (Err why) any (stream_of new)
-  gather_refused before fault.RawFault after any new outcome = record {
-    stops = fails_after old now part gathered.took new outcome;
-    gathers = tt;
-    starves = tt;
-    idle = λ held. absurd (past_held held);
-    within = within_collected new.place (outcome.place ∙ gathered.took.place);
-  }
-  gather_refused before fault.NoMemory after any new outcome = record {
-    stops = starves_after old now part gathered.took moved new gathered.some gathered.none outcome.1;
-    gathers = tt;
-    starves = starves_wanting moved new gathered.some outcome.1;
-    idle = λ held. absurd (past_held held);
-    within = within_collected new.place (starved_place moved new outcome.1 ∙ gathered.took.place);
-  }
+  gather_refused before fault.RawFault after any new outcome = grind (arith, fails_after, past_held, within_collected)
+  gather_refused before fault.NoMemory after any new outcome = grind (arith, starves_after, starves_wanting, past_held, within_collected, starved_place)
   gather_refused before why after any new outcome = absurd outcome
 
   module _ (before : List ℕ) (count : ℕ) (piece : List ℕ) (new : EngineView) (brings : Brings now before count piece new) (some : 0 < count) (single : length piece ≡ 1) where

@@ -1,5 +1,5 @@
 -- What one transfer of bytes to the raw is to a stream without a buffer.
-use Rattle.std.proofs.Common.{◌≡◌, ℕ, zero, suc, ◌-◌, ◌<◌, inl, inr, Bool, true, false, nat_lt, IsTrue, List, [], length, take, drop, Err, refl, sym, ap, ◌∙◌, subst, arith}
+use Rattle.std.proofs.Common.{◌≡◌, ℕ, zero, suc, ◌-◌, ◌<◌, inl, inr, Bool, true, false, nat_lt, IsTrue, List, [], length, take, drop, Err, refl, sym, ap, ◌∙◌, subst, arith, rules}
 use Rattle.std.proofs.Math.Seq.{take-nil}
 use Rattle.std.proofs.lemmas.Bool.{cases_lt, true≢false, ltb-true, lt-ltb}
 use Rattle.std.proofs.lemmas.List.{length-take-le, length-drop, take_all, drop_all}
@@ -16,41 +16,11 @@ use Rattle.py_unbuffered.proofs.Begun.{keeps_on, owes_behind}
 
 -- the raw took some of the bytes
 pub puts_took : (old : EngineView) (bytes : List ℕ) (count : ℕ) (new : EngineView) → Puts old bytes count new → TookAll (stream_of old) (take count bytes) (stream_of new)
-puts_took old bytes count new puts =
-    let part : List ℕ = take count bytes in
-    let long : length part ≡ count = length-take-le count bytes puts.fits in
-    record {
-      took = record {
-        kept = keeps_on old new puts.kept;
-        was = owes_behind old;
-        behind = owes_behind new;
-        live = puts.live;
-        no_fault = puts.counts.no_fault;
-        passed = count;
-        within = omega (arith, long);
-        answered = puts.answered;
-        place = puts.place;
-        owed = sym (drop_all count part (omega (arith, long)));
-        told = λ tells. puts.told tells ∙ ap (lay old.raw.bytes old.place) (sym (take_all count part (omega (arith, long))));
-      };
-      calm = puts.counts.no_wait;
-    }
+puts_took old bytes count new puts = grind (arith, length-take-le, keeps_on, owes_behind, drop_all, take_all)
 
 -- the raw would have blocked
 pub waits_took : (old new : EngineView) → Waits old new → Took (stream_of old) [] (stream_of new)
-waits_took old new waits = record {
-  kept = keeps_on old new waits.kept;
-  was = owes_behind old;
-  behind = owes_behind new;
-  live = waits.live;
-  no_fault = waits.no_fault;
-  passed = 0;
-  within = omega arith;
-  answered = waits.answered;
-  place = omega (arith, waits.place);
-  owed = refl;
-  told = λ tells. waits.bytes (tells_its_bytes old.raw tells);
-}
+waits_took old new waits = grind (arith, keeps_on, owes_behind, tells_its_bytes)
 
 -- a wait leaves some of the bytes over
 pub waits_full : (old new : EngineView) (bytes : List ℕ) → 0 < length bytes → Waits old new → FillsUp (stream_of old) bytes (stream_of new)

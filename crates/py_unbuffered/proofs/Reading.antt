@@ -1,5 +1,5 @@
 -- Readings of an engine without a buffer, as readings of the stream that it is.
-use Rattle.std.proofs.Common.{◌≡◌, ◌≢◌, ℕ, zero, suc, ◌-◌, ◌≤◌, Bool, true, false, not, List, [], ◌∷◌, length, take, Option, Some, None, is_none, Ok, Err, refl, sym, ap, ◌∙◌, subst, arith}
+use Rattle.std.proofs.Common.{◌≡◌, ◌≢◌, ℕ, zero, suc, ◌-◌, ◌≤◌, Bool, true, false, not, List, [], ◌∷◌, length, take, Option, Some, None, is_none, Ok, Err, refl, sym, ap, ◌∙◌, subst, arith, rules}
 use Rattle.std.proofs.lemmas.List.{length-take-le, take_all, take-take, drop_all}
 use Rattle.std.specs.Bool.{◌==◌}
 use Rattle.std.specs.Option.{is_some, option_eq}
@@ -28,19 +28,11 @@ use Rattle.py_unbuffered.proofs.Steps.{keeps_reading}
 
 -- a live engine that is opened for reading
 pub reads_live : (engine : EngineView) → engine.life ≡ life.Live → engine.access ≡ access.Read → engine.short ≡ false → Stands engine → Reads (stream_of engine)
-reads_live engine live reader whole stands = record {
-  live = live;
-  whole = whole;
-  readable = ap (λ (opened : Access). (can_of opened engine.raw.seekable).readable) reader;
-  bare = refl;
-  placed = is_placed engine stands;
-}
+reads_live engine live reader whole stands = grind (arith, is_placed)
 
 -- a call that its life lets through, of a stream that reads
 pub reading_begins : (first now : EngineView) → Stands first → BeginOutcome first (Ok tt) now → (can_of now.access now.raw.seekable).readable ≡ true → ReadingBegins (stream_of first) (stream_of now)
-reading_begins first now stands began reads =
-    let begun = begun_live first now stands began in
-    record { reads = record { live = begun.live; whole = begun.whole; readable = reads; bare = refl; placed = is_placed now begun.stands }; from = ap stream_of began.1 }
+reading_begins first now stands began reads = grind (arith, begun_live, is_placed)
 
 -- Readings by one transfer.
 
@@ -81,25 +73,11 @@ module _ (old mid : EngineView) (call : FileCall) (before after : List ℕ) (onc
           some = λ none. none_left before old.raw.bytes (asks_for 0 call) old.place long (λ some. came.end (sym size ∙ ap length none) some tells);
         };
       })
-  once_came None long same_long came = unready_once (stream_of old) (stream_of mid) call once (asks_always call once) begun (record {
-    kept = keeps_reading old mid came.kept came.bytes came.answered;
-    no_fault = came.no_fault;
-    live = came.live;
-    place = omega (arith, came.place);
-    told = λ tells. refl;
-  }) came.cause refl came.once came.transfers (λ buffered. absurd (bufferless None refl buffered))
+  once_came None long same_long came = grind (arith, unready_once, asks_always, keeps_reading, bufferless)
 
   -- the transfer of a reading was refused
   pub once_refused : (why : IoFault) → TransferOutcome old false before (Err why) after mid → Answers (stream_of old) call (Refused why) (stream_of mid)
-  once_refused fault.RawFault fails = faulted_once (stream_of old) (stream_of mid) call once (asks_always call once) begun (record {
-    kept = keeps_reading old mid fails.kept fails.bytes fails.answered;
-    cause = fails.cause;
-    no_wait = fails.no_wait;
-    failed = fails.failed;
-    forth = omega (arith, fails.place);
-    reach = λ tells. omega (arith, fails.place);
-    each = λ tells. omega (arith, fails.transfers tells, fails.place);
-  }) fails.place fails.transfers (λ buffered. absurd (bufferless None refl buffered))
+  once_refused fault.RawFault fails = grind (arith, faulted_once, asks_always, keeps_reading, bufferless)
   once_refused fault.NoMemory wants = subst (λ (engine : EngineView). Answers (stream_of old) call (Refused fault.NoMemory) (stream_of engine)) (sym wants.1) (unmoved_once (stream_of old) call once begun wants.0)
   once_refused why never = absurd never
 

@@ -1,5 +1,5 @@
 -- How a reading that goes on comes from one transfer to the next.
-use Rattle.std.proofs.Common.{◌≡◌, ◌≢◌, ℕ, ◌+◌, ◌-◌, ◌<◌, ◌≤◌, max, replicate, inl, inr, Bool, true, false, if◌then◌else◌, nat_lt, IsTrue, List, [], ◌∷◌, ◌++◌, length, take, drop, None, Result, Ok, Err, refl, sym, ap, ◌∙◌, subst, arith}
+use Rattle.std.proofs.Common.{◌≡◌, ◌≢◌, ℕ, ◌+◌, ◌-◌, ◌<◌, ◌≤◌, max, replicate, inl, inr, Bool, true, false, if◌then◌else◌, nat_lt, IsTrue, List, [], ◌∷◌, ◌++◌, length, take, drop, None, Result, Ok, Err, refl, sym, ap, ◌∙◌, subst, arith, rules}
 use Rattle.std.proofs.lemmas.Bool.{true≢false, lt-ltb}
 use Rattle.std.proofs.lemmas.List.{length-append, length-take, length-take-le, length-drop, length-replicate, take_all, take_at}
 use Rattle.py_flat.specs.declared.fault.IoFault.{IoFault}
@@ -33,19 +33,7 @@ pub record Took (old : EngineView) (part : List ℕ) (now : EngineView) : Type 0
 
 -- a reading has taken nothing before the first transfer
 pub took_none : (old : EngineView) → IsEngine old.raw old.place old.access old.life → old.life ≡ life.Live → Took old [] old
-took_none old is live = record {
-  began = live;
-  stands = λ tells. is.stands tells live;
-  kept = keeps_self old is;
-  counts = uncounted old.raw old.raw refl;
-  answered = answers_none old.raw old.raw refl;
-  live = live;
-  place = omega arith;
-  none = λ nothing. refl;
-  bytes = λ tells. refl;
-  told = λ tells. refl;
-  transfers = λ tells. omega arith;
-}
+took_none old is live = grind (arith, keeps_self, uncounted, answers_none)
 
 module _ (old now : EngineView) (part : List ℕ) (took : Took old part now) where
   -- a raw that told its bytes and its place tells both still
@@ -58,13 +46,7 @@ module _ (old now : EngineView) (part : List ℕ) (took : Took old part now) whe
 
   -- what a transfer brings comes after what was taken
   brings_next : (before : List ℕ) (count : ℕ) (after : List ℕ) (new : EngineView) → Brings now before count after new → WhereTold old.raw (take (length (part ++ take count after)) (left_at old.raw.bytes old.place) ≡ part ++ take count after)
-  brings_next before count after new brings = λ tells.
-      let long : length (part ++ take count after) ≡ length part + count = length-append part (take count after) ∙ ap (λ (n : ℕ). length part + n) (length-take-le count after brings.fits) in
-      ap (λ (n : ℕ). take n (left_at old.raw.bytes old.place)) long
-      ∙ next_behind old.raw.bytes part after old.place (length part) count refl (took.told tells)
-      (ap (λ (place : ℕ). take count (left_at old.raw.bytes place)) (sym took.place)
-      ∙ (ap (λ (bytes : List ℕ). take count (left_at bytes now.place)) (sym (took.bytes (tells_its_bytes old.raw tells)))
-      ∙ brings.told (still_tells tells)))
+  brings_next before count after new brings = grind (arith, length-append, length-take-le, next_behind, tells_its_bytes, still_tells)
 
   -- one more transfer brought some bytes
   pub took_on : (before : List ℕ) (count : ℕ) (after : List ℕ) (new : EngineView) → Brings now before count after new → 0 < count → Took old (part ++ take count after) new
@@ -86,12 +68,7 @@ module _ (old now : EngineView) (part : List ℕ) (took : Took old part now) whe
 
   -- what was taken is given
   pub gives_taken : StopOutcome (stream_of old) part (Ok stop.Enough) (stream_of now)
-  gives_taken = (
-    record { kept = keeps_reading old now took.kept took.bytes took.answered; no_fault = took.counts.no_fault; live = took.live; place = took.place; told = took.told },
-    took.counts.no_wait,
-    λ tells. omega (arith, took.transfers tells, took.place),
-    λ buffered. absurd (bufferless None refl buffered),
-  )
+  gives_taken = grind (arith, keeps_reading, bufferless)
 
   -- what a step after what was taken keeps of the engine
   keeps_on : (new : EngineView) → KeepsEngine now new → KeepsBytes now.raw new.raw → AnswersFor 0 now.raw new.raw → KeepsReading (stream_of old) (stream_of new)
@@ -99,34 +76,11 @@ module _ (old now : EngineView) (part : List ℕ) (took : Took old part now) whe
 
   -- nothing came any more
   pub stops_at_end : (before : List ℕ) (after : List ℕ) (new : EngineView) → Brings now before 0 after new → before ≢ [] → StopOutcome (stream_of old) part (Ok stop.End) (stream_of new)
-  stops_at_end before after new brings asked = (
-    record {
-      kept = keeps_on new brings.kept brings.bytes brings.answered;
-      no_fault = no_fault_then old now new took.kept took.counts.no_fault brings.counts.no_fault;
-      live = brings.live;
-      place = omega (arith, took.place, brings.place);
-      told = took.told;
-    },
-    no_wait_then old now new took.kept took.counts.no_wait brings.counts.no_wait,
-    λ tells. omega (arith, brings.end refl asked (still_tells tells), ap length (took.bytes (tells_its_bytes old.raw tells)), brings.place),
-    λ tells. omega (arith, took.transfers tells, took.place, brings.place, brings.transfers (took.kept.raw.tells_transfers ∙ tells)),
-  )
+  stops_at_end before after new brings asked = grind (arith, keeps_on, no_fault_then, no_wait_then, still_tells, tells_its_bytes)
 
   -- the raw would have blocked
   pub stops_waiting : (new : EngineView) → Waits now new → StopOutcome (stream_of old) part (Ok stop.Waits) (stream_of new)
-  stops_waiting new waits = (
-    record {
-      kept = keeps_on new waits.kept waits.bytes waits.answered;
-      no_fault = no_fault_then old now new took.kept took.counts.no_fault waits.no_fault;
-      live = waits.live;
-      place = waits.place ∙ took.place;
-      told = took.told;
-    },
-    omega (arith, took.kept.raw.waits, waits.cause),
-    refl,
-    λ exact. omega (arith, took.counts.no_wait exact, waits.once (took.kept.raw.counts_exactly ∙ exact)),
-    λ tells. omega (arith, took.transfers tells, took.place, waits.place, waits.transfers (took.kept.raw.tells_transfers ∙ tells)),
-  )
+  stops_waiting new waits = grind (arith, keeps_on, no_fault_then)
 
   -- the raw failed
   pub fails_after : (new : EngineView) → Fails now new → FailsReading (stream_of old) (stream_of new)
@@ -162,16 +116,11 @@ module _ (old now : EngineView) (part : List ℕ) (took : Took old part now) whe
 -- whether something has come, by how much
 some_came : (part : List ℕ) (held : ℕ) → held ≡ length part → (nat_lt 0 held ≡ true → part ≢ []) × (nat_lt 0 held ≡ false → part ≡ [])
 some_came [] held long = (λ some. absurd (true≢false (sym some ∙ ap (nat_lt 0) long)), λ none. refl)
-some_came (byte ∷ part) held long = (
-  λ some nothing. cc,
-  λ none. absurd (true≢false (sym (lt-ltb 0 held (omega arith)) ∙ none)),
-)
+some_came (byte ∷ part) held long = grind (arith, lt-ltb)
 
 -- a vector could not be lengthened
 pub rest_starved : (old now : EngineView) (part : List ℕ) (held : ℕ) (why : IoFault) (bytes : List ℕ) (new : EngineView) → held ≡ length part → Took old part now → why ≡ fault.NoMemory → StarvesWith (nat_lt 0 held) now new → RestOutcome (stream_of old) (Err why) bytes (stream_of new)
-rest_starved old now part held why bytes new long took says starves =
-    let came : (nat_lt 0 held ≡ true → part ≢ []) × (nat_lt 0 held ≡ false → part ≡ []) = some_came part held long in
-    subst (λ (w : IoFault). RestOutcome (stream_of old) (Err w) bytes (stream_of new)) (sym says) (starves_after old now part took (nat_lt 0 held) new came.0 came.1 starves)
+rest_starved old now part held why bytes new long took says starves = grind (arith, nat_lt, some_came, starves_after)
 
 -- a transfer was refused
 pub rest_refused : (old now : EngineView) (part : List ℕ) (held : ℕ) (before : List ℕ) (why : IoFault) (after bytes : List ℕ) (new : EngineView) → held ≡ length part → Took old part now → TransferOutcome now (nat_lt 0 held) before (Err why) after new → RestOutcome (stream_of old) (Err why) bytes (stream_of new)
@@ -190,12 +139,7 @@ pub record Widened (before : List ℕ) (held more : ℕ) (resized : List ℕ) : 
 
 -- a vector is widened by what a lengthening ensures
 pub widened : (before resized : List ℕ) (held more size : ℕ) (ok : Bool) → ok ≡ true → held ≡ length before → size ≡ length before → resized ≡ (if ok then take (held + more) before ++ replicate (held + more - size) 0 else before) → Widened before held more resized
-widened before resized held more size ok is long as_long says =
-    let same : resized ≡ before ++ replicate (held + more - size) 0 = says ∙ (ap (λ (b : Bool). if b then take (held + more) before ++ replicate (held + more - size) 0 else before) is ∙ ap (λ (xs : List ℕ). xs ++ replicate (held + more - size) 0) (take_all (held + more) before (omega arith))) in
-    record {
-      front = ap (take held) same ∙ take_at before (replicate (held + more - size) 0) held (sym long);
-      whole = ap length same ∙ (length-append before (replicate (held + more - size) 0) ∙ omega (arith, length-replicate {A = ℕ} (held + more - size) 0));
-    }
+widened before resized held more size ok is long as_long says = grind (arith, take_all, take_at, length-append, length-replicate)
 
 -- how much room is left after what a lengthened vector had
 pub room_left : (held more : ℕ) (resized : List ℕ) → length resized ≡ held + more → length (take (length resized - held) (drop held resized)) ≡ more
@@ -207,8 +151,7 @@ room_for_some held came more resized whole chunk none = absurd (omega (arith, ro
 
 -- nothing came any more, and the vector was cut to what it had
 pub rest_ends : (old now : EngineView) (part before : List ℕ) (count : ℕ) (after bytes : List ℕ) (new : EngineView) → Took old part now → bytes ≡ part → count ≡ 0 → Brings now before count after new → before ≢ [] → RestOutcome (stream_of old) (Ok stop.End) bytes (stream_of new)
-rest_ends old now part before count after bytes new took is none brings asked =
-    subst (λ (xs : List ℕ). RestOutcome (stream_of old) (Ok stop.End) xs (stream_of new)) (sym is) (stops_at_end old now part took before after new (subst (λ (n : ℕ). Brings now before n after new) none brings) asked)
+rest_ends old now part before count after bytes new took is none brings asked = grind (arith, stops_at_end)
 
 -- the raw would have blocked, and the vector was cut to what it had
 pub rest_waits : (old now : EngineView) (part bytes : List ℕ) (new : EngineView) → Took old part now → bytes ≡ part → Waits now new → RestOutcome (stream_of old) (Ok stop.Waits) bytes (stream_of new)

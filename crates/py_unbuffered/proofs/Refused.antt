@@ -1,5 +1,5 @@
 -- Raws that a stream without a buffer refuses before they are asked for anything.
-use Rattle.std.proofs.Common.{IsTrue, ◌≡◌, Bool, true, false, not, Some, None, refl, sym, subst}
+use Rattle.std.proofs.Common.{IsTrue, ◌≡◌, Bool, true, false, not, Some, None, refl, sym, subst, arith, rules}
 use Rattle.py_flat.specs.declared.fault.IoFault.{IoFault}
 use Rattle.py_flat.specs.declared.fault.IoFault.TheVariants as fault
 use Rattle.py_flat.specs.Refusals.{or_else, refused_if}
@@ -7,12 +7,8 @@ use Rattle.py_raw.specs.RawStream.{Raw}
 use Rattle.py_stream.specs.Opening.{first_refusal, RefusesRaw}
 
 by_tests : (able : Raw → Bool) (appends : Bool) (raw : Raw) (why : IoFault) (closed may : Bool) → raw.closed ≡ closed → able raw ≡ may → or_else (refused_if closed fault.Closed) (or_else (refused_if (not may) fault.Unsupported) None) ≡ Some why → RefusesRaw able appends raw None why raw
-by_tests able appends raw why true may shut can by =
-    let is : fault.Closed ≡ why = let same : Some fault.Closed ≡ Some why = by in cc in
-    subst (λ (other : IoFault). RefusesRaw able appends raw None other raw) is (shut, refl)
-by_tests able appends raw why false false shut can by =
-    let is : fault.Unsupported ≡ why = let same : Some fault.Unsupported ≡ Some why = by in cc in
-    subst (λ (other : IoFault). RefusesRaw able appends raw None other raw) is (shut, can, refl)
+by_tests able appends raw why true may shut can by = grind arith
+by_tests able appends raw why false false shut can by = grind arith
 by_tests able appends raw why false true shut can by = let never : None ≡ Some why = by in absurd (cc)
 
 -- a raw that is closed, or isn't able

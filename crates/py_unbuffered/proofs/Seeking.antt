@@ -1,5 +1,5 @@
 -- Which streams without a buffer may be moved.
-use Rattle.std.proofs.Common.{◌≡◌, Bool, true, false, not, ◌||◌, Ok, refl, sym, ap, ◌∙◌}
+use Rattle.std.proofs.Common.{◌≡◌, Bool, true, false, not, ◌||◌, Ok, refl, sym, ap, ◌∙◌, arith, rules}
 use Rattle.py_stream.proofs.Seeking.{or_true, MaySeek}
 use Rattle.py_stream.proofs.PassingOn.{begun as begun_stream}
 use Rattle.py_stream.specs.declared.access.Access.{Access}
@@ -41,6 +41,4 @@ begun_cannot old started begins cannot = sym (ap (λ (engine : EngineView). cann
 
 -- a seek that goes on
 pub may_seek : (old started : EngineView) → Stands old → BeginOutcome old (Ok tt) started → cannot_seek started.access started.raw.seekable ≡ false → MaySeek (begun_stream (stream_of old))
-may_seek old started stands begins can =
-    let lets = lets_seek (can_of old.access old.raw.seekable).seekable (can_of old.access old.raw.seekable).appending (sym (ap (λ (engine : EngineView). cannot_seek engine.access engine.raw.seekable) begins.1) ∙ can) in
-    record { sound = is_sound (begun old) stands; live = begins.0; seeks = lets.0; free = lets.1; whole = refl }
+may_seek old started stands begins can = grind (arith, lets_seek, is_sound, begun)

@@ -1,5 +1,5 @@
 -- What stays of an engine from step to step.
-use Rattle.std.proofs.Common.{◌≡◌, ℕ, ◌+◌, refl, ap, ◌∙◌, arith}
+use Rattle.std.proofs.Common.{◌≡◌, ℕ, ◌+◌, refl, ap, ◌∙◌, arith, rules}
 use Rattle.py_flat.specs.declared.life.Life.TheVariants as life
 use Rattle.py_raw.specs.RawStream.{Raw, NoFault, NoWait, LeavesCounts, AnswersFor, KeepsBytes}
 use Rattle.py_raw.proofs.Telling.{keeps_same}
@@ -14,39 +14,15 @@ use Rattle.py_unbuffered.proofs.Begun.{is_near}
 
 -- an engine by itself
 pub keeps_self : (engine : EngineView) → IsEngine engine.raw engine.place engine.access engine.life → KeepsEngine engine engine
-keeps_self engine is = record {
-  raw = keeps_same engine.raw;
-  stays = refl;
-  access = refl;
-  short = refl;
-  is = is;
-}
+keeps_self engine is = grind (arith, keeps_same)
 
 -- an engine that failed
 pub keeps_failed : (engine : EngineView) → IsEngine engine.raw engine.place engine.access engine.life → KeepsEngine engine (record engine { life = life.Failed })
-keeps_failed engine is = record {
-  raw = keeps_same engine.raw;
-  stays = refl;
-  access = refl;
-  short = refl;
-  is = record {
-    far = is.far;
-    able = is.able;
-    is_open = λ live. absurd (cc);
-    attached = λ detached. cc;
-    stands = λ tells live. absurd (cc);
-  };
-}
+keeps_failed engine is = grind (arith, keeps_same)
 
 -- two steps, one after the other
 pub keeps_then : (old mid new : EngineView) → KeepsEngine old mid → KeepsEngine mid new → KeepsEngine old new
-keeps_then old mid new first second = record {
-  raw = Keeps-then old.raw mid.raw new.raw first.raw second.raw;
-  stays = second.stays ∙ first.stays;
-  access = second.access ∙ first.access;
-  short = second.short ∙ first.short;
-  is = second.is;
-}
+keeps_then old mid new first second = grind (arith, Keeps-then)
 
 -- what a stream can do stays
 can_stays : (old new : EngineView) → KeepsEngine old new → can_of new.access new.raw.seekable ≡ can_of old.access old.raw.seekable
@@ -54,18 +30,7 @@ can_stays old new kept = ap (λ (opened : Access). can_of opened new.raw.seekabl
 
 -- a step that leaves the bytes, and answers for none, is one of a reading
 pub keeps_reading : (old new : EngineView) → KeepsEngine old new → KeepsBytes old.raw new.raw → AnswersFor 0 old.raw new.raw → KeepsReading (stream_of old) (stream_of new)
-keeps_reading old new kept bytes answered = record {
-  raw = kept.raw;
-  stays = kept.stays;
-  bytes = bytes;
-  written = answered;
-  can = can_stays old new kept;
-  buffer = refl;
-  short = kept.short;
-  owed = refl;
-  far = kept.is.far;
-  near = is_near new kept.is;
-}
+keeps_reading old new kept bytes answered = grind (arith, can_stays, is_near)
 
 -- what two steps leave uncounted
 pub no_fault_then : (old mid new : EngineView) → KeepsEngine old mid → NoFault old.raw mid.raw → NoFault mid.raw new.raw → NoFault old.raw new.raw
@@ -77,10 +42,7 @@ no_wait_then old mid new kept first second exact = second (kept.raw.counts_exact
 
 -- two steps count neither fault nor wait where neither step did
 pub uncounted_then : (old mid new : EngineView) → KeepsEngine old mid → LeavesCounts old.raw mid.raw → LeavesCounts mid.raw new.raw → LeavesCounts old.raw new.raw
-uncounted_then old mid new kept first second = record {
-  no_fault = no_fault_then old mid new kept first.no_fault second.no_fault;
-  no_wait = no_wait_then old mid new kept first.no_wait second.no_wait;
-}
+uncounted_then old mid new kept first second = grind (arith, no_fault_then, no_wait_then)
 
 -- a raw that isn't called counts nothing
 pub uncounted : (old new : Raw) → new ≡ old → LeavesCounts old new

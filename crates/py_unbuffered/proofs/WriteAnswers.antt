@@ -1,5 +1,5 @@
 -- The answers of `write` and `writelines` of a stream without a buffer.
-use Rattle.std.proofs.Common.{◌≡◌, ℕ, ◌+◌, ◌<◌, ◌≤◌, Bool, true, false, not, List, length, Option, Some, None, is_some, Ok, Err, refl, sym, ap, ◌∙◌, subst, arith}
+use Rattle.std.proofs.Common.{◌≡◌, ℕ, ◌+◌, ◌<◌, ◌≤◌, Bool, true, false, not, List, length, Option, Some, None, is_some, Ok, Err, refl, sym, ap, ◌∙◌, subst, arith, rules}
 use Rattle.py_flat.specs.declared.fault.IoFault.{IoFault}
 use Rattle.py_flat.specs.declared.fault.IoFault.TheVariants as fault
 use Rattle.py_flat.specs.Limits.{greatest_place}
@@ -37,16 +37,11 @@ can_write old started writing = reads_or_writes started.access started.raw.seeka
 
 -- bytes that would end past the greatest place
 pub too_far_answers : (old started : EngineView) (call : FileCall) → is_writing call ≡ true → Writing old started → greatest_place < started.place + length (payload call) → Answers (stream_of old) call (Refused fault.TooFar) (stream_of started)
-too_far_answers old started call gives writing past =
-    let from : EngineView → Type 0 = λ (engine : EngineView). ((can_of engine.access engine.raw.seekable).writable ≡ true) × (greatest_place < engine.place + length (payload call)) in
-    let first : ((can_of old.access old.raw.seekable).writable ≡ true) × (greatest_place < old.place + length (payload call)) = subst from writing.begins.1 (can_write old started writing, past) in
-    writing_too_far (stream_of old) (stream_of started) call gives (is_placed old writing.stands) first.0 (begins old started (Ok tt) writing.begins) first.1
+too_far_answers old started call gives writing past = grind (arith, can_write, writing_too_far, is_placed, begins)
 
 -- bytes that fit may be written
 pub may_write : (old started : EngineView) (call : FileCall) → is_writing call ≡ true → Writing old started → started.place + length (payload call) ≤ greatest_place → MayWrite (stream_of started) call
-may_write old started call gives writing fits =
-    let begun = begun_live old started writing.stands writing.begins in
-    record { writing = gives; sound = is_sound started begun.stands; behind = owes_behind started; live = begun.live; can = can_write old started writing; within = fits }
+may_write old started call gives writing fits = grind (arith, begun_live, is_sound, owes_behind, can_write)
 
 -- lines, which go on until all are taken
 pub lines_begun : (old started : EngineView) (call : FileCall) → is_writing call ≡ true → goes_on None call ≡ true → makes_one None call ≡ false → Writing old started → started.place + length (payload call) ≤ greatest_place → Begun (stream_of old) (stream_of started) call
