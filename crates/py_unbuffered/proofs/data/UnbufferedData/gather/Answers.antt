@@ -46,10 +46,7 @@ returns-in-Ok-Enough g c =
     gather_enough (g.C.Collector.wanted c.args.collector.now) c.args.self.now c.loop-moved.self (g.C.Collector.collected c.loop-moved.collector) c.loop-moved.moved c.loop-moved.invariant.gathered (0 ∷ []) c.in-Some.field-0 c.transfer.new.buffer c.transfer.new.self brings some c.transfer.auto.buffer wants c.in-Ok-Enough.field-0-0 (g.C.Collector.collected c.collect.new.self) c.loop-moved.invariant.same enough
 
 pub loop-moved-smaller : goal.loop-moved-smaller
-loop-moved-smaller g c =
-    let brings : Brings c.loop-moved.self (0 ∷ []) c.in-Some.field-0 c.transfer.new.buffer c.transfer.new.self = rw c.in-Some.is at c.in_ok-transfer.ensures.outcome in
-    let some : 0 < c.in-Some.field-0 = grind (arith, c.in-Some.field-0-test) in
-    omega (arith, brings.place, brings.kept.is.far)
+loop-moved-smaller g c = grind arith
 
 pub loop-moved-preserved : goal.loop-moved-preserved
 loop-moved-preserved g c =

@@ -1,4 +1,4 @@
-use Rattle.std.proofs.Common.{ℕ, Option, Some, None, refl, sym, subst}
+use Rattle.std.proofs.Common.{ℕ, Option, Some, None, refl, sym, subst, arith, rules}
 use Rattle.std.proofs.lemmas.Result.{err_from_is_err_and}
 use Rattle.py_flat.specs.Calls.{FileReply, Read}
 use Rattle.py_stream.specs.Answers.{Answers}
@@ -14,15 +14,7 @@ returns-in_err-begin g c =
     rw (left.1, left.2) (begins_in_vain c.args.self.now c.begin.new.self (Read c.args.size) c.in_err-begin.field-0.0 stands refl refl refl refl c.in_err-begin.ensures)
 
 pub returns-in-Some : goal.returns-in-Some
-returns-in-Some g c =
-    let first : EngineView = c.args.self.now in
-    let reply : FileReply = bytes_reply c.read_once.result in
-    subst (λ (size : Option ℕ). Answers (stream_of first) (Read size) reply (stream_of c.read_once.new.self)) (sym c.in-Some.is)
-    (answers_from first c.begin.new.self (Read (Some c.in-Some.size)) reply (stream_of c.read_once.new.self) c.in_ok-begin.ensures.1 c.read_once.ensures)
+returns-in-Some g c = grind (arith, answers_from)
 
 pub returns-in-None : goal.returns-in-None
-returns-in-None g c =
-    let first : EngineView = c.args.self.now in
-    let reply : FileReply = bytes_reply c.read_rest.result in
-    subst (λ (size : Option ℕ). Answers (stream_of first) (Read size) reply (stream_of c.read_rest.new.self)) (sym c.in-None.is)
-    (answers_from first c.begin.new.self (Read None) reply (stream_of c.read_rest.new.self) c.in_ok-begin.ensures.1 c.read_rest.ensures)
+returns-in-None g c = grind (arith, answers_from)

@@ -8,25 +8,16 @@ use Rattle.py_unbuffered.proofs.ReadingSteps.{took_none, rest_ends, rest_goes_on
 use Rattle.py_unbuffered.proofs.data.UnbufferedData.read_all.Goals as goal
 
 pub loop-self-init : goal.loop-self-init
-loop-self-init g c =
-    let none : c.args.bytes.now.items ≡ [] = c.requires.none in
-    rw none (took_none c.args.self.now (subst Stands c.self.view_is c.self.invariant) c.requires.live)
+loop-self-init g c = grind (arith, took_none)
 
 pub returns-then-is_err : goal.returns-then-is_err
-returns-then-is_err g c =
-    let long : c.len-held.result ≡ length c.loop-self.bytes.items = omega (arith, c.loop-self.bytes.ok) in
-    rest_starved c.args.self.now c.loop-self.self c.loop-self.bytes.items c.len-held.result c.starve.result c.resize.new.self.items c.starve.new.self long c.loop-self.invariant c.starve.ensures.fault c.starve.ensures.stream
+returns-then-is_err g c = grind (arith, rest_starved)
 
 pub transfer-requires-clause-reads : goal.transfer-requires-clause-reads
 transfer-requires-clause-reads g c = c.loop-self.invariant.kept.access ∙ c.requires.reads
 
 pub returns-in_err-transfer : goal.returns-in_err-transfer
-returns-in_err-transfer g c =
-    let says : c.from_residual.result ≡ Err c.in_err-transfer.field-0.0 = search rules in
-    let before : List ℕ = take (length c.deref_mut.result.now - c.len-held.result) (drop c.len-held.result c.deref_mut.result.now) in
-    let long : c.len-held.result ≡ length c.loop-self.bytes.items = omega (arith, c.loop-self.bytes.ok) in
-    rest_err c.args.self.now c.from_residual.result c.in_err-transfer.field-0.0 _ c.transfer.new.self says
-    (λ bytes. rest_refused c.args.self.now c.loop-self.self c.loop-self.bytes.items c.len-held.result before c.in_err-transfer.field-0.0 c.transfer.new.buffer bytes c.transfer.new.self long c.loop-self.invariant c.in_err-transfer.ensures.outcome)
+returns-in_err-transfer g c = grind (arith, rest_err, rest_refused)
 
 pub returns-in-Some-eq0 : goal.returns-in-Some-eq0
 returns-in-Some-eq0 g c =

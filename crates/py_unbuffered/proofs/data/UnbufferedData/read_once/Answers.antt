@@ -1,4 +1,4 @@
-use Rattle.std.proofs.Common.{◌≡◌, false, true, ℕ, List, length, take, drop, Bool, Option, Some, None, Ok, refl, sym, ap, ◌∙◌, subst}
+use Rattle.std.proofs.Common.{◌≡◌, false, true, ℕ, List, length, take, drop, Bool, Option, Some, None, Ok, refl, sym, ap, ◌∙◌, subst, arith, rules}
 use Rattle.std.proofs.lemmas.Result.{err_from_is_err_and}
 use Rattle.py_flat.specs.Calls.{FileCall, Bytes, NotReady, Read}
 use Rattle.py_stream.specs.Answers.{Answers}
@@ -33,13 +33,4 @@ returns-in-Some g c =
     (once_came old c.transfer.new.self call before buffer refl begun (Some count) long (c.in_ok-count.ensures.length ∙ long) came))
 
 pub returns-in-None : goal.returns-in-None
-returns-in-None g c =
-    let old : EngineView = c.args.self.now in
-    let call : FileCall = Read (Some c.args.size) in
-    let before : List ℕ = c.deref_mut.result.now in
-    let buffer : List ℕ = c.transfer.new.buffer in
-    let begun : Reads (stream_of old) = reads_live old c.requires.live c.requires.reads c.requires.whole (subst Stands c.self.view_is c.self.invariant) in
-    let long : length before ≡ c.args.size = c.deref_mut.ensures.len ∙ c.in-Ok.ensures.len in
-    let came : TransferOutcome old false before (Ok None) buffer c.transfer.new.self = subst (λ (counted : Option ℕ). TransferOutcome old false before (Ok counted) buffer c.transfer.new.self) c.in-None.is c.in_ok-count.ensures.outcome in
-    subst (λ (engine : EngineView). Answers (stream_of old) call NotReady (stream_of engine)) (ap (λ (engine : EngineView). let cut : EngineView = record engine { short = true } in cut) (sym c.self-2.view_is))
-    (once_came old c.transfer.new.self call before buffer refl begun None long (c.in_ok-count.ensures.length ∙ long) came)
+returns-in-None g c = grind (arith, reads_live, once_came)

@@ -1,4 +1,4 @@
-use Rattle.std.proofs.Common.{◌≡◌, ◌≢◌, ℕ, List, [], true, false, None, Ok, Err, refl, sym, ap, ◌∙◌, subst}
+use Rattle.std.proofs.Common.{◌≡◌, ◌≢◌, ℕ, List, [], true, false, None, Ok, Err, refl, sym, ap, ◌∙◌, subst, arith, rules}
 use Rattle.std.proofs.lemmas.Result.{err_from_is_err_and}
 use Rattle.py_flat.specs.Calls.{Read}
 use Rattle.py_unbuffered.specs.Engine.{EngineView, stream_of}
@@ -25,11 +25,4 @@ returns-then-answers g c =
     answers_stopped (stream_of old) (stream_of c.read_all.new.self) (stream_of c.answers.new.self) (Read None) part stop c.is_empty.result refl begun gathered some (sym c.answers.ensures.answer ∙ c.if-answers.true) (ap stream_of c.answers.ensures.stream)
 
 pub returns-else-answers : goal.returns-else-answers
-returns-else-answers g c =
-    let old : EngineView = c.args.self.now in
-    let part : List ℕ = c.read_all.new.bytes.items in
-    let stop = c.in_ok-stop.stop in
-    let begun : Reads (stream_of old) = reads_live old c.requires.live c.requires.reads c.requires.whole (subst Stands c.self.view_is c.self.invariant) in
-    let gathered = rest_gathers (stream_of old) (stream_of c.read_all.new.self) part (Ok stop) c.requires.live c.in_ok-stop.ensures in
-    let none : c.is_empty.result ≡ true → part ≡ [] = none_counted part c.read_all.new.bytes.len c.is_empty.result c.read_all.new.bytes.ok.0 c.is_empty.ensures in
-    unready_stopped (stream_of old) (stream_of c.read_all.new.self) (stream_of c.answers.new.self) (Read None) part stop c.is_empty.result refl begun gathered none (sym c.answers.ensures.answer ∙ c.if-answers.false) (ap stream_of c.answers.ensures.stream)
+returns-else-answers g c = grind (arith, reads_live, rest_gathers, none_counted, unready_stopped)

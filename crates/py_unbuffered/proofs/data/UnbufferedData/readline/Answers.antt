@@ -1,4 +1,4 @@
-use Rattle.std.proofs.Common.{◌≢◌, ℕ, List, [], Some, length, Ok, Err, refl, sym, ap, ◌∙◌, subst}
+use Rattle.std.proofs.Common.{◌≢◌, ℕ, List, [], Some, length, Ok, Err, refl, sym, ap, ◌∙◌, subst, arith, rules}
 use Rattle.std.proofs.lemmas.Result.{err_from_is_err_and}
 use Rattle.py_flat.specs.Lines.{Lf}
 use Rattle.py_flat.specs.Calls.{Bytes, ReadLine}
@@ -14,9 +14,7 @@ use Rattle.py_unbuffered.proofs.Reading.{reading_begins, not_nothing}
 use Rattle.py_unbuffered.proofs.data.UnbufferedData.readline.Goals as goal
 
 pub gather-requires-clause-asks : goal.gather-requires-clause-asks
-gather-requires-clause-asks g c =
-    let some : c.args.limit ≢ Some 0 = not_nothing c.args.limit c.eq.result c.eq.ensures c.if-eq.false in
-    subst (λ (view : LineView). (more : List ℕ) → more ≢ [] → line_wanted view more ≢ []) (sym c.new-collector.ensures.new) (λ (more : List ℕ) (asked : more ≢ []). first_line_holds_some Lf c.args.limit more asked some)
+gather-requires-clause-asks g c = grind (arith, not_nothing, first_line_holds_some)
 
 pub returns-in_err-begin : goal.returns-in_err-begin
 returns-in_err-begin g c =

@@ -1,4 +1,4 @@
-use Rattle.std.proofs.Common.{◌≢◌, ℕ, List, [], Option, Ok, Err, refl, sym, ap, ◌∙◌, subst}
+use Rattle.std.proofs.Common.{◌≢◌, ℕ, List, [], Option, Ok, Err, refl, sym, ap, ◌∙◌, subst, arith, rules}
 use Rattle.std.proofs.lemmas.Result.{err_from_is_err_and}
 use Rattle.std.specs.Bool.{◌==◌}
 use Rattle.py_flat.specs.Lines.{lines_within, joined}
@@ -14,8 +14,7 @@ use Rattle.py_unbuffered.proofs.Reading.{reading_begins, lines_hold_some}
 use Rattle.py_unbuffered.proofs.data.UnbufferedData.readlines.Goals as goal
 
 pub gather-requires-clause-asks : goal.gather-requires-clause-asks
-gather-requires-clause-asks g c =
-    subst (λ (hint : Option ℕ). (more : List ℕ) → more ≢ [] → joined (lines_within hint more) ≢ []) (sym c.new-collector.ensures.new.2) (lines_hold_some c.args.hint)
+gather-requires-clause-asks g c = grind (arith, lines_hold_some)
 
 pub returns-in_err-begin : goal.returns-in_err-begin
 returns-in_err-begin g c =

@@ -19,9 +19,7 @@ pub put-requires-clause-writes : goal.put-requires-clause-writes
 put-requires-clause-writes g c = ap (λ (can : Abilities). can.writable) c.loop-taken.invariant.took.took.kept.can ∙ c.requires.writes
 
 pub put-requires-clause-within : goal.put-requires-clause-within
-put-requires-clause-within g c =
-    let within = rest_within (stream_of c.args.self.now) (stream_of c.loop-taken.self) c.args.line.now c.loop-taken.taken c.loop-taken.invariant.fits c.loop-taken.invariant.took.took c.requires.within in
-    omega (arith, within, ap length (piece_is c.args.line.now c.loop-taken.taken))
+put-requires-clause-within g c = search (rules, rest_within, piece_is)
 
 pub returns-in_err-count : goal.returns-in_err-count
 returns-in_err-count g c =
@@ -38,35 +36,13 @@ returns-in_err-count g c =
     (put_refused now new (drop taken line) c.args.start _ why moved c.loop-taken.invariant.took.took.kept.sound c.loop-taken.invariant.took.took.live put))
 
 pub loop-taken-smaller : goal.loop-taken-smaller
-loop-taken-smaller g c =
-    let piece : List ℕ = take (length c.args.line.now - c.loop-taken.taken) (drop c.loop-taken.taken c.args.line.now) in
-    let puts : Puts c.loop-taken.self piece c.in-Some.count c.put-in-loop-taken.new.self = rw c.in-Some.is at c.in_ok-count.ensures in
-    let long : length piece ≡ length c.args.line.now - c.loop-taken.taken = ap length (piece_is c.args.line.now c.loop-taken.taken) ∙ length-drop c.loop-taken.taken c.args.line.now in
-    let some = put_some piece c.in-Some.count (omega (arith, long, c.loop-taken-test.true)) puts.some in
-    omega (arith, some, c.loop-taken-test.true)
+loop-taken-smaller g c = grind (arith, piece_is, length-drop, put_some)
 
 pub loop-taken-preserved : goal.loop-taken-preserved
-loop-taken-preserved g c =
-    let line : List ℕ = c.args.line.now in
-    let taken : ℕ = c.loop-taken.taken in
-    let now : EngineView = c.loop-taken.self in
-    let new : EngineView = c.put-in-loop-taken.new.self in
-    let count : ℕ = c.in-Some.count in
-    let puts : Puts now (drop taken line) count new = subst (λ (piece : List ℕ). Puts now piece count new) (piece_is line taken) (rw c.in-Some.is at c.in_ok-count.ensures) in
-    record {
-      fits = omega (arith, puts.fits, length-drop taken line, c.loop-taken.invariant.fits);
-      took = takes_more (stream_of c.args.self.now) (stream_of now) (stream_of new) line taken count c.loop-taken.invariant.took (puts_took now (drop taken line) count new puts);
-    }
+loop-taken-preserved g c = grind (arith, piece_is, length-drop, takes_more, puts_took)
 
 pub returns-in-None : goal.returns-in-None
-returns-in-None g c =
-    let line : List ℕ = c.args.line.now in
-    let taken : ℕ = c.loop-taken.taken in
-    let now : EngineView = c.loop-taken.self in
-    let new : EngineView = c.put-in-loop-taken.new.self in
-    let waits : Waits now new = rw c.in-None.is at c.in_ok-count.ensures in
-    put_rest (stream_of c.args.self.now) (stream_of now) (stream_of new) line taken c.args.start (Ok false) c.loop-taken.invariant.took
-    (waits_full now new (drop taken line) (omega (arith, length-drop taken line, c.loop-taken-test.true)) waits)
+returns-in-None g c = grind (arith, put_rest, waits_full, length-drop)
 
 pub returns : goal.returns
 returns g c = subst (λ (bytes : List ℕ). TookAll (stream_of c.args.self.now) bytes (stream_of c.loop-taken.self)) (take_all c.loop-taken.taken c.args.line.now c.loop-taken-test.false) c.loop-taken.invariant.took

@@ -34,6 +34,4 @@ returns-then-not-branch g c =
     (lines_stopped (stream_of c.args.self.now) (stream_of c.loop-line.self) (stream_of c.write_line.new.self) c.as_slice-line-items.result.now c.loop-line.line-index c.line-item.result c.as_slice.result.now c.args.start (Ok false) (omega arith) c.line-item.is c.as_slice.ensures c.loop-line.invariant put (λ same. absurd (cc)))
 
 pub loop-line-preserved : goal.loop-line-preserved
-loop-line-preserved g c =
-    let put : PutsOutcome (stream_of c.loop-line.self) c.as_slice.result.now c.args.start (Ok true) (stream_of c.write_line.new.self) = rw c.if-not-branch.false at c.in_ok-write_line.ensures in
-    lines_taken (stream_of c.args.self.now) (stream_of c.loop-line.self) (stream_of c.write_line.new.self) c.as_slice-line-items.result.now c.loop-line.line-index c.line-item.result c.as_slice.result.now (omega arith) c.line-item.is c.as_slice.ensures c.loop-line.invariant put
+loop-line-preserved g c = grind (arith, lines_taken)
