@@ -34,16 +34,13 @@ shut_by_life current buffering call why close detach fails = stopped current buf
 -- By what the stream lacks.
 
 lacks_no_close : (file : FlatFile) (call : FileCall) → lacks file call ≡ true → is_close call ≡ false
-lacks_no_close file Close lacking = absurd (cc)
-lacks_no_close file call lacking = refl
+lacks_no_close file call lacking = grind arith
 
 no_detach : (buffering : Buffering) → not (is_buffered buffering) ≡ true → is_buffered buffering ≡ false
-no_detach (Buffered size) lacking = absurd (cc)
-no_detach buffering lacking = refl
+no_detach buffering lacking = grind arith
 
 lacks_no_detach : (file : FlatFile) (call : FileCall) → lacks file call ≡ true → detaches file.buffering call ≡ false
-lacks_no_detach file Detach lacking = no_detach file.buffering lacking
-lacks_no_detach file call lacking = refl
+lacks_no_detach file call lacking = grind (arith, no_detach)
 
 -- By either: what the stream lacks, or its life.
 

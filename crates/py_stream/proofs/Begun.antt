@@ -43,8 +43,7 @@ module _ (short : Bool) where
   by_end before after call reply seeks = tt
 
   again : (before after : Stream) (call : FileCall) (reply : FileReply) → (closes_again (seen short before) call ≡ true → Leaves (seen short before) Done reply after) → closes_again before call ≡ true → Leaves before Done reply after
-  again before after Close reply closed closes = leaves before after Done reply (closed closes)
-  again before after call reply closed closes = absurd (cc)
+  again before after call reply closed closes = grind (arith, leaves)
 
   taken : (before after : Stream) (call : FileCall) → (IsTrue (is_writing call) → OwesUpTo before.owed before.place → Takes (seen short before) (payload call) after) → IsTrue (is_writing call) → OwesUpTo before.owed before.place → Takes before (payload call) after
   taken before after call takes writing up_to = let is = takes writing up_to in record { taken = is.taken; within = is.within; place = is.place; passed = is.passed; most = is.most; answered = is.answered; owed = is.owed; up_to = is.up_to; told = is.told }
@@ -56,8 +55,7 @@ module _ (short : Bool) where
   front_passed before after is = record { passed = is.passed; most = is.most; answered = is.answered; bytes = is.bytes; place = is.place }
 
   lays_whole : (before : Stream) (call : FileCall) (bytes : List ℕ) → LaysInOrder (seen short before) call bytes → LaysInOrder before call bytes
-  lays_whole before (Truncate size) bytes is = record { between = is.between; lays = record { count = is.lays.count; bytes = is.lays.bytes }; cuts = is.cuts }
-  lays_whole before call bytes is = record { count = is.count; bytes = is.bytes }
+  lays_whole before call bytes is = grind arith
 
   laid : (before : Stream) (call : FileCall) (bytes : List ℕ) → WhereTold before.raw (LaysInOrder (seen short before) call bytes) → WhereTold before.raw (LaysInOrder before call bytes)
   laid before call bytes is tells = lays_whole before call bytes (is tells)
@@ -66,23 +64,13 @@ module _ (short : Bool) where
   passed_on before after is = record { none = is.none; holds = is.holds }
 
   passed : (before after : Stream) (call : FileCall) (reply : FileReply) → PassesOn (seen short before) call reply after → PassesOn before call reply after
-  passed before after Flush Done is = (passed_on before after is.0, is.1)
-  passed before after Close Done is = λ live. passed_on before after (is live)
-  passed before after Detach (Unwritten bytes place) is = λ live. (passed_on before after (is live).0, (is live).1, (is live).2)
-  passed before after (Truncate size) (Place place) is = record { none = is.none; holds = is.holds }
-  passed before after (Truncate size) reply is = is
-  passed before after (Seek offset whence) (Place place) is = is
-  passed before after (Seek offset whence) reply is = is
-  passed before after call reply is = is
+  passed before after call reply is = grind (arith, passed_on)
 
   old_owed : (before after : Stream) → OwesOld (seen short before) after → OwesOld before after
   old_owed before after is = record { rest = is.rest; stands = is.stands; moved = is.moved }
 
   straight_whole : (before after : Stream) (call : FileCall) (reply : FileReply) → OwesNoneOfIts (seen short before) call reply after → OwesNoneOfIts before call reply after
-  straight_whole before after (Write bytes) (Refused fault.RawFault) is = old_owed before after is
-  straight_whole before after (Write bytes) (Refused fault.NoMemory) is = λ failed. old_owed before after (is failed)
-  straight_whole before after (Write bytes) reply is = is
-  straight_whole before after call reply is = is
+  straight_whole before after call reply is = grind (arith, old_owed)
 
   writes_seen : (before after : Stream) (call : FileCall) (reply : FileReply) → Writes (seen short before) call reply after → Writes before call reply after
   writes_seen before after call reply written = record {

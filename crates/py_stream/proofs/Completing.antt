@@ -9,19 +9,13 @@ use Rattle.py_stream.specs.Kinds.{says_fault}
 use Rattle.py_stream.specs.Answers.{IsAnswerTo, IsReplyTo, IsShort, HasCauses}
 
 not_ready : (call : FileCall) (short : Bool) → IsShort call NotReady short → short ≡ true
-not_ready (Read1 size) short is = is
-not_ready call short is = is
+not_ready call short is = grind arith
 
 blocked : (call : FileCall) (taken : ℕ) (short : Bool) → IsShort call (Refused (fault.WouldBlock taken)) short → short ≡ true
-blocked (Read1 size) taken short is = is
-blocked call taken short is = is
+blocked call taken short is = grind arith
 
 answers_whole : (buffer : Option ℕ) (writes : Bool) (call : FileCall) (reply : FileReply) (short : Bool) → IsReplyTo buffer writes call reply → IsShort call reply short → short ≡ false → says_fault reply ≡ false → IsAnswerTo call reply
-answers_whole buffer writes call NotReady short answers shorts whole sound = absurd (let waits = not_ready call short shorts in cc)
-answers_whole buffer writes call (Refused (fault.WouldBlock taken)) short answers shorts whole sound = absurd (let waits = blocked call taken short shorts in cc)
-answers_whole buffer writes call (Refused fault.RawFault) short answers shorts whole sound = absurd (cc)
-answers_whole buffer writes Tell reply short answers shorts whole sound = answers
-answers_whole buffer writes call reply short answers shorts whole sound = answers
+answers_whole buffer writes call reply short answers shorts whole sound = grind (arith, not_ready, blocked)
 
 -- a test that what has its cause in a count that rose didn't come about
 pub uncaused : (old new : ℕ) (came : Bool) → (IsTrue came → Rose old new) → rose old new ≡ false → came ≡ false

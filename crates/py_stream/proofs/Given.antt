@@ -233,15 +233,11 @@ owes_rest old new short owes = record { rest = owes.rest; stands = owes.stands; 
 
 -- a `write` owes none of its own bytes once the raw failed, nor where running out of memory fails the stream
 pub one_write : (old new : Stream) (bytes : List ℕ) (start : ℕ) (why : IoFault) → PutOutcome old bytes start (Err why) new → OwesNoneOfIts old (Write bytes) (Refused why) (record new { short = false })
-one_write old new bytes start fault.RawFault put = owes_rest old new false put.1
-one_write old new bytes start fault.NoMemory put = λ failed. owes_rest old new false (put.1 failed)
-one_write old new bytes start why put = tt
+one_write old new bytes start why put = grind (arith, owes_rest)
 
 -- what one piece answers is what several do
 pub puts_one : (old new : Stream) (bytes : List ℕ) (start : ℕ) (result : Result Bool IoFault) → PutOutcome old bytes start result new → PutsOutcome old bytes start result new
-puts_one old new bytes start (Err fault.RawFault) put = put.0
-puts_one old new bytes start (Err fault.NoMemory) put = put.0
-puts_one old new bytes start result put = put
+puts_one old new bytes start result put = grind arith
 
 -- As the steps of `write` and `writelines` come.
 

@@ -289,9 +289,7 @@ pub record SeeksWriting (old : Stream) : Type 0 where
 
 -- a stream that doesn't read has no place in hand
 seeks_apart : (old : Stream) (offset whence : ℤ) → old.can.readable ≡ false → InHandOf old (Seek offset whence) → ⊥
-seeks_apart old offset (pos zero) reads has = absurd (cc (has.0, reads))
-seeks_apart old offset (pos (suc zero)) reads has = absurd (cc (has.0, reads))
-seeks_apart old offset whence reads never = never
+seeks_apart old offset whence reads never = grind arith
 
 -- what a seek of a stream that writes asks of the raw may work
 accepts_seek : (old : Stream) (offset whence : ℤ) (target : ℕ) → SeeksWriting old → Goes old offset whence target → Accepts old (Seek offset whence)

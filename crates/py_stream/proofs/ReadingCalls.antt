@@ -57,68 +57,31 @@ pub record IsReadingCall (call : FileCall) : Type 0 where
 
 -- what holds of every call that reads holds of each
 pub reading_call : (call : FileCall) → is_reading call ≡ true → IsReadingCall call
-reading_call (Write bytes) reads = absurd (cc)
-reading_call (WriteLines lines) reads = absurd (cc)
-reading_call (Seek offset whence) reads = absurd (cc)
-reading_call Tell reads = absurd (cc)
-reading_call (Truncate size) reads = absurd (cc)
-reading_call Flush reads = absurd (cc)
-reading_call Close reads = absurd (cc)
-reading_call Detach reads = absurd (cc)
-reading_call Readable reads = absurd (cc)
-reading_call Writable reads = absurd (cc)
-reading_call Seekable reads = absurd (cc)
-reading_call Closed reads = absurd (cc)
-reading_call OtherKind reads = absurd (cc)
-reading_call OtherGetter reads = absurd (cc)
 reading_call call reads = grind arith
 
 -- no answer of a call that reads says how much was taken
 pub never_blocks : (buffer : Option ℕ) (writes : Bool) (call : FileCall) (reply : FileReply) (after : Stream) → is_reading call ≡ true → IsReplyTo buffer writes call reply → BlocksFull call reply after
-never_blocks buffer writes (Write bytes) reply after reads answers = absurd (cc)
-never_blocks buffer writes (WriteLines lines) reply after reads answers = absurd (cc)
-never_blocks buffer writes Tell reply after reads answers = absurd (cc)
-never_blocks buffer true call (Refused (fault.WouldBlock taken)) after reads answers = absurd (let waits = (reading_call call reads).unready buffer in cc)
-never_blocks buffer false call (Refused (fault.WouldBlock taken)) after reads answers = absurd (cc)
-never_blocks buffer writes call reply after reads answers = tt
+never_blocks buffer writes call reply after reads answers = grind (arith, reading_call)
 
 -- without an answer a reading gives no more than is asked for
 pub unready_within : (size : ℕ) (call : FileCall) → GivesWithin size call NotReady
-unready_within size (Read1 None) = tt
-unready_within size (Read1 (Some bytes)) = tt
-unready_within size call = tt
+unready_within size call = grind arith
 
 -- a reading that was refused gives nothing
 pub refused_within : (size : ℕ) (call : FileCall) (why : IoFault) → GivesWithin size call (Refused why)
-refused_within size (Read1 None) why = tt
-refused_within size (Read1 (Some bytes)) why = tt
-refused_within size call why = tt
+refused_within size call why = grind arith
 
 -- a wait allows no answer, with the file as it was
 pub unready_waited : (file : FlatFile) (call : FileCall) (after : FlatFile) → is_reading call ≡ true → after ≡ file → WaitedBy file call NotReady after
-unready_waited file (Read size) after reads same = inl (refl, same)
-unready_waited file (ReadLine limit) after reads same = inl (refl, same)
-unready_waited file (ReadLines hint) after reads same = inl (refl, same)
-unready_waited file (ReadInto size) after reads same = inl (refl, same)
-unready_waited file (Read1 size) after reads same = (refl, same)
-unready_waited file (ReadInto1 size) after reads same = (refl, same)
-unready_waited file Peek after reads same = (refl, same)
-unready_waited file call after reads same = absurd (cc)
+unready_waited file call after reads same = grind arith
 
 -- running out of memory may leave the file as it was
 pub starved_by_none : (file : FlatFile) (call : FileCall) (after : FlatFile) → is_reading call ≡ true → after ≡ file → StarvedBy file call after
-starved_by_none file (Read size) after reads same = inl same
-starved_by_none file (ReadInto size) after reads same = inl same
-starved_by_none file (ReadLine limit) after reads same = inl same
-starved_by_none file (ReadLines hint) after reads same = inl same
-starved_by_none file (Write bytes) after reads same = absurd (cc)
-starved_by_none file (WriteLines lines) after reads same = absurd (cc)
-starved_by_none file call after reads same = same
+starved_by_none file call after reads same = grind arith
 
 -- only a reading that goes on takes its space first
 pub space_first : (call : FileCall) → IsTrue (takes_space_first call) → IsTrue (reads_on call)
-space_first (Read size) takes = refl
-space_first call takes = absurd (cc)
+space_first call takes = grind arith
 
 -- Readings that go on.
 
@@ -138,27 +101,15 @@ pub record IsSeveral (buffer : Option ℕ) (call : FileCall) : Type 0 where
 
 -- without a buffer a reading of a size makes a single transfer
 pub is_several : (buffer : Option ℕ) (call : FileCall) → by_several buffer call ≡ true → IsSeveral buffer call
-is_several (Some size) (Read bytes) several = record { on = refl; goes = refl; many = refl }
-is_several None (Read None) several = record { on = refl; goes = refl; many = refl }
-is_several buffer (ReadLine limit) several = record { on = refl; goes = refl; many = refl }
-is_several buffer (ReadLines hint) several = record { on = refl; goes = refl; many = refl }
-is_several (Some size) (ReadInto bytes) several = record { on = refl; goes = refl; many = refl }
-is_several buffer call several = absurd (cc)
+is_several buffer call several = grind arith
 
 -- a stream that reads has what a reading that goes on needs
 pub on_suits : (file : FlatFile) (call : FileCall) → reads_on call ≡ true → file.can.readable ≡ true → lacks file call ≡ false
-on_suits file (Read size) on reads = ap not reads
-on_suits file (ReadLine limit) on reads = ap not reads
-on_suits file (ReadLines hint) on reads = ap not reads
-on_suits file (ReadInto size) on reads = ap not reads
-on_suits file call on reads = absurd (cc)
+on_suits file call on reads = grind arith
 
 -- a reading that asks for nothing over a buffer, or without one, wants none of what is left
 wants_none : (buffer : Option ℕ) (call : FileCall) → reads_on call ≡ true → IsTrue (asks_none buffer call) → (left : List ℕ) → wanted_by call left ≡ []
-wants_none (Some size) (Read (Some zero)) on asks left = refl
-wants_none (Some size) (ReadInto zero) on asks left = refl
-wants_none buffer (ReadLine (Some zero)) on asks left = refl
-wants_none buffer call on asks left = absurd (cc)
+wants_none buffer call on asks left = grind arith
 
 -- a reading that asks for nothing wants no more than is held
 pub nothing_held : (before : Stream) (call : FileCall) → reads_on call ≡ true → IsTrue (asks_none before.buffer call) → WantsHeld (wanted_by call) before
@@ -166,13 +117,7 @@ nothing_held before call on asks left = omega (arith, ap length (wants_none befo
 
 -- a reading that the bytes held answer by themselves wants no more than these
 pub in_hand_held : (before : Stream) (call : FileCall) → reads_on call ≡ true → InHandOf before call → WantsHeld (wanted_by call) before
-in_hand_held before (Read (Some size)) on has left = omega (arith, has, length-take size left)
-in_hand_held before (ReadInto size) on has left = omega (arith, has, length-take size left)
-in_hand_held before (ReadLine (Some limit)) on has left = omega (arith, has, length-take limit (line_after Lf false left))
-in_hand_held before (Read None) on has left = absurd has
-in_hand_held before (ReadLine None) on has left = absurd has
-in_hand_held before (ReadLines hint) on has left = absurd has
-in_hand_held before call on has left = absurd (cc)
+in_hand_held before call on has left = grind (arith, length-take)
 
 -- no more is wanted than the call says
 pub wanted_within : (call : FileCall) (most : ℕ) → reads_on call ≡ true → moves_most call ≡ Some most → (bytes : List ℕ) → length (wanted_by call bytes) ≤ most
@@ -183,8 +128,4 @@ wanted_within call most on is bytes = absurd (cc)
 
 -- running out of memory may fail a reading that goes on, where some bytes are wanted
 pub starved_by_failing : (file : FlatFile) (call : FileCall) (after : FlatFile) → reads_on call ≡ true → wanted_by call (rest file) ≢ [] → Fails file life.Failed file.bytes after → StarvedBy file call after
-starved_by_failing file (Read size) after on some fails = inr (some, fails)
-starved_by_failing file (ReadInto size) after on some fails = inr (some, fails)
-starved_by_failing file (ReadLine limit) after on some fails = inr (some, fails)
-starved_by_failing file (ReadLines hint) after on some fails = inr (some, fails)
-starved_by_failing file call after on some fails = absurd (cc)
+starved_by_failing file call after on some fails = grind arith

@@ -38,39 +38,22 @@ some_lines part some none = some (sym (joined_lines part) ∙ ap joined none)
 
 -- a short answer is never none
 short_part : (call : FileCall) (part : List ℕ) (short : Bool) → reads_on call ≡ true → (IsTrue short → part ≢ []) → IsShort call (reply_by call part) short
-short_part (Read size) part short on some = some
-short_part (ReadLine limit) part short on some = some
-short_part (ReadLines hint) part short on some = λ shortened. some_lines part (some shortened)
-short_part (ReadInto size) part short on some = some
-short_part call part short on some = absurd (cc)
+short_part call part short on some = grind (arith, some_lines)
 
 -- a reading that goes on moves the place by as many bytes as it gives
 part_moves : (buffer : Option ℕ) (call : FileCall) (part : List ℕ) (current : Life) (before after : ℕ) → reads_on call ≡ true → after ≡ before + length part → PlaceMoves buffer call (reply_by call part) current before after
-part_moves buffer (Read most) part current before after on is = is
-part_moves buffer (ReadLine limit) part current before after on is = is
-part_moves buffer (ReadLines hint) part current before after on is = is ∙ ap (λ (bytes : List ℕ). before + length bytes) (sym (joined_lines part))
-part_moves buffer (ReadInto most) part current before after on is = is
-part_moves buffer call part current before after on is = absurd (cc)
+part_moves buffer call part current before after on is = grind (arith, joined_lines)
 
 taken_within : (size : ℕ) (part : List ℕ) → take size part ≡ part → length part ≤ size
 taken_within size part alone = omega (arith, ap length alone, length-take size part)
 
 -- no more is given than is asked for
 part_within : (size : ℕ) (call : FileCall) (part : List ℕ) → reads_on call ≡ true → wanted_by call part ≡ part → GivesWithin size call (reply_by call part)
-part_within size (Read None) part on alone = tt
-part_within size (Read (Some most)) part on alone = taken_within most part alone
-part_within size (ReadInto most) part on alone = taken_within most part alone
-part_within size (ReadLine limit) part on alone = alone
-part_within size (ReadLines hint) part on alone = ap (lines_within hint) (joined_lines part) ∙ lines_left hint part (lines_of part) (cut_again part) (alone ∙ sym (joined_lines part))
-part_within size call part on alone = absurd (cc)
+part_within size call part on alone = grind (arith, taken_within, joined_lines, lines_left, cut_again)
 
 -- a wait allows a front of what is wanted
 part_waited : (file : FlatFile) (call : FileCall) (part : List ℕ) (after : FlatFile) → reads_on call ≡ true → GivesPart file (wanted_by call (rest file)) part after → WaitedBy file call (reply_by call part) after
-part_waited file (Read size) part after on gives_part = inr (part, refl, gives_part)
-part_waited file (ReadLine limit) part after on gives_part = inr (part, refl, gives_part)
-part_waited file (ReadLines hint) part after on gives_part = inr (part, refl, gives_part)
-part_waited file (ReadInto size) part after on gives_part = inr (part, refl, gives_part)
-part_waited file call part after on gives_part = absurd (cc)
+part_waited file call part after on gives_part = grind arith
 
 -- a stream with a buffer carries a call out exactly that makes one transfer without
 sized : (file : FlatFile) (size : ℕ) (call : FileCall) (bytes : List ℕ) (reply : FileReply) (after : FlatFile) → file.buffering ≡ buffering_of (Some size) → (reply, after) ≡ carried_out file call → CarriedOut file call (if_unbuffered file.buffering bytes) reply after
@@ -92,11 +75,7 @@ carried buffer file call part after buffered several exact is = absurd (cc)
 
 -- an answer that is whole is all that is wanted, whatever comes after it
 whole_wanted : (call : FileCall) (part : List ℕ) → reads_on call ≡ true → IsWhole call (reply_by call part) → (more : List ℕ) → wanted_by call (part ++ more) ≡ part
-whole_wanted (Read size) part on whole = whole
-whole_wanted (ReadLine limit) part on whole = whole
-whole_wanted (ReadLines hint) part on whole = λ more. ap (λ (bytes : List ℕ). joined (lines_within hint (bytes ++ more))) (sym (joined_lines part)) ∙ (ap joined (whole more) ∙ joined_lines part)
-whole_wanted (ReadInto size) part on whole = whole
-whole_wanted call part on whole = absurd (cc)
+whole_wanted call part on whole = grind (arith, joined_lines)
 
 -- what was asked for the bytes that were given, by whether more of whatever comes after them is wanted
 pub record Needs (wanted : List ℕ → List ℕ) (before : Stream) (part : List ℕ) (after : Stream) : Type 0 where
@@ -237,8 +216,7 @@ fails_where false most before after forth within stays = stays refl
 
 -- running out of memory leaves the place of a stream that lives on
 starves_where : (most : Option ℕ) (current : Life) (before after : ℕ) → (current ≡ life.Live → after ≡ before) → MovesForth most before after → PlaceStarves current most before after
-starves_where most life.Live before after same forth = same refl
-starves_where most current before after same forth = forth
+starves_where most current before after same forth = grind arith
 
 -- a reading that the raw failed
 pub answers_faulted : (before after : Stream) (call : FileCall) → is_reading call ≡ true → lacks (file_of before) call ≡ false → Reads before → FailsReading before after → ((bound : ℕ) → moves_most call ≡ Some bound → after.place ≤ before.place + bound) → (goes_on before.buffer call ≡ false → after.place ≡ before.place) → asks_none before.buffer call ≡ false → (IsTrue (makes_one before.buffer call) → OneTransfer before after) → (IsSome before.buffer → InHandOf before call → ⊥) → Answers before call (Refused fault.RawFault) after

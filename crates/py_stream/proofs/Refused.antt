@@ -31,33 +31,20 @@ nothing_laid before call = record { count = 0; bytes = refl }
 
 -- a refused call need not have passed anything on
 pub nothing_passed : (before after : Stream) (call : FileCall) (why : IoFault) → PassesOn before call (Refused why) after
-nothing_passed before after Flush why = tt
-nothing_passed before after Close why = tt
-nothing_passed before after Detach why = tt
-nothing_passed before after (Seek offset whence) why = tt
-nothing_passed before after (Truncate size) why = tt
-nothing_passed before after call why = tt
+nothing_passed before after call why = grind arith
 
 -- no wait fills the buffer
 pub nothing_blocked : (after : Stream) (call : FileCall) (why : IoFault) → says_would_block (Refused why) ≡ false → BlocksFull call (Refused why) after
-nothing_blocked after call (fault.WouldBlock taken) other = absurd (cc)
-nothing_blocked after (Write bytes) why other = tt
-nothing_blocked after (WriteLines lines) why other = tt
-nothing_blocked after call why other = tt
+nothing_blocked after call why other = grind arith
 
 never_waits : (why : IoFault) → is_own why ≡ true → says_would_block (Refused why) ≡ false
-never_waits (fault.WouldBlock taken) own = absurd (cc)
-never_waits why own = refl
+never_waits why own = grind arith
 
 none_of_its : (before after : Stream) (call : FileCall) (why : IoFault) → is_own why ≡ true → OwesNoneOfIts before call (Refused why) after
-none_of_its before after (Write bytes) fault.RawFault own = absurd (cc)
-none_of_its before after (Write bytes) fault.NoMemory own = absurd (cc)
-none_of_its before after (Write bytes) why own = tt
-none_of_its before after call why own = tt
+none_of_its before after call why own = grind arith
 
 wants_none : (why : IoFault) → is_own why ≡ true → says_no_memory (Refused why) ≡ false
-wants_none fault.NoMemory own = absurd (cc)
-wants_none why own = refl
+wants_none why own = grind arith
 
 -- what a refused call does with the bytes of a stream that writes
 pub leaves_all : (before : Stream) (call : FileCall) (why : IoFault) → is_own why ≡ true → before.short ≡ false → Writes before call (Refused why) before
@@ -66,35 +53,25 @@ leaves_all before call why own whole = grind (arith, owes_as_before, append-nil,
 -- A stream whose raw was handed back.
 
 life_stays : (buffer : Option ℕ) (call : FileCall) (current : Life) → LifeMoves buffer call (Refused fault.Detached) current current
-life_stays buffer Close current = refl
-life_stays buffer Detach current = refl
-life_stays buffer call current = refl
+life_stays buffer call current = grind arith
 
 place_stays : (buffer : Option ℕ) (call : FileCall) (current : Life) (place : ℕ) → PlaceMoves buffer call (Refused fault.Detached) current place place
-place_stays buffer (Write bytes) current place = refl
-place_stays buffer (WriteLines lines) current place = refl
-place_stays buffer call current place = refl
+place_stays buffer call current place = grind arith
 
 is_whole : (call : FileCall) → IsShort call (Refused fault.Detached) false
-is_whole (Read1 size) = refl
-is_whole call = refl
+is_whole call = grind arith
 
 gives_nothing : (size : ℕ) (call : FileCall) → GivesWithin size call (Refused fault.Detached)
-gives_nothing size (Read1 None) = tt
-gives_nothing size (Read1 (Some bytes)) = tt
-gives_nothing size call = tt
+gives_nothing size call = grind arith
 
 asks_no_end : (can : Abilities) (buffer : Option ℕ) (call : FileCall) → asks_end (file_of (detached_stream can buffer)) call ≡ false
-asks_no_end can buffer (Seek offset (pos (suc (suc zero)))) = refl
-asks_no_end can buffer call = refl
+asks_no_end can buffer call = grind arith
 
 seeks_no_end : (can : Abilities) (buffer : Option ℕ) (call : FileCall) → SeeksByEnd (detached_stream can buffer) call (Refused fault.Detached) (detached_stream can buffer)
-seeks_no_end can buffer (Seek offset (pos (suc (suc zero)))) = λ asks. absurd (cc)
-seeks_no_end can buffer call = tt
+seeks_no_end can buffer call = grind arith
 
 never_closes : (can : Abilities) (buffer : Option ℕ) (call : FileCall) → closes_again (detached_stream can buffer) call ≡ false
-never_closes can buffer Close = refl
-never_closes can buffer call = refl
+never_closes can buffer call = grind arith
 
 refuses_all : (can : Abilities) (buffer : Option ℕ) (call : FileCall) → is_getter call ≡ false → is_other_getter call ≡ false → refusal (file_of (detached_stream can buffer)) call ≡ Some fault.Detached
 refuses_all can buffer call asks known = grind arith

@@ -21,42 +21,25 @@ use Rattle.py_stream.proofs.Refused.{is_own, leaves_all}
 use Rattle.py_stream.proofs.Begun.{writes_whole}
 
 life_stays : (buffer : Option ℕ) (call : FileCall) (why : IoFault) (current : Life) → is_own why ≡ true → LifeMoves buffer call (Refused why) current current
-life_stays buffer call fault.RawFault current own = absurd (cc)
-life_stays buffer call fault.NoMemory current own = absurd (cc)
-life_stays buffer Close why current own = refl
-life_stays buffer Detach why current own = refl
-life_stays buffer call why current own = refl
+life_stays buffer call why current own = grind arith
 
 place_stays : (buffer : Option ℕ) (call : FileCall) (why : IoFault) (current : Life) (place : ℕ) → is_own why ≡ true → PlaceMoves buffer call (Refused why) current place place
-place_stays buffer call fault.RawFault current place own = absurd (cc)
-place_stays buffer call fault.NoMemory current place own = absurd (cc)
-place_stays buffer (Write bytes) (fault.WouldBlock taken) current place own = absurd (cc)
-place_stays buffer (WriteLines lines) (fault.WouldBlock taken) current place own = absurd (cc)
-place_stays buffer (Write bytes) why current place own = refl
-place_stays buffer (WriteLines lines) why current place own = refl
-place_stays buffer call why current place own = refl
+place_stays buffer call why current place own = grind arith
 
 never_short : (call : FileCall) (why : IoFault) → is_own why ≡ true → IsShort call (Refused why) false
-never_short call (fault.WouldBlock taken) own = absurd (cc)
-never_short (Read1 size) why own = refl
-never_short call why own = refl
+never_short call why own = grind arith
 
 gives_nothing : (size : ℕ) (call : FileCall) (why : IoFault) → GivesWithin size call (Refused why)
-gives_nothing size (Read1 None) why = tt
-gives_nothing size (Read1 (Some bytes)) why = tt
-gives_nothing size call why = tt
+gives_nothing size call why = grind arith
 
 no_fault : (why : IoFault) → is_own why ≡ true → says_fault (Refused why) ≡ false
-no_fault fault.RawFault own = absurd (cc)
-no_fault why own = refl
+no_fault why own = grind arith
 
 no_want : (why : IoFault) → is_own why ≡ true → says_no_memory (Refused why) ≡ false
-no_want fault.NoMemory own = absurd (cc)
-no_want why own = refl
+no_want why own = grind arith
 
 no_end : (before : Stream) (call : FileCall) (reply : FileReply) (after : Stream) → asks_end (file_of before) call ≡ false → SeeksByEnd before call reply after
-no_end before (Seek offset (pos (suc (suc zero)))) reply after none = λ asks. absurd (cc)
-no_end before call reply after none = tt
+no_end before call reply after none = grind arith
 
 -- a call that doesn't ask for the end is refused as the model says
 pub refused_alone : (before : Stream) (call : FileCall) → asks_end (file_of before) call ≡ false → refused_by before call ≡ refusal (file_of before) call
@@ -117,20 +100,16 @@ own_of_life life.Closed why by = let same : fault.Closed ≡ why = cc in ap is_o
 own_of_life life.Detached why by = let same : fault.Detached ≡ why = cc in ap is_own (sym same)
 
 not_live : (current : Life) (why : IoFault) → life_fault current ≡ Some why → is_live current ≡ false
-not_live life.Live why by = absurd (cc)
-not_live current why by = refl
+not_live current why by = grind arith
 
 asks_no_end : (file : FlatFile) (call : FileCall) → is_live file.life ≡ false → asks_end file call ≡ false
-asks_no_end file (Seek offset (pos (suc (suc zero)))) dead = ap (λ (lives : Bool). lives && not (lacks file (Seek offset (pos 2)))) dead
-asks_no_end file call dead = refl
+asks_no_end file call dead = grind arith
 
 close_refused : (current : Life) (buffering : Buffering) → lets_through current buffering Close ≡ false → is_closed current ≡ false
-close_refused life.Closed buffering stopped = absurd (cc)
-close_refused current buffering stopped = refl
+close_refused current buffering stopped = grind arith
 
 closes_no_more : (stream : Stream) (call : FileCall) → lets_through stream.life (buffering_of stream.buffer) call ≡ false → closes_again stream call ≡ false
-closes_no_more stream Close stopped = close_refused stream.life (buffering_of stream.buffer) stopped
-closes_no_more stream call stopped = refl
+closes_no_more stream call stopped = grind (arith, close_refused)
 
 -- what a file refuses by its life
 life_refuses : (file : FlatFile) (call : FileCall) (why : IoFault) → is_getter call ≡ false → is_other_getter call ≡ false → lets_through file.life file.buffering call ≡ false → life_fault file.life ≡ Some why → refusal file call ≡ Some why
@@ -149,13 +128,11 @@ ability_refuses : (file : FlatFile) (call : FileCall) → is_getter call ≡ fal
 ability_refuses file call works own live wants = grind arith
 
 lacks_no_end : (file : FlatFile) (call : FileCall) → lacks file call ≡ true → asks_end file call ≡ false
-lacks_no_end file (Seek offset (pos (suc (suc zero)))) wants = ap (λ (lacking : Bool). is_live file.life && not lacking) wants ∙ and-false (is_live file.life)
-lacks_no_end file call wants = refl
+lacks_no_end file call wants = grind (arith, and-false)
 
 -- no call closes a live stream again
 pub live_not_closed : (stream : Stream) (call : FileCall) → stream.life ≡ life.Live → closes_again stream call ≡ false
-live_not_closed stream Close live = ap is_closed live
-live_not_closed stream call live = refl
+live_not_closed stream call live = grind arith
 
 -- A call of a live stream that lacks what the call needs.
 pub refused_by_ability : (before after : Stream) (call : FileCall) → IsPlaced before → is_getter call ≡ false → is_other_getter call ≡ false → before.life ≡ life.Live → lacks (file_of before) call ≡ true → after ≡ record before { short = false } → Answers before call (Refused fault.Unsupported) after

@@ -151,10 +151,7 @@ goes_from_place before offset whence base target may unasked ends to from moved 
 
 -- a target that was found says where an accepted seek goes
 pub goes : (before : Stream) (offset whence : ℤ) (target : ℕ) → MaySeek before → TargetOf before offset whence (Ok target) → Goes before offset whence target
-goes before offset (pos zero) target may moved = goes_from_place before offset (pos zero) 0 target may refl (λ _. tt) moved.0 refl moved
-goes before offset (pos (suc zero)) target may moved = goes_from_place before offset (pos (suc zero)) before.place target may refl (λ _. tt) moved.0 refl moved
-goes before offset (pos (suc (suc zero))) target may found = goes_from_end before offset target found.0 may found.1 found.2
-goes before offset whence target may wrong = let never : Ok target ≡ Err fault.BadWhence = wrong in absurd (cc)
+goes before offset whence target may wrong = grind (arith, goes_from_place, goes_from_end)
 
 -- What refuses a seek.
 

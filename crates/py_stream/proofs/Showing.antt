@@ -86,8 +86,7 @@ shows_answers before call reply after none shows = search (rules, gives_none, no
 
 -- a call that isn't one `write`
 not_one_write : (before after : Stream) (call : FileCall) (reply : FileReply) → is_writing call ≡ false → OwesNoneOfIts before call reply after
-not_one_write before after (Write bytes) reply other = absurd (cc)
-not_one_write before after call reply other = tt
+not_one_write before after call reply other = grind arith
 
 -- a call passes on a front of what is owed
 pub record PassesBytes (before : Stream) (call : FileCall) (reply : FileReply) (after : Stream) : Type 0 where

@@ -47,8 +47,7 @@ moves_by call count = count
 
 -- n bytes that a call gives move the place by n at most
 pub moves_within : (call : FileCall) (count : ℕ) → moves_by call count ≤ count
-moves_within Peek count = omega arith
-moves_within call count = omega arith
+moves_within call count = grind arith
 
 -- what a reading by one transfer is, and what its bytes say
 pub record IsSingleCall (buffer : Option ℕ) (call : FileCall) : Type 0 where

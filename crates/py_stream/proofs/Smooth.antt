@@ -46,14 +46,7 @@ let_through file call later live = ap (λ (current : Life). or_else (if lets_thr
 
 -- a live stream that reads through a buffer refuses no reading
 pub reading_passes : (file : FlatFile) (size : ℕ) (call : FileCall) → is_reading call ≡ true → file.life ≡ life.Live → file.can.readable ≡ true → file.buffering ≡ Buffered size → refusal file call ≡ None
-reading_passes file size (Read most) reads live can buffered = let_through file (Read most) (or_else (refused_if (not file.can.readable) fault.Unsupported) None) live ∙ ap (λ (able : Bool). or_else (refused_if (not able) fault.Unsupported) None) can
-reading_passes file size (ReadLine limit) reads live can buffered = let_through file (ReadLine limit) (or_else (refused_if (not file.can.readable) fault.Unsupported) None) live ∙ ap (λ (able : Bool). or_else (refused_if (not able) fault.Unsupported) None) can
-reading_passes file size (ReadLines hint) reads live can buffered = let_through file (ReadLines hint) (or_else (refused_if (not file.can.readable) fault.Unsupported) None) live ∙ ap (λ (able : Bool). or_else (refused_if (not able) fault.Unsupported) None) can
-reading_passes file size (ReadInto most) reads live can buffered = let_through file (ReadInto most) (or_else (refused_if (not file.can.readable) fault.Unsupported) None) live ∙ ap (λ (able : Bool). or_else (refused_if (not able) fault.Unsupported) None) can
-reading_passes file size (Read1 most) reads live can buffered = grind (arith, let_through)
-reading_passes file size (ReadInto1 most) reads live can buffered = grind (arith, let_through)
-reading_passes file size Peek reads live can buffered = grind (arith, let_through)
-reading_passes file size call reads live can buffered = absurd (cc)
+reading_passes file size call reads live can buffered = grind (arith, let_through)
 
 within_passes : (end : ℕ) → end ≤ greatest_place → or_else (refused_if (not true) fault.Unsupported) (too_far end) ≡ None
 within_passes end fits = ap (λ (far : Bool). refused_if far fault.TooFar) (le-ltb greatest_place end fits)

@@ -38,24 +38,17 @@ gives_none call reads = record { going_on = refl; first = refl; several = λ buf
 
 -- a refusal is short where it says that the raw would have blocked
 pub says_short : (call : FileCall) (why : IoFault) → IsShort call (Refused why) (says_would_block (Refused why))
-says_short (Read1 size) why = refl
-says_short call why = refl
+says_short call why = grind arith
 
 -- a call that the raw or memory stops needs no end of the file
 pub needs_no_end : (before : Stream) (call : FileCall) (why : IoFault) (after : Stream) → is_own why ≡ false → SeeksByEnd before call (Refused why) after
-needs_no_end before (Seek offset (pos (suc (suc zero)))) fault.RawFault after raws = λ _. tt
-needs_no_end before (Seek offset (pos (suc (suc zero)))) fault.NoMemory after raws = λ _. tt
-needs_no_end before (Seek offset (pos (suc (suc zero)))) (fault.WouldBlock taken) after raws = λ _. tt
-needs_no_end before (Seek offset (pos (suc (suc zero)))) why after raws = absurd (cc)
-needs_no_end before call why after raws = tt
+needs_no_end before call why after raws = grind arith
 
 -- The raw would have blocked, and nothing was given or taken.
 
 -- a wait leaves the life as it was
 pub waits_alive : (buffer : Option ℕ) (call : FileCall) (current : Life) → LifeMoves buffer call (Refused (fault.WouldBlock 0)) current current
-waits_alive buffer Close current = refl
-waits_alive buffer Detach current = refl
-waits_alive buffer call current = refl
+waits_alive buffer call current = grind arith
 
 -- a wait of a call that gives no bytes to the stream leaves the place as it was
 pub waits_there : (buffer : Option ℕ) (call : FileCall) (current : Life) (place : ℕ) → is_writing call ≡ false → PlaceMoves buffer call (Refused (fault.WouldBlock 0)) current place place
@@ -65,14 +58,11 @@ waits_there buffer call current place writing = refl
 
 -- a call that gives no bytes to the stream took none where it had to wait
 pub waits_with_none : (call : FileCall) (after : Stream) → is_writing call ≡ false → BlocksFull call (Refused (fault.WouldBlock 0)) after
-waits_with_none (Write bytes) after writing = absurd (cc)
-waits_with_none (WriteLines lines) after writing = absurd (cc)
-waits_with_none call after writing = refl
+waits_with_none call after writing = grind arith
 
 -- a call that doesn't read may answer a wait with a refusal
 pub waits_answer : (size : ℕ) (call : FileCall) → is_reading call ≡ false → is_tell call ≡ false → IsReplyTo (Some size) true call (Refused (fault.WouldBlock 0))
-waits_answer size Tell reads tells = absurd (cc)
-waits_answer size call reads tells = ap not reads
+waits_answer size call reads tells = grind arith
 
 -- The raw failed.
 
@@ -92,8 +82,7 @@ fails_there buffer call current place = fails_where (goes_on buffer call) (moves
 
 -- every call but a `tell` may answer a fault
 pub fault_answers : (buffer : Option ℕ) (writes : Bool) (call : FileCall) → is_tell call ≡ false → IsReplyTo buffer writes call (Refused fault.RawFault)
-fault_answers buffer writes Tell tells = absurd (cc)
-fault_answers buffer writes call tells = tt
+fault_answers buffer writes call tells = grind arith
 
 -- Memory ran out, and the stream is as it was.
 
@@ -108,17 +97,12 @@ starves_alive buffer Detach current = starves_so (goes_on buffer Detach) current
 starves_alive buffer call current = starves_so (goes_on buffer call) current
 
 starves_where : (current : Life) (most : Option ℕ) (place : ℕ) → PlaceStarves current most place place
-starves_where life.Live most place = refl
-starves_where current most place = stays_forth most place
+starves_where current most place = grind (arith, stays_forth)
 
 -- running out of memory may leave the place
 pub starves_there : (buffer : Option ℕ) (call : FileCall) (current : Life) (place : ℕ) → PlaceMoves buffer call (Refused fault.NoMemory) current place place
-starves_there buffer (Write bytes) current place = starves_where current (Some (length bytes)) place
-starves_there buffer (WriteLines lines) current place = starves_where current (Some (length (joined lines))) place
-starves_there buffer call current place = starves_where current (moves_most call) place
+starves_there buffer call current place = grind (arith, starves_where)
 
 -- every call but a `tell` may answer that memory ran out
 pub starve_answers : (buffer : Option ℕ) (writes : Bool) (call : FileCall) → is_tell call ≡ false → IsReplyTo buffer writes call (Refused fault.NoMemory)
-starve_answers buffer writes Tell tells = absurd (cc)
-starve_answers buffer writes (Seek offset (pos (suc (suc zero)))) tells = tt
-starve_answers buffer writes call tells = tt
+starve_answers buffer writes call tells = grind arith
