@@ -9,7 +9,7 @@ use Rattle.py_flat.specs.Refusals.{refusal, is_getter}
 use Rattle.py_flat.specs.BinaryStep.{is_live, is_tell, asks_end, does_work, reaches_raw}
 
 pub works_unrefused : (file : FlatFile) (call : FileCall) → file.life ≡ life.Live → refusal file call ≡ None → (is_getter call || is_tell call) ≡ false → IsTrue (does_work file call)
-works_unrefused file call live none asks = grind (arith, is_none)
+works_unrefused file call live none asks = grind arith
 
 pub work_reaches : (file : FlatFile) (call : FileCall) → IsTrue (does_work file call) → IsTrue (reaches_raw file call)
 work_reaches file call work = ap (λ (does : Bool). does || asks_end file call) work

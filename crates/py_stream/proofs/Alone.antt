@@ -40,7 +40,7 @@ no_detach : (buffering : Buffering) → not (is_buffered buffering) ≡ true →
 no_detach buffering lacking = grind arith
 
 lacks_no_detach : (file : FlatFile) (call : FileCall) → lacks file call ≡ true → detaches file.buffering call ≡ false
-lacks_no_detach file call lacking = grind (arith, no_detach)
+lacks_no_detach file call lacking = grind arith
 
 -- By either: what the stream lacks, or its life.
 

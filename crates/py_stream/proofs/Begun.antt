@@ -30,7 +30,7 @@ module _ (short : Bool) where
   seeks_to before after None None reply sought = absurd sought
 
   from_end : (before after : Stream) (offset : ℤ) (reply : FileReply) → SeeksFromEnd (seen short before) offset reply after → SeeksFromEnd before offset reply after
-  from_end before after offset reply sought = grind (arith, seeks_to)
+  from_end before after offset reply sought = grind arith
 
   end_moves : (before after : Stream) (offset : ℤ) (reply : FileReply) → EndMoves (seen short before) offset reply after → EndMoves before offset reply after
   end_moves before after offset (Refused fault.RawFault) moves = tt
@@ -43,7 +43,7 @@ module _ (short : Bool) where
   by_end before after call reply seeks = tt
 
   again : (before after : Stream) (call : FileCall) (reply : FileReply) → (closes_again (seen short before) call ≡ true → Leaves (seen short before) Done reply after) → closes_again before call ≡ true → Leaves before Done reply after
-  again before after call reply closed closes = grind (arith, leaves)
+  again before after call reply closed closes = grind arith
 
   taken : (before after : Stream) (call : FileCall) → (IsTrue (is_writing call) → OwesUpTo before.owed before.place → Takes (seen short before) (payload call) after) → IsTrue (is_writing call) → OwesUpTo before.owed before.place → Takes before (payload call) after
   taken before after call takes writing up_to = let is = takes writing up_to in record { taken = is.taken; within = is.within; place = is.place; passed = is.passed; most = is.most; answered = is.answered; owed = is.owed; up_to = is.up_to; told = is.told }
@@ -64,13 +64,13 @@ module _ (short : Bool) where
   passed_on before after is = record { none = is.none; holds = is.holds }
 
   passed : (before after : Stream) (call : FileCall) (reply : FileReply) → PassesOn (seen short before) call reply after → PassesOn before call reply after
-  passed before after call reply is = grind (arith, passed_on)
+  passed before after call reply is = grind arith
 
   old_owed : (before after : Stream) → OwesOld (seen short before) after → OwesOld before after
   old_owed before after is = record { rest = is.rest; stands = is.stands; moved = is.moved }
 
   straight_whole : (before after : Stream) (call : FileCall) (reply : FileReply) → OwesNoneOfIts (seen short before) call reply after → OwesNoneOfIts before call reply after
-  straight_whole before after call reply is = grind (arith, old_owed)
+  straight_whole before after call reply is = grind arith
 
   writes_seen : (before after : Stream) (call : FileCall) (reply : FileReply) → Writes (seen short before) call reply after → Writes before call reply after
   writes_seen before after call reply written = record {
@@ -132,4 +132,4 @@ answers_seen short room before after call reply answers = answers_as before.shor
 
 -- an answer of a stream is one also where fewer calls are said to have their room
 pub answers_with : (room less : FileCall → Bool) (before after : Stream) (call : FileCall) (reply : FileReply) → (IsTrue (less call) → IsTrue (room call)) → AnswersWith room before call reply after → AnswersWith less before call reply after
-answers_with room less before after call reply fewer answers = grind (arith, again)
+answers_with room less before after call reply fewer answers = grind arith

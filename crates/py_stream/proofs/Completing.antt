@@ -15,7 +15,7 @@ blocked : (call : FileCall) (taken : ℕ) (short : Bool) → IsShort call (Refus
 blocked call taken short is = grind arith
 
 answers_whole : (buffer : Option ℕ) (writes : Bool) (call : FileCall) (reply : FileReply) (short : Bool) → IsReplyTo buffer writes call reply → IsShort call reply short → short ≡ false → says_fault reply ≡ false → IsAnswerTo call reply
-answers_whole buffer writes call reply short answers shorts whole sound = grind (arith, not_ready, blocked)
+answers_whole buffer writes call reply short answers shorts whole sound = grind arith
 
 -- a test that what has its cause in a count that rose didn't come about
 pub uncaused : (old new : ℕ) (came : Bool) → (IsTrue came → Rose old new) → rose old new ≡ false → came ≡ false
@@ -24,4 +24,4 @@ uncaused old new false caused calm = refl
 
 -- an answer to an accepted call is complete where neither the waits nor the faults of the raw rose
 pub completes : (old new : Raw) (buffer : Option ℕ) (writes : Bool) (call : FileCall) (reply : FileReply) (short : Bool) → HasCauses old reply new short → IsShort call reply short → IsReplyTo buffer writes call reply → rose old.waits new.waits ≡ false → rose old.faults new.faults ≡ false → IsAnswerTo call reply × (short ≡ false)
-completes old new buffer writes call reply short causes shorts answers calm sound = grind (arith, uncaused, answers_whole)
+completes old new buffer writes call reply short causes shorts answers calm sound = grind arith

@@ -22,7 +22,7 @@ flush_passes before live = ap (λ (current : Life). or_else (if lets_through cur
 
 -- a stream that writes stands at its place with its raw
 pub flush_is_done : (before : Stream) → IsPlaced before → before.life ≡ life.Live → before.owed ≡ nothing_owed before.place → (before.can.writable ≡ true → before.raw_place ≡ before.place) → Answers before Flush Done (record before { short = false })
-flush_is_done before is live bare stands = grind (arith, flush_passes, shows_answers, flush_moves_none, keeps_same, passing_writes)
+flush_is_done before is live bare stands = grind arith
 
 -- a `flush`, by what begins it
 pub flush_answers : (before after : Stream) (result : Result (Unit {0}) IoFault) → IsPlaced before → before.owed ≡ nothing_owed before.place → (before.can.writable ≡ true → before.raw_place ≡ before.place) → Begins before result after → Answers before Flush (done_reply result) after

@@ -233,7 +233,7 @@ owes_rest old new short owes = record { rest = owes.rest; stands = owes.stands; 
 
 -- a `write` owes none of its own bytes once the raw failed, nor where running out of memory fails the stream
 pub one_write : (old new : Stream) (bytes : List ℕ) (start : ℕ) (why : IoFault) → PutOutcome old bytes start (Err why) new → OwesNoneOfIts old (Write bytes) (Refused why) (record new { short = false })
-one_write old new bytes start why put = grind (arith, owes_rest)
+one_write old new bytes start why put = grind arith
 
 -- what one piece answers is what several do
 pub puts_one : (old new : Stream) (bytes : List ℕ) (start : ℕ) (result : Result Bool IoFault) → PutOutcome old bytes start result new → PutsOutcome old bytes start result new
@@ -275,7 +275,7 @@ pub record GoesOn (buffer : Option ℕ) (call : FileCall) : Type 0 where
   pub fails : (taken : ℕ) → taken ≤ length (payload call) → FailsCount buffer call taken
 
 goes_on_all : (buffer : Option ℕ) (call : FileCall) → is_writing call ≡ true → goes_on buffer call ≡ true → GoesOn buffer call
-goes_on_all buffer call writing = grind (arith, of_all)
+goes_on_all buffer call writing = grind arith
 
 -- a call that took all of its bytes
 pub giving_takes : (first old new : Stream) (call : FileCall) → Begun first old call → TookAll old (payload call) new → Answers first call (taken_reply call (length (payload call))) new

@@ -62,13 +62,13 @@ pub record IsGiving (call : FileCall) : Type 0 where
 
 -- what is alike of both calls holds of each call that gives bytes
 pub is_giving : (call : FileCall) → is_writing call ≡ true → IsGiving call
-is_giving call writing = grind (arith, of_both)
+is_giving call writing = grind arith
 
 -- What refuses a call that gives bytes.
 
 -- a live stream that takes bytes refuses a call only for the place of the bytes
 live_refusal : (stream : Stream) (call : FileCall) → is_writing call ≡ true → stream.life ≡ life.Live → stream.can.writable ≡ true → refusal (file_of stream) call ≡ too_far (stream.place + length (payload call))
-live_refusal stream call writing live can = grind (arith, is_giving)
+live_refusal stream call writing live can = grind arith
 
 -- a live stream refuses what would go past the greatest place
 pub writing_too_far : (before after : Stream) (call : FileCall) → is_writing call ≡ true → IsPlaced before → before.can.writable ≡ true → Begins before (Ok tt) after → greatest_place < before.place + length (payload call) → Answers before call (Refused fault.TooFar) after
@@ -101,7 +101,7 @@ pub record MayWrite (old : Stream) (call : FileCall) : Type 0 where
 
 -- a stream that may place a call's bytes doesn't refuse the call
 pub accepted : (old : Stream) (call : FileCall) → MayWrite old call → refusal (file_of old) call ≡ None
-accepted old call may = grind (arith, live_refusal, le-ltb)
+accepted old call may = grind arith
 
 -- the raw may be called
 pub works : (old : Stream) (call : FileCall) → MayWrite old call → IsTrue (does_work (file_of old) call)
@@ -265,7 +265,7 @@ none_written file bytes taken none = ap (λ (n : ℕ). after_write file (take n 
 
 -- each call that gives bytes has the answer of one that had to wait
 pub is_blocked : (old : Stream) (taken : ℕ) (buffer : Option ℕ) (call : FileCall) → is_writing call ≡ true → IsBlocked old taken buffer call
-is_blocked old taken buffer call writing = grind (arith, of_all, none_written)
+is_blocked old taken buffer call writing = grind arith
 
 -- the raw failed, or memory ran out once it took some: no byte is counted of a `write` without a buffer
 abbrev pub FailsCount : Option ℕ → FileCall → ℕ → Type 0
@@ -284,4 +284,4 @@ pub record IsFaulted (old : Stream) (taken : ℕ) (buffer : Option ℕ) (call : 
 
 -- each call that gives bytes has the answer of one that was stopped
 pub is_faulted : (old : Stream) (taken : ℕ) (buffer : Option ℕ) (call : FileCall) → is_writing call ≡ true → IsFaulted old taken buffer call
-is_faulted old taken buffer call writing = grind (arith, of_all)
+is_faulted old taken buffer call writing = grind arith

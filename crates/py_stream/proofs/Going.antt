@@ -53,10 +53,10 @@ made raw place raw_place can current buffer short owed held = record { raw = raw
 -- the stream is as it was, but for its raw and its life
 same_stream : (old new : Stream) (left : Life) → StandsAsBefore old new → new.life ≡ left → new ≡ record old { raw = new.raw; life = left }
 unfolding made
-same_stream old new left stands is = grind (arith, made)
+same_stream old new left stands is = grind arith
 
 stands_then : (old mid new : Stream) → StandsAsBefore old mid → StandsAsBefore mid new → StandsAsBefore old new
-stands_then old mid new first second = grind (arith, keeps_then, answers_still)
+stands_then old mid new first second = grind arith
 
 -- what was found out before the stream is moved leaves it as it was
 pub record FoundOut (old found : Stream) : Type 0 where
@@ -65,7 +65,7 @@ pub record FoundOut (old found : Stream) : Type 0 where
   pub life_is : found.life ≡ old.life
 
 found_nothing : (old found : Stream) → MaySeek old → found ≡ old → FoundOut old found
-found_nothing old found may same = subst (FoundOut old) (sym same) (grind (arith, stands_itself))
+found_nothing old found may same = subst (FoundOut old) (sym same) (grind arith)
 
 found_end : (old found : Stream) (end : ℕ) → AsksEnd old end found → FoundOut old found
 found_end old found end asks = record { stands = asks.stands; counts = asks.counts; life_is = asks.life_is }
@@ -76,7 +76,7 @@ spared old new left stands bare = record { bytes = stands.bytes; written = stand
 
 -- a seek that goes to the raw is asked of it
 reaching : (old : Stream) (offset whence : ℤ) → MaySeek old → ReachesRaw old offset whence → Asked old (Seek offset whence)
-reaching old offset whence may to = grind (arith, seek_moves_none)
+reaching old offset whence may to = grind arith
 
 -- a raw that failed to say where it ends, or to move, fails the stream
 pub fault_fails_seek : (offset whence : ℤ) → FaultLeaves (Seek offset whence) life.Failed
@@ -92,7 +92,7 @@ end_refuses old new offset why end may asks refuses =
     let passes : PassesSome old new = passes_nothing old new asks.stands in
     let at : RefusesPlace offset why = refuses_place offset why (target_why (moved_by end offset) why refuses) in
     let short : new.short ≡ false = asks.stands.kept.short ∙ may.whole in
-    let left : Leaves old (Refused why) (Refused why) (record new { raw = old.raw }) = grind (arith, same_stream) in
+    let left : Leaves old (Refused why) (Refused why) (record new { raw = old.raw }) = grind arith in
     let seeks : SeeksFromEnd old offset (Refused why) new = record {
       end = end;
       within = answered.within;
@@ -147,7 +147,7 @@ target_refuses : (old new : Stream) (offset whence : ℤ) (why : IoFault) → Ma
 target_refuses old new offset (pos zero) why may found = argument_refuses old new offset (pos zero) why may refl found.0 (bad_place_is_own why (target_why (moved_by 0 offset) why found.0)) found.1
 target_refuses old new offset (pos (suc zero)) why may found = argument_refuses old new offset (pos (suc zero)) why may refl found.0 (bad_place_is_own why (target_why (moved_by old.place offset) why found.0)) found.1
 target_refuses old new offset (pos (suc (suc zero))) why may found = from_end_refuses old new offset why may found
-target_refuses old new offset whence why may found = grind (arith, argument_refuses, is_own)
+target_refuses old new offset whence why may found = grind arith
 
 -- a seek that found no target
 pub seek_finds_nothing : (old started new : Stream) (offset whence : ℤ) (why : IoFault) → MaySeek (begun old) → Begins old (Ok tt) started → TargetOutcome started offset whence (Err why) new → Answers old (Seek offset whence) (Refused why) new
@@ -259,8 +259,8 @@ gone old mid new offset whence target may to beside passes empty no_fault no_wai
 
 -- the raw failed to move, or wanted memory
 going_refused : (old found new : Stream) (offset whence : ℤ) (target : ℕ) (why : IoFault) → MaySeek old → Finds old offset whence target found → GoOutcome found target (Err why) new → Answers old (Seek offset whence) (Refused why) new
-going_refused old found new offset whence target fault.RawFault may finds fails = grind (arith, stands_then, fault_fails, reaching, reads_still, buffered_still, held_still, spared, fault_fails_seek, passes_nothing, faulted_then, no_wait_then)
-going_refused old found new offset whence target fault.NoMemory may finds wants = grind (arith, lacking_answers, reaching, spared, passes_nothing)
+going_refused old found new offset whence target fault.RawFault may finds fails = grind arith
+going_refused old found new offset whence target fault.NoMemory may finds wants = grind arith
 going_refused old found new offset whence target why may finds never = absurd never
 
 -- a stream that owes nothing fails to move
@@ -312,7 +312,7 @@ passes_all_then old mid new (Err why) took no_wait never = absurd never
 
 -- the raw was left alone after some was passed on
 passes_still : (old mid new : Stream) → PassesSome old mid → StandsAsBefore mid new → PassesSome old new
-passes_still old mid new passes stands = grind (arith, tells_its_bytes, keeps_then, answers_still)
+passes_still old mid new passes stands = grind arith
 
 -- the raw failed to move, or wanted memory
 moving_fails : (old mid new : Stream) (offset whence : ℤ) (target : ℕ) (why : IoFault) → SeeksWriting old → Goes old offset whence target → PassAllOutcome old (Ok tt) mid → GoOutcome mid target (Err why) new → Answers old (Seek offset whence) (Refused why) new

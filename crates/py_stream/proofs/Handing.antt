@@ -34,7 +34,7 @@ fault_fails_detach = record { dead = refl; life_is = λ buffer current. refl; st
 
 -- a closed stream has its raw no more to give
 pub closed_detach : (old : Stream) → old.life ≡ life.Closed → old.place ≤ greatest_place → Answers old Detach (Refused fault.Closed) (begun old)
-closed_detach old closed far = grind (arith, refused_by_life, begun)
+closed_detach old closed far = grind arith
 
 -- what stops the passing on refuses a `detach` of a stream with a buffer that writes
 pub detach_refuses : (old new : Stream) (current : Life) (why : IoFault) → old.life ≡ current → (current ≡ life.Live → IsWriting (begun old)) → old.place ≤ greatest_place → BeginDetachIn current (begun old) (Err why) new → Answers old Detach (Refused why) new
@@ -42,7 +42,7 @@ detach_refuses old new life.Live why is writing far stops =
     let may : IsWriting (begun old) = writing refl in
     answers_whole old new Detach (Refused why) (pass_all_refuses (begun old) new Detach may.size why (detach_asked (begun old) may) may.buffered may.writes (λ has. has.of) fault_fails_detach stops)
 detach_refuses old new life.Failed why is writing far stops = absurd (let wrong : Err why ≡ Ok tt = stops.0 in cc)
-detach_refuses old new life.Closed why is writing far stops = grind (arith, closed_detach)
+detach_refuses old new life.Closed why is writing far stops = grind arith
 detach_refuses old new life.Detached why is writing far never = absurd never
 
 -- The raw is handed back as it is.

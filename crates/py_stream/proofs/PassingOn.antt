@@ -52,7 +52,7 @@ stands_itself stream sound = record { kept = keeps_itself stream sound; bytes = 
 
 -- a stream that stands as it stood passed nothing on
 pub passes_nothing : (old new : Stream) → StandsAsBefore old new → PassesSome old new
-passes_nothing old new stands = grind (arith, tells_its_bytes)
+passes_nothing old new stands = grind arith
 
 -- a stream itself passed nothing on
 pub passes_itself : (stream : Stream) → IsSound stream → PassesSome stream stream

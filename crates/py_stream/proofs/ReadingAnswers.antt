@@ -59,7 +59,7 @@ reading_refused before after call why reads placed begins =
 
 -- a stream that writes passes nothing on in a reading, as it owes nothing
 passes_nothing : (before mid : Stream) (short : Bool) (call : FileCall) (reply : FileReply) → is_reading call ≡ true → Reads before → KeepsReading before mid → IsReplyTo before.buffer before.can.writable call reply → Writes before call reply (record mid { short = short })
-passes_nothing before mid short call reply reads begun kept answers = grind (arith, reading_call, tells_its_bytes, never_blocks)
+passes_nothing before mid short call reply reads begun kept answers = grind arith
 
 -- a reading that was answered, and what it left, but for whether a wait cut it short
 pub record Comes (before : Stream) (call : FileCall) (reply : FileReply) (short : Bool) (mid : Stream) : Type 0 where

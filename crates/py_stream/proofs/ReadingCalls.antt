@@ -61,7 +61,7 @@ reading_call call reads = grind arith
 
 -- no answer of a call that reads says how much was taken
 pub never_blocks : (buffer : Option ℕ) (writes : Bool) (call : FileCall) (reply : FileReply) (after : Stream) → is_reading call ≡ true → IsReplyTo buffer writes call reply → BlocksFull call reply after
-never_blocks buffer writes call reply after reads answers = grind (arith, reading_call)
+never_blocks buffer writes call reply after reads answers = grind arith
 
 -- without an answer a reading gives no more than is asked for
 pub unready_within : (size : ℕ) (call : FileCall) → GivesWithin size call NotReady

@@ -64,7 +64,7 @@ or_right false second is = is
 
 -- where memory ran out, before anything moved or after bytes had left the raw
 starved : (before after : Stream) (call : FileCall) (part : List ℕ) → by_several before.buffer call ≡ true → Reads before → StarvesReading before after → GatherOutcome (wanted_by call) before (Err fault.NoMemory) part after → (IsTrue (has_room call || takes_space_first call) → IsTrue before.raw.takes_memory) → Answers before call (Refused fault.NoMemory) after
-starved before after call part several begun (inl same) outcome takes = grind (arith, is_several, unmoved, reading_on, on_suits)
+starved before after call part several begun (inl same) outcome takes = grind arith
 starved before after call part several begun (inr fails) outcome takes =
     answers_failing before after call several begun fails (λ bound is. outcome.within bound (wanted_within call bound (is_several before.buffer call several).on is)) (λ room. takes (ap (λ (has : Bool). has || takes_space_first call) room)) (λ first. takes (or_right (has_room call) (takes_space_first call) first)) (λ held. (outcome.idle held).0) (outcome.starves fails.failed)
 

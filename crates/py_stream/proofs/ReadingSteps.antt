@@ -52,7 +52,7 @@ near_seen stream short near = record { after_first = near.after_first; before_en
 
 -- a stream by itself
 pub keeps_self : (stream : Stream) → stream.owed ≡ nothing_owed stream.place → IsPlaced stream → KeepsReading stream stream
-keeps_self stream bare is = grind (arith, keeps_same)
+keeps_self stream bare is = grind arith
 
 -- two steps, one after the other
 pub keeps_then : (before mid after : Stream) → KeepsReading before mid → KeepsReading mid after → KeepsReading before after
@@ -60,7 +60,7 @@ keeps_then before mid after first second = grind arith
 
 -- a stream that failed
 pub keeps_failed : (stream : Stream) → stream.owed ≡ nothing_owed stream.place → IsPlaced stream → KeepsReading stream (record stream { life = life.Failed })
-keeps_failed stream bare is = grind (arith, keeps_same)
+keeps_failed stream bare is = grind arith
 
 -- a raw that isn't called counts nothing
 pub uncounted : (old new : Raw) → new ≡ old → LeavesCounts old new
@@ -102,7 +102,7 @@ file_same before after bare kept same place tells = same_file (file_of after) (f
 
 -- the file of a stream that failed
 pub file_fails : (before after : Stream) → before.owed ≡ nothing_owed before.place → KeepsReading before after → after.life ≡ life.Failed → WhereTold before.raw (Fails (file_of before) life.Failed (file_of before).bytes (file_of after))
-file_fails before after bare kept failed tells = grind (arith, same_bytes)
+file_fails before after bare kept failed tells = grind arith
 
 -- Bytes that are given.
 

@@ -196,7 +196,7 @@ answers_part before mid call part several begun given waits hides once idle need
 
 -- a reading that the raw made wait before anything came, whether it goes on or makes one transfer
 pub answers_unready : (before mid : Stream) (call : FileCall) → is_reading call ≡ true → lacks (file_of before) call ≡ false → Reads before → Gives before [] mid → Rose before.raw.waits mid.raw.waits → mid.raw_place ≡ mid.place → WaitsOnce before.raw mid.raw → AsksRaw before call mid → Answers before call NotReady (record mid { short = true })
-answers_unready before mid call reads has begun given waits hides once asks = grind (arith, reading_call, answers_coming, unready_within, asks_ungiven, works, unready_waited, file_same, next_reaches)
+answers_unready before mid call reads has begun given waits hides once asks = grind arith
 
 -- an answer that wasn't short leaves the stream as the reading left it
 pub unshortened : (before after : Stream) (call : FileCall) (reply : FileReply) → Reads before → KeepsReading before after → Answers before call reply (record after { short = false }) → Answers before call reply after
@@ -222,7 +222,7 @@ starves_where most current before after same forth = grind arith
 pub answers_faulted : (before after : Stream) (call : FileCall) → is_reading call ≡ true → lacks (file_of before) call ≡ false → Reads before → FailsReading before after → ((bound : ℕ) → moves_most call ≡ Some bound → after.place ≤ before.place + bound) → (goes_on before.buffer call ≡ false → after.place ≡ before.place) → asks_none before.buffer call ≡ false → (IsTrue (makes_one before.buffer call) → OneTransfer before after) → (IsSome before.buffer → InHandOf before call → ⊥) → Answers before call (Refused fault.RawFault) after
 answers_faulted before after call reads has begun fails within stays asks_some one apart =
     let is : IsReadingCall call = reading_call call reads in
-    unshortened before after call (Refused fault.RawFault) begun fails.kept (answers_coming before after call (Refused fault.RawFault) false reads has begun (grind (arith, fails_where, refused_within, asks_ungiven, work_reaches, works, file_fails)))
+    unshortened before after call (Refused fault.RawFault) begun fails.kept (answers_coming before after call (Refused fault.RawFault) false reads has begun (grind arith))
 
 starving_stays : (may : Bool) (before after : Life) → after ≡ before → StarvesTo may before after
 starving_stays true before after same = inl same

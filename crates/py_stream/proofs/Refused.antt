@@ -78,4 +78,4 @@ refuses_all can buffer call asks known = grind arith
 
 -- a call of a detached stream is refused, and leaves the stream as it is
 pub detached_answers : (can : Abilities) (buffer : Option ℕ) (call : FileCall) → is_getter call ≡ false → is_other_getter call ≡ false → Answers (detached_stream can buffer) call (Refused fault.Detached) (detached_stream can buffer)
-detached_answers can buffer call asks known = grind (arith, refuses_all, asks_no_end, keeps_same, never_closes, is_whole, life_stays, place_stays, gives_nothing, seeks_no_end, leaves_all)
+detached_answers can buffer call asks known = grind arith

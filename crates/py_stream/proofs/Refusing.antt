@@ -109,7 +109,7 @@ close_refused : (current : Life) (buffering : Buffering) → lets_through curren
 close_refused current buffering stopped = grind arith
 
 closes_no_more : (stream : Stream) (call : FileCall) → lets_through stream.life (buffering_of stream.buffer) call ≡ false → closes_again stream call ≡ false
-closes_no_more stream call stopped = grind (arith, close_refused)
+closes_no_more stream call stopped = grind arith
 
 -- what a file refuses by its life
 life_refuses : (file : FlatFile) (call : FileCall) (why : IoFault) → is_getter call ≡ false → is_other_getter call ≡ false → lets_through file.life file.buffering call ≡ false → life_fault file.life ≡ Some why → refusal file call ≡ Some why
@@ -128,7 +128,7 @@ ability_refuses : (file : FlatFile) (call : FileCall) → is_getter call ≡ fal
 ability_refuses file call works own live wants = grind arith
 
 lacks_no_end : (file : FlatFile) (call : FileCall) → lacks file call ≡ true → asks_end file call ≡ false
-lacks_no_end file call wants = grind (arith, and-false)
+lacks_no_end file call wants = grind arith
 
 -- no call closes a live stream again
 pub live_not_closed : (stream : Stream) (call : FileCall) → stream.life ≡ life.Live → closes_again stream call ≡ false

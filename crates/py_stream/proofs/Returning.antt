@@ -38,4 +38,4 @@ moved_leaves file told back waited faulted after (out_of_memory said left) = let
 
 -- a stream that is moved to the place that it told stands where it stood
 pub comes_back : (before mid : Stream) (told back : ℕ) (after : Stream) → Answers before Tell (Place told) mid → Answers mid (Seek (pos told) (pos 0)) (Place back) after → ComesBack before told back after
-comes_back before mid told back after tells seeks = grind (arith, told_leaves, moved_leaves, tells_still)
+comes_back before mid told back after tells seeks = grind arith

@@ -78,7 +78,7 @@ pub record RefusesPlace (offset : ℤ) (why : IoFault) : Type 0 where
 
 -- each refusal of a target says and leaves what one of a seek from the end does
 pub refuses_place : (offset : ℤ) (why : IoFault) → AtBadPlace why → RefusesPlace offset why
-refuses_place offset why at = grind (arith, at_bad_place)
+refuses_place offset why at = grind arith
 
 -- Where the raw is asked.
 
@@ -93,17 +93,17 @@ pub record ReachesRaw (before : Stream) (offset whence : ℤ) : Type 0 where
 
 -- a seek from the end goes to the raw
 pub end_reaches : (before : Stream) (offset : ℤ) → MaySeek before → ReachesRaw before offset (pos 2)
-end_reaches before offset may = grind (arith, asks_where_it_ends, or_true)
+end_reaches before offset may = grind arith
 
 -- a seek that isn't refused does work
 pub seek_works : (before : Stream) (offset whence : ℤ) → MaySeek before → refusal (file_of before) (Seek offset whence) ≡ None → IsTrue (does_work (file_of before) (Seek offset whence))
-seek_works before offset whence may none = grind (arith, is_none)
+seek_works before offset whence may none = grind arith
 
 -- Where a seek goes.
 
 -- a target that was found isn't refused
 pub lies_within : (base : ℕ) (offset : ℤ) (target : ℕ) → MovedBy base offset (Ok target) → target_refusal (moved_by base offset) ≡ None
-lies_within base offset target moved = grind (arith, le-ltb)
+lies_within base offset target moved = grind arith
 
 target_is : (base : ℕ) (offset : ℤ) (target : ℕ) → MovedBy base offset (Ok target) → unwrap_or (moved_by base offset) 0 ≡ target
 target_is base offset target moved = ap (λ (place : Option ℕ). unwrap_or place 0) moved.0
@@ -147,11 +147,11 @@ goes_from_end before offset target end may answered moved =
     }
 
 goes_from_place : (before : Stream) (offset whence : ℤ) (base target : ℕ) → MaySeek before → asks_end (file_of before) (Seek offset whence) ≡ false → ((after : Stream) → SeeksByEnd before (Seek offset whence) (Place target) after) → SeekGoes before.place offset whence target → seek_base (file_of before) whence ≡ Some base → MovedBy base offset (Ok target) → Goes before offset whence target
-goes_from_place before offset whence base target may unasked ends to from moved = grind (arith, seek_refusal_is, lies_within, unwrap_or, option_and_then, target_is, seek_works, refused_alone)
+goes_from_place before offset whence base target may unasked ends to from moved = grind arith
 
 -- a target that was found says where an accepted seek goes
 pub goes : (before : Stream) (offset whence : ℤ) (target : ℕ) → MaySeek before → TargetOf before offset whence (Ok target) → Goes before offset whence target
-goes before offset whence target may wrong = grind (arith, goes_from_place, goes_from_end)
+goes before offset whence target may wrong = grind arith
 
 -- What refuses a seek.
 
@@ -162,4 +162,4 @@ seeks_nowhere before None why after left = left
 
 -- a target that isn't in the stream, or a whence that isn't known, refuses the seek before the raw is asked
 pub argument_refuses : (before after : Stream) (offset whence : ℤ) (why : IoFault) → MaySeek before → asks_end (file_of before) (Seek offset whence) ≡ false → seek_refusal (seek_base (file_of before) whence) offset ≡ Some why → is_own why ≡ true → after ≡ before → Answers before (Seek offset whence) (Refused why) after
-argument_refuses before after offset whence why may unasked refuses own same = grind (arith, refused_with, placed_of, seek_refusal_is)
+argument_refuses before after offset whence why may unasked refuses own same = grind arith

@@ -100,7 +100,7 @@ pub record PassesBytes (before : Stream) (call : FileCall) (reply : FileReply) (
 
 -- a call that passes on a front of what is owed writes just so
 pub passing_writes : (before : Stream) (call : FileCall) (reply : FileReply) (after : Stream) → MovesNone call → PassesBytes before call reply after → Writes before call reply after
-passing_writes before call reply after none is = grind (arith, not_one_write)
+passing_writes before call reply after none is = grind arith
 
 -- What is accepted.
 
@@ -131,7 +131,7 @@ beside_writing old call reply new can apart = record { in_hand = λ has. absurd 
 
 -- a call that a live stream doesn't refuse is accepted
 pub asked_unrefused : (old : Stream) (call : FileCall) → IsSound old → old.life ≡ life.Live → old.short ≡ false → MovesNone call → closes_again old call ≡ false → calls_none old.buffer old.can.writable call ≡ false → asks_end (file_of old) call ≡ false → (is_getter call || is_tell call) ≡ false → refusal (file_of old) call ≡ None → Accepts old call
-asked_unrefused old call sound live whole none again busy alone asks unrefused = grind (arith, works_unrefused, refused_alone, work_reaches)
+asked_unrefused old call sound live whole none again busy alone asks unrefused = grind arith
 
 -- a call that a life lets through isn't refused by it
 pub let_through : (old : Stream) (call : FileCall) → lets_through old.life (buffering_of old.buffer) call ≡ true → or_else (life_refusal (file_of old) call) None ≡ None

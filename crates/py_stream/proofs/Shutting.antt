@@ -167,7 +167,7 @@ shut_bytes : (old new : Stream) → ShutsDown old new → WhereTold old.raw (fla
 shut_bytes old new shuts tells = ap (lay new.raw.bytes new.owed.place) shuts.none ∙ shuts.holds tells
 
 closed_file : (old new : Stream) → ShutsDown old new → WhereTold old.raw (file_of new ≡ in_life (file_of old) life.Closed)
-closed_file old new shuts tells = grind (arith, flat_of, shut_bytes)
+closed_file old new shuts tells = grind arith
 
 -- what the closing of the raw answers: the raw closed, or failed
 record ClosesWith (old new : Stream) (reply : FileReply) : Type 0 where
@@ -230,7 +230,7 @@ pub close_answers : (old started mid new : Stream) (result : Result (Unit {0}) I
 close_answers old started mid new result is begins passed closes = answers_whole old new Close (done_reply result) (closes_raw (begun old) mid new result (ready_writing (begun old) mid is (subst (λ (stream : Stream). PassAllOutcome stream (Ok tt) mid) begins.1 passed)) closes)
 
 ready_at_once : (old : Stream) → IsSound old → old.life ≡ life.Live → old.short ≡ false → old.owed ≡ nothing_owed old.place → ReadyToClose old old
-ready_at_once old sound live whole none = grind (arith, close_asked, passes_itself)
+ready_at_once old sound live whole none = grind arith
 
 -- a `close` of a stream that owes nothing is answered by the closing of the raw
 pub close_answers_at_once : (old started new : Stream) (result : Result (Unit {0}) IoFault) → IsSound (begun old) → old.owed ≡ nothing_owed old.place → Begins old (Ok tt) started → CloseRawOutcome started result new → Answers old Close (done_reply result) new

@@ -159,16 +159,16 @@ answers_once before mid call part once begun gives =
 
 -- a reading that the raw made wait: its place stays
 pub unready_once : (before mid : Stream) (call : FileCall) → reads_once before.buffer call ≡ true → asks_none before.buffer call ≡ false → Reads before → Gives before [] mid → Rose before.raw.waits mid.raw.waits → mid.raw_place ≡ mid.place → WaitsOnce before.raw mid.raw → OneTransfer before mid → (IsSome before.buffer → 0 < ahead before → ⊥) → Answers before call NotReady (record mid { short = true })
-unready_once before mid call once asks begun given waits hides alone one none = grind (arith, single_call, answers_unready)
+unready_once before mid call once asks begun given waits hides alone one none = grind arith
 
 -- a reading whose transfer failed
 pub faulted_once : (before after : Stream) (call : FileCall) → reads_once before.buffer call ≡ true → asks_none before.buffer call ≡ false → Reads before → FailsReading before after → after.place ≡ before.place → OneTransfer before after → (IsSome before.buffer → 0 < ahead before → ⊥) → Answers before call (Refused fault.RawFault) after
-faulted_once before after call once asks begun fails stays one none = grind (arith, single_call, answers_faulted)
+faulted_once before after call once asks begun fails stays one none = grind arith
 
 -- a reading that wanted memory before anything moved
 pub unmoved_once : (before : Stream) (call : FileCall) → reads_once before.buffer call ≡ true → Reads before → IsTrue before.raw.takes_memory → Answers before call (Refused fault.NoMemory) before
-unmoved_once before call once begun takes = grind (arith, single_call, unmoved)
+unmoved_once before call once begun takes = grind arith
 
 -- a reading that wanted memory of its own once its transfer was made
 pub wanting_once : (before after : Stream) (call : FileCall) → reads_once before.buffer call ≡ true → asks_none before.buffer call ≡ false → Reads before → KeepsReading before after → LeavesCounts before.raw after.raw → after.life ≡ life.Live → after.place ≡ before.place → has_room call ≡ false → reads_on call ≡ false → OneTransfer before after → (IsSome before.buffer → 0 < ahead before → after.raw ≡ before.raw) → Answers before call (Refused fault.NoMemory) after
-wanting_once before after call once asks begun kept counts live place room ends one still = grind (arith, single_call, answers_wanting, unmoved)
+wanting_once before after call once asks begun kept counts live place room ends one still = grind arith

@@ -28,11 +28,11 @@ step_settles file call reply after (out_of_memory said left) memory = absurd (me
 
 -- a smooth call of a stream is refused as it has to be, or carried out
 pub smooth_settles : (before : Stream) (call : FileCall) (reply : FileReply) (after : Stream) → Answers before call reply after → GoesSmoothly before reply after → Settled (file_of before) call reply (file_of after)
-smooth_settles before call reply after answers goes = grind (arith, uncaused, step_settles)
+smooth_settles before call reply after answers goes = grind arith
 
 -- a smooth call isn't refused, so it is carried out
 pub smooth_accepts : (before : Stream) (call : FileCall) (reply : FileReply) (after : Stream) → Answers before call reply after → GoesSmoothly before reply after → refusal (file_of before) call ≡ None → Accepted (file_of before) call reply (file_of after)
-smooth_accepts before call reply after answers goes none = grind (arith, smooth_settles)
+smooth_accepts before call reply after answers goes none = grind arith
 
 -- Which calls aren't refused.
 
@@ -46,18 +46,18 @@ let_through file call later live = ap (λ (current : Life). or_else (if lets_thr
 
 -- a live stream that reads through a buffer refuses no reading
 pub reading_passes : (file : FlatFile) (size : ℕ) (call : FileCall) → is_reading call ≡ true → file.life ≡ life.Live → file.can.readable ≡ true → file.buffering ≡ Buffered size → refusal file call ≡ None
-reading_passes file size call reads live can buffered = grind (arith, let_through)
+reading_passes file size call reads live can buffered = grind arith
 
 within_passes : (end : ℕ) → end ≤ greatest_place → or_else (refused_if (not true) fault.Unsupported) (too_far end) ≡ None
 within_passes end fits = ap (λ (far : Bool). refused_if far fault.TooFar) (le-ltb greatest_place end fits)
 
 -- a live file that can be written refuses no write whose end it can have
 pub write_passes : (file : FlatFile) (bytes : List ℕ) → file.life ≡ life.Live → file.can.writable ≡ true → file.place + length bytes ≤ greatest_place → refusal file (Write bytes) ≡ None
-write_passes file bytes live can fits = grind (arith, let_through, within_passes)
+write_passes file bytes live can fits = grind arith
 
 -- a live file that can be written refuses no lines whose end it can have
 pub lines_pass : (file : FlatFile) (lines : List (List ℕ)) → file.life ≡ life.Live → file.can.writable ≡ true → file.place + length (joined lines) ≤ greatest_place → refusal file (WriteLines lines) ≡ None
-lines_pass file lines live can fits = grind (arith, let_through, within_passes)
+lines_pass file lines live can fits = grind arith
 
 -- What smooth calls answer.
 

@@ -97,11 +97,11 @@ starves_alive buffer Detach current = starves_so (goes_on buffer Detach) current
 starves_alive buffer call current = starves_so (goes_on buffer call) current
 
 starves_where : (current : Life) (most : Option ℕ) (place : ℕ) → PlaceStarves current most place place
-starves_where current most place = grind (arith, stays_forth)
+starves_where current most place = grind arith
 
 -- running out of memory may leave the place
 pub starves_there : (buffer : Option ℕ) (call : FileCall) (current : Life) (place : ℕ) → PlaceMoves buffer call (Refused fault.NoMemory) current place place
-starves_there buffer call current place = grind (arith, starves_where)
+starves_there buffer call current place = grind arith
 
 -- every call but a `tell` may answer that memory ran out
 pub starve_answers : (buffer : Option ℕ) (writes : Bool) (call : FileCall) → is_tell call ≡ false → IsReplyTo buffer writes call (Refused fault.NoMemory)
