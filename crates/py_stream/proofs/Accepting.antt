@@ -1,12 +1,10 @@
 -- What a flat file doesn't refuse: a call that a live file accepts does work, and may blame the raw.
-use Rattle.std.proofs.Common.{◌≡◌, Bool, false, ◌&&◌, ◌||◌, not, IsTrue, Option, None, is_none, ap, ◌∙◌, arith, rules}
-use Rattle.py_flat.specs.declared.fault.IoFault.{IoFault}
-use Rattle.py_flat.specs.declared.life.Life.{Life}
+use Rattle.std.proofs.Common.{◌≡◌, Bool, false, ◌||◌, IsTrue, None, ap, arith}
 use Rattle.py_flat.specs.declared.life.Life.TheVariants as life
 use Rattle.py_flat.specs.Calls.{FileCall}
 use Rattle.py_flat.specs.FlatFile.{FlatFile}
 use Rattle.py_flat.specs.Refusals.{refusal, is_getter}
-use Rattle.py_flat.specs.BinaryStep.{is_live, is_tell, asks_end, does_work, reaches_raw}
+use Rattle.py_flat.specs.BinaryStep.{is_tell, asks_end, does_work, reaches_raw}
 
 pub works_unrefused : (file : FlatFile) (call : FileCall) → file.life ≡ life.Live → refusal file call ≡ None → (is_getter call || is_tell call) ≡ false → IsTrue (does_work file call)
 works_unrefused file call live none asks = grind arith

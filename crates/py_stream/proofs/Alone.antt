@@ -1,11 +1,11 @@
 -- What a stream refuses without a look at the argument, whatever is below it: by its life, or since it lacks what the call needs.
-use Rattle.std.proofs.Common.{◌≡◌, ◌≢◌, ◌⊎◌, inl, inr, Bool, true, false, not, ◌&&◌, Some, Result, Ok, Err, refl, sym, ap, ◌∙◌, arith, rules}
+use Rattle.std.proofs.Common.{◌≡◌, ◌≢◌, ◌⊎◌, inl, inr, Bool, true, false, ◌&&◌, Some, Result, Ok, Err, refl, sym, ap, ◌∙◌, arith}
 use Rattle.py_flat.specs.declared.fault.IoFault.{IoFault}
 use Rattle.py_flat.specs.declared.fault.IoFault.TheVariants as fault
 use Rattle.py_flat.specs.declared.life.Life.{Life}
 use Rattle.py_flat.specs.declared.life.Life.TheVariants as life
-use Rattle.py_flat.specs.Calls.{FileCall, Close, Detach, Refused}
-use Rattle.py_flat.specs.FlatFile.{FlatFile, Buffering, Buffered}
+use Rattle.py_flat.specs.Calls.{FileCall, Refused}
+use Rattle.py_flat.specs.FlatFile.{FlatFile, Buffering}
 use Rattle.py_flat.specs.Refusals.{is_getter, is_other_getter, is_buffered, is_close, is_detach, life_fault, lets_through, lacks}
 use Rattle.py_stream.specs.Stream.{Stream, buffering_of, file_of}
 use Rattle.py_stream.specs.Answers.{RefusesAlone, Answers}
@@ -35,9 +35,6 @@ shut_by_life current buffering call why close detach fails = stopped current buf
 
 lacks_no_close : (file : FlatFile) (call : FileCall) → lacks file call ≡ true → is_close call ≡ false
 lacks_no_close file call lacking = grind arith
-
-no_detach : (buffering : Buffering) → not (is_buffered buffering) ≡ true → is_buffered buffering ≡ false
-no_detach buffering lacking = grind arith
 
 lacks_no_detach : (file : FlatFile) (call : FileCall) → lacks file call ≡ true → detaches file.buffering call ≡ false
 lacks_no_detach file call lacking = grind arith

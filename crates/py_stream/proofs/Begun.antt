@@ -1,15 +1,13 @@
 -- What a call answers doesn't hang on whether the answer before was short.
-use Rattle.std.proofs.Common.{◌≡◌, ℕ, ℤ, pos, suc, zero, Bool, true, false, IsTrue, List, Option, Some, None, arith, rules}
-use Rattle.py_flat.specs.declared.fault.IoFault.{IoFault}
+use Rattle.std.proofs.Common.{◌≡◌, ℕ, ℤ, pos, suc, zero, Bool, true, false, IsTrue, List, arith}
 use Rattle.py_flat.specs.declared.fault.IoFault.TheVariants as fault
-use Rattle.py_flat.specs.Refusals.{moved_by, target_refusal}
-use Rattle.py_flat.specs.Calls.{FileCall, Write, Seek, Truncate, Flush, Close, Detach, FileReply, Done, Unwritten, Refused, Place}
+use Rattle.py_flat.specs.Calls.{FileCall, Seek, FileReply, Done, Refused}
 use Rattle.py_flat.specs.BinaryStep.{payload}
 use Rattle.py_raw.specs.RawStream.{WhereTold}
 use Rattle.py_stream.specs.Stream.{Stream}
 use Rattle.py_stream.specs.Kinds.{is_writing, has_room}
-use Rattle.py_stream.specs.Writing.{OwesUpTo, Takes, PassesFront, LaysInOrder, OwesBoth, PassedOn, PassesOn, OwesOld, OwesNoneOfIts, Writes}
-use Rattle.py_stream.specs.Answers.{Answers, AnswersWith, Leaves, SeeksTo, SeeksFromEnd, EndMoves, SeeksByEnd, closes_again}
+use Rattle.py_stream.specs.Writing.{OwesUpTo, Takes, PassesFront, LaysInOrder, OwesBoth, PassesOn, OwesNoneOfIts, Writes}
+use Rattle.py_stream.specs.Answers.{Answers, AnswersWith, Leaves, SeeksFromEnd, EndMoves, SeeksByEnd, closes_again}
 
 -- a stream whose last answer was short, or wasn't
 abbrev pub seen : Bool → Stream → Stream
@@ -22,12 +20,6 @@ whole stream = seen false stream
 module _ (short : Bool) where
   leaves : (before after : Stream) (expected reply : FileReply) → Leaves (seen short before) expected reply after → Leaves before expected reply after
   leaves before after expected reply left = record { says = left.says; same = left.same }
-
-  seeks_to : (before after : Stream) (target : Option ℕ) (refused : Option IoFault) (reply : FileReply) → SeeksTo (seen short before) target refused reply after → SeeksTo before target refused reply after
-  seeks_to before after (Some target) None reply sought = sought
-  seeks_to before after (Some target) (Some why) reply sought = leaves before _ (Refused why) reply sought
-  seeks_to before after None (Some why) reply sought = leaves before _ (Refused why) reply sought
-  seeks_to before after None None reply sought = absurd sought
 
   from_end : (before after : Stream) (offset : ℤ) (reply : FileReply) → SeeksFromEnd (seen short before) offset reply after → SeeksFromEnd before offset reply after
   from_end before after offset reply sought = grind arith
@@ -60,14 +52,8 @@ module _ (short : Bool) where
   laid : (before : Stream) (call : FileCall) (bytes : List ℕ) → WhereTold before.raw (LaysInOrder (seen short before) call bytes) → WhereTold before.raw (LaysInOrder before call bytes)
   laid before call bytes is tells = lays_whole before call bytes (is tells)
 
-  passed_on : (before after : Stream) → PassedOn (seen short before) after → PassedOn before after
-  passed_on before after is = record { none = is.none; holds = is.holds }
-
   passed : (before after : Stream) (call : FileCall) (reply : FileReply) → PassesOn (seen short before) call reply after → PassesOn before call reply after
   passed before after call reply is = grind arith
-
-  old_owed : (before after : Stream) → OwesOld (seen short before) after → OwesOld before after
-  old_owed before after is = record { rest = is.rest; stands = is.stands; moved = is.moved }
 
   straight_whole : (before after : Stream) (call : FileCall) (reply : FileReply) → OwesNoneOfIts (seen short before) call reply after → OwesNoneOfIts before call reply after
   straight_whole before after call reply is = grind arith
@@ -125,10 +111,6 @@ writes_whole before after call reply written = writes_seen false before after ca
 -- a call of a stream, as of one whose last answer wasn't short
 pub answers_whole : (before after : Stream) (call : FileCall) (reply : FileReply) → Answers (whole before) call reply after → Answers before call reply after
 answers_whole before after call reply answers = answers_as false has_room before after call reply answers
-
--- an answer of a stream is also that of the same stream with any other note of whether its last answer was short
-pub answers_seen : (short : Bool) (room : FileCall → Bool) (before after : Stream) (call : FileCall) (reply : FileReply) → AnswersWith room before call reply after → AnswersWith room (seen short before) call reply after
-answers_seen short room before after call reply answers = answers_as before.short room (seen short before) after call reply answers
 
 -- an answer of a stream is one also where fewer calls are said to have their room
 pub answers_with : (room less : FileCall → Bool) (before after : Stream) (call : FileCall) (reply : FileReply) → (IsTrue (less call) → IsTrue (room call)) → AnswersWith room before call reply after → AnswersWith less before call reply after

@@ -1,8 +1,6 @@
 -- A raw that is closed with its stream.
-use Rattle.std.proofs.Common.{◌≡◌, Bool, false, ◌&&◌, is_some, ap, refl, ◌∙◌, arith, rules}
-use Rattle.std.proofs.Math.Bool.{and-false}
-use Rattle.py_flat.specs.declared.fault.IoFault.TheVariants as fault
-use Rattle.py_flat.specs.Calls.{FileCall, Close, FileReply, Refused}
+use Rattle.std.proofs.Common.{◌≡◌, false, arith}
+use Rattle.py_flat.specs.Calls.{FileCall, FileReply}
 use Rattle.py_stream.specs.Stream.{Stream}
 use Rattle.py_stream.specs.Answers.{parts_at_close}
 

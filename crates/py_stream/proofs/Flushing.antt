@@ -1,24 +1,13 @@
 -- Flushing a stream that owes nothing: there is nothing to pass on.
-use Rattle.std.proofs.Common.{◌≡◌, true, false, Option, None, Result, Ok, Err, if◌then◌else◌, refl, sym, ap, subst, arith, rules}
+use Rattle.std.proofs.Common.{◌≡◌, true, false, Result, Ok, Err, refl, sym, subst, arith}
 use Rattle.py_flat.specs.declared.fault.IoFault.{IoFault}
-use Rattle.py_flat.specs.declared.life.Life.{Life}
 use Rattle.py_flat.specs.declared.life.Life.TheVariants as life
-use Rattle.py_flat.specs.Bytes.{lay}
-use Rattle.py_flat.specs.Owed.{Owed}
 use Rattle.py_flat.specs.Calls.{Flush, Done}
-use Rattle.py_flat.specs.Refusals.{refusal, or_else, lets_through, life_fault}
-use Rattle.py_flat.specs.BinaryStep.{SettledBy}
-use Rattle.py_flat.specs.AllowedStep.{settled}
-use Rattle.py_raw.proofs.Telling.{keeps_same}
-use Rattle.py_stream.specs.Stream.{Stream, buffering_of, file_of, nothing_owed}
-use Rattle.py_stream.specs.Answers.{Answers, refused_by}
+use Rattle.py_stream.specs.Stream.{Stream, nothing_owed}
+use Rattle.py_stream.specs.Answers.{Answers}
 use Rattle.py_stream.specs.Replies.{done_reply}
 use Rattle.py_stream.proofs.Refusing.{IsPlaced}
 use Rattle.py_stream.proofs.Alone.{Begins, begins_in_vain}
-use Rattle.py_stream.proofs.Showing.{shows_answers, flush_moves_none, passing_writes}
-
-flush_passes : (before : Stream) → before.life ≡ life.Live → refusal (file_of before) Flush ≡ None
-flush_passes before live = ap (λ (current : Life). or_else (if lets_through current (buffering_of before.buffer) Flush then None else life_fault current) None) live
 
 -- a stream that writes stands at its place with its raw
 pub flush_is_done : (before : Stream) → IsPlaced before → before.life ≡ life.Live → before.owed ≡ nothing_owed before.place → (before.can.writable ≡ true → before.raw_place ≡ before.place) → Answers before Flush Done (record before { short = false })

@@ -1,5 +1,5 @@
 -- The answers of the calls that give bytes to a stream, by what their steps came to.
-use Rattle.std.proofs.Common.{◌≡◌, ℕ, ◌+◌, ◌-◌, ◌<◌, ◌≤◌, inl, inr, Bool, true, false, IsTrue, List, [], ◌++◌, length, take, drop, Option, Result, Ok, Err, refl, sym, ap, ◌∙◌, subst, arith, rules}
+use Rattle.std.proofs.Common.{◌≡◌, ℕ, ◌+◌, ◌-◌, ◌<◌, ◌≤◌, inl, inr, Bool, true, false, IsTrue, List, [], ◌++◌, length, take, drop, Option, Result, Ok, Err, refl, sym, ap, ◌∙◌, subst, arith}
 use Rattle.std.proofs.Math.Seq.{take-append_seam}
 use Rattle.std.proofs.lemmas.List.{length-take-le, take_all, take-append-le, append-nil, drop-take}
 use Rattle.py_flat.specs.declared.fault.IoFault.{IoFault}
@@ -12,10 +12,10 @@ use Rattle.py_flat.specs.Calls.{FileCall, FileReply, Write, Refused}
 use Rattle.py_flat.specs.ExactStep.{is_closed}
 use Rattle.py_flat.specs.AllowedStep.{settled, waited_for, raw_faulted, out_of_memory}
 use Rattle.py_flat.specs.BinaryStep.{payload, SettledBy, BinaryStep}
-use Rattle.py_raw.specs.RawStream.{Raw, Keeps, NoFault, AnswersFor, WhereTransfers}
+use Rattle.py_raw.specs.RawStream.{WhereTransfers}
 use Rattle.py_stream.specs.Stream.{Stream, size_of, file_of}
 use Rattle.py_stream.specs.Kinds.{is_writing, goes_on, makes_one}
-use Rattle.py_stream.specs.Writing.{Takes, OwesOld, OwesNoneOfIts, TookOwn}
+use Rattle.py_stream.specs.Writing.{Takes, OwesNoneOfIts, TookOwn}
 use Rattle.py_stream.specs.Answers.{Answers, LifeMoves, PlaceMoves}
 use Rattle.py_stream.specs.Keeping.{KeepsOn}
 use Rattle.py_stream.specs.Taking.{Took, TookAll, FailsTaking, Calm, WaitsAsOne, CutsBack, Starved, StarvesTaking, FillsUp, PutOutcome, PutsOutcome}
@@ -26,7 +26,7 @@ use Rattle.py_stream.proofs.Refused.{nothing_blocked}
 use Rattle.py_stream.proofs.Stopping.{says_short, fault_answers, starves_alive, starves_there, starve_answers}
 use Rattle.py_stream.proofs.Taking.{fails_sound}
 use Rattle.py_stream.proofs.Flat.{took_ends, fails_ends, took_bytes, took_file, took_none_ends, took_none_file, failed_file, fails_bytes, lays_taken, fails_lays}
-use Rattle.py_stream.proofs.Giving.{of_all, MayWrite, answers_coming, accepted, works, no_tell, calm_counts, one_counts, TakesCount, taken_reply, is_taken, WaitsCount, waited_reply, is_blocked, FailsCount, is_faulted}
+use Rattle.py_stream.proofs.Giving.{MayWrite, answers_coming, accepted, works, no_tell, calm_counts, one_counts, TakesCount, taken_reply, is_taken, WaitsCount, waited_reply, is_blocked, FailsCount, is_faulted}
 
 -- at most one transfer was made, where the call makes no more
 abbrev pub OneTransfer : Stream → FileCall → Stream → Type 0
@@ -226,10 +226,6 @@ lets_go old between new front before took cut =
 -- a stream whose last answer is known to be short or not
 said_short : (stream : Stream) (short : Bool) → stream.short ≡ short → record stream { short = short } ≡ stream
 said_short stream short is = ap (λ (said : Bool). let left : Stream = record stream { short = said } in left) (sym is)
-
--- what is owed doesn't hang on whether the answer is short
-owes_rest : (old new : Stream) (short : Bool) → OwesOld old new → OwesOld old (record new { short = short })
-owes_rest old new short owes = record { rest = owes.rest; stands = owes.stands; moved = owes.moved }
 
 -- a `write` owes none of its own bytes once the raw failed, nor where running out of memory fails the stream
 pub one_write : (old new : Stream) (bytes : List ℕ) (start : ℕ) (why : IoFault) → PutOutcome old bytes start (Err why) new → OwesNoneOfIts old (Write bytes) (Refused why) (record new { short = false })

@@ -1,7 +1,6 @@
 -- A call that gives bytes to a stream: what it is, whichever of the two it is, with a buffer or without, and what makes its answer.
-use Rattle.std.proofs.Common.{◌≡◌, ℕ, ◌+◌, ◌<◌, ◌≤◌, inl, inr, Bool, true, false, not, ◌||◌, IsTrue, List, [], length, take, drop, Option, Some, None, Ok, Err, is_some, if◌then◌else◌, refl, sym, ap, ◌∙◌, subst, le-ltb, lt-ltb, arith, add-zero, rules}
+use Rattle.std.proofs.Common.{◌≡◌, ℕ, ◌+◌, ◌<◌, ◌≤◌, Bool, true, false, not, ◌||◌, IsTrue, List, [], length, take, drop, Option, Some, None, Ok, is_some, refl, sym, ap, ◌∙◌, subst, lt-ltb, arith}
 use Rattle.std.proofs.lemmas.List.{take_all, length-take-le, take-append-drop}
-use Rattle.py_flat.specs.declared.fault.IoFault.{IoFault}
 use Rattle.py_flat.specs.declared.fault.IoFault.TheVariants as fault
 use Rattle.py_flat.specs.declared.life.Life.{Life}
 use Rattle.py_flat.specs.declared.life.Life.TheVariants as life
@@ -9,14 +8,14 @@ use Rattle.py_flat.specs.Limits.{greatest_place}
 use Rattle.py_flat.specs.Lines.{joined}
 use Rattle.py_flat.specs.FlatFile.{FlatFile}
 use Rattle.py_flat.specs.Calls.{FileCall, Write, WriteLines, FileReply, Count, Done, NotReady, Refused}
-use Rattle.py_flat.specs.Refusals.{refusal, is_getter, is_other_getter, lets_through, life_fault, life_refusal, or_else, refused_if, too_far}
+use Rattle.py_flat.specs.Refusals.{refusal, is_getter, is_other_getter, life_refusal, or_else, refused_if, too_far}
 use Rattle.py_flat.specs.ExactStep.{is_closed, after_write}
 use Rattle.py_flat.specs.BinaryStep.{BinaryStep, payload, asks_end, does_work, is_tell, Accepted, WaitedBy, FaultedBy, StarvedBy, FailsWriting, FailsMidway}
 use Rattle.py_raw.specs.RawStream.{Raw, WhereTold, WhereTransfers, NoWait, WaitsOnce}
-use Rattle.py_stream.specs.Stream.{Stream, buffering_of, size_of, file_of}
+use Rattle.py_stream.specs.Stream.{Stream, size_of, file_of}
 use Rattle.py_stream.specs.Moving.{EndsWithin}
 use Rattle.py_stream.specs.Kinds.{is_reading, is_writing, goes_on, asks_none, calls_none, makes_one, outlasts, says_fault, says_no_memory}
-use Rattle.py_stream.specs.Writing.{OwesUpTo, Takes, LaysFront, LaysInOrder, PassesOn, BlocksFull, OwesNoneOfIts, TookOwn, Writes}
+use Rattle.py_stream.specs.Writing.{Takes, LaysFront, LaysInOrder, PassesOn, BlocksFull, OwesNoneOfIts, TookOwn, Writes}
 use Rattle.py_stream.specs.Answers.{Answers, HasCauses, IsCounted, InHandOf, IsShort, LifeMoves, PlaceMoves, SeeksByEnd, IsReplyTo, closes_again, refused_by}
 use Rattle.py_stream.specs.Keeping.{IsSound, KeepsOn, OwesBehind}
 use Rattle.py_stream.specs.Taking.{Calm, WaitsAsOne}
@@ -259,9 +258,6 @@ pub record IsBlocked (old : Stream) (taken : ℕ) (buffer : Option ℕ) (call : 
   pub straight : (after : Stream) → OwesNoneOfIts old call (waited_reply buffer call taken) after
   pub answers : IsReplyTo buffer true call (waited_reply buffer call taken)
   pub waited : (after : FlatFile) → WaitsCount buffer call taken → after ≡ after_write (file_of (record old { buffer = buffer })) (take taken (payload call)) → WaitedBy (file_of (record old { buffer = buffer })) call (waited_reply buffer call taken) after
-
-none_written : (file : FlatFile) (bytes : List ℕ) (taken : ℕ) → taken ≡ 0 → after_write file (take taken bytes) ≡ file
-none_written file bytes taken none = ap (λ (n : ℕ). after_write file (take n bytes)) none ∙ ap (λ (place : ℕ). record file { place = place }) (add-zero file.place)
 
 -- each call that gives bytes has the answer of one that had to wait
 pub is_blocked : (old : Stream) (taken : ℕ) (buffer : Option ℕ) (call : FileCall) → is_writing call ≡ true → IsBlocked old taken buffer call

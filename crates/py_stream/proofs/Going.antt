@@ -14,7 +14,7 @@ use Rattle.py_flat.specs.ExactStep.{is_closed, seek_target}
 use Rattle.py_flat.specs.AllowedStep.{settled}
 use Rattle.py_flat.specs.BinaryStep.{BinaryStep, SettledBy}
 use Rattle.py_flat.proofs.Laying.{length-lay}
-use Rattle.py_raw.specs.RawStream.{NoFault, Raw, WhereTold, NoWait, LeavesCounts}
+use Rattle.py_raw.specs.RawStream.{NoFault, WhereTold, NoWait, LeavesCounts}
 use Rattle.py_raw.proofs.Telling.{tells_its_bytes}
 use Rattle.py_raw.proofs.ReadingOn.{no_fault_then, no_wait_then}
 use Rattle.py_stream.specs.Stream.{Span, Stream, file_of, nothing_owed}
@@ -28,8 +28,7 @@ use Rattle.py_stream.proofs.Alone.{Begins}
 use Rattle.py_stream.proofs.Taking.{keeps_then, waits_once_then, waited_then, faulted_then, answers_still, took_on, fails_on, lacks_on, calm_of}
 use Rattle.py_stream.proofs.Flat.{flat_of, file_now}
 use Rattle.py_stream.proofs.Showing.{Asked, Accepts, Beside, beside_writing, shows_answers, passing_writes, seek_moves_none}
-use Rattle.py_stream.proofs.PassingOn.{begun, PassesSome, stands_itself, passes_nothing, FaultLeaves, took_passes, passed_all, passing_front, passing_keeps, passing_file, stays_open, lacking_answers, lacks_refuse, fault_fails, pass_all_refuses}
-use Rattle.py_stream.proofs.Refused.{is_own}
+use Rattle.py_stream.proofs.PassingOn.{begun, PassesSome, passes_nothing, FaultLeaves, took_passes, passed_all, passing_front, passing_keeps, passing_file, stays_open, lacking_answers, lacks_refuse, fault_fails, pass_all_refuses}
 use Rattle.py_stream.proofs.Seeking.{MaySeek, seek_refusal_is, target_why, bad_place_is_own, RefusesPlace, refuses_place, ReachesRaw, end_reaches, AnswersEnd, TargetOf, Goes, goes, seeks_nowhere, argument_refuses}
 
 -- Where the stream ends.
@@ -45,18 +44,6 @@ answers_end : (old new : Stream) (end : ℕ) → AsksEnd old end new → Answers
 answers_end old new end asks = record { within = asks.within; told = λ tells. asks.told tells ∙ sym (ends_at old.raw.bytes old.owed.place old.owed.bytes) }
 
 -- Where the raw was asked, or failed.
-
--- a stream by its parts
-made : Raw → ℕ → ℕ → Abilities → Life → Option ℕ → Bool → Owed → Span → Stream
-made raw place raw_place can current buffer short owed held = record { raw = raw; place = place; raw_place = raw_place; can = can; life = current; buffer = buffer; short = short; owed = owed; held = held }
-
--- the stream is as it was, but for its raw and its life
-same_stream : (old new : Stream) (left : Life) → StandsAsBefore old new → new.life ≡ left → new ≡ record old { raw = new.raw; life = left }
-unfolding made
-same_stream old new left stands is = grind arith
-
-stands_then : (old mid new : Stream) → StandsAsBefore old mid → StandsAsBefore mid new → StandsAsBefore old new
-stands_then old mid new first second = grind arith
 
 -- what was found out before the stream is moved leaves it as it was
 pub record FoundOut (old found : Stream) : Type 0 where

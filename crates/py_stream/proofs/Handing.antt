@@ -9,7 +9,7 @@ use Rattle.py_flat.specs.Limits.{greatest_place}
 use Rattle.py_flat.specs.Owed.{Owed}
 use Rattle.py_flat.specs.Calls.{FileReply, Detach, Unwritten, Refused}
 use Rattle.py_flat.specs.FlatFile.{FlatFile}
-use Rattle.py_flat.specs.Refusals.{refusal, lets_through, life_fault, or_else}
+use Rattle.py_flat.specs.Refusals.{refusal, lets_through}
 use Rattle.py_flat.specs.ExactStep.{is_closed}
 use Rattle.py_flat.specs.AllowedStep.{settled}
 use Rattle.py_flat.specs.BinaryStep.{SettledBy, DetachesIn, StandAt}
@@ -21,7 +21,6 @@ use Rattle.py_stream.specs.Answers.{Answers}
 use Rattle.py_stream.specs.Handing.{place_handed, handed_over, left_behind, owed_then, HandsOver}
 use Rattle.py_stream.specs.Taking.{Took, PassAllOutcome}
 use Rattle.py_stream.specs.Ending.{BeginDetachIn}
-use Rattle.py_stream.proofs.Refusing.{refused_by_life}
 use Rattle.py_stream.proofs.Begun.{answers_whole}
 use Rattle.py_stream.proofs.Showing.{Asked, shows_answers, passing_writes, detach_moves_none, IsWriting, detach_asked}
 use Rattle.py_stream.proofs.PassingOn.{begun, none_owed_at, PassesSome, FaultLeaves, took_passes, passed_all, pass_all_refuses}
@@ -31,10 +30,6 @@ use Rattle.py_stream.proofs.PassingOn.{begun, none_owed_at, PassesSome, FaultLea
 -- a fault of the raw fails a stream that detaches
 pub fault_fails_detach : FaultLeaves Detach life.Failed
 fault_fails_detach = record { dead = refl; life_is = λ buffer current. refl; step = λ file after fails. (0, zero-le, fails) }
-
--- a closed stream has its raw no more to give
-pub closed_detach : (old : Stream) → old.life ≡ life.Closed → old.place ≤ greatest_place → Answers old Detach (Refused fault.Closed) (begun old)
-closed_detach old closed far = grind arith
 
 -- what stops the passing on refuses a `detach` of a stream with a buffer that writes
 pub detach_refuses : (old new : Stream) (current : Life) (why : IoFault) → old.life ≡ current → (current ≡ life.Live → IsWriting (begun old)) → old.place ≤ greatest_place → BeginDetachIn current (begun old) (Err why) new → Answers old Detach (Refused why) new

@@ -1,9 +1,6 @@
 -- A call that passes on what is owed, and what stops it.
-use Rattle.py_flat.specs.Owed.{Owed}
-use Rattle.py_raw.proofs.Telling.{tells_its_bytes}
-use Rattle.py_stream.proofs.Taking.{keeps_itself}
 use Rattle.py_stream.specs.Moving.{StandsAsBefore}
-use Rattle.std.proofs.Common.{IsTrue, ◌≡◌, ℕ, suc, zero, ◌+◌, ◌≤◌, inr, Bool, true, false, List, [], ◌++◌, length, take, drop, Option, Some, Err, refl, sym, ap, ◌∙◌, subst, arith, length-drop, rules}
+use Rattle.std.proofs.Common.{IsTrue, ◌≡◌, ℕ, suc, zero, ◌+◌, ◌≤◌, Bool, true, false, List, [], length, take, drop, Option, Some, Err, refl, sym, ap, ◌∙◌, subst, arith, length-drop}
 use Rattle.std.proofs.lemmas.List.{append-nil}
 use Rattle.py_flat.specs.declared.fault.IoFault.{IoFault}
 use Rattle.py_flat.specs.declared.fault.IoFault.TheVariants as fault
@@ -14,14 +11,14 @@ use Rattle.py_flat.specs.Causes.{Rose}
 use Rattle.py_flat.specs.Calls.{FileCall, Refused}
 use Rattle.py_flat.specs.FlatFile.{FlatFile}
 use Rattle.py_flat.specs.ExactStep.{is_closed}
-use Rattle.py_flat.specs.AllowedStep.{waited_for, raw_faulted, out_of_memory}
+use Rattle.py_flat.specs.AllowedStep.{waited_for, out_of_memory}
 use Rattle.py_flat.specs.BinaryStep.{is_live, Fails, WaitedBy, FaultedBy, StarvedBy}
 use Rattle.py_flat.proofs.Laying.{lay_resumes}
 use Rattle.py_raw.specs.RawStream.{NoFault, WhereTold, NoWait, WaitsOnce, AnswersFor}
-use Rattle.py_stream.specs.Stream.{Stream, buffering_of, file_of}
+use Rattle.py_stream.specs.Stream.{Stream, file_of}
 use Rattle.py_stream.specs.Writing.{OwesUpTo, NoneAtPlace, PassesFront, LaysFront}
 use Rattle.py_stream.specs.Answers.{Answers, KeepsStream, ClosedWith, InHand, IsShort, LifeMoves, PlaceMoves, IsReplyTo}
-use Rattle.py_stream.specs.Keeping.{KeepsOn, IsSound}
+use Rattle.py_stream.specs.Keeping.{KeepsOn}
 use Rattle.py_stream.specs.Taking.{Took, FailsTaking, Lacks, PassAllOutcome}
 use Rattle.py_stream.proofs.Fronts.{lays_front}
 use Rattle.py_stream.proofs.Refused.{nothing_passed, nothing_blocked}
@@ -46,17 +43,9 @@ pub record PassesSome (old new : Stream) : Type 0 where
   pub lays : WhereTold old.raw (LaysFront old [] new.raw.bytes)
   pub told : WhereTold old.raw ((laid : ℕ) × (passed ≤ laid) × (laid ≤ length old.owed.bytes) × (new.raw.bytes ≡ lay old.raw.bytes old.owed.place (take laid old.owed.bytes)))
 
--- a stream stands as it stood
-pub stands_itself : (stream : Stream) → IsSound stream → StandsAsBefore stream stream
-stands_itself stream sound = record { kept = keeps_itself stream sound; bytes = λ _. refl; answered = λ tells. refl; place = refl; raw_place = refl; owed = refl; held = refl }
-
 -- a stream that stands as it stood passed nothing on
 pub passes_nothing : (old new : Stream) → StandsAsBefore old new → PassesSome old new
 passes_nothing old new stands = grind arith
-
--- a stream itself passed nothing on
-pub passes_itself : (stream : Stream) → IsSound stream → PassesSome stream stream
-passes_itself stream sound = passes_nothing stream stream (stands_itself stream sound)
 
 -- A stream that owes what lies right before its place.
 

@@ -1,14 +1,12 @@
 -- What an accepted reading answers, however it came out.
-use Rattle.std.proofs.Common.{◌≡◌, Bool, true, false, ◌&&◌, IsTrue, [], Some, None, IsSome, Err, sym, ap, ◌∙◌, subst, arith, rules}
+use Rattle.std.proofs.Common.{◌≡◌, Bool, true, false, ◌&&◌, IsTrue, None, IsSome, Err, ap, ◌∙◌, subst, arith, rules}
 use Rattle.py_flat.specs.declared.fault.IoFault.{IoFault}
 use Rattle.py_flat.specs.declared.life.Life.TheVariants as life
 use Rattle.py_flat.specs.Calls.{FileCall, FileReply, Refused}
-use Rattle.py_flat.specs.Owed.{Owed}
 use Rattle.py_flat.specs.Refusals.{refusal, lacks, is_buffered}
 use Rattle.py_flat.specs.ExactStep.{is_closed}
 use Rattle.py_flat.specs.BinaryStep.{BinaryStep, does_work}
 use Rattle.py_raw.specs.RawStream.{WhereTold}
-use Rattle.py_raw.proofs.Telling.{tells_its_bytes}
 use Rattle.py_stream.specs.Stream.{Stream, size_of, buffering_of, file_of, nothing_owed}
 use Rattle.py_stream.specs.Kinds.{is_reading, reads_on, makes_one, has_room, asks_none, says_fault, says_no_memory, by_several}
 use Rattle.py_stream.specs.Writing.{Writes}
@@ -19,7 +17,7 @@ use Rattle.py_stream.proofs.Begun.{answers_whole}
 use Rattle.py_stream.proofs.Completing.{completes}
 use Rattle.py_stream.proofs.Refusing.{IsPlaced, refused_alone}
 use Rattle.py_stream.proofs.Alone.{Begins, begins_in_vain}
-use Rattle.py_stream.proofs.ReadingCalls.{IsReadingCall, reading_call, never_blocks}
+use Rattle.py_stream.proofs.ReadingCalls.{IsReadingCall, reading_call}
 use Rattle.py_stream.proofs.ReadingSteps.{near_seen}
 
 -- How a reading begins.

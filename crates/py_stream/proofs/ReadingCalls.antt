@@ -1,19 +1,19 @@
 -- Facts about the calls that read, each proved by going over the calls.
-use Rattle.std.proofs.Common.{◌≡◌, ◌≢◌, ℕ, zero, ◌≤◌, inl, inr, Bool, true, false, ◌&&◌, ◌||◌, not, IsTrue, List, [], length, Option, Some, None, if◌then◌else◌, refl, ap, ◌∙◌, arith, rules}
+use Rattle.std.proofs.Common.{◌≡◌, ◌≢◌, ℕ, ◌≤◌, Bool, true, false, ◌&&◌, ◌||◌, IsTrue, List, [], length, Option, Some, None, refl, ap, arith}
 use Rattle.std.proofs.lemmas.List.{length-take}
 use Rattle.py_flat.specs.declared.fault.IoFault.{IoFault}
 use Rattle.py_flat.specs.declared.fault.IoFault.TheVariants as fault
 use Rattle.py_flat.specs.declared.life.Life.{Life}
 use Rattle.py_flat.specs.declared.life.Life.TheVariants as life
 use Rattle.py_flat.specs.Lines.{Lf, line_after}
-use Rattle.py_flat.specs.Calls.{FileCall, Read, Read1, ReadLine, ReadLines, Peek, ReadInto, ReadInto1, Write, WriteLines, Seek, Tell, Truncate, Flush, Close, Detach, Readable, Writable, Seekable, Closed, OtherKind, OtherGetter, FileReply, NotReady, Refused}
+use Rattle.py_flat.specs.Calls.{FileCall, Read, ReadLine, ReadInto, FileReply, NotReady, Refused}
 use Rattle.py_flat.specs.FlatFile.{FlatFile}
-use Rattle.py_flat.specs.Refusals.{refusal, is_getter, is_other_getter, is_close, is_detach, lets_through, life_fault, lacks, or_else, refused_if}
+use Rattle.py_flat.specs.Refusals.{refusal, is_getter, is_other_getter, is_close, is_detach, lacks}
 use Rattle.py_flat.specs.ExactStep.{rest}
-use Rattle.py_flat.specs.BinaryStep.{asks_end, is_tell, Fails, FaultedBy, WaitedBy, StarvedBy}
+use Rattle.py_flat.specs.BinaryStep.{asks_end, is_tell, Fails, FaultedBy, StarvedBy}
 use Rattle.py_stream.specs.Stream.{Stream}
 use Rattle.py_stream.specs.Kinds.{is_reading, reads_on, goes_on, by_several, makes_one, is_writing, takes_space_first, asks_none, calls_none, waits_unready, says_fault, says_no_memory}
-use Rattle.py_stream.specs.Writing.{LaysInOrder, PassesOn, BlocksFull, OwesNoneOfIts}
+use Rattle.py_stream.specs.Writing.{LaysInOrder, PassesOn, OwesNoneOfIts}
 use Rattle.py_stream.specs.Answers.{IsReplyTo, IsShort, LifeMoves, PlaceMoves, PlaceFails, PlaceStarves, moves_most, StarvesTo, GivesWithin, SeeksByEnd, InHandOf, IsWhole, closes_again}
 use Rattle.py_stream.specs.Reading.{wanted_by, reply_by, WantsHeld}
 
@@ -59,21 +59,9 @@ pub record IsReadingCall (call : FileCall) : Type 0 where
 pub reading_call : (call : FileCall) → is_reading call ≡ true → IsReadingCall call
 reading_call call reads = grind arith
 
--- no answer of a call that reads says how much was taken
-pub never_blocks : (buffer : Option ℕ) (writes : Bool) (call : FileCall) (reply : FileReply) (after : Stream) → is_reading call ≡ true → IsReplyTo buffer writes call reply → BlocksFull call reply after
-never_blocks buffer writes call reply after reads answers = grind arith
-
--- without an answer a reading gives no more than is asked for
-pub unready_within : (size : ℕ) (call : FileCall) → GivesWithin size call NotReady
-unready_within size call = grind arith
-
 -- a reading that was refused gives nothing
 pub refused_within : (size : ℕ) (call : FileCall) (why : IoFault) → GivesWithin size call (Refused why)
 refused_within size call why = grind arith
-
--- a wait allows no answer, with the file as it was
-pub unready_waited : (file : FlatFile) (call : FileCall) (after : FlatFile) → is_reading call ≡ true → after ≡ file → WaitedBy file call NotReady after
-unready_waited file call after reads same = grind arith
 
 -- running out of memory may leave the file as it was
 pub starved_by_none : (file : FlatFile) (call : FileCall) (after : FlatFile) → is_reading call ≡ true → after ≡ file → StarvedBy file call after

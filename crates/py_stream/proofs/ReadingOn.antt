@@ -24,7 +24,7 @@ use Rattle.py_stream.specs.Reading.{ComesNext, Gives, StarvesReading, StopOutcom
 use Rattle.py_stream.proofs.ReadingCalls.{reading_on, on_suits, nothing_held, in_hand_held, wanted_within, is_several}
 use Rattle.py_stream.proofs.ReadingSteps.{next_parts}
 use Rattle.py_stream.proofs.ReadingAnswers.{Reads, ReadingBegins, answers_begun}
-use Rattle.py_stream.proofs.ReadingStops.{needs_enough, needs_open, answers_all, answers_part, answers_unready, several_asks, answers_faulted, unmoved, answers_failing}
+use Rattle.py_stream.proofs.ReadingStops.{needs_enough, needs_open, answers_all, answers_part, answers_unready, several_asks, answers_faulted, answers_failing}
 
 -- By where the reading stopped.
 

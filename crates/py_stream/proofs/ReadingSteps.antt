@@ -1,18 +1,17 @@
 -- What stays of a stream from step to step of a reading.
-use Rattle.std.proofs.Common.{◌≡◌, ℕ, ◌+◌, ◌≤◌, Bool, IsTrue, List, ◌++◌, length, take, drop, max, refl, sym, ap, ◌∙◌, arith, rules}
+use Rattle.std.proofs.Common.{◌≡◌, ℕ, ◌+◌, ◌≤◌, Bool, IsTrue, List, ◌++◌, length, take, drop, max, refl, sym, ap, ◌∙◌, arith}
 use Rattle.std.proofs.lemmas.List.{length-take, length-drop, length-append, take_all, take-append-drop, drop-drop}
 use Rattle.std.proofs.Math.Seq.{take-append-add}
-use Rattle.py_flat.specs.declared.life.Life.{Life}
 use Rattle.py_flat.specs.declared.life.Life.TheVariants as life
 use Rattle.py_flat.specs.Bytes.{left_at, lay}
 use Rattle.py_flat.specs.Causes.{counted}
 use Rattle.py_flat.specs.Owed.{Owed}
-use Rattle.py_flat.specs.FlatFile.{FlatFile, Buffering, Abilities}
+use Rattle.py_flat.specs.FlatFile.{FlatFile}
 use Rattle.py_flat.specs.ExactStep.{rest, after_read}
 use Rattle.py_flat.specs.BinaryStep.{Fails}
 use Rattle.py_raw.specs.RawStream.{Raw, tells, WhereTold, NoWait, WaitsOnce, LeavesCounts}
-use Rattle.py_raw.proofs.Telling.{tells_its_bytes, tells_still, keeps_same}
-use Rattle.py_raw.proofs.ReadingOn.{Keeps-then, no_fault_then}
+use Rattle.py_raw.proofs.Telling.{tells_its_bytes, tells_still}
+use Rattle.py_raw.proofs.ReadingOn.{no_fault_then}
 use Rattle.py_stream.specs.Stream.{Stream, buffering_of, file_of, nothing_owed}
 use Rattle.py_stream.specs.Answers.{IsNear}
 use Rattle.py_stream.specs.Reading.{KeepsReading, EachBrings, ComesNext, Reaches, Gives}

@@ -1,5 +1,5 @@
 -- What a reading answers, by what it gave and where it stopped.
-use Rattle.std.proofs.Common.{◌≡◌, ◌≢◌, ℕ, ◌+◌, ◌≤◌, inl, inr, Bool, true, false, IsTrue, List, [], ◌++◌, length, take, Option, Some, None, IsSome, refl, sym, ap, ◌∙◌, subst, arith, rules}
+use Rattle.std.proofs.Common.{◌≡◌, ◌≢◌, ℕ, ◌+◌, ◌≤◌, inl, inr, Bool, true, false, IsTrue, List, [], ◌++◌, length, take, Option, Some, None, IsSome, refl, sym, ap, ◌∙◌, subst, arith}
 use Rattle.std.proofs.lemmas.List.{length-take}
 use Rattle.py_flat.specs.declared.fault.IoFault.{IoFault}
 use Rattle.py_flat.specs.declared.fault.IoFault.TheVariants as fault
@@ -12,17 +12,17 @@ use Rattle.py_flat.specs.Calls.{FileCall, Read, ReadLine, ReadLines, ReadInto, F
 use Rattle.py_flat.specs.FlatFile.{FlatFile, Buffering}
 use Rattle.py_flat.specs.Refusals.{lacks}
 use Rattle.py_flat.specs.ExactStep.{is_closed, rest, after_read, gives, carried_out}
-use Rattle.py_flat.specs.AllowedStep.{settled, waited_for, raw_faulted, out_of_memory}
+use Rattle.py_flat.specs.AllowedStep.{settled, waited_for, out_of_memory}
 use Rattle.py_flat.specs.BinaryStep.{BinaryStep, if_unbuffered, CarriedOut, Accepted, SettledBy, GivesPart, WaitedBy}
 use Rattle.py_flat.proofs.Cutting.{joined_lines}
 use Rattle.py_lines.proofs.Lines.{lines_left}
 use Rattle.py_raw.specs.RawStream.{WhereTold, NoWait, WaitsOnce, LeavesCounts}
 use Rattle.py_stream.specs.Stream.{Stream, size_of, buffering_of, file_of}
 use Rattle.py_stream.specs.Kinds.{is_reading, reads_on, goes_on, makes_one, has_room, takes_space_first, asks_none, by_several}
-use Rattle.py_stream.specs.Answers.{Answers, IsShort, PlaceMoves, PlaceFails, PlaceStarves, MovesForth, moves_most, StarvesTo, GivesWithin, InHandOf, IsWhole, AsksNoMore}
+use Rattle.py_stream.specs.Answers.{Answers, IsShort, PlaceMoves, PlaceStarves, MovesForth, moves_most, StarvesTo, GivesWithin, InHandOf, IsWhole, AsksNoMore}
 use Rattle.py_stream.specs.Reading.{KeepsReading, EachBrings, OneTransfer, IsNeeded, Gives, FailsReading, FailsMoved, wanted_by, reply_by, GathersEnough, GathersFront, IsOpen, WantsHeld}
 use Rattle.py_stream.proofs.Accepting.{work_reaches}
-use Rattle.py_stream.proofs.ReadingCalls.{IsReadingCall, reading_call, unready_within, refused_within, unready_waited, starved_by_none, starved_by_failing, space_first, reading_on, on_suits, nothing_held, in_hand_held, is_several}
+use Rattle.py_stream.proofs.ReadingCalls.{IsReadingCall, reading_call, refused_within, starved_by_none, starved_by_failing, space_first, reading_on, on_suits, nothing_held, in_hand_held, is_several}
 use Rattle.py_stream.proofs.ReadingSteps.{file_after, file_same, file_fails, next_reaches, keeps_self, uncounted}
 use Rattle.py_stream.proofs.ReadingAnswers.{accepted, works, Reads, answers_coming}
 
@@ -208,11 +208,6 @@ unshortened before after call reply begun kept answers =
 pub forth_by : (most : Option ℕ) (before after : ℕ) → before ≤ after → ((bound : ℕ) → most ≡ Some bound → after ≤ before + bound) → MovesForth most before after
 forth_by None before after forth within = forth
 forth_by (Some most) before after forth within = (forth, within most refl)
-
--- a call that goes on may leave the place further on, when its raw fails; another leaves it
-pub fails_where : (goes : Bool) (most : Option ℕ) (before after : ℕ) → before ≤ after → ((bound : ℕ) → most ≡ Some bound → after ≤ before + bound) → (goes ≡ false → after ≡ before) → PlaceFails goes most before after
-fails_where true most before after forth within stays = forth_by most before after forth within
-fails_where false most before after forth within stays = stays refl
 
 -- running out of memory leaves the place of a stream that lives on
 starves_where : (most : Option ℕ) (current : Life) (before after : ℕ) → (current ≡ life.Live → after ≡ before) → MovesForth most before after → PlaceStarves current most before after

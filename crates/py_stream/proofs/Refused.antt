@@ -1,20 +1,16 @@
 -- A stream whose raw was handed back, and what a call leaves that is refused.
-use Rattle.std.proofs.Common.{◌≡◌, ℕ, suc, zero, pos, inl, Bool, true, false, Option, Some, None, unwrap_or, if◌then◌else◌, refl, sym, ap, ◌∙◌, arith, rules}
+use Rattle.std.proofs.Common.{◌≡◌, ℕ, inl, Bool, true, false, Option, refl, arith}
 use Rattle.std.proofs.lemmas.List.{append-nil}
 use Rattle.py_flat.specs.declared.fault.IoFault.{IoFault}
 use Rattle.py_flat.specs.declared.fault.IoFault.TheVariants as fault
-use Rattle.py_flat.specs.declared.life.Life.{Life}
-use Rattle.py_flat.specs.declared.life.Life.TheVariants as life
-use Rattle.py_flat.specs.Calls.{FileCall, Read1, Write, WriteLines, Truncate, Seek, Flush, Close, Detach, Refused}
+use Rattle.py_flat.specs.Calls.{FileCall, Truncate, Refused}
 use Rattle.py_flat.specs.FlatFile.{Abilities}
-use Rattle.py_flat.specs.Refusals.{is_getter, is_other_getter, or_else, refused_if, refusal}
-use Rattle.py_flat.specs.BinaryStep.{asks_end, payload}
-use Rattle.py_raw.proofs.Telling.{keeps_same}
+use Rattle.py_flat.specs.Refusals.{is_getter, is_other_getter}
 use Rattle.py_stream.proofs.Owing.{owes_as_before}
-use Rattle.py_stream.specs.Stream.{Stream, file_of, no_raw, detached_stream}
+use Rattle.py_stream.specs.Stream.{Stream, detached_stream}
 use Rattle.py_stream.specs.Kinds.{says_would_block, says_no_memory}
 use Rattle.py_stream.specs.Writing.{LaysInOrder, PassesOn, BlocksFull, OwesNoneOfIts, Writes}
-use Rattle.py_stream.specs.Answers.{LifeMoves, PlaceMoves, GivesWithin, IsShort, SeeksByEnd, closes_again, refused_by, Answers}
+use Rattle.py_stream.specs.Answers.{Answers}
 
 -- A call that is refused, and leaves all.
 
@@ -51,30 +47,6 @@ pub leaves_all : (before : Stream) (call : FileCall) (why : IoFault) → is_own 
 leaves_all before call why own whole = grind (arith, owes_as_before, append-nil, nothing_laid, nothing_passed, nothing_blocked, never_waits, wants_none, none_of_its)
 
 -- A stream whose raw was handed back.
-
-life_stays : (buffer : Option ℕ) (call : FileCall) (current : Life) → LifeMoves buffer call (Refused fault.Detached) current current
-life_stays buffer call current = grind arith
-
-place_stays : (buffer : Option ℕ) (call : FileCall) (current : Life) (place : ℕ) → PlaceMoves buffer call (Refused fault.Detached) current place place
-place_stays buffer call current place = grind arith
-
-is_whole : (call : FileCall) → IsShort call (Refused fault.Detached) false
-is_whole call = grind arith
-
-gives_nothing : (size : ℕ) (call : FileCall) → GivesWithin size call (Refused fault.Detached)
-gives_nothing size call = grind arith
-
-asks_no_end : (can : Abilities) (buffer : Option ℕ) (call : FileCall) → asks_end (file_of (detached_stream can buffer)) call ≡ false
-asks_no_end can buffer call = grind arith
-
-seeks_no_end : (can : Abilities) (buffer : Option ℕ) (call : FileCall) → SeeksByEnd (detached_stream can buffer) call (Refused fault.Detached) (detached_stream can buffer)
-seeks_no_end can buffer call = grind arith
-
-never_closes : (can : Abilities) (buffer : Option ℕ) (call : FileCall) → closes_again (detached_stream can buffer) call ≡ false
-never_closes can buffer call = grind arith
-
-refuses_all : (can : Abilities) (buffer : Option ℕ) (call : FileCall) → is_getter call ≡ false → is_other_getter call ≡ false → refusal (file_of (detached_stream can buffer)) call ≡ Some fault.Detached
-refuses_all can buffer call asks known = grind arith
 
 -- a call of a detached stream is refused, and leaves the stream as it is
 pub detached_answers : (can : Abilities) (buffer : Option ℕ) (call : FileCall) → is_getter call ≡ false → is_other_getter call ≡ false → Answers (detached_stream can buffer) call (Refused fault.Detached) (detached_stream can buffer)

@@ -1,15 +1,13 @@
 -- What a stream refuses by itself, whatever the call: nothing but the reply tells that the call came.
-use Rattle.std.proofs.Common.{◌≡◌, ℕ, ◌≤◌, Bool, true, false, ◌&&◌, not, pos, suc, zero, Option, Some, None, if◌then◌else◌, refl, sym, ap, ◌∙◌, subst, arith, rules}
-use Rattle.std.proofs.Math.Bool.{and-false}
+use Rattle.std.proofs.Common.{◌≡◌, ℕ, ◌≤◌, Bool, true, false, Option, Some, None, if◌then◌else◌, refl, sym, ap, ◌∙◌, subst, arith, rules}
 use Rattle.py_flat.specs.declared.fault.IoFault.{IoFault}
 use Rattle.py_flat.specs.declared.fault.IoFault.TheVariants as fault
 use Rattle.py_flat.specs.declared.life.Life.{Life}
 use Rattle.py_flat.specs.declared.life.Life.TheVariants as life
-use Rattle.py_flat.specs.Calls.{FileCall, Read1, Write, WriteLines, Seek, Close, Detach, FileReply, Refused}
-use Rattle.py_flat.specs.FlatFile.{FlatFile, Buffering}
-use Rattle.py_flat.specs.Refusals.{refusal, is_getter, is_other_getter, lets_through, life_fault, life_refusal, or_else, refused_if, lacks, argument_refusal}
+use Rattle.py_flat.specs.Calls.{FileCall, FileReply, Refused}
+use Rattle.py_flat.specs.FlatFile.{FlatFile}
+use Rattle.py_flat.specs.Refusals.{refusal, is_getter, is_other_getter, lets_through, life_fault, lacks}
 use Rattle.py_flat.specs.Limits.{greatest_place}
-use Rattle.py_flat.specs.ExactStep.{is_closed}
 use Rattle.py_flat.specs.BinaryStep.{asks_end, is_live, SettledBy}
 use Rattle.py_flat.specs.AllowedStep.{settled}
 use Rattle.py_stream.specs.Stream.{Stream, size_of, buffering_of, file_of}
@@ -104,9 +102,6 @@ not_live current why by = grind arith
 
 asks_no_end : (file : FlatFile) (call : FileCall) → is_live file.life ≡ false → asks_end file call ≡ false
 asks_no_end file call dead = grind arith
-
-close_refused : (current : Life) (buffering : Buffering) → lets_through current buffering Close ≡ false → is_closed current ≡ false
-close_refused current buffering stopped = grind arith
 
 closes_no_more : (stream : Stream) (call : FileCall) → lets_through stream.life (buffering_of stream.buffer) call ≡ false → closes_again stream call ≡ false
 closes_no_more stream call stopped = grind arith

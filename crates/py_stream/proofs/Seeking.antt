@@ -1,23 +1,22 @@
 -- Moving a stream, whatever is below it: where a seek goes, what refuses it, and what an answer of it comes to.
-use Rattle.std.proofs.Common.{◌≡◌, ℕ, ◌≤◌, suc, zero, ◌⊎◌, inl, inr, ℤ, pos, Bool, true, false, not, ◌&&◌, ◌||◌, IsTrue, length, Option, Some, None, Result, Ok, Err, nat_lt, is_none, unwrap_or, option_and_then, le-ltb, if◌then◌else◌, refl, sym, ap, ◌∙◌, subst, arith, rules}
+use Rattle.std.proofs.Common.{◌≡◌, ℕ, ◌≤◌, suc, zero, ◌⊎◌, inl, inr, ℤ, pos, Bool, true, false, ◌||◌, IsTrue, length, Option, Some, None, Result, Ok, Err, nat_lt, refl, sym, subst, arith}
 use Rattle.py_flat.specs.declared.fault.IoFault.{IoFault}
 use Rattle.py_flat.specs.declared.fault.IoFault.TheVariants as fault
 use Rattle.py_flat.specs.declared.life.Life.{Life}
 use Rattle.py_flat.specs.declared.life.Life.TheVariants as life
 use Rattle.py_flat.specs.Limits.{greatest_place}
 use Rattle.py_flat.specs.Calls.{Seek, Place, Refused}
-use Rattle.py_flat.specs.Refusals.{or_else, refused_if, life_fault, lets_through, seek_base, seek_refusal, target_refusal, moved_by, refusal}
+use Rattle.py_flat.specs.Refusals.{refused_if, seek_base, seek_refusal, target_refusal, refusal}
 use Rattle.py_flat.specs.ExactStep.{seek_target}
-use Rattle.py_flat.specs.BinaryStep.{is_live, asks_end, does_work, reaches_raw}
+use Rattle.py_flat.specs.BinaryStep.{asks_end, does_work, reaches_raw}
 use Rattle.py_raw.specs.RawStream.{WhereBytes}
-use Rattle.py_stream.specs.Stream.{Stream, buffering_of, file_of}
+use Rattle.py_stream.specs.Stream.{Stream, file_of}
 use Rattle.py_stream.specs.Keeping.{IsSound}
 use Rattle.py_stream.specs.Moving.{MovedBy}
 use Rattle.py_stream.specs.Kinds.{says_fault, says_no_memory}
 use Rattle.py_stream.specs.Writing.{PassesOn, BlocksFull}
 use Rattle.py_stream.specs.Answers.{Leaves, IsShort, LifeMoves, SeekGoes, PlaceMoves, refused_by, SeeksTo, SeeksFromEnd, SeeksByEnd, IsReplyTo, Answers}
 use Rattle.py_stream.proofs.Refused.{is_own}
-use Rattle.py_stream.proofs.Refusing.{IsPlaced, refused_with, refused_alone}
 
 -- true is the greater
 pub or_true : (first : Bool) → first || true ≡ true
@@ -33,10 +32,6 @@ pub record MaySeek (before : Stream) : Type 0 where
   pub seeks : before.can.seekable ≡ true
   pub free : before.can.appending ≡ false
   pub whole : before.short ≡ false
-
--- a sound stream is placed
-pub placed_of : (stream : Stream) → IsSound stream → IsPlaced stream
-placed_of stream sound = record { far = sound.far; near = sound.near }
 
 -- only its target or its whence refuses a seek of a stream that may be moved
 pub seek_refusal_is : (before : Stream) (offset whence : ℤ) → MaySeek before → refusal (file_of before) (Seek offset whence) ≡ seek_refusal (seek_base (file_of before) whence) offset
@@ -82,10 +77,6 @@ refuses_place offset why at = grind arith
 
 -- Where the raw is asked.
 
--- a seek from the end asks the raw where that is
-pub asks_where_it_ends : (before : Stream) (offset : ℤ) → MaySeek before → asks_end (file_of before) (Seek offset (pos 2)) ≡ true
-asks_where_it_ends before offset may = grind arith
-
 -- a seek that goes to the raw: it isn't refused before, and may blame the raw
 pub record ReachesRaw (before : Stream) (offset whence : ℤ) : Type 0 where
   pub passes : refused_by before (Seek offset whence) ≡ None
@@ -95,18 +86,7 @@ pub record ReachesRaw (before : Stream) (offset whence : ℤ) : Type 0 where
 pub end_reaches : (before : Stream) (offset : ℤ) → MaySeek before → ReachesRaw before offset (pos 2)
 end_reaches before offset may = grind arith
 
--- a seek that isn't refused does work
-pub seek_works : (before : Stream) (offset whence : ℤ) → MaySeek before → refusal (file_of before) (Seek offset whence) ≡ None → IsTrue (does_work (file_of before) (Seek offset whence))
-seek_works before offset whence may none = grind arith
-
 -- Where a seek goes.
-
--- a target that was found isn't refused
-pub lies_within : (base : ℕ) (offset : ℤ) (target : ℕ) → MovedBy base offset (Ok target) → target_refusal (moved_by base offset) ≡ None
-lies_within base offset target moved = grind arith
-
-target_is : (base : ℕ) (offset : ℤ) (target : ℕ) → MovedBy base offset (Ok target) → unwrap_or (moved_by base offset) 0 ≡ target
-target_is base offset target moved = ap (λ (place : Option ℕ). unwrap_or place 0) moved.0
 
 -- the raw was asked where it ends, and told its bytes this is the end of the flat file
 pub record AnswersEnd (before : Stream) (end : ℕ) : Type 0 where
@@ -127,27 +107,6 @@ pub record Goes (before : Stream) (offset whence : ℤ) (target : ℕ) : Type 0 
   pub ends : (after : Stream) → SeeksByEnd before (Seek offset whence) (Place target) after
   pub to : SeekGoes before.place offset whence target
   pub lies : WhereBytes before.raw ((seek_target (file_of before) offset whence ≡ target) × (refusal (file_of before) (Seek offset whence) ≡ None))
-
-goes_from_end : (before : Stream) (offset : ℤ) (target end : ℕ) → MaySeek before → AnswersEnd before end → MovedBy end offset (Ok target) → Goes before offset (pos 2) target
-goes_from_end before offset target end may answered moved =
-    let none : WhereBytes before.raw (refusal (file_of before) (Seek offset (pos 2)) ≡ None) = λ tells.
-    seek_refusal_is before offset (pos 2) may ∙ ap (λ (base : ℕ). target_refusal (moved_by base offset)) (sym (answered.told tells)) ∙ lies_within end offset target moved in
-    record {
-      asks = end_reaches before offset may;
-      works = λ tells. seek_works before offset (pos 2) may (none tells);
-      ends = λ after _. record {
-        end = end;
-        within = answered.within;
-        told = answered.told;
-        target = subst (λ (place : Option ℕ). SeeksTo before place (target_refusal place) (Place target) after) (sym moved.0)
-            (subst (λ (refused : Option IoFault). SeeksTo before (Some target) refused (Place target) after) (sym (ap (λ (far : Bool). refused_if far fault.TooFar) (le-ltb greatest_place target moved.1))) refl);
-      };
-      to = tt;
-      lies = λ tells. (ap (λ (base : ℕ). unwrap_or (moved_by base offset) 0) (sym (answered.told tells)) ∙ target_is end offset target moved, none tells);
-    }
-
-goes_from_place : (before : Stream) (offset whence : ℤ) (base target : ℕ) → MaySeek before → asks_end (file_of before) (Seek offset whence) ≡ false → ((after : Stream) → SeeksByEnd before (Seek offset whence) (Place target) after) → SeekGoes before.place offset whence target → seek_base (file_of before) whence ≡ Some base → MovedBy base offset (Ok target) → Goes before offset whence target
-goes_from_place before offset whence base target may unasked ends to from moved = grind arith
 
 -- a target that was found says where an accepted seek goes
 pub goes : (before : Stream) (offset whence : ℤ) (target : ℕ) → MaySeek before → TargetOf before offset whence (Ok target) → Goes before offset whence target

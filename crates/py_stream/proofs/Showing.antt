@@ -6,20 +6,18 @@ use Rattle.py_flat.specs.declared.life.Life.{Life}
 use Rattle.py_flat.specs.declared.life.Life.TheVariants as life
 use Rattle.py_flat.specs.Limits.{greatest_place}
 use Rattle.py_flat.specs.FlatFile.{FlatFile}
-use Rattle.py_flat.specs.Calls.{FileCall, Read, ReadLine, ReadInto, Write, Seek, Flush, Close, Detach, FileReply, Done, Unwritten, Refused}
+use Rattle.py_flat.specs.Calls.{FileCall, Seek, Flush, Close, Detach, FileReply, Done, Unwritten, Refused}
 use Rattle.py_flat.specs.Refusals.{refusal, is_getter, or_else, lets_through, life_fault, life_refusal}
 use Rattle.py_flat.specs.ExactStep.{is_closed}
 use Rattle.py_flat.specs.BinaryStep.{BinaryStep, asks_end, reaches_raw, does_work, is_tell, WaitedBy, StarvedBy}
 use Rattle.py_raw.specs.RawStream.{WhereTold}
-use Rattle.py_stream.specs.Stream.{Stream, size_of, buffering_of, file_of, nothing_owed}
+use Rattle.py_stream.specs.Stream.{Stream, buffering_of, file_of, nothing_owed}
 use Rattle.py_stream.specs.Kinds.{is_reading, is_writing, calls_none, makes_one, says_fault, says_no_memory}
-use Rattle.py_stream.specs.Writing.{NoneAtPlace, PassesFront, LaysFront, LaysInOrder, PassesOn, BlocksFull, OwesNoneOfIts, Writes}
+use Rattle.py_stream.specs.Writing.{NoneAtPlace, PassesFront, LaysFront, LaysInOrder, PassesOn, BlocksFull, Writes}
 use Rattle.py_stream.specs.Answers.{Answers, KeepsStream, Leaves, ClosedWith, parts_at_close, closes_again, IsReplyTo, HasCauses, IsCounted, InHand, AsksNothing, IsIdle, IsShort, LifeMoves, PlaceMoves, refused_by, SeeksByEnd, SparesBytes, IsNear}
 use Rattle.py_stream.specs.Keeping.{IsSound}
 use Rattle.py_stream.proofs.Completing.{completes}
-use Rattle.py_stream.proofs.Accepting.{works_unrefused, work_reaches}
-use Rattle.py_stream.proofs.Refusing.{refused_alone}
-use Rattle.py_stream.proofs.Stopping.{GivesNone, gives_none}
+use Rattle.py_stream.proofs.Stopping.{gives_none}
 
 -- Kinds of calls.
 
@@ -83,10 +81,6 @@ pub shows_answers : (before : Stream) (call : FileCall) (reply : FileReply) (aft
 shows_answers before call reply after none shows = search (rules, gives_none, not_refused, completes)
 
 -- Writing: what a call that moves no bytes does with what is owed.
-
--- a call that isn't one `write`
-not_one_write : (before after : Stream) (call : FileCall) (reply : FileReply) → is_writing call ≡ false → OwesNoneOfIts before call reply after
-not_one_write before after call reply other = grind arith
 
 -- a call passes on a front of what is owed
 pub record PassesBytes (before : Stream) (call : FileCall) (reply : FileReply) (after : Stream) : Type 0 where

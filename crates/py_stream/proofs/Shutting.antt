@@ -1,6 +1,6 @@
 -- The answers of `flush` and `close` of a stream with a buffer that writes.
 use Rattle.py_stream.specs.Keeping.{IsSound, KeepsOn}
-use Rattle.std.proofs.Common.{◌≡◌, ℕ, ◌≤◌, IsTrue, Bool, true, false, [], length, Option, Result, Ok, Err, refl, sym, ap, ◌∙◌, subst, arith, zero-le, rules}
+use Rattle.std.proofs.Common.{◌≡◌, ℕ, ◌≤◌, IsTrue, Bool, true, false, [], length, Option, Result, Ok, Err, refl, sym, ap, ◌∙◌, subst, arith, zero-le}
 use Rattle.py_flat.specs.declared.fault.IoFault.{IoFault}
 use Rattle.py_flat.specs.declared.fault.IoFault.TheVariants as fault
 use Rattle.py_flat.specs.declared.life.Life.{Life}
@@ -29,7 +29,7 @@ use Rattle.py_stream.proofs.Stopping.{fails_there}
 use Rattle.py_stream.proofs.Taking.{answers_still}
 use Rattle.py_stream.proofs.Flat.{flat_of}
 use Rattle.py_stream.proofs.Showing.{Asked, beside_writing, shows_answers, passing_writes, IsWriting, flush_asked, close_asked}
-use Rattle.py_stream.proofs.PassingOn.{begun, PassesSome, FaultLeaves, took_passes, failing_passes, passed_all, passing_front, passing_keeps, passing_file, stays_open, failing_answers, lacks_refuse, waits_refuse, pass_all_refuses, lacking_answers, passes_itself}
+use Rattle.py_stream.proofs.PassingOn.{begun, PassesSome, FaultLeaves, took_passes, failing_passes, passed_all, passing_front, passing_keeps, passing_file, stays_open, failing_answers, lacks_refuse, waits_refuse, pass_all_refuses, lacking_answers}
 
 -- Flushing.
 

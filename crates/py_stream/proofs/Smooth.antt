@@ -1,34 +1,18 @@
 -- What a call answers where nothing stands in its way.
-use Rattle.std.proofs.Common.{◌≡◌, ◌≢◌, ℕ, ◌+◌, ◌≤◌, Bool, true, false, not, ◌||◌, List, length, Option, Some, None, IsSome, if◌then◌else◌, refl, ap, ◌∙◌, subst, subst₂, le-ltb, arith, rules}
-use Rattle.py_flat.specs.declared.fault.IoFault.{IoFault}
-use Rattle.py_flat.specs.declared.fault.IoFault.TheVariants as fault
-use Rattle.py_flat.specs.declared.life.Life.{Life}
+use Rattle.std.proofs.Common.{◌≡◌, ℕ, ◌+◌, ◌≤◌, true, List, length, Option, Some, None, IsSome, refl, ap, subst, arith}
 use Rattle.py_flat.specs.declared.life.Life.TheVariants as life
 use Rattle.py_flat.specs.Limits.{greatest_place}
 use Rattle.py_flat.specs.Bytes.{first_of}
 use Rattle.py_flat.specs.Lines.{Lf, first_line, lines_within, joined}
-use Rattle.py_flat.specs.Calls.{FileCall, Read, Read1, ReadLine, ReadLines, Peek, ReadInto, ReadInto1, Write, WriteLines, FileReply, Count, Done, Refused}
+use Rattle.py_flat.specs.Calls.{FileCall, Read, Read1, ReadLine, ReadLines, Peek, ReadInto, ReadInto1, Write, WriteLines, FileReply, Count, Done}
 use Rattle.py_flat.specs.FlatFile.{FlatFile, Buffering, Buffered}
-use Rattle.py_flat.specs.Refusals.{or_else, refused_if, life_fault, is_buffered, is_unbuffered, too_far, lets_through, refusal}
+use Rattle.py_flat.specs.Refusals.{refusal}
 use Rattle.py_flat.specs.ExactStep.{rest, gives, one_transfer, buffer_full, carried_out}
-use Rattle.py_flat.specs.BinaryStep.{if_unbuffered, if_over_raw, CarriedOut, Transfers, Accepted, SettledBy, Settled, BinaryStep}
-use Rattle.py_flat.specs.AllowedStep.{settled, waited_for, raw_faulted, out_of_memory}
+use Rattle.py_flat.specs.BinaryStep.{if_unbuffered, if_over_raw, CarriedOut, Transfers, Accepted}
 use Rattle.py_stream.specs.Stream.{Stream, buffering_of, file_of}
-use Rattle.py_stream.specs.Kinds.{is_reading, says_fault}
+use Rattle.py_stream.specs.Kinds.{is_reading}
 use Rattle.py_stream.specs.Answers.{Answers}
 use Rattle.py_stream.specs.Laws.{GoesSmoothly, GivesJust, GivesJustLines, TakesJust}
-use Rattle.py_stream.proofs.Completing.{uncaused}
-
--- a step that nobody is to blame for
-step_settles : (file : FlatFile) (call : FileCall) (reply : FileReply) (after : FlatFile) → BinaryStep file call reply false false after → reply ≢ Refused fault.NoMemory → Settled file call reply after
-step_settles file call reply after (settled by) memory = by
-step_settles file call reply after (waited_for waited part) memory = absurd (cc)
-step_settles file call reply after (raw_faulted faulted said left) memory = absurd (cc)
-step_settles file call reply after (out_of_memory said left) memory = absurd (memory said)
-
--- a smooth call of a stream is refused as it has to be, or carried out
-pub smooth_settles : (before : Stream) (call : FileCall) (reply : FileReply) (after : Stream) → Answers before call reply after → GoesSmoothly before reply after → Settled (file_of before) call reply (file_of after)
-smooth_settles before call reply after answers goes = grind arith
 
 -- a smooth call isn't refused, so it is carried out
 pub smooth_accepts : (before : Stream) (call : FileCall) (reply : FileReply) (after : Stream) → Answers before call reply after → GoesSmoothly before reply after → refusal (file_of before) call ≡ None → Accepted (file_of before) call reply (file_of after)
@@ -41,15 +25,9 @@ has_buffer : (buffer : Option ℕ) → IsSome buffer → (size : ℕ) × (buffer
 has_buffer (Some size) some = (size, refl)
 has_buffer None some = absurd (cc)
 
-let_through : (file : FlatFile) (call : FileCall) (later : Option IoFault) → file.life ≡ life.Live → or_else (if lets_through file.life file.buffering call then None else life_fault file.life) later ≡ later
-let_through file call later live = ap (λ (current : Life). or_else (if lets_through current file.buffering call then None else life_fault current) later) live
-
 -- a live stream that reads through a buffer refuses no reading
 pub reading_passes : (file : FlatFile) (size : ℕ) (call : FileCall) → is_reading call ≡ true → file.life ≡ life.Live → file.can.readable ≡ true → file.buffering ≡ Buffered size → refusal file call ≡ None
 reading_passes file size call reads live can buffered = grind arith
-
-within_passes : (end : ℕ) → end ≤ greatest_place → or_else (refused_if (not true) fault.Unsupported) (too_far end) ≡ None
-within_passes end fits = ap (λ (far : Bool). refused_if far fault.TooFar) (le-ltb greatest_place end fits)
 
 -- a live file that can be written refuses no write whose end it can have
 pub write_passes : (file : FlatFile) (bytes : List ℕ) → file.life ≡ life.Live → file.can.writable ≡ true → file.place + length bytes ≤ greatest_place → refusal file (Write bytes) ≡ None

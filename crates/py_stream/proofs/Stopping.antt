@@ -1,16 +1,15 @@
 -- What a call leaves that its raw stops, whichever call it is: the raw would have blocked, or failed, or memory ran out.
-use Rattle.std.proofs.Common.{◌≡◌, ℕ, suc, zero, pos, inl, Bool, true, false, not, length, Option, Some, None, refl, ap, arith, rules}
+use Rattle.std.proofs.Common.{◌≡◌, ℕ, inl, Bool, true, false, length, Option, Some, None, refl, arith}
 use Rattle.py_flat.specs.declared.fault.IoFault.{IoFault}
 use Rattle.py_flat.specs.declared.fault.IoFault.TheVariants as fault
 use Rattle.py_flat.specs.declared.life.Life.{Life}
-use Rattle.py_flat.specs.declared.life.Life.TheVariants as life
 use Rattle.py_flat.specs.Lines.{joined}
-use Rattle.py_flat.specs.Calls.{FileCall, Read, Read1, ReadLine, ReadLines, Peek, ReadInto, ReadInto1, Write, WriteLines, Seek, Tell, Close, Detach, FileReply, Refused}
+use Rattle.py_flat.specs.Calls.{FileCall, Read, Read1, ReadLine, ReadLines, Peek, ReadInto, ReadInto1, Write, WriteLines, Close, Detach, FileReply, Refused}
 use Rattle.py_flat.specs.BinaryStep.{is_tell}
 use Rattle.py_stream.specs.Stream.{Stream}
 use Rattle.py_stream.specs.Kinds.{is_reading, reads_on, by_several, takes_space_first, asks_none, is_writing, goes_on, says_would_block}
 use Rattle.py_stream.specs.Writing.{BlocksFull}
-use Rattle.py_stream.specs.Answers.{IsReplyTo, IsShort, StarvesTo, LifeMoves, MovesForth, PlaceFails, PlaceStarves, PlaceMoves, moves_most, GivesWithin, SeeksByEnd}
+use Rattle.py_stream.specs.Answers.{IsReplyTo, IsShort, StarvesTo, LifeMoves, MovesForth, PlaceFails, PlaceMoves, moves_most, GivesWithin, SeeksByEnd}
 use Rattle.py_stream.proofs.Refused.{is_own}
 
 -- A call that gives no bytes.
@@ -95,9 +94,6 @@ pub starves_alive : (buffer : Option ℕ) (call : FileCall) (current : Life) →
 starves_alive buffer Close current = starves_so (goes_on buffer Close) current
 starves_alive buffer Detach current = starves_so (goes_on buffer Detach) current
 starves_alive buffer call current = starves_so (goes_on buffer call) current
-
-starves_where : (current : Life) (most : Option ℕ) (place : ℕ) → PlaceStarves current most place place
-starves_where current most place = grind arith
 
 -- running out of memory may leave the place
 pub starves_there : (buffer : Option ℕ) (call : FileCall) (current : Life) (place : ℕ) → PlaceMoves buffer call (Refused fault.NoMemory) current place place

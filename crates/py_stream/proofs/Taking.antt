@@ -1,5 +1,5 @@
 -- What one step of a call that gives bytes after another takes and passes on.
-use Rattle.std.proofs.Common.{◌≡◌, ℕ, ◌+◌, ◌<◌, ◌≤◌, Option, Some, None, IsTrue, List, [], ◌++◌, length, take, drop, refl, sym, ap, ◌∙◌, subst, arith, add-zero, append_assoc, length-append, length-drop, rules}
+use Rattle.std.proofs.Common.{◌≡◌, ℕ, ◌+◌, ◌≤◌, Option, Some, None, List, [], ◌++◌, length, take, drop, refl, sym, ap, ◌∙◌, subst, arith, add-zero, append_assoc, length-append, length-drop}
 use Rattle.std.proofs.Math.Seq.{take-append-add, take-add}
 use Rattle.std.proofs.lemmas.List.{length-take-le, take-append-le, drop-append-le, drop-drop, append-nil}
 use Rattle.py_flat.specs.declared.life.Life.TheVariants as life
@@ -8,7 +8,7 @@ use Rattle.py_flat.specs.Causes.{Rose, counted}
 use Rattle.py_flat.proofs.Laying.{lay_behind}
 use Rattle.py_raw.specs.RawStream.{Raw, Keeps, NoWait, WaitsOnce, AnswersFor}
 use Rattle.py_raw.proofs.Telling.{keeps_same, tells_still}
-use Rattle.py_raw.proofs.ReadingOn.{Keeps-then, no_fault_then, no_wait_then}
+use Rattle.py_raw.proofs.ReadingOn.{no_fault_then, no_wait_then}
 use Rattle.py_stream.specs.Stream.{Stream}
 use Rattle.py_stream.specs.Keeping.{IsSound, KeepsOn, OwesBehind}
 use Rattle.py_stream.specs.Taking.{Took, LaysFurther, FailsTaking, Lacks, Calm, WaitsAsOne, StarvesTaking, FillsUp, TookAll}

@@ -1,22 +1,18 @@
 -- The engine with which a call begins, and what a stream without a buffer refuses by itself.
-use Rattle.std.proofs.Common.{◌≡◌, true, false, Some, Err, Ok, refl, sym, ap, subst, arith, add-zero, ◌∙◌, ℕ, None, IsSome, Option, Result, rules}
+use Rattle.std.proofs.Common.{◌≡◌, true, false, Some, Err, Ok, refl, sym, ap, subst, arith, add-zero, ℕ, None, IsSome, Option, Result}
 use Rattle.py_flat.specs.declared.fault.IoFault.{IoFault}
 use Rattle.py_flat.specs.declared.fault.IoFault.TheVariants as fault
 use Rattle.py_flat.specs.declared.life.Life.{Life}
 use Rattle.py_flat.specs.declared.life.Life.TheVariants as life
 use Rattle.py_flat.specs.Calls.{FileCall, Close, FileReply, Refused}
 use Rattle.py_flat.specs.FlatFile.{Unbuffered}
-use Rattle.py_flat.specs.Refusals.{refusal, is_getter, is_other_getter, is_close, lets_through, life_fault, lacks}
-use Rattle.py_flat.specs.BinaryStep.{asks_end}
+use Rattle.py_flat.specs.Refusals.{is_getter, is_other_getter, is_close, lets_through, life_fault, lacks}
 use Rattle.py_stream.specs.Stream.{Stream, file_of}
-use Rattle.py_stream.specs.Answers.{Answers, IsNear, closes_again}
+use Rattle.py_stream.specs.Answers.{Answers, IsNear}
 use Rattle.py_stream.proofs.Begun.{answers_whole}
-use Rattle.py_stream.proofs.Refused.{is_own}
 use Rattle.py_stream.proofs.Alone.{detaches, Begins, begins_in_vain as stream_begins_in_vain}
-use Rattle.py_stream.proofs.Refusing.{IsPlaced, refused_with as stream_refuses, refused_by_life as life_refuses, refused_by_ability as ability_refuses}
+use Rattle.py_stream.proofs.Refusing.{IsPlaced, refused_by_life as life_refuses, refused_by_ability as ability_refuses}
 use Rattle.py_stream.specs.Keeping.{IsSound, KeepsOn, OwesBehind}
-use Rattle.py_stream.specs.declared.access.Access.{Access}
-use Rattle.py_stream.specs.Access.{can_of}
 use Rattle.py_unbuffered.specs.Engine.{EngineView, stream_of, IsEngine, KeepsEngine, BeginOutcome}
 
 -- what holds of every engine
@@ -54,10 +50,6 @@ answers_begun first call reply after answers = answers_whole (stream_of first) a
 -- a call of an engine that is known to be the begun one is one of the engine that it was
 pub answers_from : (first now : EngineView) (call : FileCall) (reply : FileReply) (after : Stream) → now ≡ begun first → Answers (stream_of now) call reply after → Answers (stream_of first) call reply after
 answers_from first now call reply after is answers = answers_begun first call reply after (subst (λ (engine : EngineView). Answers (stream_of engine) call reply after) is answers)
-
--- A refusal of the stream's own leaves all as it was.
-pub refused_with : (old new : EngineView) (call : FileCall) (why : IoFault) → Stands old → refusal (file_of (stream_of old)) call ≡ Some why → asks_end (file_of (stream_of old)) call ≡ false → is_own why ≡ true → closes_again (stream_of old) call ≡ false → new ≡ begun old → Answers (stream_of old) call (Refused why) (stream_of new)
-refused_with old new call why stands refuses alone own first same = stream_refuses (stream_of old) (stream_of new) call why (is_placed old stands) refuses alone own first (ap stream_of same)
 
 -- A call that the life doesn't let through.
 pub refused_by_life : (old new : EngineView) (call : FileCall) (why : IoFault) → Stands old → is_getter call ≡ false → is_other_getter call ≡ false → lets_through old.life Unbuffered call ≡ false → BeginOutcome old (Err why) new → Answers (stream_of old) call (Refused why) (stream_of new)

@@ -1,5 +1,5 @@
 -- Readings of an engine without a buffer, as readings of the stream that it is.
-use Rattle.std.proofs.Common.{◌≡◌, ◌≢◌, ℕ, zero, suc, ◌-◌, ◌≤◌, Bool, true, false, not, List, [], ◌∷◌, length, take, Option, Some, None, is_none, Ok, Err, refl, sym, ap, ◌∙◌, subst, arith, rules}
+use Rattle.std.proofs.Common.{◌≡◌, ◌≢◌, ℕ, zero, suc, ◌-◌, ◌≤◌, Bool, true, false, not, List, [], ◌∷◌, length, take, Option, Some, None, is_none, Ok, Err, refl, sym, ap, ◌∙◌, subst, arith}
 use Rattle.std.proofs.lemmas.List.{length-take-le, take_all, take-take, drop_all}
 use Rattle.std.specs.Bool.{◌==◌}
 use Rattle.std.specs.Option.{is_some, option_eq}
@@ -17,7 +17,6 @@ use Rattle.py_stream.specs.Replies.{into_reply}
 use Rattle.py_stream.proofs.ReadingAnswers.{Reads, ReadingBegins}
 use Rattle.py_stream.proofs.ReadingOn.{comes_front}
 use Rattle.py_stream.proofs.SingleReading.{reads_once, asks_for, moves_by, answers_once, unready_once, faulted_once, unmoved_once}
-use Rattle.py_stream.specs.declared.access.Access.{Access}
 use Rattle.py_stream.specs.declared.access.Access.TheVariants as access
 use Rattle.py_stream.specs.Access.{can_of}
 use Rattle.py_unbuffered.specs.Engine.{EngineView, stream_of, BeginOutcome, TransferOutcome}

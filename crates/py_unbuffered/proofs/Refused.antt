@@ -1,5 +1,5 @@
 -- Raws that a stream without a buffer refuses before they are asked for anything.
-use Rattle.std.proofs.Common.{IsTrue, ◌≡◌, Bool, true, false, not, Some, None, refl, sym, subst, arith, rules}
+use Rattle.std.proofs.Common.{IsTrue, ◌≡◌, Bool, true, false, not, Some, None, refl, sym, arith}
 use Rattle.py_flat.specs.declared.fault.IoFault.{IoFault}
 use Rattle.py_flat.specs.declared.fault.IoFault.TheVariants as fault
 use Rattle.py_flat.specs.Refusals.{or_else, refused_if}

@@ -1,5 +1,5 @@
 -- Which streams without a buffer may be moved.
-use Rattle.std.proofs.Common.{◌≡◌, Bool, true, false, not, ◌||◌, Ok, refl, sym, ap, ◌∙◌, arith, rules}
+use Rattle.std.proofs.Common.{◌≡◌, Bool, true, false, not, ◌||◌, Ok, refl, sym, ap, ◌∙◌, arith}
 use Rattle.py_stream.proofs.Seeking.{or_true, MaySeek}
 use Rattle.py_stream.proofs.PassingOn.{begun as begun_stream}
 use Rattle.py_stream.specs.declared.access.Access.{Access}

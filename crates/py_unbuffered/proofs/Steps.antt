@@ -1,5 +1,5 @@
 -- What stays of an engine from step to step.
-use Rattle.std.proofs.Common.{◌≡◌, ℕ, ◌+◌, refl, ap, ◌∙◌, arith, rules}
+use Rattle.std.proofs.Common.{◌≡◌, ℕ, ap, ◌∙◌, arith}
 use Rattle.py_flat.specs.declared.life.Life.TheVariants as life
 use Rattle.py_raw.specs.RawStream.{Raw, NoFault, NoWait, LeavesCounts, AnswersFor, KeepsBytes}
 use Rattle.py_raw.proofs.Telling.{keeps_same}
@@ -52,14 +52,6 @@ uncounted old new same = record { no_fault = λ exact. ap (λ (raw : Raw). raw.f
 pub answers_none : (old new : Raw) → new ≡ old → AnswersFor 0 old new
 answers_none old new same = λ tells. omega (arith, ap (λ (raw : Raw). raw.written) same)
 
--- what two steps answered for
-pub answers_then : (old mid new : EngineView) (first second : ℕ) → KeepsEngine old mid → AnswersFor first old.raw mid.raw → AnswersFor second mid.raw new.raw → AnswersFor (first + second) old.raw new.raw
-answers_then old mid new first second kept before behind = λ tells. omega (arith, before tells, behind (kept.raw.tells_transfers ∙ tells))
-
 -- two steps of which the first answered for nothing
 pub answers_none_then : (old mid new : EngineView) (count : ℕ) → KeepsEngine old mid → AnswersFor 0 old.raw mid.raw → AnswersFor count mid.raw new.raw → AnswersFor count old.raw new.raw
 answers_none_then old mid new count kept before behind = λ tells. omega (arith, before tells, behind (kept.raw.tells_transfers ∙ tells))
-
--- two steps of which the second answered for nothing
-pub answers_then_none : (old mid new : EngineView) (count : ℕ) → KeepsEngine old mid → AnswersFor count old.raw mid.raw → AnswersFor 0 mid.raw new.raw → AnswersFor count old.raw new.raw
-answers_then_none old mid new count kept before behind = λ tells. omega (arith, before tells, behind (kept.raw.tells_transfers ∙ tells))

@@ -1,9 +1,6 @@
-use Rattle.std.proofs.Common.{◌≡◌, sym, ap, ◌∙◌, subst, arith, rules}
-use Rattle.std.proofs.lemmas.Bool.{true≢false}
+use Rattle.std.proofs.Common.{arith}
 use Rattle.std.proofs.lemmas.Result.{err_from_is_err_and}
-use Rattle.py_flat.specs.declared.life.Life.TheVariants as life
-use Rattle.py_unbuffered.specs.Engine.{EngineView}
-use Rattle.py_unbuffered.proofs.Begun.{Stands, closes_in_vain}
+use Rattle.py_unbuffered.proofs.Begun.{closes_in_vain}
 use Rattle.py_unbuffered.proofs.data.UnbufferedData.close.Goals as goal
 use Rattle.py_unbuffered.proofs.data.UnbufferedData.close.Goals.{in-Closed, in_default}
 

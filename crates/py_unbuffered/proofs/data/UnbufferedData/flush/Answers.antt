@@ -1,4 +1,4 @@
-use Rattle.std.proofs.Common.{refl, subst, arith, rules}
+use Rattle.std.proofs.Common.{refl, subst}
 use Rattle.py_stream.proofs.Flushing.{flush_answers}
 use Rattle.py_unbuffered.specs.Engine.{stream_of}
 use Rattle.py_unbuffered.proofs.Begun.{Stands, is_placed, begins}

@@ -1,9 +1,6 @@
-use Rattle.std.proofs.Common.{ℕ, Option, Some, None, refl, sym, subst, arith, rules}
+use Rattle.std.proofs.Common.{refl, subst, arith}
 use Rattle.std.proofs.lemmas.Result.{err_from_is_err_and}
-use Rattle.py_flat.specs.Calls.{FileReply, Read}
-use Rattle.py_stream.specs.Answers.{Answers}
-use Rattle.py_stream.specs.Replies.{bytes_reply}
-use Rattle.py_unbuffered.specs.Engine.{EngineView, stream_of}
+use Rattle.py_flat.specs.Calls.{Read}
 use Rattle.py_unbuffered.proofs.Begun.{Stands, answers_from, begins_in_vain}
 use Rattle.py_unbuffered.proofs.data.UnbufferedData.read.Goals as goal
 

@@ -1,9 +1,8 @@
-use Rattle.std.proofs.Common.{rules, ◌≡◌, ◌+◌, ◌-◌, ◌<◌, ◌≤◌, ℕ, true, not, List, [], ◌++◌, length, take, drop, Err, subst, ap, ◌∙◌, arith}
+use Rattle.std.proofs.Common.{◌≡◌, ◌+◌, ◌-◌, ◌<◌, ◌≤◌, ℕ, true, not, List, ◌++◌, length, take, drop, ap, ◌∙◌, arith}
 use Rattle.std.specs.Result.{is_ok}
 use borrow.Rule.Slice.PartMut.{post_of}
 use Rattle.py_raw.proofs.ReadingOn.{cut_behind, cut_back}
 use Rattle.py_unbuffered.specs.Engine.{Brings, Waits}
-use Rattle.py_unbuffered.proofs.Begun.{Stands}
 use Rattle.py_unbuffered.proofs.ReadingSteps.{took_none, rest_ends, rest_goes_on, rest_waits, rest_err, rest_refused, rest_starved, Widened, widened, room_left, room_for_some}
 use Rattle.py_unbuffered.proofs.data.UnbufferedData.read_all.Goals as goal
 

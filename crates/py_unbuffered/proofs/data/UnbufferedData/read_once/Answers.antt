@@ -1,6 +1,6 @@
-use Rattle.std.proofs.Common.{◌≡◌, false, true, ℕ, List, length, take, drop, Bool, Option, Some, None, Ok, refl, sym, ap, ◌∙◌, subst, arith, rules}
+use Rattle.std.proofs.Common.{◌≡◌, false, ℕ, List, length, take, drop, Bool, Option, Some, Ok, refl, sym, ap, ◌∙◌, subst, arith}
 use Rattle.std.proofs.lemmas.Result.{err_from_is_err_and}
-use Rattle.py_flat.specs.Calls.{FileCall, Bytes, NotReady, Read}
+use Rattle.py_flat.specs.Calls.{FileCall, Bytes, Read}
 use Rattle.py_stream.specs.Answers.{Answers}
 use Rattle.py_unbuffered.specs.Engine.{EngineView, stream_of, TransferOutcome}
 use Rattle.py_unbuffered.proofs.Begun.{Stands}

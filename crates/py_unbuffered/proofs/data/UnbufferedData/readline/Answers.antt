@@ -1,9 +1,7 @@
-use Rattle.std.proofs.Common.{◌≢◌, ℕ, List, [], Some, length, Ok, Err, refl, sym, ap, ◌∙◌, subst, arith, rules}
+use Rattle.std.proofs.Common.{ℕ, List, length, Ok, Err, refl, sym, ap, ◌∙◌, subst, arith}
 use Rattle.std.proofs.lemmas.Result.{err_from_is_err_and}
-use Rattle.py_flat.specs.Lines.{Lf}
 use Rattle.py_flat.specs.Calls.{Bytes, ReadLine}
 use Rattle.py_flat.proofs.Cutting.{first_line_holds_some}
-use Rattle.py_lines.specs.Collecting.{LineView, line_wanted}
 use Rattle.py_stream.specs.Stream.{Stream}
 use Rattle.py_stream.specs.Answers.{Answers}
 use Rattle.py_stream.proofs.ReadingAnswers.{reading_refused}

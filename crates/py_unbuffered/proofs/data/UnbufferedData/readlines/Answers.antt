@@ -1,7 +1,6 @@
-use Rattle.std.proofs.Common.{◌≢◌, ℕ, List, [], Option, Ok, Err, refl, sym, ap, ◌∙◌, subst, arith, rules}
+use Rattle.std.proofs.Common.{ℕ, List, Ok, Err, refl, sym, ap, ◌∙◌, subst, arith}
 use Rattle.std.proofs.lemmas.Result.{err_from_is_err_and}
 use Rattle.std.specs.Bool.{◌==◌}
-use Rattle.py_flat.specs.Lines.{lines_within, joined}
 use Rattle.py_flat.specs.Calls.{Lines, ReadLines}
 use Rattle.py_lines.specs.Collecting.{lines_collected}
 use Rattle.py_stream.specs.Stream.{Stream}

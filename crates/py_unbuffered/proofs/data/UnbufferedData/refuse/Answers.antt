@@ -1,4 +1,4 @@
-use Rattle.std.proofs.Common.{Ok, Err, subst, arith, rules}
+use Rattle.std.proofs.Common.{Ok, Err, subst}
 use Rattle.py_stream.proofs.Alone.{refuses_by_life, refuses_by_ability}
 use Rattle.py_unbuffered.specs.Engine.{stream_of}
 use Rattle.py_unbuffered.proofs.Begun.{Stands, is_placed, begins}

@@ -1,4 +1,4 @@
-use Rattle.std.proofs.Common.{◌≡◌, ℤ, true, false, Ok, Err, refl, sym, ap, ◌∙◌, subst, subst₂, to_z-of_z, arith, rules}
+use Rattle.std.proofs.Common.{◌≡◌, ℤ, true, false, Ok, Err, refl, sym, ap, ◌∙◌, subst, subst₂, to_z-of_z}
 use Rattle.std.proofs.lemmas.Result.{err_from_is_err_and}
 use Rattle.py_flat.specs.Calls.{Seek}
 use Rattle.py_stream.specs.Moving.{TargetOutcome}

@@ -1,4 +1,4 @@
-use Rattle.std.proofs.Common.{subst, refl, arith, rules}
+use Rattle.std.proofs.Common.{subst, refl}
 use Rattle.std.proofs.lemmas.Result.{err_from_is_err_and}
 use Rattle.py_flat.specs.Calls.{Tell}
 use Rattle.py_unbuffered.proofs.Begun.{Stands, begins_in_vain}

@@ -1,10 +1,10 @@
-use Rattle.std.proofs.Common.{rules, ◌≡◌, ◌-◌, ℕ, nat_lt, Bool, false, List, length, take, drop, Result, Ok, Err, sym, ap, subst, ◌∙◌, arith}
+use Rattle.std.proofs.Common.{rules, ◌≡◌, ◌-◌, ℕ, nat_lt, Bool, false, List, drop, Result, Err, sym, ap, subst, ◌∙◌, arith}
 use Rattle.std.proofs.lemmas.List.{take_all, length-drop}
 use Rattle.py_flat.specs.declared.fault.IoFault.{IoFault}
 use Rattle.py_flat.specs.FlatFile.{Abilities}
 use Rattle.py_stream.specs.Taking.{TookAll, PutsOutcome}
 use Rattle.py_stream.proofs.Putting.{takes_nothing, takes_more, put_rest, rest_within}
-use Rattle.py_unbuffered.specs.Engine.{EngineView, stream_of, Waits, Puts, PutOutcome}
+use Rattle.py_unbuffered.specs.Engine.{EngineView, stream_of, PutOutcome}
 use Rattle.py_unbuffered.proofs.Begun.{Stands, is_sound, owes_behind}
 use Rattle.py_unbuffered.proofs.Putting.{puts_took, waits_full, put_refused, put_some, piece_is}
 use Rattle.py_unbuffered.proofs.data.UnbufferedData.write_line.Goals as goal
