@@ -1,5 +1,5 @@
 -- What a flat file doesn't refuse: a call that a live file accepts does work, and may blame the raw.
-use Rattle.std.proofs.Common.{◌≡◌, Bool, false, ◌||◌, IsTrue, None, ap, arith}
+use Rattle.std.proofs.Common.{◌≡◌, Bool, false, ◌||◌, IsTrue, None, ap, arith, rules}
 use Rattle.py_flat.specs.declared.life.Life.TheVariants as life
 use Rattle.py_flat.specs.Calls.{FileCall}
 use Rattle.py_flat.specs.FlatFile.{FlatFile}

@@ -1,5 +1,5 @@
 -- What a call answers doesn't hang on whether the answer before was short.
-use Rattle.std.proofs.Common.{◌≡◌, ℕ, ℤ, pos, suc, zero, Bool, true, false, IsTrue, List, arith}
+use Rattle.std.proofs.Common.{◌≡◌, ℕ, ℤ, pos, suc, zero, Bool, true, false, IsTrue, List, arith, rules}
 use Rattle.py_flat.specs.declared.fault.IoFault.TheVariants as fault
 use Rattle.py_flat.specs.Calls.{FileCall, Seek, FileReply, Done, Refused}
 use Rattle.py_flat.specs.BinaryStep.{payload}

@@ -1,6 +1,6 @@
 -- What bytes that a stream takes, and those that it passes on, are to the flat file that it stands for: of one that owes what lies
 -- right before its place.
-use Rattle.std.proofs.Common.{◌≡◌, ℕ, ◌+◌, ◌-◌, ◌<◌, ◌≤◌, List, [], ◌++◌, length, take, drop, sym, ◌∙◌, ap, subst, arith, ⊎_elim, append_assoc, length-append, length-drop}
+use Rattle.std.proofs.Common.{◌≡◌, ℕ, ◌+◌, ◌-◌, ◌<◌, ◌≤◌, List, [], ◌++◌, length, take, drop, sym, ◌∙◌, ap, subst, arith, ⊎_elim, append_assoc, length-append, length-drop, rules}
 use Rattle.std.proofs.Math.ListN.{drop_of_length-le}
 use Rattle.std.proofs.Math.Seq.{take-append-add}
 use Rattle.std.proofs.lemmas.Bool.{cases_lt}
@@ -77,13 +77,7 @@ failed_flat raw place owed own taken kept laid fits within least most owes =
       bytes = ap (λ (t : List ℕ). lay (lay raw place t) (place + kept) (drop kept (owed ++ front))) (take_front owed own taken laid fits (owes owing))
           ∙ flat_laid raw place owed front kept laid least (omega (arith, long, owes owing));
     })
-    (λ all. record {
-      count = laid - length owed;
-      least_is = omega arith;
-      fits = omega arith;
-      bytes = ap (lay (lay raw place (take laid (owed ++ own))) (place + kept)) (drop_of_length-le (owed ++ front) (omega (arith, long, length-append owed front)))
-          ∙ laid_beyond raw place owed own laid (omega arith);
-    })
+    (λ all. (grind (arith, drop_of_length-le, length-append, laid_beyond)))
     (cases_lt kept (length owed + taken))
 
 -- What was taken.

@@ -1,5 +1,5 @@
 -- A call that gives bytes to a stream: what it is, whichever of the two it is, with a buffer or without, and what makes its answer.
-use Rattle.std.proofs.Common.{◌≡◌, ℕ, ◌+◌, ◌<◌, ◌≤◌, Bool, true, false, not, ◌||◌, IsTrue, List, [], length, take, drop, Option, Some, None, Ok, is_some, refl, sym, ap, ◌∙◌, subst, lt-ltb, arith}
+use Rattle.std.proofs.Common.{◌≡◌, ℕ, ◌+◌, ◌<◌, ◌≤◌, Bool, true, false, not, ◌||◌, IsTrue, List, [], length, take, drop, Option, Some, None, Ok, is_some, refl, sym, ap, ◌∙◌, subst, lt-ltb, arith, rules}
 use Rattle.std.proofs.lemmas.List.{take_all, length-take-le, take-append-drop}
 use Rattle.py_flat.specs.declared.fault.IoFault.TheVariants as fault
 use Rattle.py_flat.specs.declared.life.Life.{Life}

@@ -86,39 +86,7 @@ end_refuses old new offset why end may asks refuses =
       told = answered.told;
       target = subst (λ (refused : Option IoFault). SeeksTo old (moved_by end offset) refused (Refused why) new) (sym refuses) (seeks_nowhere old (moved_by end offset) why new left);
     } in
-    shows_answers old call (Refused why) new (seek_moves_none offset (pos 2)) (record {
-      keeps = passing_keeps old new new.life new.short passes;
-      passes = (end_reaches old offset may).passes;
-      again = λ closes. absurd (cc);
-      shut = λ _ none closed. asks.stands.kept.stays ∙ stays_open old new.life may.live (ap is_closed (asks.life_is ∙ may.live)) closed;
-      causes = record { waits = λ waited. absurd (cc (short)); faults = λ faults. absurd (cc (at.no_fault)) };
-      counted = λ exact. record { faults = λ _. asks.counts.no_fault exact; waits = λ _ _. asks.counts.no_wait exact; once = λ waited. absurd (cc (short)) };
-      shorts = subst (IsShort call (Refused why)) (sym short) at.short;
-      life_is = subst (LifeMoves old.buffer call (Refused why) old.life) (sym asks.life_is) (at.life_is old.buffer old.life);
-      place = subst (PlaceMoves old.buffer call (Refused why) new.life old.place) (sym asks.stands.place) (at.place old.buffer new.life old.place);
-      far = asks.stands.kept.sound.far;
-      ends = at.ends old new seeks;
-      wants = λ wants. absurd (cc (at.no_want));
-      idle = λ idle. absurd (cc);
-      in_hand = λ has. absurd has.of;
-      spares = λ _. spared old new new.life asks.stands;
-      writes = λ _. passing_writes old call (Refused why) new (seek_moves_none offset (pos 2)) (record {
-        leaves = passing_front old new new.life new.short passes;
-        lays = passes.lays;
-        passes = at.passes old new;
-        full = at.full new;
-        settles = passes.at;
-        unclosed = λ _. asks.stands.kept.stays;
-        rests = λ dead. absurd (dead may.live);
-      });
-      at_once = λ failed. absurd (cc (may.live));
-      answer = at.answer old.buffer old.can.writable;
-      told = λ tell.
-          let by : refusal (file_of old) call ≡ Some why = seek_refusal_is old offset (pos 2) may ∙ ap (λ (base : ℕ). target_refusal (moved_by base offset)) (sym (answered.told (tells_its_bytes old.raw tell))) ∙ refuses in
-          subst₂ (λ (said faulted : Bool). BinaryStep (file_of old) call (Refused why) said faulted (file_of new)) (sym short) (sym at.no_fault)
-          (settled (subst (λ (refused : Option IoFault). SettledBy (file_of old) call refused (Refused why) (file_of new)) (sym by) (refl, passing_file old new passes asks.life_is tell)));
-      near = λ lives. asks.stands.kept.sound.near lives;
-    })
+    shows_answers old call (Refused why) new (seek_moves_none offset (pos 2)) (grind (arith, passing_keeps, end_reaches, stays_open, spared, passing_writes, seek_moves_none, passing_front, seek_refusal_is, tells_its_bytes, passing_file))
 
 from_end_refuses : (old new : Stream) (offset : ℤ) (why : IoFault) → MaySeek old → TargetFromEnd offset old (Err why) new → Answers old (Seek offset (pos 2)) (Refused why) new
 from_end_refuses old new offset fault.RawFault may fails =

@@ -1,5 +1,5 @@
 -- A stream that is moved to the place that it told.
-use Rattle.std.proofs.Common.{ℕ, pos, arith}
+use Rattle.std.proofs.Common.{ℕ, pos, arith, rules}
 use Rattle.py_flat.specs.Calls.{Seek, Tell, Place}
 use Rattle.py_stream.specs.Stream.{Stream}
 use Rattle.py_stream.specs.Answers.{Answers}

@@ -1,5 +1,5 @@
 -- Moving a stream, whatever is below it: where a seek goes, what refuses it, and what an answer of it comes to.
-use Rattle.std.proofs.Common.{◌≡◌, ℕ, ◌≤◌, suc, zero, ◌⊎◌, inl, inr, ℤ, pos, Bool, true, false, ◌||◌, IsTrue, length, Option, Some, None, Result, Ok, Err, nat_lt, refl, sym, subst, arith}
+use Rattle.std.proofs.Common.{◌≡◌, ℕ, ◌≤◌, suc, zero, ◌⊎◌, inl, inr, ℤ, pos, Bool, true, false, ◌||◌, IsTrue, length, Option, Some, None, Result, Ok, Err, nat_lt, refl, sym, subst, arith, rules}
 use Rattle.py_flat.specs.declared.fault.IoFault.{IoFault}
 use Rattle.py_flat.specs.declared.fault.IoFault.TheVariants as fault
 use Rattle.py_flat.specs.declared.life.Life.{Life}
