@@ -1,7 +1,7 @@
 -- How a reading that goes on comes from one transfer to the next.
-use Rattle.std.proofs.Common.{◌≡◌, ◌≢◌, ℕ, ◌+◌, ◌-◌, ◌<◌, ◌≤◌, max, replicate, inl, inr, Bool, true, false, if◌then◌else◌, nat_lt, IsTrue, List, [], ◌∷◌, ◌++◌, length, take, drop, Result, Ok, Err, refl, sym, ap, ◌∙◌, subst, arith}
+use Rattle.std.proofs.Common.{◌≡◌, ◌≢◌, ℕ, ◌+◌, ◌-◌, ◌<◌, ◌≤◌, max, replicate, inl, inr, Bool, true, false, if◌then◌else◌, nat_lt, IsTrue, List, [], ◌∷◌, ◌++◌, length, take, drop, Option, Some, None, unwrap_or, Ok, Err, refl, sym, ap, ◌∙◌, subst, arith}
 use Rattle.std.proofs.lemmas.Bool.{true≢false, lt-ltb}
-use Rattle.std.proofs.lemmas.List.{length-append, length-take, length-take-le, length-drop, length-replicate, take_all, take_at}
+use Rattle.std.proofs.lemmas.List.{append-nil, length-append, length-take, length-take-le, length-drop, length-replicate, take_all, take_at}
 use Rattle.py_flat.specs.declared.fault.IoFault.{IoFault}
 use Rattle.py_flat.specs.declared.fault.IoFault.TheVariants as fault
 use Rattle.py_flat.specs.declared.life.Life.TheVariants as life
@@ -9,11 +9,10 @@ use Rattle.py_flat.specs.Bytes.{left_at}
 use Rattle.py_lines.proofs.Asking.{some_length}
 use Rattle.py_raw.specs.RawStream.{LeavesCounts, AnswersFor, WhereTold, WherePlace, WhereTransfers, KeepsBytes, tells}
 use Rattle.py_raw.proofs.Telling.{tells_its_bytes, tells_still}
-use Rattle.py_stream.specs.declared.stop.Stop.{Stop}
 use Rattle.py_stream.specs.declared.stop.Stop.TheVariants as stop
 use Rattle.py_stream.specs.Reading.{KeepsReading, ComesNext, FailsReading, FailsMoved, StarvesReading, StopOutcome, RestOutcome}
 use Rattle.py_stream.proofs.ReadingSteps.{next_behind, next_reaches, keeps_then as keeps_then_reading}
-use Rattle.py_unbuffered.specs.Engine.{EngineView, stream_of, IsEngine, KeepsEngine, Waits, Fails, StarvesWith, Brings, TransferOutcome}
+use Rattle.py_unbuffered.specs.Engine.{EngineView, stream_of, IsEngine, KeepsEngine, Waits, Fails, StarvesWith, Brings, TransferOutcome, FillsWith, FillOutcome}
 use Rattle.py_unbuffered.proofs.Begun.{bufferless}
 use Rattle.py_unbuffered.proofs.Steps.{keeps_self, keeps_then, keeps_failed, keeps_reading, no_fault_then, no_wait_then, uncounted, uncounted_then, answers_none, answers_none_then}
 
@@ -118,19 +117,13 @@ some_came : (part : List ℕ) (held : ℕ) → held ≡ length part → (nat_lt 
 some_came [] held long = (λ some. absurd (true≢false (sym some ∙ ap (nat_lt 0) long)), λ none. refl)
 some_came (byte ∷ part) held long = grind (arith, lt-ltb)
 
--- a vector could not be lengthened
-pub rest_starved : (old now : EngineView) (part : List ℕ) (held : ℕ) (why : IoFault) (bytes : List ℕ) (new : EngineView) → held ≡ length part → Took old part now → why ≡ fault.NoMemory → StarvesWith (nat_lt 0 held) now new → RestOutcome (stream_of old) (Err why) bytes (stream_of new)
-rest_starved old now part held why bytes new long took says starves = grind (arith, nat_lt, some_came, starves_after)
-
--- a transfer was refused
-pub rest_refused : (old now : EngineView) (part : List ℕ) (held : ℕ) (before : List ℕ) (why : IoFault) (after bytes : List ℕ) (new : EngineView) → held ≡ length part → Took old part now → TransferOutcome now (nat_lt 0 held) before (Err why) after new → RestOutcome (stream_of old) (Err why) bytes (stream_of new)
-rest_refused old now part held before fault.RawFault after bytes new long took outcome = fails_after old now part took new outcome
-rest_refused old now part held before fault.NoMemory after bytes new long took outcome = rest_starved old now part held fault.NoMemory bytes new long took refl outcome.1
-rest_refused old now part held before why after bytes new long took outcome = absurd outcome
-
--- a refusal says nothing of the vector
-pub rest_err : (old : EngineView) (result : Result Stop IoFault) (why : IoFault) (bytes : List ℕ) (new : EngineView) → result ≡ Err why → ((any : List ℕ) → RestOutcome (stream_of old) (Err why) any (stream_of new)) → RestOutcome (stream_of old) result bytes (stream_of new)
-rest_err old result why bytes new says outcome = subst (λ (r : Result Stop IoFault). RestOutcome (stream_of old) r bytes (stream_of new)) (sym says) (outcome bytes)
+-- a transfer behind a vector was refused, or its space was
+pub rest_refused : (old now : EngineView) (part : List ℕ) (why : IoFault) (any bytes : List ℕ) (new : EngineView) → Took old part now → FillOutcome now part (Err why) any new → RestOutcome (stream_of old) (Err why) bytes (stream_of new)
+rest_refused old now part fault.RawFault any bytes new took outcome = fails_after old now part took new outcome
+rest_refused old now part fault.NoMemory any bytes new took outcome =
+    let came = some_came part (length part) refl in
+    starves_after old now part took (nat_lt 0 (length part)) new came.0 came.1 outcome
+rest_refused old now part why any bytes new took outcome = absurd outcome
 
 -- a vector that was lengthened: what it had stands in front
 pub record Widened (before : List ℕ) (held more : ℕ) (resized : List ℕ) : Type 0 where
@@ -149,14 +142,35 @@ room_left held more resized whole = length-take-le (length resized - held) (drop
 pub room_for_some : (held came more : ℕ) (resized : List ℕ) → length resized ≡ held + more → more ≡ max came 8192 → take (length resized - held) (drop held resized) ≢ []
 room_for_some held came more resized whole chunk none = absurd (omega (arith, room_left held more resized whole, ap length none))
 
--- nothing came any more, and the vector was cut to what it had
-pub rest_ends : (old now : EngineView) (part before : List ℕ) (count : ℕ) (after bytes : List ℕ) (new : EngineView) → Took old part now → bytes ≡ part → count ≡ 0 → Brings now before count after new → before ≢ [] → RestOutcome (stream_of old) (Ok stop.End) bytes (stream_of new)
-rest_ends old now part before count after bytes new took is none brings asked = grind (arith, stops_at_end)
+-- nothing came any more
+pub rest_ends : (old now : EngineView) (part : List ℕ) (count : ℕ) (bytes : List ℕ) (new : EngineView) → Took old part now → count ≡ 0 → FillsWith now part count bytes new → RestOutcome (stream_of old) (Ok stop.End) bytes (stream_of new)
+rest_ends old now part count bytes new took none fills =
+    let last : Brings now fills.before 0 fills.after new = subst (λ (n : ℕ). Brings now fills.before n fills.after new) none fills.brings in
+    let is : bytes ≡ part = fills.holds ∙ ap (λ (n : ℕ). part ++ take n fills.after) none ∙ append-nil part in
+    subst (λ (xs : List ℕ). RestOutcome (stream_of old) (Ok stop.End) xs (stream_of new)) (sym is) (stops_at_end old now part took fills.before fills.after new last fills.asked)
 
--- the raw would have blocked, and the vector was cut to what it had
-pub rest_waits : (old now : EngineView) (part bytes : List ℕ) (new : EngineView) → Took old part now → bytes ≡ part → Waits now new → RestOutcome (stream_of old) (Ok stop.Waits) bytes (stream_of new)
-rest_waits old now part bytes new took is waits = subst (λ (xs : List ℕ). RestOutcome (stream_of old) (Ok stop.Waits) xs (stream_of new)) (sym is) (stops_waiting old now part took new waits)
+-- the raw would have blocked
+pub rest_waits : (old now : EngineView) (part bytes : List ℕ) (new : EngineView) → Took old part now → FillOutcome now part (Ok None) bytes new → RestOutcome (stream_of old) (Ok stop.Waits) bytes (stream_of new)
+rest_waits old now part bytes new took waits = subst (λ (xs : List ℕ). RestOutcome (stream_of old) (Ok stop.Waits) xs (stream_of new)) (sym waits.1) (stops_waiting old now part took new waits.0)
 
 -- some more came
-pub rest_goes_on : (old now : EngineView) (part before : List ℕ) (count : ℕ) (after bytes : List ℕ) (new : EngineView) → Took old part now → bytes ≡ part ++ take count after → 0 < count → Brings now before count after new → Took old bytes new
-rest_goes_on old now part before count after bytes new took is some brings = subst (λ (xs : List ℕ). Took old xs new) (sym is) (took_on old now part took before count after new brings some)
+pub rest_goes_on : (old now : EngineView) (part : List ℕ) (count : ℕ) (bytes : List ℕ) (new : EngineView) → Took old part now → 0 < count → FillsWith now part count bytes new → Took old bytes new
+rest_goes_on old now part count bytes new took some fills = subst (λ (xs : List ℕ). Took old xs new) (sym fills.holds) (took_on old now part took fills.before count fills.after new fills.brings some)
+
+-- How a vector is filled.
+
+-- no more came than there was room for
+pub came_fits : (old : EngineView) (moved : Bool) (before after : List ℕ) (came : Option ℕ) (count : ℕ) (new : EngineView) → count ≡ unwrap_or came 0 → TransferOutcome old moved before (Ok came) after new → count ≤ length after
+came_fits old moved before after (Some some) count new is brings = omega (arith, is, brings.fits)
+came_fits old moved before after None count new is waits = omega (arith, is)
+
+-- a vector was cut to what came
+pub fills : (old : EngineView) (moved : Bool) (held before after bytes : List ℕ) (came : Option ℕ) (count : ℕ) (new : EngineView) → before ≢ [] → count ≡ unwrap_or came 0 → TransferOutcome old moved before (Ok came) after new → bytes ≡ held ++ take count after → FillOutcome old held (Ok came) bytes new
+fills old moved held before after bytes (Some some) count new asked is brings holds = record { before = before; after = after; asked = asked; brings = brings; holds = holds ∙ ap (λ (n : ℕ). held ++ take n after) is }
+fills old moved held before after bytes None count new asked is waits holds = (waits, holds ∙ ap (λ (n : ℕ). held ++ take n after) is ∙ append-nil held)
+
+-- the transfer of a filling was refused
+pub fill_refused : (old : EngineView) (held before after bytes : List ℕ) (was : ℕ) (why : IoFault) (new : EngineView) → was ≡ length held → TransferOutcome old (nat_lt 0 was) before (Err why) after new → FillOutcome old held (Err why) bytes new
+fill_refused old held before after bytes was fault.RawFault new long fails = fails
+fill_refused old held before after bytes was fault.NoMemory new long wants = subst (λ (n : ℕ). StarvesWith (nat_lt 0 n) old new) long wants.1
+fill_refused old held before after bytes was why new long never = absurd never

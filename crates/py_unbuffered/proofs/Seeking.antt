@@ -42,3 +42,9 @@ begun_cannot old started begins cannot = sym (ap (λ (engine : EngineView). cann
 -- a seek that goes on
 pub may_seek : (old started : EngineView) → Stands old → BeginOutcome old (Ok tt) started → cannot_seek started.access started.raw.seekable ≡ false → MaySeek (begun_stream (stream_of old))
 may_seek old started stands begins can = grind (arith, lets_seek, is_sound, begun)
+
+-- a seek goes on where the raw can be moved, and the stream doesn't append, as it was asked after the call had begun
+pub seeks_on : (old started seen : EngineView) (seekable appends : Bool) → Stands old → BeginOutcome old (Ok tt) started → seen ≡ started → seekable ≡ seen.raw.seekable → seekable ≡ true → appends ≡ is_appended seen.access → appends ≡ false → MaySeek (begun_stream (stream_of old))
+seeks_on old started seen seekable appends stands begins is asked can opened moves =
+    may_seek old started stands begins (can_seek started.access started.raw.seekable
+    (ap (λ (engine : EngineView). engine.raw.seekable) (sym is) ∙ sym asked ∙ can) (ap (λ (engine : EngineView). is_appended engine.access) (sym is) ∙ sym opened ∙ moves))

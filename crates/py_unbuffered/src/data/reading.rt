@@ -6,7 +6,7 @@ ghost use Rattle.py_stream.specs.Answers.{Answers};
 ghost use Rattle.py_stream.specs.Reading.{RestOutcome};
 ghost use Rattle.py_stream.specs.Replies.{bytes_reply, into_reply, CountFits, KeepsBuffer};
 ghost use Rattle.py_stream.specs.declared.access.Access.TheVariants as access;
-ghost use Rattle.py_unbuffered.specs.Engine.{stream_of};
+ghost use Rattle.py_unbuffered.specs.Engine.{stream_of, FillOutcome};
 
 use super::UnbufferedData;
 use py_raw::{IoFault, RawStream};
@@ -95,7 +95,7 @@ impl<R: RawStream> UnbufferedData<R> {
         }
     }
 
-    /// Reads all that is left into a vector that has nothing yet. Its space is taken before each transfer.
+    /// Reads all that is left into a vector that has nothing yet.
     fn read_all(&mut self, bytes: &mut Vec<u8>) -> Result<Stop, IoFault>
         requires live { self.old.life ≡ Live }
         requires reads { self.old.access ≡ access.Read }
@@ -104,21 +104,26 @@ impl<R: RawStream> UnbufferedData<R> {
     {
         let _ = &self.raw;
         loop {
-            let held = bytes.len();
-            if bytes.resize(held + next_chunk(held), 0).is_err() {
-                return Err(self.starve(held > 0));
-            }
-            match self.transfer(&mut bytes[held..], held > 0)? {
-                Some(0) => {
-                    bytes.truncate(held);
-                    return Ok(Stop::End);
-                }
-                Some(count) => bytes.truncate(held + count),
-                None => {
-                    bytes.truncate(held);
-                    return Ok(Stop::Waits);
-                }
+            match self.fill(bytes)? {
+                Some(0) => return Ok(Stop::End),
+                Some(_) => {}
+                None => return Ok(Stop::Waits),
             }
         }
+    }
+
+    /// One transfer behind the bytes of a vector. Its space is taken first, and the vector cut to what came.
+    fn fill(&mut self, bytes: &mut Vec<u8>) -> Result<Option<usize>, IoFault>
+        requires live { self.old.life ≡ Live }
+        requires reads { self.old.access ≡ access.Read }
+        ensures { FillOutcome self.old bytes.old.items result bytes.new.items self.new }
+    {
+        let held = bytes.len();
+        if bytes.resize(held + next_chunk(held), 0).is_err() {
+            return Err(self.starve(held > 0));
+        }
+        let came = self.transfer(&mut bytes[held..], held > 0)?;
+        bytes.truncate(held + came.unwrap_or(0));
+        Ok(came)
     }
 }

@@ -4,9 +4,9 @@ use Rattle.py_unbuffered.proofs.ReadingSteps.{Took}
 use Rattle.py_unbuffered.proofs.data.UnbufferedData.read_all.Given as goal
 
 -- all that has come stands in the vector
-abbrev pub invariant-loop-self : goal.invariant-loop-self
-invariant-loop-self g l = Took l.fn.self l.bytes.items l.self
+abbrev pub invariant-loop : goal.invariant-loop
+invariant-loop g l = Took l.fn.self l.bytes.items l.self
 
 -- each transfer ends nearer to the greatest place
-abbrev pub decreases-loop-self : goal.decreases-loop-self
-decreases-loop-self g l = greatest_place - l.self.place
+abbrev pub decreases-loop : goal.decreases-loop
+decreases-loop g l = greatest_place - l.self.place
