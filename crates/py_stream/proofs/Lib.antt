@@ -10,7 +10,6 @@ pub mod Stopping
 pub mod Completing
 pub mod Closing
 pub mod Begun
-pub mod Returning
 pub mod Joined
 pub mod Flushing
 pub mod Seeking
@@ -22,7 +21,6 @@ pub mod PassingOn
 pub mod Shutting
 pub mod Going
 pub mod Handing
-pub mod Smooth
 pub mod Buffering
 pub mod ReadingCalls
 pub mod ReadingSteps
