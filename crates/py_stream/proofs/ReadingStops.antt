@@ -239,45 +239,11 @@ answers_wanting before after call reads has begun wants =
     let is : IsReadingCall call = reading_call call reads in
     let same : after.life ≡ before.life = wants.live ∙ sym begun.live in
     let stays : IsTrue (reads_on call) → record after { short = false } ≡ record before { short = false } = λ on. ap (λ (stream : Stream). let cut : Stream = record stream { short = false } in cut) (wants.unmoved on) in
-    unshortened before after call (Refused fault.NoMemory) begun wants.kept (answers_coming before after call (Refused fault.NoMemory) false reads has begun (record {
-      kept = wants.kept;
-      is_open = ap is_closed wants.live;
-      causes = record { waits = λ short. absurd (cc); faults = λ faulted. absurd (cc) };
-      counted = λ exactly. record { faults = λ sound. wants.counts.no_fault exactly; waits = λ whole writes. wants.counts.no_wait exactly; once = λ short. absurd (cc) };
-      shorts = is.want_short;
-      life_is = is.want_lives before.buffer before.life after.life (starving_stays (goes_on before.buffer call) before.life after.life same);
-      place = is.want_moves before.buffer after.life before.place after.place (starves_where (moves_most call) after.life before.place after.place (λ living. wants.place) (forth_by (moves_most call) before.place after.place (omega (arith, wants.place)) (λ bound most. omega (arith, wants.place))));
-      within = refused_within (size_of before) call fault.NoMemory;
-      wants = λ wanting room. wants.room room;
-      starves = λ wanting on. record {
-        unmoved = λ living none. stays on;
-        moved = λ failed. absurd (let both : life.Failed ≡ life.Live = sym failed ∙ wants.live in cc);
-        stands = λ failed. absurd (let both : life.Failed ≡ life.Live = sym failed ∙ wants.live in cc);
-      };
-      first = λ wanting takes none. stays (space_first call takes);
-      sound = λ _. refl;
-      nothing = wants.asks.nothing;
-      one = wants.asks.one;
-      ready = λ _ _. refl;
-      in_hand = wants.asks.in_hand;
-      needs = λ several. asks_ungiven before after call (Refused fault.NoMemory) false (is.refused_whole fault.NoMemory) (wants.asks.each several);
-      answers = is.want_answers before.buffer before.can.writable;
-      told = λ tells. out_of_memory refl (work_reaches (file_of before) call (works before call reads has begun.live), starved_by_none (file_of before) call (file_of after) reads (file_same before after begun.bare wants.kept same wants.place tells));
-      reach = λ tells. omega (arith, wants.place);
-      hides = λ short. absurd (cc);
-    }))
+    unshortened before after call (Refused fault.NoMemory) begun wants.kept (answers_coming before after call (Refused fault.NoMemory) false reads has begun (grind (arith, starving_stays, starves_where, forth_by, refused_within, space_first, asks_ungiven, work_reaches, works, starved_by_none, file_same)))
 
 -- a reading that wanted memory before anything moved: all is as it was
 pub unmoved : (before : Stream) (call : FileCall) → is_reading call ≡ true → lacks (file_of before) call ≡ false → Reads before → (IsTrue (has_room call) → IsTrue before.raw.takes_memory) → Answers before call (Refused fault.NoMemory) before
-unmoved before call reads has begun room = answers_wanting before before call reads has begun (record {
-  kept = keeps_self before begun.bare begun.placed;
-  counts = uncounted before.raw before.raw refl;
-  live = begun.live;
-  place = refl;
-  room = room;
-  unmoved = λ on. refl;
-  asks = record { nothing = λ asks. refl; one = λ once tells. omega arith; in_hand = λ buffered has. refl; each = λ several tells. omega arith };
-})
+unmoved before call reads has begun room = answers_wanting before before call reads has begun (grind (arith, keeps_self, uncounted))
 
 starving_fails : (may : Bool) (before after : Life) → may ≡ true → after ≡ life.Failed → StarvesTo may before after
 starving_fails true before after is failed = inr failed
