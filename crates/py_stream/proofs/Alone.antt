@@ -1,5 +1,5 @@
 -- What a stream refuses without a look at the argument, whatever is below it: by its life, or since it lacks what the call needs.
-use Rattle.std.proofs.Common.{◌≡◌, ◌≢◌, ◌⊎◌, inl, inr, Bool, true, false, ◌&&◌, Some, Result, Ok, Err, refl, sym, ap, ◌∙◌, arith, rules}
+use Rattle.std.proofs.Common.{◌≡◌, ◌≢◌, ◌⊎◌, inl, inr, Bool, true, false, ◌&&◌, Some, Result, Ok, Err, refl, sym, ap, ◌∙◌, arith}
 use Rattle.py_flat.specs.declared.fault.IoFault.{IoFault}
 use Rattle.py_flat.specs.declared.fault.IoFault.TheVariants as fault
 use Rattle.py_flat.specs.declared.life.Life.{Life}
@@ -24,12 +24,9 @@ stopped life.Failed buffering call dead close detach = detach
 stopped life.Closed buffering call dead close detach = close
 stopped life.Detached buffering call dead close detach = refl
 
-faults_dead : (current : Life) (why : IoFault) → life_fault current ≡ Some why → current ≢ life.Live
-faults_dead current why fails live = let never : life_fault life.Live ≡ Some why = sym (ap life_fault live) ∙ fails in absurd (cc)
-
 -- a life that refuses calls lets none through but a `close` and a `detach`
 pub shut_by_life : (current : Life) (buffering : Buffering) (call : FileCall) (why : IoFault) → is_close call ≡ false → detaches buffering call ≡ false → life_fault current ≡ Some why → lets_through current buffering call ≡ false
-shut_by_life current buffering call why close detach fails = stopped current buffering call (faults_dead current why fails) close detach
+shut_by_life current buffering call why close detach fails = grind arith
 
 -- By what the stream lacks.
 

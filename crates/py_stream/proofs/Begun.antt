@@ -1,5 +1,5 @@
 -- What a call answers doesn't hang on whether the answer before was short.
-use Rattle.std.proofs.Common.{◌≡◌, ℕ, ℤ, pos, suc, zero, Bool, true, false, IsTrue, List, arith, rules}
+use Rattle.std.proofs.Common.{◌≡◌, ℕ, ℤ, pos, suc, zero, Bool, true, false, IsTrue, List, arith}
 use Rattle.py_flat.specs.declared.fault.IoFault.TheVariants as fault
 use Rattle.py_flat.specs.Calls.{FileCall, Seek, FileReply, Done, Refused}
 use Rattle.py_flat.specs.BinaryStep.{payload}
@@ -46,11 +46,8 @@ module _ (short : Bool) where
   front_passed : (before after : Stream) → PassesFront (seen short before) after → PassesFront before after
   front_passed before after is = record { passed = is.passed; most = is.most; answered = is.answered; bytes = is.bytes; place = is.place }
 
-  lays_whole : (before : Stream) (call : FileCall) (bytes : List ℕ) → LaysInOrder (seen short before) call bytes → LaysInOrder before call bytes
-  lays_whole before call bytes is = grind arith
-
   laid : (before : Stream) (call : FileCall) (bytes : List ℕ) → WhereTold before.raw (LaysInOrder (seen short before) call bytes) → WhereTold before.raw (LaysInOrder before call bytes)
-  laid before call bytes is tells = lays_whole before call bytes (is tells)
+  laid before call bytes is tells = grind arith
 
   passed : (before after : Stream) (call : FileCall) (reply : FileReply) → PassesOn (seen short before) call reply after → PassesOn before call reply after
   passed before after call reply is = grind arith

@@ -1,5 +1,5 @@
 -- A raw that is closed with its stream.
-use Rattle.std.proofs.Common.{◌≡◌, false, arith, rules}
+use Rattle.std.proofs.Common.{◌≡◌, false, arith}
 use Rattle.py_flat.specs.Calls.{FileCall, FileReply}
 use Rattle.py_stream.specs.Stream.{Stream}
 use Rattle.py_stream.specs.Answers.{parts_at_close}

@@ -1,5 +1,5 @@
 -- Answers that are complete where nothing went wrong.
-use Rattle.std.proofs.Common.{◌≡◌, ℕ, Option, Bool, false, arith, rules}
+use Rattle.std.proofs.Common.{◌≡◌, ℕ, Option, Bool, false, arith}
 use Rattle.py_flat.specs.Causes.{rose}
 use Rattle.py_flat.specs.Calls.{FileCall, FileReply}
 use Rattle.py_raw.specs.RawStream.{Raw}

@@ -1,5 +1,5 @@
 -- A call that gives bytes to a stream: what it is, whichever of the two it is, with a buffer or without, and what makes its answer.
-use Rattle.std.proofs.Common.{◌≡◌, ℕ, ◌+◌, ◌<◌, ◌≤◌, Bool, true, false, not, ◌||◌, IsTrue, List, [], length, take, drop, Option, Some, None, Ok, is_some, refl, sym, ap, ◌∙◌, subst, lt-ltb, arith, rules}
+use Rattle.std.proofs.Common.{◌≡◌, ℕ, ◌+◌, ◌<◌, ◌≤◌, Bool, true, false, not, ◌||◌, IsTrue, List, [], length, take, drop, Option, Some, None, Ok, is_some, refl, sym, ap, ◌∙◌, subst, lt-ltb, arith}
 use Rattle.std.proofs.lemmas.List.{take_all, length-take-le, take-append-drop}
 use Rattle.py_flat.specs.declared.fault.IoFault.TheVariants as fault
 use Rattle.py_flat.specs.declared.life.Life.{Life}
@@ -20,7 +20,6 @@ use Rattle.py_stream.specs.Answers.{Answers, HasCauses, IsCounted, InHandOf, IsS
 use Rattle.py_stream.specs.Keeping.{IsSound, KeepsOn, OwesBehind}
 use Rattle.py_stream.specs.Taking.{Calm, WaitsAsOne}
 use Rattle.py_stream.proofs.Completing.{completes}
-use Rattle.py_stream.proofs.Accepting.{works_unrefused}
 use Rattle.py_stream.proofs.Alone.{Begins}
 use Rattle.py_stream.proofs.Stopping.{GivesNone, gives_none}
 use Rattle.py_stream.proofs.Fronts.{LaidInOrder, lays_front}
@@ -37,8 +36,8 @@ of_both Fact one many call writing = absurd (cc)
 
 -- what holds of each call that gives bytes, with a buffer and without, holds of all
 pub of_all : (Fact : Option ℕ → FileCall → Type 0) → ((size : ℕ) (bytes : List ℕ) → Fact (Some size) (Write bytes)) → ((bytes : List ℕ) → Fact None (Write bytes)) → ((size : ℕ) (lines : List (List ℕ)) → Fact (Some size) (WriteLines lines)) → ((lines : List (List ℕ)) → Fact None (WriteLines lines)) → (buffer : Option ℕ) (call : FileCall) → is_writing call ≡ true → Fact buffer call
-of_all Fact one bare many lone (Some size) call writing = of_both (Fact (Some size)) (one size) (many size) call writing
-of_all Fact one bare many lone None call writing = of_both (Fact None) bare lone call writing
+of_all Fact one bare many lone (Some size) call writing = grind arith
+of_all Fact one bare many lone None call writing = grind arith
 
 -- What a call that gives bytes is.
 
@@ -104,7 +103,7 @@ accepted old call may = grind arith
 
 -- the raw may be called
 pub works : (old : Stream) (call : FileCall) → MayWrite old call → IsTrue (does_work (file_of old) call)
-works old call may = works_unrefused (file_of old) call may.live (accepted old call may) (is_giving call may.writing).tells
+works old call may = grind arith
 
 -- what a call that gives bytes left, but for whether a wait cut it short
 pub record Comes (old : Stream) (call : FileCall) (reply : FileReply) (short : Bool) (new : Stream) : Type 0 where
@@ -170,16 +169,16 @@ answers_coming old new call reply short may comes =
 -- no wait ends a call but where it is counted
 pub calm_counts : (buffer : Option ℕ) (call : FileCall) (old new : Raw) → is_writing call ≡ true → Calm buffer old new → outlasts buffer call ≡ false → NoWait old new
 calm_counts None call old new writing calm ends = calm
-calm_counts (Some size) call old new writing calm ends = absurd (let lasts = (is_giving call writing).lasts in cc)
+calm_counts (Some size) call old new writing calm ends = grind arith
 
 -- one wait is counted of a call that each wait ends
 pub one_counts : (buffer : Option ℕ) (call : FileCall) (old new : Raw) → is_writing call ≡ true → WaitsAsOne buffer old new → outlasts buffer call ≡ false → WaitsOnce old new
 one_counts None call old new writing once ends = once
-one_counts (Some size) call old new writing once ends = absurd (let lasts = (is_giving call writing).lasts in cc)
+one_counts (Some size) call old new writing once ends = grind arith
 
 -- a call that gives bytes isn't a `tell`
 pub no_tell : (call : FileCall) → is_writing call ≡ true → is_tell call ≡ false
-no_tell call writing = of_both (λ (call : FileCall). is_tell call ≡ false) (λ bytes. refl) (λ lines. refl) call writing
+no_tell call writing = grind arith
 
 -- What a call that gives bytes answers, by what came of it.
 

@@ -1,5 +1,5 @@
 -- The answers of `seek`, as its steps come: where it goes, what is passed on before, and the moving.
-use Rattle.std.proofs.Common.{◌≡◌, ℕ, ◌+◌, suc, zero, ℤ, pos, max, nat_eq, Bool, true, false, List, [], ◌∷◌, length, Option, Some, None, IsSome, Result, Ok, Err, ne_eqb, if◌then◌else◌, refl, sym, ap, ◌∙◌, subst, subst₂, arith, zero-le, rules}
+use Rattle.std.proofs.Common.{◌≡◌, ℕ, ◌+◌, suc, zero, ℤ, pos, max, nat_eq, Bool, true, false, List, [], ◌∷◌, length, Option, Some, None, IsSome, Result, Ok, Err, ne_eqb, if◌then◌else◌, refl, sym, ap, ◌∙◌, subst, arith, zero-le, rules}
 use Rattle.std.proofs.lemmas.List.{append-nil}
 use Rattle.py_flat.specs.declared.fault.IoFault.{IoFault}
 use Rattle.py_flat.specs.declared.fault.IoFault.TheVariants as fault
@@ -8,7 +8,7 @@ use Rattle.py_flat.specs.declared.life.Life.TheVariants as life
 use Rattle.py_flat.specs.Bytes.{lay}
 use Rattle.py_flat.specs.Owed.{Owed}
 use Rattle.py_flat.specs.Calls.{FileCall, Seek, Place, Refused}
-use Rattle.py_flat.specs.FlatFile.{FlatFile, Abilities}
+use Rattle.py_flat.specs.FlatFile.{FlatFile}
 use Rattle.py_flat.specs.Refusals.{moved_by, refusal, target_refusal}
 use Rattle.py_flat.specs.ExactStep.{is_closed, seek_target}
 use Rattle.py_flat.specs.AllowedStep.{settled}
@@ -19,7 +19,7 @@ use Rattle.py_raw.proofs.Telling.{tells_its_bytes}
 use Rattle.py_raw.proofs.ReadingOn.{no_fault_then, no_wait_then}
 use Rattle.py_stream.specs.Stream.{Span, Stream, file_of, nothing_owed}
 use Rattle.py_stream.specs.Writing.{LaysFront}
-use Rattle.py_stream.specs.Answers.{Answers, Leaves, SeekGoes, SeeksTo, SeeksFromEnd, IsShort, LifeMoves, PlaceMoves, Covers, InHandOf, InHand, SparesBytes}
+use Rattle.py_stream.specs.Answers.{Answers, Leaves, SeeksTo, SeeksFromEnd, InHandOf, InHand, SparesBytes}
 use Rattle.py_stream.specs.Keeping.{KeepsOn, OwesBehind}
 use Rattle.py_stream.specs.Taking.{Took, PassAllOutcome}
 use Rattle.py_stream.specs.Moving.{StandsAsBefore, AsksEnd, TargetFromEnd, TargetOutcome, IsHeld, GoesTo, GoOutcome}
@@ -112,16 +112,6 @@ seek_finds_nothing old started new offset whence why may begins found =
 
 -- A seek whose target is found.
 
--- a target that the bytes held cover, by the place that it was found to be
-covered_at : (held : Span) (target_is : Option ℕ) (target : ℕ) → target_is ≡ Some target → Covers held target_is → IsHeld held target
-covered_at held (Some place) target is has = let same : place ≡ target = cc in (omega (arith, has.0, same), omega (arith, has.1, same))
-covered_at held None target is has = absurd has
-
-covers_target : (old : Stream) (offset whence : ℤ) (target : ℕ) → SeekGoes old.place offset whence target → InHandOf old (Seek offset whence) → (old.can.readable ≡ true) × IsHeld old.held target
-covers_target old offset (pos zero) target to has = (has.0, covered_at old.held (moved_by 0 offset) target to has.1)
-covers_target old offset (pos (suc zero)) target to has = (has.0, covered_at old.held (moved_by old.place offset) target to has.1)
-covers_target old offset whence target to has = absurd has
-
 -- what was found out before the stream is moved, and where it goes
 pub record Finds (old : Stream) (offset whence : ℤ) (target : ℕ) (found : Stream) : Type 0 where
   pub out : FoundOut old found
@@ -141,10 +131,10 @@ seek_finds old started found offset whence target may begins outcome = grind (ar
 -- a seek that the bytes held answer by themselves goes to a place that they cover
 module _ (old found : Stream) (offset whence : ℤ) (target : ℕ) (finds : Finds old offset whence target found) (has : InHand old (Seek offset whence)) where
   covers : (old.can.readable ≡ true) × IsHeld old.held target
-  covers = covers_target old offset whence target finds.to.to has.of
+  covers = grind arith
 
   reads_still : found.can.readable ≡ true
-  reads_still = ap (λ (can : Abilities). can.readable) finds.out.stands.kept.can ∙ covers.0
+  reads_still = grind arith
 
   buffered_still : IsSome found.buffer
   buffered_still = subst (λ (buffer : Option ℕ). IsSome buffer) (sym finds.out.stands.kept.buffer) has.buffered
@@ -242,17 +232,13 @@ pub record SeeksWriting (old : Stream) : Type 0 where
   pub writes : old.can.writable ≡ true
   pub reads : old.can.readable ≡ false
 
--- a stream that doesn't read has no place in hand
-seeks_apart : (old : Stream) (offset whence : ℤ) → old.can.readable ≡ false → InHandOf old (Seek offset whence) → ⊥
-seeks_apart old offset whence reads never = grind arith
-
 -- what a seek of a stream that writes asks of the raw may work
 accepts_seek : (old : Stream) (offset whence : ℤ) (target : ℕ) → SeeksWriting old → Goes old offset whence target → Accepts old (Seek offset whence)
 accepts_seek old offset whence target seeks to = record { asked = reaching old offset whence seeks.may to.asks; works = λ tells. to.works (tells_its_bytes old.raw tells) }
 
 -- no seek of a stream that writes is answered by the bytes held
 not_held : (old : Stream) (offset whence : ℤ) → SeeksWriting old → InHand old (Seek offset whence) → ⊥
-not_held old offset whence seeks has = seeks_apart old offset whence seeks.reads has.of
+not_held old offset whence seeks has = grind arith
 
 -- the looking took nothing, and passed nothing on
 found_took : (old found : Stream) → SeeksWriting old → FoundOut old found → Took old [] found

@@ -1,5 +1,5 @@
 -- What is owed after a write, wherever it was made.
-use Rattle.std.proofs.Common.{◌≡◌, ◌≢◌, ℕ, zero, suc, ◌+◌, ◌-◌, ◌<◌, ◌≤◌, ◌⊎◌, inl, inr, ⊎_elim, max, List, [], ◌∷◌, ◌++◌, length, take, drop, refl, sym, ap, ◌∙◌, subst, arith, length-append, length-drop, length-take, rules}
+use Rattle.std.proofs.Common.{◌≡◌, ◌≢◌, ℕ, zero, suc, ◌+◌, ◌-◌, ◌<◌, ◌≤◌, ◌⊎◌, inl, inr, ⊎_elim, max, List, [], ◌∷◌, ◌++◌, length, take, drop, refl, sym, ap, ◌∙◌, subst, arith, length-append, length-drop, length-take}
 use Rattle.std.proofs.Math.Seq.{take-nil, drop-nil, drop-append-add}
 use Rattle.std.proofs.lemmas.Bool.{cases_lt}
 use Rattle.std.proofs.lemmas.List.{append-nil, take_all, take_min, drop_all, drop-append-le, take_at, length-take-le}
@@ -10,7 +10,7 @@ use Rattle.py_stream.specs.Writing.{OwesUpTo, HasAt, first_of_both, end_of_both,
 -- Parts of a list.
 
 has_none : (whole : List ℕ) (begins place : ℕ) → HasAt whole begins [] place
-has_none whole begins place = let none : 0 - (begins - place) ≡ 0 = omega arith in rw none (sym (drop-nil (begins - place)))
+has_none whole begins place = grind arith
 
 -- a list that begins with what is left of a part, in or behind its beginning
 has_front : (part more : List ℕ) (begins place : ℕ) → place ≤ begins → HasAt (drop (begins - place) part ++ more) begins part place

@@ -12,7 +12,6 @@ use Rattle.py_stream.specs.Kinds.{is_reading, reads_on, makes_one, has_room, ask
 use Rattle.py_stream.specs.Writing.{Writes}
 use Rattle.py_stream.specs.Answers.{Answers, IsReplyTo, IsShort, LifeMoves, PlaceMoves, GivesWithin, WantsMemory, Starves, HasCauses, IsCounted, StarvesFirst, InHandOf, AsksNoMore, refused_by}
 use Rattle.py_stream.specs.Reading.{KeepsReading, OneTransfer, Reaches}
-use Rattle.py_stream.proofs.Accepting.{works_unrefused}
 use Rattle.py_stream.proofs.Begun.{answers_whole}
 use Rattle.py_stream.proofs.Completing.{completes}
 use Rattle.py_stream.proofs.Refusing.{IsPlaced, refused_alone}
@@ -32,11 +31,11 @@ pub record Reads (before : Stream) : Type 0 where
 
 -- no reading that the stream has the abilities for is refused
 pub accepted : (before : Stream) (call : FileCall) → is_reading call ≡ true → lacks (file_of before) call ≡ false → before.life ≡ life.Live → refusal (file_of before) call ≡ None
-accepted before call reads has live = (reading_call call reads).accepts (file_of before) live has
+accepted before call reads has live = grind arith
 
 -- the raw may be called for a reading that isn't refused
 pub works : (before : Stream) (call : FileCall) → is_reading call ≡ true → lacks (file_of before) call ≡ false → before.life ≡ life.Live → IsTrue (does_work (file_of before) call)
-works before call reads has live = works_unrefused (file_of before) call live (accepted before call reads has live) (reading_call call reads).tells
+works before call reads has live = grind arith
 
 -- the stream that a reading came to, and that with which it begins: its last answer is forgotten
 pub record ReadingBegins (first before : Stream) : Type 0 where

@@ -1,5 +1,5 @@
 -- Facts about the calls that read, each proved by going over the calls.
-use Rattle.std.proofs.Common.{◌≡◌, ◌≢◌, ℕ, ◌≤◌, Bool, true, false, ◌&&◌, ◌||◌, IsTrue, List, [], length, Option, Some, None, refl, ap, arith, rules}
+use Rattle.std.proofs.Common.{◌≡◌, ◌≢◌, ℕ, ◌≤◌, Bool, true, false, ◌||◌, IsTrue, List, [], length, Option, Some, None, arith}
 use Rattle.std.proofs.lemmas.List.{length-take}
 use Rattle.py_flat.specs.declared.fault.IoFault.{IoFault}
 use Rattle.py_flat.specs.declared.fault.IoFault.TheVariants as fault
@@ -12,7 +12,7 @@ use Rattle.py_flat.specs.Refusals.{refusal, is_getter, is_other_getter, is_close
 use Rattle.py_flat.specs.ExactStep.{rest}
 use Rattle.py_flat.specs.BinaryStep.{asks_end, is_tell, Fails, FaultedBy, StarvedBy}
 use Rattle.py_stream.specs.Stream.{Stream}
-use Rattle.py_stream.specs.Kinds.{is_reading, reads_on, goes_on, by_several, makes_one, is_writing, takes_space_first, asks_none, calls_none, waits_unready, says_fault, says_no_memory}
+use Rattle.py_stream.specs.Kinds.{is_reading, reads_on, goes_on, by_several, makes_one, is_writing, asks_none, calls_none, waits_unready, says_fault, says_no_memory}
 use Rattle.py_stream.specs.Writing.{LaysInOrder, PassesOn, OwesNoneOfIts}
 use Rattle.py_stream.specs.Answers.{IsReplyTo, IsShort, LifeMoves, PlaceMoves, PlaceFails, PlaceStarves, moves_most, StarvesTo, GivesWithin, SeeksByEnd, InHandOf, IsWhole, closes_again}
 use Rattle.py_stream.specs.Reading.{wanted_by, reply_by, WantsHeld}
@@ -63,23 +63,11 @@ reading_call call reads = grind arith
 pub refused_within : (size : ℕ) (call : FileCall) (why : IoFault) → GivesWithin size call (Refused why)
 refused_within size call why = grind arith
 
--- running out of memory may leave the file as it was
-pub starved_by_none : (file : FlatFile) (call : FileCall) (after : FlatFile) → is_reading call ≡ true → after ≡ file → StarvedBy file call after
-starved_by_none file call after reads same = grind arith
-
--- only a reading that goes on takes its space first
-pub space_first : (call : FileCall) → IsTrue (takes_space_first call) → IsTrue (reads_on call)
-space_first call takes = grind arith
-
 -- Readings that go on.
-
-and_left : (first second : Bool) → (first && second) ≡ true → first ≡ true
-and_left true second both = refl
-and_left false second both = absurd (cc)
 
 -- each reading that goes on is a call that reads
 pub reading_on : (call : FileCall) → reads_on call ≡ true → is_reading call ≡ true
-reading_on call on = and_left (is_reading call) (goes_on (Some 0) call) on
+reading_on call on = grind arith
 
 -- what a reading by several transfers is
 pub record IsSeveral (buffer : Option ℕ) (call : FileCall) : Type 0 where
@@ -95,13 +83,9 @@ is_several buffer call several = grind arith
 pub on_suits : (file : FlatFile) (call : FileCall) → reads_on call ≡ true → file.can.readable ≡ true → lacks file call ≡ false
 on_suits file call on reads = grind arith
 
--- a reading that asks for nothing over a buffer, or without one, wants none of what is left
-wants_none : (buffer : Option ℕ) (call : FileCall) → reads_on call ≡ true → IsTrue (asks_none buffer call) → (left : List ℕ) → wanted_by call left ≡ []
-wants_none buffer call on asks left = grind arith
-
 -- a reading that asks for nothing wants no more than is held
 pub nothing_held : (before : Stream) (call : FileCall) → reads_on call ≡ true → IsTrue (asks_none before.buffer call) → WantsHeld (wanted_by call) before
-nothing_held before call on asks left = omega (arith, ap length (wants_none before.buffer call on asks left))
+nothing_held before call on asks left = grind arith
 
 -- a reading that the bytes held answer by themselves wants no more than these
 pub in_hand_held : (before : Stream) (call : FileCall) → reads_on call ≡ true → InHandOf before call → WantsHeld (wanted_by call) before

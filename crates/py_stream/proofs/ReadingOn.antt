@@ -251,7 +251,7 @@ none_joined lines part all none = sym all ∙ ap joined none
 
 -- lines have some
 pub some_joined : (lines : List (List ℕ)) (part : List ℕ) → joined lines ≡ part → lines_of (joined lines) ≡ lines → lines ≢ [] → part ≢ []
-some_joined lines part all cut some none = some (lines_are lines part all cut ∙ ap lines_of none)
+some_joined lines part all cut some none = grind arith
 
 -- Whether there are any items.
 

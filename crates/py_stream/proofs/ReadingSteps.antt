@@ -1,18 +1,15 @@
 -- What stays of a stream from step to step of a reading.
-use Rattle.std.proofs.Common.{◌≡◌, ℕ, ◌+◌, ◌≤◌, Bool, IsTrue, List, ◌++◌, length, take, drop, max, refl, sym, ap, ◌∙◌, arith, rules}
+use Rattle.std.proofs.Common.{◌≡◌, ℕ, ◌+◌, ◌≤◌, Bool, IsTrue, List, ◌++◌, length, take, drop, max, refl, sym, ap, ◌∙◌, arith}
 use Rattle.std.proofs.lemmas.List.{length-take, length-drop, length-append, take_all, take-append-drop, drop-drop}
 use Rattle.std.proofs.Math.Seq.{take-append-add}
 use Rattle.py_flat.specs.declared.life.Life.TheVariants as life
-use Rattle.py_flat.specs.Bytes.{left_at, lay}
+use Rattle.py_flat.specs.Bytes.{left_at}
 use Rattle.py_flat.specs.Causes.{counted}
-use Rattle.py_flat.specs.Owed.{Owed}
-use Rattle.py_flat.specs.FlatFile.{FlatFile}
 use Rattle.py_flat.specs.ExactStep.{rest, after_read}
 use Rattle.py_flat.specs.BinaryStep.{Fails}
-use Rattle.py_raw.specs.RawStream.{Raw, tells, WhereTold, NoWait, WaitsOnce, LeavesCounts}
-use Rattle.py_raw.proofs.Telling.{tells_its_bytes, tells_still}
+use Rattle.py_raw.specs.RawStream.{tells, WhereTold, NoWait, WaitsOnce}
 use Rattle.py_raw.proofs.ReadingOn.{no_fault_then}
-use Rattle.py_stream.specs.Stream.{Stream, buffering_of, file_of, nothing_owed}
+use Rattle.py_stream.specs.Stream.{Stream, file_of, nothing_owed}
 use Rattle.py_stream.specs.Answers.{IsNear}
 use Rattle.py_stream.specs.Reading.{KeepsReading, EachBrings, ComesNext, Reaches, Gives}
 use Rattle.py_stream.proofs.Refusing.{IsPlaced}
@@ -49,10 +46,6 @@ within_end bytes part place count next long = omega (arith, length-take count (l
 pub near_seen : (stream : Stream) (short : Bool) → IsNear stream → IsNear (record stream { short = short })
 near_seen stream short near = record { after_first = near.after_first; before_end = near.before_end; fits = near.fits; read_ahead = near.read_ahead; ahead = near.ahead; behind = near.behind; stands = near.stands }
 
--- a stream by itself
-pub keeps_self : (stream : Stream) → stream.owed ≡ nothing_owed stream.place → IsPlaced stream → KeepsReading stream stream
-keeps_self stream bare is = grind arith
-
 -- two steps, one after the other
 pub keeps_then : (before mid after : Stream) → KeepsReading before mid → KeepsReading mid after → KeepsReading before after
 keeps_then before mid after first second = grind arith
@@ -60,10 +53,6 @@ keeps_then before mid after first second = grind arith
 -- a stream that failed
 pub keeps_failed : (stream : Stream) → stream.owed ≡ nothing_owed stream.place → IsPlaced stream → KeepsReading stream (record stream { life = life.Failed })
 keeps_failed stream bare is = grind arith
-
--- a raw that isn't called counts nothing
-pub uncounted : (old new : Raw) → new ≡ old → LeavesCounts old new
-uncounted old new same = record { no_fault = λ exact. ap (λ (raw : Raw). raw.faults) same; no_wait = λ exact. ap (λ (raw : Raw). raw.waits) same }
 
 -- a wait after steps that counted none is the only one
 pub waits_once_then : (before mid after : Stream) → KeepsReading before mid → NoWait before.raw mid.raw → WaitsOnce mid.raw after.raw → WaitsOnce before.raw after.raw
@@ -75,29 +64,17 @@ each_then before mid after others kept first second tells = omega (arith, first 
 
 -- a raw that told its bytes and its place before a step tells both after it
 pub still_tells : (before after : Stream) → KeepsReading before after → WhereTold before.raw (IsTrue (tells after.raw))
-still_tells before after kept told = tells_still before.raw after.raw kept.raw ∙ told
+still_tells before after kept told = grind arith
 
 -- The flat file.
 
--- a stream that owes nothing stands for its raw's bytes
-pub bare_bytes : (stream : Stream) → stream.owed ≡ nothing_owed stream.place → (file_of stream).bytes ≡ stream.raw.bytes
-bare_bytes stream bare = ap (λ (owed : Owed). lay stream.raw.bytes owed.place owed.bytes) bare
-
 -- a reading leaves the flat bytes
 pub same_bytes : (before after : Stream) → before.owed ≡ nothing_owed before.place → KeepsReading before after → WhereTold before.raw ((file_of after).bytes ≡ (file_of before).bytes)
-same_bytes before after bare kept tells = bare_bytes after kept.owed ∙ (kept.bytes (tells_its_bytes before.raw tells) ∙ sym (bare_bytes before bare))
-
--- files that have the same of all are the same
-same_file : (first second : FlatFile) → first.bytes ≡ second.bytes → first.place ≡ second.place → first.can ≡ second.can → first.buffering ≡ second.buffering → first.life ≡ second.life → first ≡ second
-same_file first second bytes place can buffering current = grind arith
+same_bytes before after bare kept tells = grind arith
 
 -- the file of a stream that gave some bytes
 pub file_after : (before after : Stream) (count : ℕ) → before.owed ≡ nothing_owed before.place → KeepsReading before after → after.life ≡ before.life → after.place ≡ before.place + count → WhereTold before.raw (file_of after ≡ after_read (file_of before) count)
-file_after before after count bare kept same place tells = same_file (file_of after) (after_read (file_of before) count) (same_bytes before after bare kept tells) place kept.can (ap buffering_of kept.buffer) same
-
--- the file of a stream that gave none
-pub file_same : (before after : Stream) → before.owed ≡ nothing_owed before.place → KeepsReading before after → after.life ≡ before.life → after.place ≡ before.place → WhereTold before.raw (file_of after ≡ file_of before)
-file_same before after bare kept same place tells = same_file (file_of after) (file_of before) (same_bytes before after bare kept tells) place kept.can (ap buffering_of kept.buffer) same
+file_after before after count bare kept same place tells = grind arith
 
 -- the file of a stream that failed
 pub file_fails : (before after : Stream) → before.owed ≡ nothing_owed before.place → KeepsReading before after → after.life ≡ life.Failed → WhereTold before.raw (Fails (file_of before) life.Failed (file_of before).bytes (file_of after))

@@ -1,5 +1,5 @@
 -- What a reading answers, by what it gave and where it stopped.
-use Rattle.std.proofs.Common.{◌≡◌, ◌≢◌, ℕ, ◌+◌, ◌≤◌, inl, inr, Bool, true, false, IsTrue, List, [], ◌++◌, length, take, Option, Some, None, IsSome, refl, sym, ap, ◌∙◌, subst, arith, rules}
+use Rattle.std.proofs.Common.{◌≡◌, ◌≢◌, ℕ, ◌+◌, ◌≤◌, inr, Bool, true, false, IsTrue, List, [], ◌++◌, length, take, Option, Some, None, IsSome, refl, sym, ap, ◌∙◌, subst, arith}
 use Rattle.std.proofs.lemmas.List.{length-take}
 use Rattle.py_flat.specs.declared.fault.IoFault.{IoFault}
 use Rattle.py_flat.specs.declared.fault.IoFault.TheVariants as fault
@@ -16,14 +16,14 @@ use Rattle.py_flat.specs.AllowedStep.{settled, waited_for, out_of_memory}
 use Rattle.py_flat.specs.BinaryStep.{BinaryStep, if_unbuffered, CarriedOut, Accepted, SettledBy, GivesPart, WaitedBy}
 use Rattle.py_flat.proofs.Cutting.{joined_lines}
 use Rattle.py_lines.proofs.Lines.{lines_left}
-use Rattle.py_raw.specs.RawStream.{WhereTold, NoWait, WaitsOnce, LeavesCounts}
+use Rattle.py_raw.specs.RawStream.{WhereTold, NoWait, WaitsOnce}
 use Rattle.py_stream.specs.Stream.{Stream, size_of, buffering_of, file_of}
 use Rattle.py_stream.specs.Kinds.{is_reading, reads_on, goes_on, makes_one, has_room, takes_space_first, asks_none, by_several}
 use Rattle.py_stream.specs.Answers.{Answers, IsShort, PlaceMoves, PlaceStarves, MovesForth, moves_most, StarvesTo, GivesWithin, InHandOf, IsWhole, AsksNoMore}
 use Rattle.py_stream.specs.Reading.{KeepsReading, EachBrings, OneTransfer, IsNeeded, Gives, FailsReading, FailsMoved, wanted_by, reply_by, GathersEnough, GathersFront, IsOpen, WantsHeld}
 use Rattle.py_stream.proofs.Accepting.{work_reaches}
-use Rattle.py_stream.proofs.ReadingCalls.{IsReadingCall, reading_call, refused_within, starved_by_none, starved_by_failing, space_first, reading_on, on_suits, nothing_held, in_hand_held, is_several}
-use Rattle.py_stream.proofs.ReadingSteps.{file_after, file_same, file_fails, next_reaches, keeps_self, uncounted}
+use Rattle.py_stream.proofs.ReadingCalls.{IsReadingCall, reading_call, refused_within, starved_by_failing, reading_on, on_suits, nothing_held, in_hand_held, is_several}
+use Rattle.py_stream.proofs.ReadingSteps.{file_after, file_fails, next_reaches}
 use Rattle.py_stream.proofs.ReadingAnswers.{accepted, works, Reads, answers_coming}
 
 -- What a reading that goes on gives.
@@ -219,31 +219,9 @@ answers_faulted before after call reads has begun fails within stays asks_some o
     let is : IsReadingCall call = reading_call call reads in
     unshortened before after call (Refused fault.RawFault) begun fails.kept (answers_coming before after call (Refused fault.RawFault) false reads has begun (grind arith))
 
-starving_stays : (may : Bool) (before after : Life) → after ≡ before → StarvesTo may before after
-starving_stays true before after same = inl same
-starving_stays false before after same = same
-
--- a reading that wanted memory, and left the stream where it was
-pub record Wants (before : Stream) (call : FileCall) (after : Stream) : Type 0 where
-  pub kept : KeepsReading before after
-  pub counts : LeavesCounts before.raw after.raw
-  pub live : after.life ≡ life.Live
-  pub place : after.place ≡ before.place
-  pub room : IsTrue (has_room call) → IsTrue before.raw.takes_memory
-  pub unmoved : IsTrue (reads_on call) → after ≡ before
-  pub asks : AsksRaw before call after
-
--- a reading whose answer is want of memory
-pub answers_wanting : (before after : Stream) (call : FileCall) → is_reading call ≡ true → lacks (file_of before) call ≡ false → Reads before → Wants before call after → Answers before call (Refused fault.NoMemory) after
-answers_wanting before after call reads has begun wants =
-    let is : IsReadingCall call = reading_call call reads in
-    let same : after.life ≡ before.life = wants.live ∙ sym begun.live in
-    let stays : IsTrue (reads_on call) → record after { short = false } ≡ record before { short = false } = λ on. ap (λ (stream : Stream). let cut : Stream = record stream { short = false } in cut) (wants.unmoved on) in
-    unshortened before after call (Refused fault.NoMemory) begun wants.kept (answers_coming before after call (Refused fault.NoMemory) false reads has begun (grind (arith, starving_stays, starves_where, forth_by, refused_within, space_first, asks_ungiven, work_reaches, works, starved_by_none, file_same)))
-
 -- a reading that wanted memory before anything moved: all is as it was
 pub unmoved : (before : Stream) (call : FileCall) → is_reading call ≡ true → lacks (file_of before) call ≡ false → Reads before → (IsTrue (has_room call) → IsTrue before.raw.takes_memory) → Answers before call (Refused fault.NoMemory) before
-unmoved before call reads has begun room = answers_wanting before before call reads has begun (grind (arith, keeps_self, uncounted))
+unmoved before call reads has begun room = grind arith
 
 starving_fails : (may : Bool) (before after : Life) → may ≡ true → after ≡ life.Failed → StarvesTo may before after
 starving_fails true before after is failed = inr failed

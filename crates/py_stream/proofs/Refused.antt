@@ -1,5 +1,5 @@
 -- A stream whose raw was handed back, and what a call leaves that is refused.
-use Rattle.std.proofs.Common.{◌≡◌, ℕ, inl, Bool, true, false, Option, refl, arith, rules}
+use Rattle.std.proofs.Common.{◌≡◌, ℕ, inl, Bool, true, false, Option, refl, arith}
 use Rattle.std.proofs.lemmas.List.{append-nil}
 use Rattle.py_flat.specs.declared.fault.IoFault.{IoFault}
 use Rattle.py_flat.specs.declared.fault.IoFault.TheVariants as fault

@@ -1,12 +1,12 @@
 -- Moving a stream, whatever is below it: where a seek goes, what refuses it, and what an answer of it comes to.
-use Rattle.std.proofs.Common.{◌≡◌, ℕ, ◌≤◌, suc, zero, ◌⊎◌, inl, inr, ℤ, pos, Bool, true, false, ◌||◌, IsTrue, length, Option, Some, None, Result, Ok, Err, nat_lt, refl, sym, subst, arith, rules}
+use Rattle.std.proofs.Common.{◌≡◌, ℕ, ◌≤◌, suc, zero, ◌⊎◌, inl, ℤ, pos, Bool, true, false, ◌||◌, IsTrue, length, Option, Some, None, Result, Ok, Err, refl, arith}
 use Rattle.py_flat.specs.declared.fault.IoFault.{IoFault}
 use Rattle.py_flat.specs.declared.fault.IoFault.TheVariants as fault
 use Rattle.py_flat.specs.declared.life.Life.{Life}
 use Rattle.py_flat.specs.declared.life.Life.TheVariants as life
 use Rattle.py_flat.specs.Limits.{greatest_place}
 use Rattle.py_flat.specs.Calls.{Seek, Place, Refused}
-use Rattle.py_flat.specs.Refusals.{refused_if, seek_base, seek_refusal, target_refusal, refusal}
+use Rattle.py_flat.specs.Refusals.{seek_base, seek_refusal, target_refusal, refusal}
 use Rattle.py_flat.specs.ExactStep.{seek_target}
 use Rattle.py_flat.specs.BinaryStep.{asks_end, does_work, reaches_raw}
 use Rattle.py_raw.specs.RawStream.{WhereBytes}
@@ -41,23 +41,14 @@ seek_refusal_is before offset whence may = grind arith
 abbrev pub AtBadPlace : IoFault → Type 0
 AtBadPlace why = (why ≡ fault.NegativeSeek) ⊎ (why ≡ fault.TooFar)
 
-refused_if_is : (test : Bool) (own why : IoFault) → refused_if test own ≡ Some why → why ≡ own
-refused_if_is true own why is = cc
-refused_if_is false own why is = absurd (cc)
-
 -- a target is refused only by where it lies
 pub target_why : (target : Option ℕ) (why : IoFault) → target_refusal target ≡ Some why → AtBadPlace why
 target_why None why is = inl (cc)
-target_why (Some target) why is = inr (refused_if_is (nat_lt greatest_place target) fault.TooFar why is)
-
--- what holds of both refusals of a target holds of any
-at_bad_place : (Fact : IoFault → Type 0) → Fact fault.NegativeSeek → Fact fault.TooFar → (why : IoFault) → AtBadPlace why → Fact why
-at_bad_place Fact negative far why (inl is) = subst Fact (sym is) negative
-at_bad_place Fact negative far why (inr is) = subst Fact (sym is) far
+target_why (Some target) why is = grind arith
 
 -- a refusal of a target is the stream's own
 pub bad_place_is_own : (why : IoFault) → AtBadPlace why → is_own why ≡ true
-bad_place_is_own why at = at_bad_place (λ (fault : IoFault). is_own fault ≡ true) refl refl why at
+bad_place_is_own why at = grind arith
 
 -- what a refusal of the target of a seek from the end says and leaves
 pub record RefusesPlace (offset : ℤ) (why : IoFault) : Type 0 where

@@ -1,17 +1,14 @@
 -- A call that moves no bytes to its caller or from it: a seek, a flush, a close, a detaching. What makes its answer.
-use Rattle.std.proofs.Common.{◌≡◌, ◌≢◌, ℕ, ℤ, ◌≤◌, Bool, true, false, ◌||◌, IsTrue, List, [], Option, Some, None, if◌then◌else◌, refl, sym, ap, ◌∙◌, arith, rules}
+use Rattle.std.proofs.Common.{◌≡◌, ◌≢◌, ℕ, ℤ, ◌≤◌, true, false, IsTrue, List, [], Option, Some, None, refl, sym, ◌∙◌, arith, rules}
 use Rattle.py_flat.specs.declared.fault.IoFault.{IoFault}
 use Rattle.py_flat.specs.declared.fault.IoFault.TheVariants as fault
-use Rattle.py_flat.specs.declared.life.Life.{Life}
 use Rattle.py_flat.specs.declared.life.Life.TheVariants as life
 use Rattle.py_flat.specs.Limits.{greatest_place}
 use Rattle.py_flat.specs.FlatFile.{FlatFile}
 use Rattle.py_flat.specs.Calls.{FileCall, Seek, Flush, Close, Detach, FileReply, Done, Unwritten, Refused}
-use Rattle.py_flat.specs.Refusals.{refusal, is_getter, or_else, lets_through, life_fault, life_refusal}
-use Rattle.py_flat.specs.ExactStep.{is_closed}
-use Rattle.py_flat.specs.BinaryStep.{BinaryStep, asks_end, reaches_raw, does_work, is_tell, WaitedBy, StarvedBy}
+use Rattle.py_flat.specs.BinaryStep.{BinaryStep, reaches_raw, does_work, is_tell, WaitedBy, StarvedBy}
 use Rattle.py_raw.specs.RawStream.{WhereTold}
-use Rattle.py_stream.specs.Stream.{Stream, buffering_of, file_of, nothing_owed}
+use Rattle.py_stream.specs.Stream.{Stream, file_of, nothing_owed}
 use Rattle.py_stream.specs.Kinds.{is_reading, is_writing, calls_none, makes_one, says_fault, says_no_memory}
 use Rattle.py_stream.specs.Writing.{NoneAtPlace, PassesFront, LaysFront, LaysInOrder, PassesOn, BlocksFull, Writes}
 use Rattle.py_stream.specs.Answers.{Answers, KeepsStream, Leaves, ClosedWith, parts_at_close, closes_again, IsReplyTo, HasCauses, IsCounted, InHand, AsksNothing, IsIdle, IsShort, LifeMoves, PlaceMoves, refused_by, SeeksByEnd, SparesBytes, IsNear}
@@ -34,14 +31,6 @@ pub record MovesNone (call : FileCall) : Type 0 where
 -- a seek moves no bytes to or from its caller
 pub seek_moves_none : (offset whence : ℤ) → MovesNone (Seek offset whence)
 seek_moves_none offset whence = record { writing = refl; reading = refl; telling = refl; one = λ buffer. refl; lays = λ before after is. is; waits = λ file. (refl, refl); starves = λ file. refl }
-
--- a `flush` moves none
-pub flush_moves_none : MovesNone Flush
-flush_moves_none = record { writing = refl; reading = refl; telling = refl; one = λ buffer. refl; lays = λ before after is. is; waits = λ file. (refl, refl); starves = λ file. refl }
-
--- a `close` moves none
-pub close_moves_none : MovesNone Close
-close_moves_none = record { writing = refl; reading = refl; telling = refl; one = λ buffer. refl; lays = λ before after is. is; waits = λ file. (refl, refl); starves = λ file. refl }
 
 -- a `detach` moves none
 pub detach_moves_none : MovesNone Detach
@@ -123,21 +112,6 @@ pub record Beside (old : Stream) (call : FileCall) (reply : FileReply) (new : St
 pub beside_writing : (old : Stream) (call : FileCall) (reply : FileReply) (new : Stream) → old.can.writable ≡ true → (InHand old call → ⊥) → Beside old call reply new
 beside_writing old call reply new can apart = record { in_hand = λ has. absurd (apart has); spares = λ reads. absurd (cc (can)) }
 
--- a call that a live stream doesn't refuse is accepted
-pub asked_unrefused : (old : Stream) (call : FileCall) → IsSound old → old.life ≡ life.Live → old.short ≡ false → MovesNone call → closes_again old call ≡ false → calls_none old.buffer old.can.writable call ≡ false → asks_end (file_of old) call ≡ false → (is_getter call || is_tell call) ≡ false → refusal (file_of old) call ≡ None → Accepts old call
-asked_unrefused old call sound live whole none again busy alone asks unrefused = grind arith
-
--- a call that a life lets through isn't refused by it
-pub let_through : (old : Stream) (call : FileCall) → lets_through old.life (buffering_of old.buffer) call ≡ true → or_else (life_refusal (file_of old) call) None ≡ None
-let_through old call through = ap (λ (passes : Bool). or_else (if passes then None else life_fault old.life) None) through
-
-lives_through : (old : Stream) (call : FileCall) → old.life ≡ life.Live → or_else (life_refusal (file_of old) call) None ≡ None
-lives_through old call live = let_through old call (ap (λ (current : Life). lets_through current (buffering_of old.buffer) call) live)
-
--- a stream with a buffer that writes may have to pass something on for a call
-pub busy_writing : (buffer : Option ℕ) (size : ℕ) (writes : Bool) (call : FileCall) → buffer ≡ Some size → writes ≡ true → calls_none (Some size) true call ≡ false → calls_none buffer writes call ≡ false
-busy_writing buffer size writes call buffered can busy = ap (λ (some : Option ℕ). calls_none some writes call) buffered ∙ ap (λ (does : Bool). calls_none (Some size) does call) can ∙ busy
-
 -- a live stream with a buffer that writes
 pub record IsWriting (old : Stream) : Type 0 where
   pub sound : IsSound old
@@ -149,15 +123,12 @@ pub record IsWriting (old : Stream) : Type 0 where
 
 -- a `flush` of a live stream with a buffer that writes is accepted
 pub flush_asked : (old : Stream) → IsWriting old → Accepts old Flush
-flush_asked old is = asked_unrefused old Flush is.sound is.live is.whole flush_moves_none refl (busy_writing old.buffer is.size old.can.writable Flush is.buffered is.writes refl) refl refl (lives_through old Flush is.live)
+flush_asked old is = grind arith
 
 -- a `close` of a live stream is accepted
 pub close_asked : (old : Stream) → IsSound old → old.life ≡ life.Live → old.short ≡ false → Accepts old Close
-close_asked old sound live whole = asked_unrefused old Close sound live whole close_moves_none (ap is_closed live) refl refl refl (lives_through old Close live)
-
-detach_unrefused : (old : Stream) (size : ℕ) → old.buffer ≡ Some size → old.life ≡ life.Live → refusal (file_of old) Detach ≡ None
-detach_unrefused old size buffered live = ap (λ (current : Life). refusal (file_of (record old { life = current })) Detach) live ∙ ap (λ (buffer : Option ℕ). refusal (file_of (record old { life = life.Live; buffer = buffer })) Detach) buffered
+close_asked old sound live whole = grind arith
 
 -- a `detach` of a live stream with a buffer that writes is accepted
 pub detach_asked : (old : Stream) → IsWriting old → Accepts old Detach
-detach_asked old is = asked_unrefused old Detach is.sound is.live is.whole detach_moves_none refl (busy_writing old.buffer is.size old.can.writable Detach is.buffered is.writes refl) refl refl (detach_unrefused old is.size is.buffered is.live)
+detach_asked old is = grind arith

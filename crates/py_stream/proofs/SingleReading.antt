@@ -1,6 +1,5 @@
 -- What a reading by at most one transfer answers.
-use Rattle.std.proofs.Common.{◌≡◌, ◌≢◌, ℕ, suc, zero, ◌+◌, ◌<◌, ◌≤◌, Bool, true, false, ◌||◌, not, IsTrue, List, [], length, take, max, Option, Some, None, IsSome, unwrap_or, if◌then◌else◌, refl, sym, ap, ◌∙◌, subst, arith, rules}
-use Rattle.std.proofs.lemmas.Bool.{ne_eqb}
+use Rattle.std.proofs.Common.{◌≡◌, ◌≢◌, ℕ, suc, zero, ◌+◌, ◌<◌, ◌≤◌, Bool, true, false, ◌||◌, not, IsTrue, List, [], length, take, max, Option, Some, None, IsSome, unwrap_or, refl, sym, ap, ◌∙◌, subst, arith}
 use Rattle.std.proofs.lemmas.List.{length-append, length-take, length-drop}
 use Rattle.py_flat.specs.declared.fault.IoFault.{IoFault}
 use Rattle.py_flat.specs.declared.fault.IoFault.TheVariants as fault
@@ -87,7 +86,7 @@ pub record IsPartOf (part wanted : List ℕ) : Type 0 where
 
 -- what a buffer that has a size is filled from
 buffer_of : (size : ℕ) (bytes : List ℕ) → 0 < size → take size bytes ≡ first_or_all size bytes
-buffer_of size bytes some = ap (λ (none : Bool). if none then bytes else take size bytes) (sym (ne_eqb size 0 (λ none. omega arith)))
+buffer_of size bytes some = grind arith
 
 -- the flat file gives a first part by one transfer
 once_carried : (buffer : Option ℕ) (file : FlatFile) (call : FileCall) (part : List ℕ) (after : FlatFile) → reads_once buffer call ≡ true → ((size : ℕ) → buffer ≡ Some size → 0 < size) → IsPartOf part (take (asks_for (unwrap_or buffer 0) call) (rest file)) → after ≡ after_read (record file { buffering = buffering_of buffer }) (moves_by call (length part)) → Accepted (record file { buffering = buffering_of buffer }) call (Bytes part) after

@@ -1,5 +1,5 @@
 -- What a call leaves that its raw stops, whichever call it is: the raw would have blocked, or failed, or memory ran out.
-use Rattle.std.proofs.Common.{◌≡◌, ℕ, inl, Bool, true, false, length, Option, Some, None, refl, arith, rules}
+use Rattle.std.proofs.Common.{◌≡◌, ℕ, inl, Bool, true, false, length, Option, Some, None, refl, arith}
 use Rattle.py_flat.specs.declared.fault.IoFault.{IoFault}
 use Rattle.py_flat.specs.declared.fault.IoFault.TheVariants as fault
 use Rattle.py_flat.specs.declared.life.Life.{Life}

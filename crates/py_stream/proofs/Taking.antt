@@ -1,5 +1,5 @@
 -- What one step of a call that gives bytes after another takes and passes on.
-use Rattle.std.proofs.Common.{◌≡◌, ℕ, ◌+◌, ◌≤◌, Option, Some, None, List, [], ◌++◌, length, take, drop, refl, sym, ap, ◌∙◌, subst, arith, add-zero, append_assoc, length-append, length-drop, rules}
+use Rattle.std.proofs.Common.{◌≡◌, ℕ, ◌+◌, ◌≤◌, Option, Some, None, List, [], ◌++◌, length, take, drop, refl, sym, ap, ◌∙◌, subst, arith, add-zero, append_assoc, length-append, length-drop}
 use Rattle.std.proofs.Math.Seq.{take-append-add, take-add}
 use Rattle.std.proofs.lemmas.List.{length-take-le, take-append-le, drop-append-le, drop-drop, append-nil}
 use Rattle.py_flat.specs.declared.life.Life.TheVariants as life
@@ -93,7 +93,7 @@ answers_then old mid new first second kept one two tells = omega (arith, one tel
 
 -- a raw answers for nothing more in the second of two steps
 pub answers_still : (old mid new : Raw) (count : ℕ) → Keeps old mid → AnswersFor count old mid → AnswersFor 0 mid new → AnswersFor count old new
-answers_still old mid new count kept one two = subst (λ (more : ℕ). AnswersFor more old new) (add-zero count) (answers_then old mid new count 0 kept one two)
+answers_still old mid new count kept one two = grind arith
 
 -- Taking.
 

@@ -1,4 +1,4 @@
-use Rattle.std.proofs.Common.{arith, rules}
+use Rattle.std.proofs.Common.{arith}
 use Rattle.py_stream.proofs.Joined.{length-joined_more, length-joined_parts}
 use Rattle.py_stream.proofs.moving.end_of_lines.Goals as goal
 
