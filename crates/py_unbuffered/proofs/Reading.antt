@@ -41,9 +41,7 @@ none_left [] bytes size place long end = let none : size ≡ 0 = sym long in ap 
 none_left (byte ∷ before) bytes size place long end = ap (take size) (drop_all place bytes (end (λ none. cc))) ∙ take_all size [] (omega arith)
 
 moves_all : (call : FileCall) (count : ℕ) → reads_once None call ≡ true → moves_by call count ≡ count
-moves_all (Read (Some size)) count once = refl
-moves_all (ReadInto size) count once = refl
-moves_all call count once = absurd (cc)
+moves_all call count once = grind arith
 
 asks_always : (call : FileCall) → reads_once None call ≡ true → asks_none None call ≡ false
 asks_always (Read (Some size)) once = refl

@@ -171,6 +171,4 @@ fills old moved held before after bytes None count new asked is waits holds = (w
 
 -- the transfer of a filling was refused
 pub fill_refused : (old : EngineView) (held before after bytes : List ℕ) (was : ℕ) (why : IoFault) (new : EngineView) → was ≡ length held → TransferOutcome old (nat_lt 0 was) before (Err why) after new → FillOutcome old held (Err why) bytes new
-fill_refused old held before after bytes was fault.RawFault new long fails = fails
-fill_refused old held before after bytes was fault.NoMemory new long wants = subst (λ (n : ℕ). StarvesWith (nat_lt 0 n) old new) long wants.1
-fill_refused old held before after bytes was why new long never = absurd never
+fill_refused old held before after bytes was why new long never = grind (arith, nat_lt)
