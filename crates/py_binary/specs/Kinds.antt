@@ -17,7 +17,7 @@ use Rattle.py_binary.specs.Binary.{gone_stream}
 -- what a kind of stream is seen as
 abbrev pub shown : {R : Type 0} → Kind R → Stream
 shown (kind.Reader reader) = reader
-shown (kind.Writer writer) = writer
+shown (kind.Writer writer) = writer.stream
 shown (kind.Unbuffered stream) = stream
 
 -- the session: its stream; or, once that was detached, the raw and what the stream could do
@@ -49,7 +49,7 @@ pub record IsUnbuffered (stream : Stream) : Type 0 where
 -- what holds of the stream of each kind
 abbrev pub IsServed : {R : Type 0} → Kind R → Type 0
 IsServed (kind.Reader reader) = IsReader reader
-IsServed (kind.Writer writer) = IsWriter writer
+IsServed (kind.Writer writer) = IsWriter writer.stream
 IsServed (kind.Unbuffered stream) = IsUnbuffered stream
 
 -- what holds of a session: what holds of its stream while the raw isn't back; from then on its stream is a detached

@@ -14,10 +14,10 @@ use py_raw::{IoFault, RawStream};
 
 /// Makes a call that is no question and no `Detach`.
 pub(crate) fn answer_writer<R: RawStream>(writer: &mut BufferedWriter<R>, call: &Call) -> Reply
-    requires served { IsWriter writer.old }
+    requires served { IsWriter writer.old.stream }
     requires asks { is_getter (file_call call.now) ≡ false }
     requires stays { file_call call.now ≢ Detach }
-    ensures { AnswersWith has_reply_room writer.old (file_call call.now) (said result) writer.new }
+    ensures { AnswersWith has_reply_room writer.old.stream (file_call call.now) (said result) writer.new.stream }
 {
     match call {
         Call::Write(bytes) => count_reply(writer.write(bytes.as_slice())),

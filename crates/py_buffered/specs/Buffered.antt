@@ -9,13 +9,14 @@ use Rattle.py_engine.specs.Window.{ahead_of}
 use Rattle.py_engine.specs.Engine.{EngineView, stream_of, Stands}
 use Rattle.py_engine.specs.Passing.{BeginsDetachIn}
 
--- its engine, unless it is detached, and what is kept beside that: what it was opened for, whether its raw can seek, and the size of
--- its buffer
+-- its engine, unless it is detached, and what is kept beside that: what it was opened for, whether its raw can seek, the size of its
+-- buffer, and how many bytes of the last write were taken
 pub record BufferedView : Type 0 where
   pub engine : Option EngineView
   pub access : Access
   pub seekable : Bool
   pub size : ℕ
+  pub taken : ℕ
 
 -- the stream of an engine; of none only what it could do and the buffer's size are left
 abbrev pub seen_as : Option EngineView → Access → Bool → ℕ → Stream
@@ -30,6 +31,15 @@ seen_of view = seen_as view.engine view.access view.seekable view.size
 abbrev pub IsBuffered : Option EngineView → Access → Bool → ℕ → Type 0
 IsBuffered (Some engine) access seekable size = (can_of engine.access engine.raw.seekable ≡ can_of access seekable) × (engine.window.size ≡ size)
 IsBuffered None access seekable size = Unit {0}
+
+-- a stream that is written: the stream, and how many bytes of the last write it took, 0 before the first
+pub record WriterView : Type 0 where
+  pub stream : Stream
+  pub taken : ℕ
+
+-- the stream that a writer is
+abbrev pub stream_in : WriterView → Stream
+stream_in writer = writer.stream
 
 -- By what it can do.
 
@@ -58,7 +68,7 @@ BeginsDetach old result new = ⊥
 
 -- Opening.
 
--- an opening's outcome, with the stream that was opened
-abbrev pub opened_as : {E : Type 0} → Result BufferedView E → Result Stream E
-opened_as (Ok view) = Ok (seen_of view)
-opened_as (Err why) = Err why
+-- an opening's outcome, with the stream that what was opened is seen as
+abbrev pub opened_as : {V E : Type 0} → (V → Stream) → Result V E → Result Stream E
+opened_as seen (Ok view) = Ok (seen view)
+opened_as seen (Err why) = Err why

@@ -1,10 +1,12 @@
 //! A buffered stream, which is its engine or, once its raw was handed back, what is left of it. Reader and writer are thin types
 //! over it.
-ghost use Rattle.std.specs.Prelude.{◌≡◌, ◌≢◌, true, false, Some, None, length, vec_len, if◌then◌else◌};
+ghost use Rattle.std.specs.Prelude.{◌≡◌, ◌≢◌, ◌≤◌, ◌-◌, true, false, Some, None, IfOk, length, vec_len, if◌then◌else◌};
+ghost use Rattle.py_flat.specs.Lines.{joined};
 ghost use Rattle.py_flat.specs.Calls.{FileCall, Read, Read1, ReadLine, ReadLines, Peek, ReadInto, ReadInto1, Write, WriteLines, Seek, Tell, Flush, Close, Refused};
 ghost use Rattle.py_stream.specs.Access.{can_of, is_able};
 ghost use Rattle.py_stream.specs.Answers.{Answers, RefusesAlone};
 ghost use Rattle.py_stream.specs.Replies.{bytes_reply, into_reply, CountFits, KeepsBuffer, KeepsUnread, look_reply, lines_reply, count_reply, place_reply, done_reply};
+ghost use Rattle.py_stream.specs.Taken.{taken_of};
 ghost use Rattle.py_stream.specs.Opening.{StandsAtStart, MayOpen, NewOutcome};
 ghost use Rattle.py_stream.specs.Handing.{DetachOutcome, PartsOutcome, LendsRaw};
 ghost use Rattle.py_buffered.specs.Buffered.{seen_of, held_of, opened_as, BeginsDetach};
@@ -16,13 +18,15 @@ use py_stream::{Access, Detached, NewRefused, first_place, refused_at_first};
 use std::alloc::Global;
 use std::marker::Model;
 
-/// The engine is gone once the raw was handed back. What is kept beside it says then still what the stream could do.
+/// The engine is gone once the raw was handed back. What is kept beside it says then still what the stream could do. `taken` is how
+/// many bytes of the last write were taken.
 #[derive(Debug, Drop)]
 pub(crate) struct Buffered<R: RawStream> {
     data: Option<BufferedData<R>>,
     access: Access,
     seekable: bool,
     size: usize,
+    taken: u64,
 }
 
 impl<R: RawStream> Model for Buffered<R> {
@@ -30,7 +34,7 @@ impl<R: RawStream> Model for Buffered<R> {
 
     ghost Value = { BufferedView };
 
-    ghost view = { λ b. record { engine = b.data; access = b.access; seekable = b.seekable; size = b.size } };
+    ghost view = { λ b. record { engine = b.data; access = b.access; seekable = b.seekable; size = b.size; taken = b.taken } };
 
     ghost invariant = { λ b. IsBuffered b.data b.access b.seekable b.size };
 }
@@ -40,7 +44,8 @@ impl<R: RawStream> Buffered<R> {
     /// A stream over a raw one, from where that stands, with a buffer of `size` bytes; one that appends begins at the end.
     pub fn new(alloc: Global, raw: R, size: usize, access: Access) -> Result<Self, NewRefused<R>>
         requires start { StandsAtStart (R.shows raw) }
-        ensures { NewOutcome R.shows (is_able access) (can_of access) raw (Some size) (opened_as result) }
+        ensures outcome { NewOutcome R.shows (is_able access) (can_of access) raw (Some size) (opened_as seen_of result) }
+        ensures taken { IfOk result (λ stream. stream.taken ≡ 0) }
     {
         if let Some(fault) = refused_at_first(&raw, access.suits(&raw), Some(size)) {
             return Err(NewRefused { raw, fault });
@@ -58,7 +63,8 @@ impl<R: RawStream> Buffered<R> {
     fn over(raw: R, buffer: Vec<u8>, access: Access) -> Result<Self, NewRefused<R>>
         requires start { StandsAtStart (R.shows raw) }
         requires may { MayOpen (is_able access) (R.shows raw) (Some (vec_len buffer)) }
-        ensures { NewOutcome R.shows (is_able access) (can_of access) raw (Some (vec_len buffer)) (opened_as result) }
+        ensures outcome { NewOutcome R.shows (is_able access) (can_of access) raw (Some (vec_len buffer)) (opened_as seen_of result) }
+        ensures taken { IfOk result (λ stream. stream.taken ≡ 0) }
     {
         let mut raw = raw;
         let seekable = raw.seekable();
@@ -69,6 +75,7 @@ impl<R: RawStream> Buffered<R> {
                 access,
                 seekable,
                 size,
+                taken: 0,
             }),
             Err(RawError::Fault) => Err(NewRefused {
                 raw,
@@ -84,7 +91,8 @@ impl<R: RawStream> Buffered<R> {
     /// Reads n bytes, or all that are left.
     pub fn read(&mut self, alloc: Global, size: Option<usize>) -> Result<Option<Vec<u8>>, IoFault>
         requires reads { (seen_of self.old).can.readable ≡ true }
-        ensures { Answers (seen_of self.old) (Read size) (bytes_reply result) (seen_of self.new) }
+        ensures answers { Answers (seen_of self.old) (Read size) (bytes_reply result) (seen_of self.new) }
+        ensures taken { self.new.taken ≡ self.old.taken }
     {
         match &mut self.data {
             Some(data) => {
@@ -100,7 +108,8 @@ impl<R: RawStream> Buffered<R> {
     /// Reads at most n bytes, or a buffer's size, by at most one transfer.
     pub fn read1(&mut self, alloc: Global, size: Option<usize>) -> Result<Option<Vec<u8>>, IoFault>
         requires reads { (seen_of self.old).can.readable ≡ true }
-        ensures { Answers (seen_of self.old) (Read1 size) (bytes_reply result) (seen_of self.new) }
+        ensures answers { Answers (seen_of self.old) (Read1 size) (bytes_reply result) (seen_of self.new) }
+        ensures taken { self.new.taken ≡ self.old.taken }
     {
         match &mut self.data {
             Some(data) => {
@@ -116,7 +125,8 @@ impl<R: RawStream> Buffered<R> {
     /// Sees to it that some of the bytes that come next are held; else the raw would have blocked.
     pub fn look(&mut self) -> Result<bool, IoFault>
         requires reads { (seen_of self.old).can.readable ≡ true }
-        ensures { Answers (seen_of self.old) Peek (look_reply result (held_of self.new.engine)) (seen_of self.new) }
+        ensures answers { Answers (seen_of self.old) Peek (look_reply result (held_of self.new.engine)) (seen_of self.new) }
+        ensures taken { self.new.taken ≡ self.old.taken }
     {
         match &mut self.data {
             Some(data) => {
@@ -143,6 +153,7 @@ impl<R: RawStream> Buffered<R> {
     pub fn readinto(&mut self, buffer: &mut [u8]) -> Result<Option<usize>, IoFault>
         requires reads { (seen_of self.old).can.readable ≡ true }
         ensures answers { Answers (seen_of self.old) (ReadInto (length buffer.old)) (into_reply result buffer.new) (seen_of self.new) }
+        ensures taken { self.new.taken ≡ self.old.taken }
         ensures length { length buffer.new ≡ length buffer.old }
         ensures fits { CountFits result buffer.new }
         ensures refused { KeepsBuffer result buffer.old buffer.new }
@@ -162,6 +173,7 @@ impl<R: RawStream> Buffered<R> {
     pub fn readinto1(&mut self, buffer: &mut [u8]) -> Result<Option<usize>, IoFault>
         requires reads { (seen_of self.old).can.readable ≡ true }
         ensures answers { Answers (seen_of self.old) (ReadInto1 (length buffer.old)) (into_reply result buffer.new) (seen_of self.new) }
+        ensures taken { self.new.taken ≡ self.old.taken }
         ensures length { length buffer.new ≡ length buffer.old }
         ensures fits { CountFits result buffer.new }
         ensures unread { KeepsUnread result buffer.old buffer.new }
@@ -184,7 +196,8 @@ impl<R: RawStream> Buffered<R> {
         limit: Option<usize>,
     ) -> Result<Option<Vec<u8>>, IoFault>
         requires reads { (seen_of self.old).can.readable ≡ true }
-        ensures { Answers (seen_of self.old) (ReadLine limit) (bytes_reply result) (seen_of self.new) }
+        ensures answers { Answers (seen_of self.old) (ReadLine limit) (bytes_reply result) (seen_of self.new) }
+        ensures taken { self.new.taken ≡ self.old.taken }
     {
         match &mut self.data {
             Some(data) => {
@@ -204,7 +217,8 @@ impl<R: RawStream> Buffered<R> {
         hint: Option<usize>,
     ) -> Result<Option<Lines>, IoFault>
         requires reads { (seen_of self.old).can.readable ≡ true }
-        ensures { Answers (seen_of self.old) (ReadLines hint) (lines_reply result) (seen_of self.new) }
+        ensures answers { Answers (seen_of self.old) (ReadLines hint) (lines_reply result) (seen_of self.new) }
+        ensures taken { self.new.taken ≡ self.old.taken }
     {
         match &mut self.data {
             Some(data) => {
@@ -220,6 +234,32 @@ impl<R: RawStream> Buffered<R> {
     /// Takes bytes, and passes on what the buffer has no room for.
     pub fn write(&mut self, bytes: &[u8]) -> Result<usize, IoFault>
         requires writes { (seen_of self.old).can.writable ≡ true }
+        ensures answers { Answers (seen_of self.old) (Write bytes.now) (count_reply result) (seen_of self.new) }
+        ensures taken { self.new.taken ≡ taken_of bytes.now (count_reply result) (seen_of self.old).place (seen_of self.new).place }
+    {
+        let _ = &self.size;
+        let start = self.place();
+        let answer = self.put(bytes);
+        self.count_from(start);
+        answer
+    }
+
+    /// Takes lines, as one write of them joined.
+    pub fn writelines(&mut self, lines: &Lines) -> Result<(), IoFault>
+        requires writes { (seen_of self.old).can.writable ≡ true }
+        ensures answers { Answers (seen_of self.old) (WriteLines lines.now) (done_reply result) (seen_of self.new) }
+        ensures taken { self.new.taken ≡ taken_of (joined lines.now) (done_reply result) (seen_of self.old).place (seen_of self.new).place }
+    {
+        let _ = &self.size;
+        let start = self.place();
+        let answer = self.put_lines(lines);
+        self.count_from(start);
+        answer
+    }
+
+    /// Takes bytes, and doesn't count them.
+    fn put(&mut self, bytes: &[u8]) -> Result<usize, IoFault>
+        requires writes { (seen_of self.old).can.writable ≡ true }
         ensures { Answers (seen_of self.old) (Write bytes.now) (count_reply result) (seen_of self.new) }
     {
         match &mut self.data {
@@ -228,8 +268,8 @@ impl<R: RawStream> Buffered<R> {
         }
     }
 
-    /// Takes lines, as one write of them joined.
-    pub fn writelines(&mut self, lines: &Lines) -> Result<(), IoFault>
+    /// Takes lines, and doesn't count them.
+    fn put_lines(&mut self, lines: &Lines) -> Result<(), IoFault>
         requires writes { (seen_of self.old).can.writable ≡ true }
         ensures { Answers (seen_of self.old) (WriteLines lines.now) (done_reply result) (seen_of self.new) }
     {
@@ -239,9 +279,35 @@ impl<R: RawStream> Buffered<R> {
         }
     }
 
+    /// Counts the bytes that a write took, which began at a place.
+    fn count_from(&mut self, start: u64)
+        requires { start ≤ (seen_of self.old).place }
+        ensures { self.new ≡ record self.old { taken = (seen_of self.old).place - start } }
+    {
+        self.taken = self.place() - start;
+    }
+
+    /// The stream's place, whether it can be moved or not; 0 once the raw was handed back.
+    fn place(&self) -> u64
+        ensures { result ≡ (seen_of self.now).place }
+    {
+        match &self.data {
+            Some(data) => data.place(),
+            None => 0,
+        }
+    }
+
+    /// How many bytes of the last write were taken: 0 before the first.
+    pub fn taken(&self) -> u64
+        ensures { result ≡ self.now.taken }
+    {
+        self.taken
+    }
+
     /// Moves by an offset from the start (0), the place (1) or the end (2).
     pub fn seek(&mut self, offset: i64, whence: i32) -> Result<u64, IoFault>
-        ensures { Answers (seen_of self.old) (Seek offset whence) (place_reply result) (seen_of self.new) }
+        ensures answers { Answers (seen_of self.old) (Seek offset whence) (place_reply result) (seen_of self.new) }
+        ensures taken { self.new.taken ≡ self.old.taken }
     {
         match &mut self.data {
             Some(data) => data.seek(offset, whence),
@@ -251,7 +317,8 @@ impl<R: RawStream> Buffered<R> {
 
     /// The place, where the stream can be moved.
     pub fn tell(&mut self) -> Result<u64, IoFault>
-        ensures { Answers (seen_of self.old) Tell (place_reply result) (seen_of self.new) }
+        ensures answers { Answers (seen_of self.old) Tell (place_reply result) (seen_of self.new) }
+        ensures taken { self.new.taken ≡ self.old.taken }
     {
         match &mut self.data {
             Some(data) => data.tell(),
@@ -261,7 +328,8 @@ impl<R: RawStream> Buffered<R> {
 
     /// Refuses a call by the life, or as one that the stream lacks.
     pub fn refuse(&mut self) -> IoFault
-        ensures { (call : FileCall) → RefusesAlone (seen_of self.old) call → Answers (seen_of self.old) call (Refused result) (seen_of self.new) }
+        ensures answers { (call : FileCall) → RefusesAlone (seen_of self.old) call → Answers (seen_of self.old) call (Refused result) (seen_of self.new) }
+        ensures taken { self.new.taken ≡ self.old.taken }
     {
         match &mut self.data {
             Some(data) => data.refuse(),
@@ -271,7 +339,8 @@ impl<R: RawStream> Buffered<R> {
 
     /// Passes on all that is owed.
     pub fn flush(&mut self) -> Result<(), IoFault>
-        ensures { Answers (seen_of self.old) Flush (done_reply result) (seen_of self.new) }
+        ensures answers { Answers (seen_of self.old) Flush (done_reply result) (seen_of self.new) }
+        ensures taken { self.new.taken ≡ self.old.taken }
     {
         match &mut self.data {
             Some(data) => data.flush(),
@@ -281,7 +350,8 @@ impl<R: RawStream> Buffered<R> {
 
     /// Passes on all that is owed, and closes the raw.
     pub fn close(&mut self) -> Result<(), IoFault>
-        ensures { Answers (seen_of self.old) Close (done_reply result) (seen_of self.new) }
+        ensures answers { Answers (seen_of self.old) Close (done_reply result) (seen_of self.new) }
+        ensures taken { self.new.taken ≡ self.old.taken }
     {
         match &mut self.data {
             Some(data) => data.close(),
@@ -291,7 +361,8 @@ impl<R: RawStream> Buffered<R> {
 
     /// Hands the raw back, of a live stream once all is passed on.
     pub fn detach(&mut self) -> Result<Detached<R>, IoFault>
-        ensures { DetachOutcome R.shows (seen_of self.old) result (seen_of self.new) }
+        ensures outcome { DetachOutcome R.shows (seen_of self.old) result (seen_of self.new) }
+        ensures taken { self.new.taken ≡ self.old.taken }
     {
         begin_detach(&mut self.data)?;
         match self.data.take() {
@@ -309,6 +380,7 @@ impl<R: RawStream> Buffered<R> {
             access: _,
             seekable,
             size: _,
+            taken: _,
         } = self;
         match data {
             Some(data) => Some(hand_over(data, seekable)),
@@ -352,7 +424,8 @@ impl<R: RawStream> Buffered<R> {
 
     /// Forgets that a wait cut the last call short.
     pub fn forget_wait(&mut self)
-        ensures { seen_of self.new ≡ record (seen_of self.old) { short = false } }
+        ensures whole { seen_of self.new ≡ record (seen_of self.old) { short = false } }
+        ensures taken { self.new.taken ≡ self.old.taken }
     {
         if let Some(data) = &mut self.data {
             data.forget_wait();

@@ -1,12 +1,15 @@
 //! The writer: a buffered stream that is only written.
-ghost use Rattle.std.specs.Prelude.{◌≡◌, Some, true, false};
+ghost use Rattle.std.specs.Prelude.{◌≡◌, Some, IfOk, true, false};
+ghost use Rattle.py_flat.specs.Lines.{joined};
 ghost use Rattle.py_flat.specs.Calls.{FileCall, Write, WriteLines, Seek, Tell, Flush, Close, Refused};
 ghost use Rattle.py_flat.specs.ExactStep.{is_closed};
 ghost use Rattle.py_stream.specs.Stream.{writer_can};
 ghost use Rattle.py_stream.specs.Answers.{Answers, RefusesAlone};
 ghost use Rattle.py_stream.specs.Replies.{count_reply, place_reply, done_reply};
+ghost use Rattle.py_stream.specs.Taken.{taken_of};
 ghost use Rattle.py_stream.specs.Opening.{StandsAtStart, NewOutcome};
 ghost use Rattle.py_stream.specs.Handing.{DetachOutcome, PartsOutcome, LendsRaw};
+ghost use Rattle.py_buffered.specs.Buffered.{opened_as, stream_in};
 
 use crate::buffered::Buffered;
 use py_raw::{IoFault, Life, Lines, RawStream};
@@ -17,8 +20,8 @@ use std::marker::Model;
 /// A buffered writer over a raw stream, as Python's `io.BufferedWriter`.
 ///
 /// It is seen as a `Stream`: what its raw shows, its place, what it can do, its life, the buffer's size, whether its last
-/// answer was short, and the bytes that it owes the raw, with the place of the first of them. Counts are bytes; places are
-/// bytes from the start of the stream, from 0 to 9223372036854775807. But for `new` and `append` no call takes memory of its
+/// answer was short, and the bytes that it owes the raw, with the place of the first of them; and beside it as how many bytes of
+/// the last write were taken. Counts are bytes; places are bytes from the start of the stream, from 0 to 9223372036854775807. But for `new` and `append` no call takes memory of its
 /// own: `NoMemory` comes only of a raw that takes some.
 ///
 /// Each call first answers by the life, with all as it was: `Failed` after a fault, or running out of memory that failed it (a `detach`
@@ -36,12 +39,11 @@ pub struct BufferedWriter<R: RawStream> {
 
 // A function's proof knows the invariant where the function uses a field: so some begin with `let _ = &self.inner;`.
 impl<R: RawStream> Model for BufferedWriter<R> {
-    ghost use Rattle.py_stream.specs.Stream.{Stream};
-    ghost use Rattle.py_buffered.specs.Buffered.{seen_of, Writes};
+    ghost use Rattle.py_buffered.specs.Buffered.{WriterView, seen_of, Writes};
 
-    ghost Value = { Stream };
+    ghost Value = { WriterView };
 
-    ghost view = { λ w. seen_of w.inner };
+    ghost view = { λ w. record { stream = seen_of w.inner; taken = w.inner.taken } };
 
     ghost invariant = { λ w. Writes (seen_of w.inner) };
 }
@@ -55,7 +57,8 @@ impl<R: RawStream> BufferedWriter<R> {
     /// the last it is as it was.
     pub fn new(alloc: Global, raw: R, buffer_size: usize) -> Result<Self, NewRefused<R>>
         requires start { StandsAtStart (R.shows raw) }
-        ensures { NewOutcome R.shows (λ shown. shown.writable) (writer_can false) raw (Some buffer_size) result }
+        ensures outcome { NewOutcome R.shows (λ shown. shown.writable) (writer_can false) raw (Some buffer_size) (opened_as stream_in result) }
+        ensures taken { IfOk result (λ writer. writer.taken ≡ 0) }
     {
         match Buffered::new(alloc, raw, buffer_size, Access::Write) {
             Ok(inner) => Ok(BufferedWriter { inner }),
@@ -69,7 +72,8 @@ impl<R: RawStream> BufferedWriter<R> {
     /// Refused as `new` is; `RawFault` where the raw failed to say where it ends, or to move there.
     pub fn append(alloc: Global, raw: R, buffer_size: usize) -> Result<Self, NewRefused<R>>
         requires start { StandsAtStart (R.shows raw) }
-        ensures { NewOutcome R.shows (λ shown. shown.writable) (writer_can true) raw (Some buffer_size) result }
+        ensures outcome { NewOutcome R.shows (λ shown. shown.writable) (writer_can true) raw (Some buffer_size) (opened_as stream_in result) }
+        ensures taken { IfOk result (λ writer. writer.taken ≡ 0) }
     {
         match Buffered::new(alloc, raw, buffer_size, Access::Append) {
             Ok(inner) => Ok(BufferedWriter { inner }),
@@ -85,14 +89,16 @@ impl<R: RawStream> BufferedWriter<R> {
     /// the writer is failed, and owes none of `bytes`: those that went straight to the raw are told by the place. `NoMemory`, of a
     /// raw that takes some, takes nothing, unless the raw has some of `bytes` already: then the writer is failed, as by a fault.
     pub fn write(&mut self, bytes: &[u8]) -> Result<usize, IoFault>
-        ensures { Answers self.old (Write bytes.now) (count_reply result) self.new }
+        ensures answers { Answers self.old.stream (Write bytes.now) (count_reply result) self.new.stream }
+        ensures taken { self.new.taken ≡ taken_of bytes.now (count_reply result) self.old.stream.place self.new.stream.place }
     {
         self.inner.write(bytes)
     }
 
     /// Takes lines as they are, as one `write` of them joined; refused as that is, with `taken` counted over all of them.
     pub fn writelines(&mut self, lines: &Lines) -> Result<(), IoFault>
-        ensures { Answers self.old (WriteLines lines.now) (done_reply result) self.new }
+        ensures answers { Answers self.old.stream (WriteLines lines.now) (done_reply result) self.new.stream }
+        ensures taken { self.new.taken ≡ taken_of (joined lines.now) (done_reply result) self.old.stream.place self.new.stream.place }
     {
         self.inner.writelines(lines)
     }
@@ -104,14 +110,16 @@ impl<R: RawStream> BufferedWriter<R> {
     /// 0 or past 9223372036854775807: all is as it was. From the end, the raw is asked first where that is, and may fail.
     /// `WouldBlock { taken: 0 }` and `NoMemory` leave the place, and what isn't passed on yet is still owed.
     pub fn seek(&mut self, offset: i64, whence: i32) -> Result<u64, IoFault>
-        ensures { Answers self.old (Seek offset whence) (place_reply result) self.new }
+        ensures answers { Answers self.old.stream (Seek offset whence) (place_reply result) self.new.stream }
+        ensures taken { self.new.taken ≡ self.old.taken }
     {
         self.inner.seek(offset, whence)
     }
 
     /// The place. `Unsupported` where the raw can't seek; nothing else refuses it but the life. It calls no raw.
     pub fn tell(&mut self) -> Result<u64, IoFault>
-        ensures { Answers self.old Tell (place_reply result) self.new }
+        ensures answers { Answers self.old.stream Tell (place_reply result) self.new.stream }
+        ensures taken { self.new.taken ≡ self.old.taken }
     {
         self.inner.tell()
     }
@@ -120,7 +128,8 @@ impl<R: RawStream> BufferedWriter<R> {
     /// through: by the life, else
     /// `Unsupported`, with all as it was. It calls no raw. It is for those who take calls as values.
     pub fn refuse(&mut self) -> IoFault
-        ensures { (call : FileCall) → RefusesAlone self.old call → Answers self.old call (Refused result) self.new }
+        ensures answers { (call : FileCall) → RefusesAlone self.old.stream call → Answers self.old.stream call (Refused result) self.new.stream }
+        ensures taken { self.new.taken ≡ self.old.taken }
     {
         self.inner.refuse()
     }
@@ -130,7 +139,8 @@ impl<R: RawStream> BufferedWriter<R> {
     /// `WouldBlock { taken: 0 }` and `NoMemory` leave what isn't passed on yet owed; call it again. `RawFault`: the writer is
     /// failed.
     pub fn flush(&mut self) -> Result<(), IoFault>
-        ensures { Answers self.old Flush (done_reply result) self.new }
+        ensures answers { Answers self.old.stream Flush (done_reply result) self.new.stream }
+        ensures taken { self.new.taken ≡ self.old.taken }
     {
         self.inner.flush()
     }
@@ -141,7 +151,8 @@ impl<R: RawStream> BufferedWriter<R> {
     /// `RawFault` the writer is closed; where the raw failed to take what was owed it isn't asked to close, and `into_parts`
     /// hands back what is owed.
     pub fn close(&mut self) -> Result<(), IoFault>
-        ensures { Answers self.old Close (done_reply result) self.new }
+        ensures answers { Answers self.old.stream Close (done_reply result) self.new.stream }
+        ensures taken { self.new.taken ≡ self.old.taken }
     {
         self.inner.close()
     }
@@ -152,7 +163,8 @@ impl<R: RawStream> BufferedWriter<R> {
     ///
     /// Refused as `flush` is; a closed writer can't be detached.
     pub fn detach(&mut self) -> Result<Detached<R>, IoFault>
-        ensures { DetachOutcome R.shows self.old result self.new }
+        ensures outcome { DetachOutcome R.shows self.old.stream result self.new.stream }
+        ensures taken { self.new.taken ≡ self.old.taken }
     {
         self.inner.detach()
     }
@@ -160,14 +172,14 @@ impl<R: RawStream> BufferedWriter<R> {
     /// The raw, what is owed, and the place of the first byte of that, in every life; `None` exactly where the raw was handed
     /// back already. It calls no raw and takes no memory.
     pub fn into_parts(self) -> Option<Detached<R>>
-        ensures { PartsOutcome R.shows self result }
+        ensures { PartsOutcome R.shows self.stream result }
     {
         self.inner.into_parts()
     }
 
     /// Whether it reads: never, whatever its raw can.
     pub fn readable(&self) -> bool
-        ensures { result ≡ self.now.can.readable }
+        ensures { result ≡ self.now.stream.can.readable }
     {
         let _ = &self.inner;
         false
@@ -175,7 +187,7 @@ impl<R: RawStream> BufferedWriter<R> {
 
     /// Whether it writes: always.
     pub fn writable(&self) -> bool
-        ensures { result ≡ self.now.can.writable }
+        ensures { result ≡ self.now.stream.can.writable }
     {
         let _ = &self.inner;
         true
@@ -183,49 +195,59 @@ impl<R: RawStream> BufferedWriter<R> {
 
     /// Whether its raw can be moved. A writer that appends isn't moved, whatever its raw can.
     pub fn seekable(&self) -> bool
-        ensures { result ≡ self.now.can.seekable }
+        ensures { result ≡ self.now.stream.can.seekable }
     {
         self.inner.seekable()
     }
 
     /// Whether it was closed. A detached writer wasn't.
     pub fn closed(&self) -> bool
-        ensures { result ≡ is_closed self.now.life }
+        ensures { result ≡ is_closed self.now.stream.life }
     {
         matches!(self.life(), Life::Closed)
     }
 
     /// What became of it: live at first, failed by a fault, closed, or detached.
     pub fn life(&self) -> Life
-        ensures { result ≡ self.now.life }
+        ensures { result ≡ self.now.stream.life }
     {
         self.inner.life()
     }
 
     /// How many bytes its buffer holds.
     pub fn buffer_size(&self) -> usize
-        ensures { self.now.buffer ≡ Some result }
+        ensures { self.now.stream.buffer ≡ Some result }
     {
         self.inner.buffer_size()
     }
 
     /// Whether a wait of the raw refused the last call.
     pub fn short(&self) -> bool
-        ensures { result ≡ self.now.short }
+        ensures { result ≡ self.now.stream.short }
     {
         self.inner.short()
     }
 
+    /// How many bytes of its argument the last `write` or `writelines` took, of `writelines` of the lines joined: all of them where it
+    /// was done, as many as it said where it was `WouldBlock`, none where it was refused with all as it was. After a `RawFault` or
+    /// `NoMemory` it is how many the raw answered for or the buffer kept, which nothing else tells of a raw that can't seek. 0
+    /// before the first; other calls leave it.
+    pub fn taken(&self) -> u64
+        ensures { result ≡ self.now.taken }
+    {
+        self.inner.taken()
+    }
+
     /// Forgets that a wait cut the last call short. It is for those who answer a call by themselves, which then is the last one.
     pub fn forget_wait(&mut self)
-        ensures { self.new ≡ record self.old { short = false } }
+        ensures { self.new ≡ record self.old { stream = record self.old.stream { short = false } } }
     {
         self.inner.forget_wait();
     }
 
     /// The raw, lent; `None` exactly where it was handed back.
     pub fn raw(&self) -> Option<&R>
-        ensures { LendsRaw R.shows self.now result }
+        ensures { LendsRaw R.shows self.now.stream result }
     {
         self.inner.raw()
     }

@@ -17,10 +17,10 @@ pub fn copy_all<R: RawStream, W: RawStream>(
     reader: &mut BufferedReader<R>,
     writer: &mut BufferedWriter<W>,
 ) -> Result<bool, IoFault>
-    ensures copied { result ≡ Ok true → Copied reader.old writer.old writer.new }
+    ensures copied { result ≡ Ok true → Copied reader.old writer.old.stream writer.new.stream }
     ensures waited { result ≡ Ok false → Rose reader.old.raw.waits reader.new.raw.waits }
-    ensures fault { result ≡ Err IoFault.RawFault → Rose reader.old.raw.faults reader.new.raw.faults ⊎ Rose writer.old.raw.faults writer.new.raw.faults }
-    ensures outcome { CopyOutcome reader.old writer.old result reader.new writer.new }
+    ensures fault { result ≡ Err IoFault.RawFault → Rose reader.old.raw.faults reader.new.raw.faults ⊎ Rose writer.old.stream.raw.faults writer.new.stream.raw.faults }
+    ensures outcome { CopyOutcome reader.old writer.old.stream result reader.new writer.new.stream }
 {
     let _ = writer.buffer_size(); // by its clause there is a buffer, so that a write takes all that it is given
     let Some(bytes) = reader.read(alloc, None)? else {

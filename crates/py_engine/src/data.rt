@@ -4,7 +4,7 @@ ghost use Rattle.py_flat.specs.Limits.{greatest_place};
 ghost use Rattle.py_raw.specs.RawStream.{WherePlace};
 ghost use Rattle.py_stream.specs.Access.{is_read};
 ghost use Rattle.py_stream.specs.Reading.{has_answer};
-ghost use Rattle.py_engine.specs.Window.{ahead_of};
+ghost use Rattle.py_engine.specs.Window.{ahead_of, place_of};
 ghost use Rattle.py_engine.specs.Engine.{stream_of, Stands, BeginOutcome};
 ghost use Rattle.py_engine.specs.Reading.{StarvesWith, FillsOutcome, PassesOutcome, answered_at};
 
@@ -97,6 +97,13 @@ impl<R: RawStream> BufferedData<R> {
         ensures { result.now ≡ ahead_of self.now.window }
     {
         self.window.ahead()
+    }
+
+    /// The stream's place, whether it can be moved or not.
+    pub fn place(&self) -> u64
+        ensures { result ≡ place_of self.now.window }
+    {
+        self.window.place()
     }
 
     /// Begins a call: the life refuses it, or it may go on. No answer is short yet.

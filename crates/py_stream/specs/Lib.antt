@@ -5,6 +5,7 @@ pub mod Writing
 pub mod Answers
 pub mod Keeping
 pub mod Taking
+pub mod Taken
 pub mod Reading
 pub mod Replies
 pub mod Opening

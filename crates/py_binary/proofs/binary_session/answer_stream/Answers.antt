@@ -15,13 +15,13 @@ returns-in-Reader-clause-served g c =
 
 pub returns-in-Writer-clause-answers : goal.returns-in-Writer-clause-answers
 returns-in-Writer-clause-answers g c =
-    let served : IsWriter c.in-Writer.writer = rw c.in-Writer.is at c.requires.served in
-    rw c.in-Writer.is (answers_call c.in-Writer.writer (file_call c.args.call.now) (said c.answer_writer.result) c.answer_writer.new.writer served.held (no_detach _ _ c.requires.stays) c.answer_writer.ensures)
+    let served : IsWriter c.in-Writer.writer.stream = rw c.in-Writer.is at c.requires.served in
+    rw c.in-Writer.is (answers_call c.in-Writer.writer.stream (file_call c.args.call.now) (said c.answer_writer.result) c.answer_writer.new.writer.stream served.held (no_detach _ _ c.requires.stays) c.answer_writer.ensures)
 
 pub returns-in-Writer-clause-served : goal.returns-in-Writer-clause-served
 returns-in-Writer-clause-served g c =
-    let served : IsWriter c.in-Writer.writer = rw c.in-Writer.is at c.requires.served in
-    writer_on c.in-Writer.writer (file_call c.args.call.now) (said c.answer_writer.result) c.answer_writer.new.writer served (no_detach _ _ c.requires.stays) c.answer_writer.ensures
+    let served : IsWriter c.in-Writer.writer.stream = rw c.in-Writer.is at c.requires.served in
+    writer_on c.in-Writer.writer.stream (file_call c.args.call.now) (said c.answer_writer.result) c.answer_writer.new.writer.stream served (no_detach _ _ c.requires.stays) c.answer_writer.ensures
 
 pub returns-in-Unbuffered-clause-answers : goal.returns-in-Unbuffered-clause-answers
 returns-in-Unbuffered-clause-answers g c =

@@ -6,14 +6,14 @@ use Rattle.py_binary.proofs.Alone.{writer_refuses}
 use Rattle.py_binary.proofs.writer_calls.answer_writer.Goals as goal
 
 pub returns-in-Write : goal.returns-in-Write
-returns-in-Write g c = rw c.in-Write.is (with_said _ _ (count_reply c.write.result) _ _ c.count_reply.ensures (rw c.as_slice.ensures at c.write.ensures))
+returns-in-Write g c = rw c.in-Write.is (with_said _ _ (count_reply c.write.result) _ _ c.count_reply.ensures (rw c.as_slice.ensures at c.write.ensures.answers))
 
 pub returns-in-WriteLines : goal.returns-in-WriteLines
-returns-in-WriteLines g c = rw c.in-WriteLines.is (with_said _ _ (done_reply c.writelines.result) _ _ c.done_reply.ensures c.writelines.ensures)
+returns-in-WriteLines g c = rw c.in-WriteLines.is (with_said _ _ (done_reply c.writelines.result) _ _ c.done_reply.ensures c.writelines.ensures.answers)
 
 pub returns-in-Seek : goal.returns-in-Seek
 returns-in-Seek g c = rw c.in-Seek.is (with_said _ _ (place_reply c.seek.result) _ _ c.place_reply.ensures (search rules))
 
 pub returns-in_default : goal.returns-in_default
 returns-in_default g c =
-    with_reply_room _ _ _ _ (c.refuse.ensures (file_call c.args.call.now) (writer_refuses c.args.writer.now c.args.call.now c.requires.served.reads c.requires.asks c.requires.stays c.in_default.not-Write c.in_default.not-WriteLines c.in_default.not-Seek c.in_default.not-Tell c.in_default.not-Flush c.in_default.not-Close c.in_default.not-ChunkSize c.in_default.not-Encoding c.in_default.not-Errors))
+    with_reply_room _ _ _ _ (c.refuse.ensures.answers (file_call c.args.call.now) (writer_refuses c.args.writer.now.stream c.args.call.now c.requires.served.reads c.requires.asks c.requires.stays c.in_default.not-Write c.in_default.not-WriteLines c.in_default.not-Seek c.in_default.not-Tell c.in_default.not-Flush c.in_default.not-Close c.in_default.not-ChunkSize c.in_default.not-Encoding c.in_default.not-Errors))

@@ -5,13 +5,13 @@ use Rattle.py_buffered.proofs.HandingOver.{detach_fails, detach_hands_over, begi
 use Rattle.py_buffered.proofs.buffered.Buffered.detach.Goals as goal
 use Rattle.py_buffered.proofs.buffered.Buffered.detach.Goals.{in-Some, in-None}
 
-pub returns-in_err-begin_detach : goal.returns-in_err-begin_detach
-returns-in_err-begin_detach g c =
+pub returns-in_err-begin_detach-clause-outcome : goal.returns-in_err-begin_detach-clause-outcome
+returns-in_err-begin_detach-clause-outcome g c =
     let left = err_from_is_err_and c.from_residual.result c.from_residual.ensures.1 in
     rw (← c.self.view_is, left.1, left.2) (detach_fails c.self.inside.data c.begin_detach.new.engine c.self.inside.access c.self.inside.seekable c.self.inside.size c.in_err-begin_detach.field-0.0 c.in_err-begin_detach.ensures)
 
-pub returns : goal.returns
-returns g c =
+pub returns-clause-outcome : goal.returns-clause-outcome
+returns-clause-outcome g c =
     elim c.match-take.branch [
       | in-Some w ↦
           let begun = subst (BeginsDetach c.self.inside.data (Ok tt)) (sym c.take.ensures.value ∙ w.in-Some.is) c.in_ok-begin_detach.ensures in

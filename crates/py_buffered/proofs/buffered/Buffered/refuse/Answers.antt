@@ -11,8 +11,8 @@ invariant_of-self g c = elim c.match-self.branch [
   | in-None w ↦ rw w.self-inside-is c.self.invariant
 ]
 
-pub returns : goal.returns
-returns g c = elim c.match-self.branch [
+pub returns-clause-answers : goal.returns-clause-answers
+returns-clause-answers g c = elim c.match-self.branch [
   | in-Some w ↦ rw (← c.self.view_is, w.in-Some.is, w.result-is, w.self-inside-is) w.refuse.ensures
   | in-None w ↦ λ call alone. rw (← c.self.view_is, w.result-is, w.self-inside-is, w.in-None.is) (detached_answers (can_of c.self.inside.access c.self.inside.seekable) (Some c.self.inside.size) call alone.0 alone.1)
 ]

@@ -1,12 +1,16 @@
-use Rattle.std.proofs.Common.{Some, refl}
-use Rattle.py_flat.specs.Calls.{Write}
-use Rattle.py_stream.specs.Access.{can_of}
-use Rattle.py_stream.proofs.Refused.{detached_answers}
+use Rattle.std.proofs.Common.{◌≡◌, Some}
+use Rattle.py_buffered.specs.Buffered.{seen_of}
+use Rattle.py_buffered.proofs.Counting.{is_sized, write_takes}
 use Rattle.py_buffered.proofs.buffered.Buffered.write.Goals as goal
-use Rattle.py_buffered.proofs.buffered.Buffered.write.Goals.{in-Some, in-None}
 
-pub returns : goal.returns
-returns g c = elim c.match-self.branch [
-  | in-Some w ↦ rw (← c.self.view_is, w.in-Some.is, w.result-is, w.self-inside-is) w.write.ensures
-  | in-None w ↦ rw (← c.self.view_is, w.result-is, w.self-inside-is, w.in-None.is) (detached_answers (can_of c.self.inside.access c.self.inside.seekable) (Some c.self.inside.size) (Write c.args.bytes.now) refl refl)
-]
+pub count_from-requires : goal.count_from-requires
+count_from-requires g c =
+    let sized : (seen_of c.args.self.now).buffer ≡ Some c.self.inside.size = rw (← c.self.view_is) (is_sized c.self.inside.data c.self.inside.access c.self.inside.seekable c.self.inside.size c.self.invariant) in
+    let counts = write_takes (seen_of c.args.self.now) (seen_of c.put-answer.new.self) c.self.inside.size c.args.bytes.now c.put-answer.result sized c.put-answer.ensures in
+    rw c.place-start.ensures counts.forth
+
+pub returns-clause-taken : goal.returns-clause-taken
+returns-clause-taken g c =
+    let sized : (seen_of c.args.self.now).buffer ≡ Some c.self.inside.size = rw (← c.self.view_is) (is_sized c.self.inside.data c.self.inside.access c.self.inside.seekable c.self.inside.size c.self.invariant) in
+    let counts = write_takes (seen_of c.args.self.now) (seen_of c.put-answer.new.self) c.self.inside.size c.args.bytes.now c.put-answer.result sized c.put-answer.ensures in
+    rw (c.count_from.ensures, c.place-start.ensures) counts.taken

@@ -1,0 +1,55 @@
+-- How many bytes of its argument a write took: as many as its place moved by.
+use Rattle.std.proofs.Common.{◌≡◌, ℕ, ◌-◌, ◌≤◌, Bool, List, length, Option, Some, None, Result, Ok, Err, refl, ap, arith}
+use Rattle.py_flat.specs.declared.fault.IoFault.{IoFault}
+use Rattle.py_flat.specs.declared.fault.IoFault.TheVariants as fault
+use Rattle.py_flat.specs.declared.life.Life.{Life}
+use Rattle.py_flat.specs.declared.life.Life.TheVariants as life
+use Rattle.py_flat.specs.Lines.{joined}
+use Rattle.py_flat.specs.Calls.{FileReply, Write, WriteLines}
+use Rattle.py_stream.specs.Replies.{count_reply, done_reply}
+use Rattle.py_stream.specs.declared.access.Access.{Access}
+use Rattle.py_stream.specs.Stream.{Stream}
+use Rattle.py_stream.specs.Answers.{Answers, PlaceMoves, PlaceStarves}
+use Rattle.py_stream.specs.Taken.{taken_of}
+use Rattle.py_engine.specs.Engine.{EngineView}
+use Rattle.py_buffered.specs.Buffered.{seen_as, IsBuffered}
+
+-- the place moved forth by what a write took
+pub record Counts (bytes : List ℕ) (reply : FileReply) (before after : ℕ) : Type 0 where
+  pub forth : before ≤ after
+  pub taken : after - before ≡ taken_of bytes reply before after
+
+-- the place is where it was, or moved forth
+starved : (current : Life) (most before after : ℕ) → PlaceStarves current (Some most) before after → before ≤ after
+starved life.Live most before after same = omega arith
+starved life.Failed most before after forth = forth.0
+starved life.Closed most before after forth = forth.0
+starved life.Detached most before after forth = forth.0
+
+-- after a `write`
+write_counts : (result : Result ℕ IoFault) (size : ℕ) (bytes : List ℕ) (current : Life) (before after : ℕ) → PlaceMoves (Some size) (Write bytes) (count_reply result) current before after → Counts bytes (count_reply result) before after
+write_counts (Ok count) size bytes current before after (takes, place) = record { forth = omega arith; taken = omega arith }
+write_counts (Err (fault.WouldBlock taken)) size bytes current before after (less, place) = record { forth = omega arith; taken = omega arith }
+write_counts (Err fault.RawFault) size bytes current before after (low, high) = record { forth = low; taken = refl }
+write_counts (Err fault.NoMemory) size bytes current before after starves = record { forth = starved current (length bytes) before after starves; taken = refl }
+write_counts (Err why) size bytes current before after same = record { forth = omega arith; taken = omega arith }
+
+-- after a `writelines`
+writelines_counts : (result : Result (Unit {0}) IoFault) (size : ℕ) (lines : List (List ℕ)) (current : Life) (before after : ℕ) → PlaceMoves (Some size) (WriteLines lines) (done_reply result) current before after → Counts (joined lines) (done_reply result) before after
+writelines_counts (Ok done) size lines current before after place = record { forth = omega arith; taken = omega arith }
+writelines_counts (Err (fault.WouldBlock taken)) size lines current before after (less, place) = record { forth = omega arith; taken = omega arith }
+writelines_counts (Err fault.RawFault) size lines current before after (low, high) = record { forth = low; taken = refl }
+writelines_counts (Err fault.NoMemory) size lines current before after starves = record { forth = starved current (length (joined lines)) before after starves; taken = refl }
+writelines_counts (Err why) size lines current before after same = record { forth = omega arith; taken = omega arith }
+
+-- what a writing call of a stream with a buffer took, by its one clause
+pub write_takes : (before after : Stream) (size : ℕ) (bytes : List ℕ) (result : Result ℕ IoFault) → before.buffer ≡ Some size → Answers before (Write bytes) (count_reply result) after → Counts bytes (count_reply result) before.place after.place
+write_takes before after size bytes result sized answers = write_counts result size bytes after.life before.place after.place (rw sized at answers.moves.place)
+
+pub writelines_takes : (before after : Stream) (size : ℕ) (lines : List (List ℕ)) (result : Result (Unit {0}) IoFault) → before.buffer ≡ Some size → Answers before (WriteLines lines) (done_reply result) after → Counts (joined lines) (done_reply result) before.place after.place
+writelines_takes before after size lines result sized answers = writelines_counts result size lines after.life before.place after.place (rw sized at answers.moves.place)
+
+-- a buffered stream has a buffer, also once its raw was handed back
+pub is_sized : (engine : Option EngineView) (opened : Access) (seekable : Bool) (size : ℕ) → IsBuffered engine opened seekable size → (seen_as engine opened seekable size).buffer ≡ Some size
+is_sized (Some engine) opened seekable size is = ap (λ (held : ℕ). Some held) is.1
+is_sized None opened seekable size is = refl
