@@ -1,5 +1,5 @@
 -- How many bytes of its argument a write took: as many as its place moved by.
-use Rattle.std.proofs.Common.{◌≡◌, ℕ, ◌-◌, ◌≤◌, Bool, List, length, Option, Some, None, Result, Ok, Err, refl, ap, arith}
+use Rattle.std.proofs.Common.{◌≡◌, ℕ, ◌-◌, ◌≤◌, List, length, Some, Result, Ok, Err, refl, arith}
 use Rattle.py_flat.specs.declared.fault.IoFault.{IoFault}
 use Rattle.py_flat.specs.declared.fault.IoFault.TheVariants as fault
 use Rattle.py_flat.specs.declared.life.Life.{Life}
@@ -7,12 +7,9 @@ use Rattle.py_flat.specs.declared.life.Life.TheVariants as life
 use Rattle.py_flat.specs.Lines.{joined}
 use Rattle.py_flat.specs.Calls.{FileReply, Write, WriteLines}
 use Rattle.py_stream.specs.Replies.{count_reply, done_reply}
-use Rattle.py_stream.specs.declared.access.Access.{Access}
 use Rattle.py_stream.specs.Stream.{Stream}
 use Rattle.py_stream.specs.Answers.{Answers, PlaceMoves, PlaceStarves}
 use Rattle.py_stream.specs.Taken.{taken_of}
-use Rattle.py_engine.specs.Engine.{EngineView}
-use Rattle.py_buffered.specs.Buffered.{seen_as, IsBuffered}
 
 -- the place moved forth by what a write took
 pub record Counts (bytes : List ℕ) (reply : FileReply) (before after : ℕ) : Type 0 where
@@ -48,8 +45,3 @@ write_takes before after size bytes result sized answers = write_counts result s
 
 pub writelines_takes : (before after : Stream) (size : ℕ) (lines : List (List ℕ)) (result : Result (Unit {0}) IoFault) → before.buffer ≡ Some size → Answers before (WriteLines lines) (done_reply result) after → Counts (joined lines) (done_reply result) before.place after.place
 writelines_takes before after size lines result sized answers = writelines_counts result size lines after.life before.place after.place (rw sized at answers.moves.place)
-
--- a buffered stream has a buffer, also once its raw was handed back
-pub is_sized : (engine : Option EngineView) (opened : Access) (seekable : Bool) (size : ℕ) → IsBuffered engine opened seekable size → (seen_as engine opened seekable size).buffer ≡ Some size
-is_sized (Some engine) opened seekable size is = ap (λ (held : ℕ). Some held) is.1
-is_sized None opened seekable size is = refl

@@ -237,7 +237,7 @@ impl<R: RawStream> Buffered<R> {
         ensures answers { Answers (seen_of self.old) (Write bytes.now) (count_reply result) (seen_of self.new) }
         ensures taken { self.new.taken ≡ taken_of bytes.now (count_reply result) (seen_of self.old).place (seen_of self.new).place }
     {
-        let _ = &self.size;
+        let _ = self.buffer_size(); // by its clause there is a buffer, so that a write takes all that it is given
         let start = self.place();
         let answer = self.put(bytes);
         self.count_from(start);
@@ -250,7 +250,7 @@ impl<R: RawStream> Buffered<R> {
         ensures answers { Answers (seen_of self.old) (WriteLines lines.now) (done_reply result) (seen_of self.new) }
         ensures taken { self.new.taken ≡ taken_of (joined lines.now) (done_reply result) (seen_of self.old).place (seen_of self.new).place }
     {
-        let _ = &self.size;
+        let _ = self.buffer_size(); // by its clause there is a buffer, so that a write takes all that it is given
         let start = self.place();
         let answer = self.put_lines(lines);
         self.count_from(start);

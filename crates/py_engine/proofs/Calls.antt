@@ -1,5 +1,5 @@
 -- The calls that give nothing, or bytes, by what the stream is opened for: what holds when a call begins, and what its steps come to.
-use Rattle.std.proofs.Common.{◌≡◌, ℕ, ℤ, ◌+◌, ◌≤◌, ◌⊎◌, inl, inr, Bool, true, false, not, ◌||◌, length, [], Some, Result, Ok, Err, refl, sym, ap, ◌∙◌, subst}
+use Rattle.std.proofs.Common.{◌≡◌, ℕ, ℤ, ◌+◌, ◌≤◌, ◌⊎◌, inl, inr, Bool, true, false, not, ◌||◌, length, Some, Result, Ok, Err, refl, sym, ap, ◌∙◌, subst}
 use Rattle.py_flat.specs.declared.fault.IoFault.{IoFault}
 use Rattle.py_flat.specs.declared.fault.IoFault.TheVariants as fault
 use Rattle.py_flat.specs.declared.life.Life.TheVariants as life
@@ -25,8 +25,7 @@ use Rattle.py_stream.proofs.PassingOn.{begun}
 use Rattle.py_stream.proofs.Flushing.{flush_answers}
 use Rattle.py_stream.proofs.Shutting.{flush_passes_on, close_stops, close_answers, close_answers_at_once}
 use Rattle.py_stream.proofs.Going.{SeeksWriting, Finds, seek_finds, seek_stops, seek_fails, seek_answers, going_fails, going_answers}
-use Rattle.py_flat.specs.Owed.{Owed}
-use Rattle.py_engine.specs.Window.{place_of, pending_of}
+use Rattle.py_engine.specs.Window.{place_of}
 use Rattle.py_engine.specs.Engine.{EngineView, stream_of, Stands, BeginOutcome}
 use Rattle.py_engine.specs.Passing.{PassesAll, PassesToClose}
 use Rattle.py_engine.proofs.Standing.{is_placed, is_sound, owes_behind, owes_nothing}
@@ -198,15 +197,6 @@ arrives_by other old found mid new offset whence target opened seek passed goes 
 -- a seek that moved the stream answers its target
 pub seeking_arrives : (old found mid new : EngineView) (offset whence : ℤ) (target : ℕ) → SeekFinds old offset whence target found → PassesAll found.access (stream_of found) (Ok tt) (stream_of mid) → GoesTo (stream_of mid) target (stream_of new) → Answers (stream_of old) (Seek offset whence) (Place target) (stream_of new)
 seeking_arrives old found mid new offset whence target seek passed goes = arrives_by found.access old found mid new offset whence target (sym seek.same) seek passed goes
-
--- once all is passed on nothing is pending
-passed_none : (opened : Access) (found mid : EngineView) → found.access ≡ opened → Stands found → PassesAll opened (stream_of found) (Ok tt) (stream_of mid) → pending_of mid.window ≡ []
-passed_none access.Read found mid opened is passed = ap (λ (stream : Stream). stream.owed.bytes) passed.1 ∙ ap (λ (owed : Owed). owed.bytes) (owes_nothing found is (ap is_read opened))
-passed_none other found mid opened is passed = passed.2
-
--- once a stream passed all on, no byte of its window is pending
-pub nothing_pending : (found mid : EngineView) → Stands found → PassesAll found.access (stream_of found) (Ok tt) (stream_of mid) → pending_of mid.window ≡ []
-nothing_pending found mid is passed = passed_none found.access found mid refl is passed
 
 -- Giving bytes.
 

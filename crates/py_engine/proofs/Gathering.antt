@@ -17,7 +17,8 @@ use Rattle.py_engine.specs.Window.{place_of, end_of, ahead_of, advanced}
 use Rattle.py_engine.specs.Engine.{EngineView}
 use Rattle.py_engine.specs.Reading.{reading_of, KeepsEngine, UsesUp, IsLast, Fills, FillsOutcome, StarvesWith}
 use Rattle.py_lines.specs.Collecting.{HasEnough, WantsMore}
-use Rattle.py_engine.proofs.Transfers.{held_next, keeps_then, keeps_reading, still_tells, keeps_told, keeps_advanced, no_fault_then, no_wait_then, keeps_failed, each_then, each_but_last, each_but_failed}
+use Rattle.py_raw.proofs.ReadingOn.{no_fault_then, no_wait_then}
+use Rattle.py_engine.proofs.Transfers.{held_next, keeps_then, keeps_reading, still_tells, keeps_told, keeps_advanced, keeps_failed, each_then, each_but_last, each_but_failed}
 
 -- a part was collected, up to the cursor; where no byte was moved yet, all is as it was, and else the window holds bytes that weren't
 -- held
@@ -177,11 +178,11 @@ module _ (old now : EngineView) (part : List ℕ) (moved : Bool) (took : Took ol
       let kept : KeepsEngine old new = keeps_then old now new took.kept fills.transferred.kept in
       record {
         kept = kept;
-        no_fault = no_fault_then old now new took.kept took.counts.no_fault fills.transferred.no_fault;
+        no_fault = no_fault_then old.raw now.raw new.raw took.kept.raw took.counts.no_fault fills.transferred.no_fault;
         live = fills.transferred.live;
         place = omega (arith, took.end, fills.holds.begin, fills.holds.cursor);
         told = took.told;
-        no_wait = no_wait_then old now new took.kept took.counts.no_wait fills.no_wait;
+        no_wait = no_wait_then old.raw now.raw new.raw took.kept.raw took.counts.no_wait fills.no_wait;
         each = each_then old now new 0 took.kept took.each fills.each;
         unmoved = λ e. cc;
         further = λ is. omega (arith, end_not_back moved refl, fills.holds.begin, fills.holds.cursor);
@@ -202,7 +203,7 @@ module _ (old now : EngineView) (part : List ℕ) (moved : Bool) (took : Took ol
   gives_all : (new : EngineView) → UsesUp now new → Gives (reading_of old) part (reading_of new)
   gives_all new used = record {
     kept = keeps_reading old new (keeps_then old now new took.kept used.transferred.kept);
-    no_fault = no_fault_then old now new took.kept took.counts.no_fault used.transferred.no_fault;
+    no_fault = no_fault_then old.raw now.raw new.raw took.kept.raw took.counts.no_fault used.transferred.no_fault;
     live = used.transferred.live;
     place = omega (arith, took.end, used.place);
     told = took.told;
@@ -217,7 +218,7 @@ module _ (old now : EngineView) (part : List ℕ) (moved : Bool) (took : Took ol
   ends_at_last new first alone asks used last no_wait =
       gathers_ok first (reading_of old) stop.End part (reading_of new) (
         gives_all new used,
-        no_wait_then old now new took.kept took.counts.no_wait no_wait,
+        no_wait_then old.raw now.raw new.raw took.kept.raw took.counts.no_wait no_wait,
         last_of new used last,
         each_then old now new 1 took.kept took.each (each_but_last now new used),
       ) (gathers_at_end first (reading_of old) part alone took.told (λ tells. omega (arith, took.end, used.place, last_of new used last tells)), open_asking first part asks) (λ held. absurd (wants_past first (reading_of old) part asks all_held held))
@@ -307,7 +308,7 @@ fails_so_far old now new part after moved wanted first piece fault.RawFault gath
       stops = record {
         kept = keeps_reading old new (keeps_then old now new gathered.kept fails.kept);
         cause = omega (arith, gathered.kept.raw.faults, fails.cause);
-        no_wait = no_wait_then old now new gathered.kept gathered.no_wait fails.no_wait;
+        no_wait = no_wait_then old.raw now.raw new.raw gathered.kept.raw gathered.no_wait fails.no_wait;
         failed = fails.failed;
         forth = omega (arith, place);
         reach = next_reaches (reading_of old) (reading_of new) after place took.told;

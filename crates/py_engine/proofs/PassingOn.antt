@@ -1,27 +1,19 @@
 -- Passing on what a stream owes, transfer by transfer.
-use Rattle.std.proofs.Common.{◌≡◌, false, IsTrue, [], Ok, Err, refl, sym, subst}
+use Rattle.std.proofs.Common.{◌≡◌, IsTrue, [], Ok, Err, sym, subst}
 use Rattle.py_flat.specs.declared.fault.IoFault.{IoFault}
 use Rattle.py_flat.specs.declared.fault.IoFault.TheVariants as fault
-use Rattle.py_flat.specs.declared.life.Life.TheVariants as life
 use Rattle.py_raw.specs.RawStream.{NoWait}
 use Rattle.py_raw.proofs.ReadingOn.{no_wait_then}
-use Rattle.py_stream.specs.Access.{is_read}
 use Rattle.py_stream.specs.Stream.{Stream}
 use Rattle.py_stream.specs.Taking.{Took, Lacks}
-use Rattle.py_stream.proofs.Taking.{took_none, took_on, fails_on, calm_of, waited_then, waits_once_then}
+use Rattle.py_stream.proofs.Taking.{took_on, fails_on, calm_of, waited_then, waits_once_then}
 use Rattle.py_engine.specs.declared.data.passing_on.Passed.TheVariants as passing
-use Rattle.py_engine.specs.Engine.{EngineView, stream_of, Stands}
 use Rattle.py_engine.specs.Passing.{DrainOutcome, FlushOutcome}
-use Rattle.py_engine.proofs.Standing.{is_sound, owes_behind}
 
 -- how far a passing on came: no wait was asked for yet
 pub record PassesSoFar (old now : Stream) : Type 0 where
   pub took : Took old [] now
   pub no_wait : NoWait old.raw now.raw
-
--- nothing is passed on at first
-pub passes_none : (old : EngineView) → Stands old → is_read old.access ≡ false → old.life ≡ life.Live → PassesSoFar (stream_of old) (stream_of old)
-passes_none old is writes live = record { took = took_none (stream_of old) (is_sound old is) (owes_behind old is writes) live; no_wait = λ exact. refl }
 
 -- one more transfer of what is owed went
 pub passes_more : (old now new : Stream) → PassesSoFar old now → DrainOutcome now (Ok passing.All) new → PassesSoFar old new
@@ -33,10 +25,6 @@ passes_more old now new so drained = record {
 -- a passing on that a wait stops
 pub passes_waiting : (old now new : Stream) → PassesSoFar old now → DrainOutcome now (Ok passing.Waits) new → FlushOutcome old (Ok passing.Waits) new
 passes_waiting old now new so drained = (took_on old now new [] so.took drained.0, waited_then old.raw now.raw new.raw so.took.kept.raw drained.1, waits_once_then old.raw now.raw new.raw so.took.kept.raw so.no_wait drained.2)
-
--- a passing on that is done, as nothing is owed
-pub passes_all : (old now : Stream) → PassesSoFar old now → now.owed.bytes ≡ [] → FlushOutcome old (Ok passing.All) now
-passes_all old now so none = (so.took, so.no_wait, none)
 
 -- running out of memory in between
 lacks_so_far : (old now new : Stream) → PassesSoFar old now → IsTrue now.raw.takes_memory → new ≡ now → Lacks old [] new × NoWait old.raw new.raw

@@ -12,7 +12,7 @@ use Rattle.py_stream.specs.Writing.{OwesRest, OwesOld}
 use Rattle.py_stream.specs.Taking.{Calm, WaitsAsOne, Took, TookAll, FailsTaking, Lacks, Starved, PutsOutcome, PutOutcome}
 use Rattle.py_stream.proofs.Taking.{take_behind, took_then, took_on, fails_then, fails_more, starves_then, waited_then, waited_before}
 use Rattle.py_stream.proofs.Putting.{put_then}
-use Rattle.py_stream.proofs.Flat.{took_ends, fails_ends, took_none_ends}
+use Rattle.py_stream.proofs.Flat.{fails_ends, took_none_ends}
 use Rattle.py_engine.specs.Passing.{FlushOutcome, HandOnOutcome, FitOutcome, StopOutcome, room_behind}
 
 -- a buffer's own waits end no call
@@ -106,12 +106,6 @@ abbrev pub StopsAt : Stream → List ℕ → IoFault → Stream → Type 0
 StopsAt old bytes fault.RawFault mid = FailsTaking old bytes mid × OwesOld old mid
 StopsAt old bytes fault.NoMemory mid = (taken : ℕ) × (taken ≤ length bytes) × Lacks old (take taken bytes) mid × OwesOld old mid
 StopsAt old bytes other mid = ⊥
-
--- a stream whose raw refused is no further back
-pub stops_end : (old mid : Stream) (bytes : List ℕ) (why : IoFault) → StopsAt old bytes why mid → old.place ≤ mid.place
-stops_end old mid bytes fault.RawFault stops = omega (arith, fails_ends old mid bytes stops.0)
-stops_end old mid bytes fault.NoMemory stops = omega (arith, took_ends old mid (take stops.0 bytes) stops.2.took)
-stops_end old mid bytes why stops = absurd stops
 
 -- the answer of a call whose raw refused
 pub stopped : (size : ℕ) (old mid new : Stream) (bytes : List ℕ) (start : ℕ) (why : IoFault) → old.buffer ≡ Some size → StopsAt old bytes why mid → StopOutcome why start mid new → PutOutcome old bytes start (Err why) new

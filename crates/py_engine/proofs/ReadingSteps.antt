@@ -8,19 +8,19 @@ use Rattle.py_flat.specs.declared.fault.IoFault.TheVariants as fault
 use Rattle.py_flat.specs.declared.life.Life.TheVariants as life
 use Rattle.py_flat.specs.Bytes.{left_at}
 use Rattle.py_raw.specs.RawStream.{WhereTold, WherePlace, NoFault, NoWait, LeavesCounts}
-use Rattle.py_raw.proofs.ReadingOn.{no_wait_then as raw_no_wait_then, uncounted_then as raw_uncounted_then}
+use Rattle.py_raw.proofs.ReadingOn.{no_fault_then, no_wait_then, uncounted_then}
 use Rattle.py_stream.specs.declared.stop.Stop.{Stop}
 use Rattle.py_stream.specs.declared.stop.Stop.TheVariants as stop
 use Rattle.py_stream.specs.Stream.{Stream, nothing_owed}
 use Rattle.py_stream.specs.Answers.{IsNear}
 use Rattle.py_stream.specs.Reading.{KeepsReading, EachBrings, Reaches, Gives, FailsReading, FailsMoved, StarvesReading, RestOutcome}
-use Rattle.py_stream.proofs.ReadingSteps.{more_taken, next_behind, within_end, next_reaches, same_bytes, gives_then, waits_once_then, still_tells as stream_still_tells, keeps_then as stream_keeps_then, keeps_failed as stream_keeps_failed, each_then as stream_each_then}
+use Rattle.py_stream.proofs.ReadingSteps.{uncounted, more_taken, next_behind, within_end, next_reaches, same_bytes, gives_then, waits_once_then, still_tells as stream_still_tells, keeps_then as stream_keeps_then, keeps_failed as stream_keeps_failed, each_then as stream_each_then}
 use Rattle.py_engine.specs.declared.data.reading.Step.TheVariants as step
 use Rattle.py_engine.specs.Window.{place_of, end_of, ahead_of, advanced}
 use Rattle.py_engine.specs.Engine.{EngineView}
 use Rattle.py_engine.specs.Reading.{reading_of, IsReading, KeepsEngine, FailsByRaw, StarvesWith, UsesUp}
 use Rattle.py_engine.specs.Reading.{StepsOn, StepOutcome, FailsStarved, ReadsInto, ReadIntoOutcome, ReadsMore, ReadMoreOutcome}
-use Rattle.py_engine.proofs.Transfers.{held_next, keeps_self, keeps_then, keeps_reading, still_tells, keeps_told, keeps_advanced, no_fault_then, no_wait_then, uncounted, uncounted_then, keeps_failed, each_then, each_but_last, each_but_failed}
+use Rattle.py_engine.proofs.Transfers.{held_next, keeps_self, keeps_then, keeps_reading, still_tells, keeps_told, keeps_advanced, keeps_failed, each_then, each_but_last, each_but_failed}
 
 -- a buffer after what is left of it was written
 pub end_written : (count : ℕ) (buffer rest : List ℕ) → count < length buffer → length rest ≡ length (take (length buffer - count) (drop count buffer)) → put_mid count (length buffer - count) buffer rest ≡ take count buffer ++ rest
@@ -133,7 +133,7 @@ reads_on old was count buffer moved now more rest new reads outcome =
     let steps : StepsOn now more rest new = outcome.0 in
     record {
       kept = keeps_then old now new reads.kept steps.kept;
-      counts = uncounted_then old now new reads.kept reads.counts steps.counts;
+      counts = uncounted_then old.raw now.raw new.raw reads.kept.raw reads.counts steps.counts;
       live = steps.live;
       less = omega (arith, outcome.1, length-append (take count buffer) rest, length-take-le count buffer (omega (arith, reads.less)));
       place = omega (arith, reads.end, steps.place);
@@ -154,8 +154,8 @@ reads_enough old was count buffer moved now more rest new reads steps all place 
       less = λ other. absurd (other refl);
       idle = λ held. absurd (omega (arith, held, reads.ahead, steps.some));
       stops = (
-        gives_front old new (count + more) (take count buffer ++ rest) (omega arith) (keeps_then old now new reads.kept steps.kept) (no_fault_then old now new reads.kept reads.counts.no_fault steps.counts.no_fault) steps.live (omega (arith, reads.end)) (behind_told old was count buffer moved now more rest new reads steps),
-        no_wait_then old now new reads.kept reads.counts.no_wait steps.counts.no_wait,
+        gives_front old new (count + more) (take count buffer ++ rest) (omega arith) (keeps_then old now new reads.kept steps.kept) (no_fault_then old.raw now.raw new.raw reads.kept.raw reads.counts.no_fault steps.counts.no_fault) steps.live (omega (arith, reads.end)) (behind_told old was count buffer moved now more rest new reads steps),
+        no_wait_then old.raw now.raw new.raw reads.kept.raw reads.counts.no_wait steps.counts.no_wait,
         each_then old now new 0 reads.kept reads.each steps.each,
         λ _ within. absurd (omega (arith, within, place, end_not_back old was count buffer moved now reads, steps.some)),
       );
@@ -165,7 +165,7 @@ reads_enough old was count buffer moved now more rest new reads steps all place 
 pub reads_given : (old : EngineView) (was : Bool) (count : ℕ) (buffer : List ℕ) (moved : Bool) (now : EngineView) (rest : List ℕ) (new : EngineView) → Reads old was count buffer moved now → UsesUp now new → Gives (reading_of old) (take count (take count buffer ++ rest)) (reading_of new)
 reads_given old was count buffer moved now rest new reads uses =
     let long : length (take count buffer) ≡ count = length-take-le count buffer (omega (arith, reads.less)) in
-    gives_front old new count (take count buffer ++ rest) (omega (arith, length-append (take count buffer) rest)) (keeps_then old now new reads.kept uses.transferred.kept) (no_fault_then old now new reads.kept reads.counts.no_fault uses.transferred.no_fault) uses.transferred.live (uses.place ∙ reads.end)
+    gives_front old new count (take count buffer ++ rest) (omega (arith, length-append (take count buffer) rest)) (keeps_then old now new reads.kept uses.transferred.kept) (no_fault_then old.raw now.raw new.raw reads.kept.raw reads.counts.no_fault uses.transferred.no_fault) uses.transferred.live (uses.place ∙ reads.end)
     (λ tells. reads.told tells ∙ sym (take_at (take count buffer) rest count long))
 
 -- a reading into a buffer whose last transfer brought nothing comes to what came before
@@ -178,7 +178,7 @@ reads_none old was count buffer moved now rest new stop.End other some reads out
   idle = λ held. absurd (omega (arith, held, some, reads.ahead, length-append (take count buffer) rest, length-take-le count buffer (omega (arith, reads.less))));
   stops = (
     reads_given old was count buffer moved now rest new reads outcome.1,
-    no_wait_then old now new reads.kept reads.counts.no_wait outcome.3,
+    no_wait_then old.raw now.raw new.raw reads.kept.raw reads.counts.no_wait outcome.3,
     λ tells. subst (λ (bytes : List ℕ). length bytes ≤ place_of new.window) (keeps_told old now reads.kept tells) (subst (λ (place : ℕ). length now.raw.bytes ≤ place) (sym outcome.1.place) (outcome.2 (still_tells old now reads.kept tells))),
     each_then old now new 1 reads.kept reads.each (each_but_last now new outcome.1),
   );
@@ -216,7 +216,7 @@ reads_failed : (old : EngineView) (was : Bool) (count : ℕ) (buffer : List ℕ)
 reads_failed old was count buffer moved now new reads fails = record {
   kept = keeps_reading old new (keeps_then old now new reads.kept fails.kept);
   cause = omega (arith, reads.kept.raw.faults, fails.cause);
-  no_wait = no_wait_then old now new reads.kept reads.counts.no_wait fails.no_wait;
+  no_wait = no_wait_then old.raw now.raw new.raw reads.kept.raw reads.counts.no_wait fails.no_wait;
   failed = fails.failed;
   forth = omega (arith, fails.place, reads.end);
   reach = reaches_come old was count buffer moved now new reads (omega (arith, fails.place, reads.end));
@@ -276,20 +276,6 @@ pub record ReadsAll (before : Stream) (bytes : List ℕ) (more : ℕ) (moved : B
   pub first : moved ≡ false → (now ≡ before) × (before.raw_place < before.place + more)
   pub later : moved ≡ true → (more ≡ length bytes) × (before.raw_place < now.place)
 
--- how far a reading of all that is left is before its first turn
-pub all_first : (old : EngineView) (bytes : List ℕ) (more : ℕ) → IsReading old → old.life ≡ life.Live → bytes ≡ [] → more ≡ length (ahead_of old.window) + old.window.size → more < 2 ^ 64 → ReadsAll (reading_of old) bytes more false (reading_of old)
-all_first old bytes more is live none asks fits = subst (λ (xs : List ℕ). ReadsAll (reading_of old) xs more false (reading_of old)) (sym none) (record {
-  gives = record { kept = keeps_reading old old (keeps_self old is); no_fault = λ exact. refl; live = live; place = omega arith; told = λ tells. refl };
-  no_wait = λ exact. refl;
-  each = λ tells. omega arith;
-  stands = λ tells. is.stands tells live;
-  bare = refl;
-  some = omega (arith, asks, is.window_is.some);
-  fits = fits;
-  first = λ _. (refl, omega (arith, asks, is.window_is.some, length-drop old.window.cursor old.window.held));
-  later = λ moved. absurd (cc);
-})
-
 module _ (before : Stream) (bytes : List ℕ) (more : ℕ) (moved : Bool) (now new : EngineView) (reads : ReadsAll before bytes more moved (reading_of now)) where
   -- told, a place that lies before the end after what was given lies before it at first
   reaches_on : Reaches (reading_of now) (reading_of new) → Reaches before (reading_of new)
@@ -307,7 +293,7 @@ module _ (before : Stream) (bytes : List ℕ) (more : ℕ) (moved : Bool) (now n
       let place : place_of new.window ≡ place_of now.window + more = brings.stops.0.place ∙ ap (λ (n : ℕ). place_of now.window + n) (brings.full refl) in
       record {
         gives = subst (λ (xs : List ℕ). Gives before xs (reading_of new)) (sym brings.behind) (gives_then before (reading_of now) (reading_of new) bytes brings.part reads.bare reads.gives brings.stops.0);
-        no_wait = raw_no_wait_then before.raw now.raw new.raw reads.gives.kept.raw reads.no_wait brings.stops.1;
+        no_wait = no_wait_then before.raw now.raw new.raw reads.gives.kept.raw reads.no_wait brings.stops.1;
         each = stream_each_then before (reading_of now) (reading_of new) 0 reads.gives.kept reads.each brings.stops.2;
         stands = reads.stands;
         bare = reads.bare;
@@ -322,7 +308,7 @@ module _ (before : Stream) (bytes : List ℕ) (more : ℕ) (moved : Bool) (now n
   all_read stop.Enough after other brings = absurd (other refl)
   all_read stop.End after other brings = (
     subst (λ (xs : List ℕ). Gives before xs (reading_of new)) (sym brings.behind) (gives_then before (reading_of now) (reading_of new) bytes brings.part reads.bare reads.gives brings.stops.0),
-    raw_no_wait_then before.raw now.raw new.raw reads.gives.kept.raw reads.no_wait brings.stops.1,
+    no_wait_then before.raw now.raw new.raw reads.gives.kept.raw reads.no_wait brings.stops.1,
     λ tells. subst (λ (xs : List ℕ). length xs ≤ place_of new.window) (same_bytes before (reading_of now) reads.bare reads.gives.kept tells) (brings.stops.2 (stream_still_tells before (reading_of now) reads.gives.kept tells)),
     stream_each_then before (reading_of now) (reading_of new) 1 reads.gives.kept reads.each brings.stops.3,
   )
@@ -342,7 +328,7 @@ module _ (before : Stream) (bytes : List ℕ) (more : ℕ) (moved : Bool) (now n
       let later : (more ≡ length bytes) × (before.raw_place < place_of now.window) = reads.later is in
       record {
         kept = stream_keeps_then before (reading_of now) (reading_of new) here fails.kept;
-        counts = raw_uncounted_then before.raw now.raw new.raw here.raw (record { no_fault = reads.gives.no_fault; no_wait = reads.no_wait }) fails.counts;
+        counts = uncounted_then before.raw now.raw new.raw here.raw (record { no_fault = reads.gives.no_fault; no_wait = reads.no_wait }) fails.counts;
         failed = fails.failed;
         forth = omega (arith, reads.gives.place, fails.forth);
         reach = reaches_on fails.reach;
@@ -383,7 +369,7 @@ pub all_refused : (before : Stream) (bytes : List ℕ) (more : ℕ) (moved : Boo
 all_refused before bytes more moved now new fault.RawFault after reads fails = record {
   kept = stream_keeps_then before (reading_of now) (reading_of new) reads.gives.kept fails.kept;
   cause = omega (arith, reads.gives.kept.raw.faults, fails.cause);
-  no_wait = raw_no_wait_then before.raw now.raw new.raw reads.gives.kept.raw reads.no_wait fails.no_wait;
+  no_wait = no_wait_then before.raw now.raw new.raw reads.gives.kept.raw reads.no_wait fails.no_wait;
   failed = fails.failed;
   forth = omega (arith, reads.gives.place, fails.forth);
   reach = reaches_on before bytes more moved now new reads fails.reach;

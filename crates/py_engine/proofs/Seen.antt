@@ -1,17 +1,15 @@
 -- An engine that reads ahead, as the stream that it is.
-use Rattle.std.proofs.Common.{◌≡◌, ℕ, ◌≤◌, Bool, true, refl, sym, ap, ◌∙◌, subst, arith}
+use Rattle.std.proofs.Common.{◌≡◌, ◌≤◌, Bool, true, refl, ◌∙◌, arith}
 use Rattle.py_flat.specs.declared.life.Life.TheVariants as life
 use Rattle.py_flat.specs.Limits.{greatest_place}
-use Rattle.py_flat.specs.Calls.{FileCall, FileReply}
 use Rattle.py_raw.specs.RawStream.{Raw}
 use Rattle.py_stream.specs.declared.access.Access.{Access}
 use Rattle.py_stream.specs.declared.access.Access.TheVariants as access
 use Rattle.py_stream.specs.Access.{can_of, is_read}
-use Rattle.py_stream.specs.Stream.{Stream}
-use Rattle.py_stream.specs.Answers.{Answers, IsNear}
+use Rattle.py_stream.specs.Answers.{IsNear}
 use Rattle.py_stream.proofs.Refusing.{IsPlaced}
 use Rattle.py_engine.specs.Window.{WindowView, IsWindow, place_of}
-use Rattle.py_engine.specs.Engine.{EngineView, stream_of, ReadsAhead, HasShape, HoldsBytes, HoldsRead, Stands}
+use Rattle.py_engine.specs.Engine.{EngineView, stream_of, HoldsBytes, HoldsRead, Stands}
 use Rattle.py_engine.specs.Reading.{reading_of, IsReading}
 use Rattle.py_engine.proofs.Standing.{reads_ahead, owes_nothing}
 
@@ -40,14 +38,6 @@ holds_read : (opened : Access) (raw : Raw) (window : WindowView) → is_read ope
 holds_read access.Read raw window reads holds = holds
 holds_read other raw window reads holds = absurd (cc)
 
-read_holds : (opened : Access) (raw : Raw) (window : WindowView) → is_read opened ≡ true → HoldsBytes raw.bytes window → HoldsRead opened raw.bytes window
-read_holds access.Read raw window reads holds = holds
-read_holds other raw window reads holds = tt
-
-ahead_shape : (opened : Access) (raw_place : ℕ) (window : WindowView) → is_read opened ≡ true → ReadsAhead raw_place window → HasShape opened raw_place window
-ahead_shape access.Read raw_place window reads ahead = ahead
-ahead_shape other raw_place window reads ahead = absurd (cc)
-
 -- an engine that is opened to be read is one that reads ahead
 pub seen_reading : (engine : EngineView) → Stands engine → is_read engine.access ≡ true → IsReading engine
 seen_reading engine is reads =
@@ -62,25 +52,8 @@ seen_reading engine is reads =
       told = λ tells live. holds_read engine.access engine.raw engine.window reads (is.told tells live);
     }
 
--- what holds of an engine that reads ahead makes what holds of every engine
-pub reading_stands : (engine : EngineView) → IsReading engine → Stands engine
-reading_stands engine is = record {
-  window_is = is.window_is;
-  is_open = is.is_open;
-  attached = is.attached;
-  shape = ahead_shape engine.access engine.raw_place engine.window is.reads is.ahead;
-  stands = λ tells live. is.stands tells live ∙ sym is.ahead.stands;
-  told = λ tells live. read_holds engine.access engine.raw engine.window is.reads (is.told tells live);
-}
-
 -- the stream of an engine that is opened to be read is its stream as an engine that reads ahead
 pub same_stream : (engine : EngineView) → Stands engine → is_read engine.access ≡ true → stream_of engine ≡ reading_of engine
 same_stream engine is reads =
     let ahead = reads_ahead engine.access engine.raw_place engine.window reads is.shape in
     (λ k. record (stream_of engine) { raw_place = ahead.stands k; owed = owes_nothing engine is reads k })
-
--- what the stream of an engine that reads ahead answers, the engine answers
-pub answers_seen : (old new : EngineView) (call : FileCall) (reply : FileReply) → Stands old → Stands new → is_read old.access ≡ true → new.access ≡ old.access → Answers (reading_of old) call reply (reading_of new) → Answers (stream_of old) call reply (stream_of new)
-answers_seen old new call reply is now reads same answers =
-    subst (λ (stream : Stream). Answers stream call reply (stream_of new)) (sym (same_stream old is reads))
-    (subst (λ (stream : Stream). Answers (reading_of old) call reply stream) (sym (same_stream new now (ap is_read same ∙ reads))) answers)

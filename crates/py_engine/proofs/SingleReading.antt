@@ -15,6 +15,7 @@ use Rattle.py_stream.specs.Kinds.{is_single, reads_on, has_room, asks_nothing}
 use Rattle.py_stream.specs.Answers.{Answers}
 use Rattle.py_stream.specs.Replies.{look_reply}
 use Rattle.py_stream.specs.Reading.{has_answer}
+use Rattle.py_stream.proofs.ReadingSteps.{uncounted}
 use Rattle.py_stream.proofs.ReadingAnswers.{Reads, answers_begun, reading_refused}
 use Rattle.py_stream.proofs.SingleReading.{asks_for, moves_by, moves_within, single_call, GivesOnce, answers_once, unready_once, faulted_once, unmoved_once, wanting_once}
 use Rattle.py_engine.specs.Window.{WindowView, IsWindow, place_of, end_of, ahead_of, advanced}
@@ -22,7 +23,7 @@ use Rattle.py_engine.specs.Engine.{EngineView, BeginOutcome}
 use Rattle.py_engine.specs.Reading.{reading_of, IsReading, KeepsEngine, Transferred, answered_at}
 use Rattle.py_engine.specs.Reading.{ReadyOutcome}
 use Rattle.py_engine.proofs.Seen.{placed}
-use Rattle.py_engine.proofs.Transfers.{ahead_told, keeps_self, keeps_then, keeps_reading, still_tells, keeps_told, keeps_advanced, uncounted, each_but_failed, advanced_none, reading_whole}
+use Rattle.py_engine.proofs.Transfers.{ahead_told, keeps_self, keeps_then, keeps_reading, still_tells, keeps_told, keeps_advanced, each_but_failed, advanced_none, reading_whole}
 use Rattle.py_engine.proofs.Reading.{reading_begins}
 
 -- How readings by one transfer begin.

@@ -3,10 +3,9 @@ use Rattle.std.proofs.Common.{◌≡◌, ℕ, ◌+◌, ◌≤◌, Bool, IsTrue, 
 use Rattle.std.proofs.lemmas.List.{length-drop, take-take, drop-take, drop-drop}
 use Rattle.std.proofs.lemmas.Bool.{eq-eqb}
 use Rattle.py_flat.specs.Bytes.{left_at}
-use Rattle.py_flat.specs.Causes.{counted}
 use Rattle.py_flat.specs.declared.life.Life.{Life}
 use Rattle.py_flat.specs.declared.life.Life.TheVariants as life
-use Rattle.py_raw.specs.RawStream.{Raw, tells, WhereTold, NoFault, NoWait, WaitsOnce, LeavesCounts}
+use Rattle.py_raw.specs.RawStream.{Raw, tells, WhereTold}
 use Rattle.py_raw.proofs.Telling.{tells_its_bytes, tells_still, keeps_same}
 use Rattle.py_raw.proofs.ReadingOn.{Keeps-then}
 use Rattle.py_engine.specs.Window.{WindowView, IsWindow, place_of, ahead_of, is_settled, advanced}
@@ -34,18 +33,13 @@ ahead_told raw window within told =
 pub held_next : (raw : Raw) (window : WindowView) (count : ℕ) → window.cursor ≤ length window.held → count ≤ length (ahead_of window) → HoldsBytes raw.bytes window → take count (left_at raw.bytes (place_of window)) ≡ take count (ahead_of window)
 held_next raw window count within fits told = sym (take-take count (length (ahead_of window)) (left_at raw.bytes (place_of window)) fits) ∙ ap (take count) (ahead_told raw window within told)
 
+-- an engine whose raw isn't called keeps what a step of a reading keeps
+keeps_at : (old : EngineView) (window : WindowView) (current : Life) → window.size ≡ old.window.size → IsReading (record old { window = window; life = current }) → KeepsEngine old (record old { window = window; life = current })
+keeps_at old window current size is = record { raw = keeps_same old.raw; stays = refl; bytes = λ tells. refl; written = λ tells. refl; size = size; access = refl; short = refl; is = is }
+
 -- an engine that stays as it is keeps all
 pub keeps_self : (engine : EngineView) → IsReading engine → KeepsEngine engine engine
-keeps_self engine is = record {
-  raw = keeps_same engine.raw;
-  stays = refl;
-  bytes = λ tells. refl;
-  written = λ tells. refl;
-  size = refl;
-  access = refl;
-  short = refl;
-  is = is;
-}
+keeps_self engine is = keeps_at engine engine.window engine.life refl is
 
 -- two steps, one after the other, keep what each keeps
 pub keeps_then : (old mid new : EngineView) → KeepsEngine old mid → KeepsEngine mid new → KeepsEngine old new
@@ -67,29 +61,6 @@ still_tells old new kept told = tells_still old.raw new.raw kept.raw ∙ told
 -- a raw that tells has the bytes that it had
 pub keeps_told : (old new : EngineView) → KeepsEngine old new → WhereTold old.raw (new.raw.bytes ≡ old.raw.bytes)
 keeps_told old new kept told = kept.bytes (tells_its_bytes old.raw told)
-
--- what two steps leave uncounted
-pub no_fault_then : (old mid new : EngineView) → KeepsEngine old mid → NoFault old.raw mid.raw → NoFault mid.raw new.raw → NoFault old.raw new.raw
-no_fault_then old mid new kept first second exact = second (kept.raw.counts_exactly ∙ exact) ∙ first exact
-
--- two steps count no wait where neither of them did
-pub no_wait_then : (old mid new : EngineView) → KeepsEngine old mid → NoWait old.raw mid.raw → NoWait mid.raw new.raw → NoWait old.raw new.raw
-no_wait_then old mid new kept first second exact = second (kept.raw.counts_exactly ∙ exact) ∙ first exact
-
--- two steps count neither fault nor wait where neither step did
-pub uncounted_then : (old mid new : EngineView) → KeepsEngine old mid → LeavesCounts old.raw mid.raw → LeavesCounts mid.raw new.raw → LeavesCounts old.raw new.raw
-uncounted_then old mid new kept first second = record {
-  no_fault = no_fault_then old mid new kept first.no_fault second.no_fault;
-  no_wait = no_wait_then old mid new kept first.no_wait second.no_wait;
-}
-
--- a wait after steps that counted none is the only one
-pub waits_once_then : (old mid new : EngineView) → KeepsEngine old mid → NoWait old.raw mid.raw → WaitsOnce mid.raw new.raw → WaitsOnce old.raw new.raw
-waits_once_then old mid new kept first second exact = second (kept.raw.counts_exactly ∙ exact) ∙ ap (λ (waits : ℕ). counted waits 1) (first exact)
-
--- a raw that isn't called counts nothing
-pub uncounted : (old new : Raw) → new ≡ old → LeavesCounts old new
-uncounted old new same = record { no_fault = λ exact. ap (λ (raw : Raw). raw.faults) same; no_wait = λ exact. ap (λ (raw : Raw). raw.waits) same }
 
 -- each step of an engine is one of a reading
 pub keeps_reading : (old new : EngineView) → KeepsEngine old new → KeepsReading (reading_of old) (reading_of new)
@@ -151,24 +122,15 @@ advanced_none window settled is =
 
 -- an engine whose cursor moved on over bytes held keeps what a step of a reading keeps
 pub keeps_advanced : (old : EngineView) (count : ℕ) → IsReading old → count ≤ length (ahead_of old.window) → KeepsEngine old (record old { window = advanced count old.window })
-keeps_advanced old count is fits = record {
-  raw = keeps_same old.raw;
-  stays = refl;
-  bytes = λ tells. refl;
-  written = λ tells. refl;
-  size = refl;
-  access = refl;
-  short = refl;
-  is = record {
-    reads = is.reads;
-    window_is = window_advanced old.window count is.ahead.settled is.window_is fits;
-    is_open = is.is_open;
-    attached = is.attached;
-    ahead = record { settled = settled_advanced old.window count is.ahead.settled; stands = is.ahead.stands };
-    stands = is.stands;
-    told = is.told;
-  };
-}
+keeps_advanced old count is fits = keeps_at old (advanced count old.window) old.life refl (record {
+  reads = is.reads;
+  window_is = window_advanced old.window count is.ahead.settled is.window_is fits;
+  is_open = is.is_open;
+  attached = is.attached;
+  ahead = record { settled = settled_advanced old.window count is.ahead.settled; stands = is.ahead.stands };
+  stands = is.stands;
+  told = is.told;
+})
 
 -- whether the last answer was short is nothing that has to hold
 pub reading_whole : (engine : EngineView) (short : Bool) → IsReading engine → IsReading (record engine { short = short })
@@ -176,24 +138,15 @@ reading_whole engine short is = record { reads = is.reads; window_is = is.window
 
 -- an engine that failed
 pub keeps_failed : (engine : EngineView) → IsReading engine → KeepsEngine engine (record engine { life = life.Failed })
-keeps_failed engine is = record {
-  raw = keeps_same engine.raw;
-  stays = refl;
-  bytes = λ tells. refl;
-  written = λ tells. refl;
-  size = refl;
-  access = refl;
-  short = refl;
-  is = record {
-    reads = is.reads;
-    window_is = is.window_is;
-    is_open = λ live. absurd (cc);
-    attached = λ detached. cc;
-    ahead = is.ahead;
-    stands = λ tells live. absurd (cc);
-    told = λ tells live. absurd (cc);
-  };
-}
+keeps_failed engine is = keeps_at engine engine.window life.Failed refl (record {
+  reads = is.reads;
+  window_is = is.window_is;
+  is_open = λ live. absurd (cc);
+  attached = λ detached. cc;
+  ahead = is.ahead;
+  stands = λ tells live. absurd (cc);
+  told = λ tells live. absurd (cc);
+})
 
 -- an engine by its parts
 abbrev pub made : Raw → ℕ → WindowView → Access → Life → Bool → EngineView

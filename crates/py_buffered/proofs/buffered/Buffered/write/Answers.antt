@@ -1,16 +1,10 @@
-use Rattle.std.proofs.Common.{◌≡◌, Some}
 use Rattle.py_buffered.specs.Buffered.{seen_of}
-use Rattle.py_buffered.proofs.Counting.{is_sized, write_takes}
+use Rattle.py_buffered.proofs.Counting.{write_takes}
 use Rattle.py_buffered.proofs.buffered.Buffered.write.Goals as goal
 
 pub count_from-requires : goal.count_from-requires
-count_from-requires g c =
-    let sized : (seen_of c.args.self.now).buffer ≡ Some c.self.inside.size = rw (← c.self.view_is) (is_sized c.self.inside.data c.self.inside.access c.self.inside.seekable c.self.inside.size c.self.invariant) in
-    let counts = write_takes (seen_of c.args.self.now) (seen_of c.put-answer.new.self) c.self.inside.size c.args.bytes.now c.put-answer.result sized c.put-answer.ensures in
-    rw c.place-start.ensures counts.forth
+count_from-requires g c = rw c.place-start.ensures (write_takes (seen_of c.args.self.now) (seen_of c.put-answer.new.self) c.buffer_size.result c.args.bytes.now c.put-answer.result c.buffer_size.ensures c.put-answer.ensures).forth
 
 pub returns-clause-taken : goal.returns-clause-taken
 returns-clause-taken g c =
-    let sized : (seen_of c.args.self.now).buffer ≡ Some c.self.inside.size = rw (← c.self.view_is) (is_sized c.self.inside.data c.self.inside.access c.self.inside.seekable c.self.inside.size c.self.invariant) in
-    let counts = write_takes (seen_of c.args.self.now) (seen_of c.put-answer.new.self) c.self.inside.size c.args.bytes.now c.put-answer.result sized c.put-answer.ensures in
-    rw (c.count_from.ensures, c.place-start.ensures) counts.taken
+    rw (c.count_from.ensures, c.place-start.ensures) (write_takes (seen_of c.args.self.now) (seen_of c.put-answer.new.self) c.buffer_size.result c.args.bytes.now c.put-answer.result c.buffer_size.ensures c.put-answer.ensures).taken
