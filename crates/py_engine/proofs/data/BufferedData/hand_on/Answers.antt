@@ -1,7 +1,6 @@
 use Rattle.std.proofs.Common.{rules, ◌≡◌, ◌⊎◌, inl, inr, ◌<◌, ℕ, List, Ok, Err, Some, refl}
 use Rattle.py_raw.specs.declared.raw_error.RawError.TheVariants as raw_error
 use Rattle.py_raw.specs.RawStream.{Raw, WritesBytes, AsksToWait}
-use Rattle.py_engine.specs.Window.{pending_of}
 use Rattle.py_engine.specs.Engine.{EngineView}
 use Rattle.py_engine.proofs.Stepping.{FaultsWriting, faults_taking_none, faults_writing, fails_passing, took_given, waited}
 use Rattle.py_engine.proofs.data.BufferedData.hand_on.Goals as goal

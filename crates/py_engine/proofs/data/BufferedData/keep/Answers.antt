@@ -1,4 +1,4 @@
-use Rattle.std.proofs.Common.{rules, ℕ, ◌≤◌, List, length, ap, ◌∙◌, length-append}
+use Rattle.std.proofs.Common.{rules, ◌≤◌, length, ap, ◌∙◌, length-append}
 use Rattle.py_engine.specs.Window.{pending_of, room_of}
 use Rattle.py_engine.specs.Engine.{EngineView}
 use Rattle.py_engine.proofs.Stepping.{room_there, kept_behind, took_kept}
