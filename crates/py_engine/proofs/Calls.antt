@@ -79,38 +79,29 @@ is_writing_live engine is writes live = record {
 
 -- Flushing.
 
-flush_by : (opened : Access) (old started new : EngineView) (result : Result (Unit {0}) IoFault) → old.access ≡ opened → Stands old → BeginOutcome old (Ok tt) started → PassesAll opened (stream_of started) result (stream_of new) → Answers (stream_of old) Flush (done_reply result) (stream_of new)
-flush_by access.Read old started new result opened is began passed =
+-- a `flush` answers what passing all on came to
+pub flushes : (opened : Access) (old started new : EngineView) (result : Result (Unit {0}) IoFault) → old.access ≡ opened → Stands old → BeginOutcome old (Ok tt) started → PassesAll opened (stream_of started) result (stream_of new) → Answers (stream_of old) Flush (done_reply result) (stream_of new)
+flushes access.Read old started new result opened is began passed =
     let reads : is_read old.access ≡ true = ap is_read opened in
     let bare : Answers (stream_of old) Flush (done_reply (Ok tt)) (stream_of started) =
     flush_answers (stream_of old) (stream_of started) (Ok tt) (is_placed old is) (owes_nothing old is reads) (λ writes. absurd (cc (reads_only old.access old.raw.seekable reads))) (begins old started (Ok tt) began) in
     rw (passed.0, passed.1) bare
-flush_by other old started new result opened is began passed =
+flushes other old started new result opened is began passed =
     flush_passes_on (stream_of old) (stream_of started) (stream_of new) result (is_writing_live old is (ap is_read opened) began.0) (begins old started (Ok tt) began) passed
-
--- a `flush` answers what passing all on came to
-pub flushes : (old started new : EngineView) (result : Result (Unit {0}) IoFault) → Stands old → BeginOutcome old (Ok tt) started → PassesAll started.access (stream_of started) result (stream_of new) → Answers (stream_of old) Flush (done_reply result) (stream_of new)
-flushes old started new result is began passed = flush_by started.access old started new result (sym (ap (λ (engine : EngineView). engine.access) began.1)) is began passed
 
 -- Closing.
 
-close_stops_by : (opened : Access) (old started new : EngineView) (why : IoFault) → old.access ≡ opened → Stands old → BeginOutcome old (Ok tt) started → PassesToClose opened (stream_of started) (Err why) (stream_of new) → Answers (stream_of old) Close (Refused why) (stream_of new)
-close_stops_by access.Read old started new why opened is began stops = let never : Err why ≡ Ok tt = stops.0 in absurd (cc)
-close_stops_by other old started new why opened is began stops = close_stops (stream_of old) (stream_of started) (stream_of new) why (is_writing_live old is (ap is_read opened) began.0) (begins old started (Ok tt) began) stops
-
 -- a `close` that passing all on refused answers that refusal
-pub closing_stops : (old started new : EngineView) (why : IoFault) → Stands old → BeginOutcome old (Ok tt) started → PassesToClose started.access (stream_of started) (Err why) (stream_of new) → Answers (stream_of old) Close (Refused why) (stream_of new)
-closing_stops old started new why is began stops = close_stops_by started.access old started new why (sym (ap (λ (engine : EngineView). engine.access) began.1)) is began stops
-
-close_by : (opened : Access) (old started mid new : EngineView) (result : Result (Unit {0}) IoFault) → old.access ≡ opened → Stands old → BeginOutcome old (Ok tt) started → PassesToClose opened (stream_of started) (Ok tt) (stream_of mid) → CloseRawOutcome (stream_of mid) result (stream_of new) → Answers (stream_of old) Close (done_reply result) (stream_of new)
-close_by access.Read old started mid new result opened is began passed closes =
-    close_answers_at_once (stream_of old) (stream_of started) (stream_of new) result (is_sound (record old { short = false }) (stands_whole old is)) (owes_nothing old is (ap is_read opened)) (begins old started (Ok tt) began) (subst (λ (stream : Stream). CloseRawOutcome stream result (stream_of new)) passed.1 closes)
-close_by other old started mid new result opened is began passed closes =
-    close_answers (stream_of old) (stream_of started) (stream_of mid) (stream_of new) result (is_writing_live old is (ap is_read opened) began.0) (begins old started (Ok tt) began) passed closes
+pub closing_stops : (opened : Access) (old started new : EngineView) (why : IoFault) → old.access ≡ opened → Stands old → BeginOutcome old (Ok tt) started → PassesToClose opened (stream_of started) (Err why) (stream_of new) → Answers (stream_of old) Close (Refused why) (stream_of new)
+closing_stops access.Read old started new why opened is began stops = let never : Err why ≡ Ok tt = stops.0 in absurd (cc)
+closing_stops other old started new why opened is began stops = close_stops (stream_of old) (stream_of started) (stream_of new) why (is_writing_live old is (ap is_read opened) began.0) (begins old started (Ok tt) began) stops
 
 -- a `close` that passed all on answers what the closing of the raw came to
-pub closes : (old started mid new : EngineView) (result : Result (Unit {0}) IoFault) → Stands old → BeginOutcome old (Ok tt) started → PassesToClose started.access (stream_of started) (Ok tt) (stream_of mid) → CloseRawOutcome (stream_of mid) result (stream_of new) → Answers (stream_of old) Close (done_reply result) (stream_of new)
-closes old started mid new result is began passed shut = close_by started.access old started mid new result (sym (ap (λ (engine : EngineView). engine.access) began.1)) is began passed shut
+pub closes : (opened : Access) (old started mid new : EngineView) (result : Result (Unit {0}) IoFault) → old.access ≡ opened → Stands old → BeginOutcome old (Ok tt) started → PassesToClose opened (stream_of started) (Ok tt) (stream_of mid) → CloseRawOutcome (stream_of mid) result (stream_of new) → Answers (stream_of old) Close (done_reply result) (stream_of new)
+closes access.Read old started mid new result opened is began passed shut =
+    close_answers_at_once (stream_of old) (stream_of started) (stream_of new) result (is_sound (record old { short = false }) (stands_whole old is)) (owes_nothing old is (ap is_read opened)) (begins old started (Ok tt) began) (subst (λ (stream : Stream). CloseRawOutcome stream result (stream_of new)) passed.1 shut)
+closes other old started mid new result opened is began passed shut =
+    close_answers (stream_of old) (stream_of started) (stream_of mid) (stream_of new) result (is_writing_live old is (ap is_read opened) began.0) (begins old started (Ok tt) began) passed shut
 
 -- Moving.
 
@@ -170,33 +161,24 @@ seek_found old started found offset whence target is began can free found_is sam
       same = same ∙ ap (λ (engine : EngineView). engine.access) began.1;
     }
 
-stops_by : (opened : Access) (old found new : EngineView) (offset whence : ℤ) (target : ℕ) (why : IoFault) → old.access ≡ opened → SeekFinds old offset whence target found → PassesAll opened (stream_of found) (Err why) (stream_of new) → Answers (stream_of old) (Seek offset whence) (Refused why) (stream_of new)
-stops_by access.Read old found new offset whence target why opened seek stops = let never : Err why ≡ Ok tt = stops.0 in absurd (cc)
-stops_by other old found new offset whence target why opened seek stops = seek_stops (stream_of old) (stream_of found) (stream_of new) offset whence target why (seeks_writing old found seek.is seek.may (ap is_read opened)) seek.finds stops
-
 -- a seek that passing all on refused answers that refusal
-pub seeking_stops : (old found new : EngineView) (offset whence : ℤ) (target : ℕ) (why : IoFault) → SeekFinds old offset whence target found → PassesAll found.access (stream_of found) (Err why) (stream_of new) → Answers (stream_of old) (Seek offset whence) (Refused why) (stream_of new)
-seeking_stops old found new offset whence target why seek stops = stops_by found.access old found new offset whence target why (sym seek.same) seek stops
-
-fails_by : (opened : Access) (old found mid new : EngineView) (offset whence : ℤ) (target : ℕ) (why : IoFault) → old.access ≡ opened → SeekFinds old offset whence target found → PassesAll opened (stream_of found) (Ok tt) (stream_of mid) → GoOutcome (stream_of mid) target (Err why) (stream_of new) → Answers (stream_of old) (Seek offset whence) (Refused why) (stream_of new)
-fails_by access.Read old found mid new offset whence target why opened seek passed fails =
-    going_fails (stream_of old) (stream_of found) (stream_of new) offset whence target why seek.may seek.finds (subst (λ (stream : Stream). GoOutcome stream target (Err why) (stream_of new)) passed.1 fails)
-fails_by other old found mid new offset whence target why opened seek passed fails =
-    seek_fails (stream_of old) (stream_of found) (stream_of mid) (stream_of new) offset whence target why (seeks_writing old found seek.is seek.may (ap is_read opened)) seek.finds passed fails
+pub seeking_stops : (opened : Access) (old found new : EngineView) (offset whence : ℤ) (target : ℕ) (why : IoFault) → old.access ≡ opened → SeekFinds old offset whence target found → PassesAll opened (stream_of found) (Err why) (stream_of new) → Answers (stream_of old) (Seek offset whence) (Refused why) (stream_of new)
+seeking_stops access.Read old found new offset whence target why opened seek stops = let never : Err why ≡ Ok tt = stops.0 in absurd (cc)
+seeking_stops other old found new offset whence target why opened seek stops = seek_stops (stream_of old) (stream_of found) (stream_of new) offset whence target why (seeks_writing old found seek.is seek.may (ap is_read opened)) seek.finds stops
 
 -- a seek whose moving failed answers that failure
-pub seeking_fails : (old found mid new : EngineView) (offset whence : ℤ) (target : ℕ) (why : IoFault) → SeekFinds old offset whence target found → PassesAll found.access (stream_of found) (Ok tt) (stream_of mid) → GoOutcome (stream_of mid) target (Err why) (stream_of new) → Answers (stream_of old) (Seek offset whence) (Refused why) (stream_of new)
-seeking_fails old found mid new offset whence target why seek passed fails = fails_by found.access old found mid new offset whence target why (sym seek.same) seek passed fails
-
-arrives_by : (opened : Access) (old found mid new : EngineView) (offset whence : ℤ) (target : ℕ) → old.access ≡ opened → SeekFinds old offset whence target found → PassesAll opened (stream_of found) (Ok tt) (stream_of mid) → GoesTo (stream_of mid) target (stream_of new) → Answers (stream_of old) (Seek offset whence) (Place target) (stream_of new)
-arrives_by access.Read old found mid new offset whence target opened seek passed goes =
-    going_answers (stream_of old) (stream_of found) (stream_of new) offset whence target seek.may (owes_nothing old seek.is (ap is_read opened)) seek.finds (subst (λ (stream : Stream). GoesTo stream target (stream_of new)) passed.1 goes)
-arrives_by other old found mid new offset whence target opened seek passed goes =
-    seek_answers (stream_of old) (stream_of found) (stream_of mid) (stream_of new) offset whence target (seeks_writing old found seek.is seek.may (ap is_read opened)) seek.finds passed goes
+pub seeking_fails : (opened : Access) (old found mid new : EngineView) (offset whence : ℤ) (target : ℕ) (why : IoFault) → old.access ≡ opened → SeekFinds old offset whence target found → PassesAll opened (stream_of found) (Ok tt) (stream_of mid) → GoOutcome (stream_of mid) target (Err why) (stream_of new) → Answers (stream_of old) (Seek offset whence) (Refused why) (stream_of new)
+seeking_fails access.Read old found mid new offset whence target why opened seek passed fails =
+    going_fails (stream_of old) (stream_of found) (stream_of new) offset whence target why seek.may seek.finds (subst (λ (stream : Stream). GoOutcome stream target (Err why) (stream_of new)) passed.1 fails)
+seeking_fails other old found mid new offset whence target why opened seek passed fails =
+    seek_fails (stream_of old) (stream_of found) (stream_of mid) (stream_of new) offset whence target why (seeks_writing old found seek.is seek.may (ap is_read opened)) seek.finds passed fails
 
 -- a seek that moved the stream answers its target
-pub seeking_arrives : (old found mid new : EngineView) (offset whence : ℤ) (target : ℕ) → SeekFinds old offset whence target found → PassesAll found.access (stream_of found) (Ok tt) (stream_of mid) → GoesTo (stream_of mid) target (stream_of new) → Answers (stream_of old) (Seek offset whence) (Place target) (stream_of new)
-seeking_arrives old found mid new offset whence target seek passed goes = arrives_by found.access old found mid new offset whence target (sym seek.same) seek passed goes
+pub seeking_arrives : (opened : Access) (old found mid new : EngineView) (offset whence : ℤ) (target : ℕ) → old.access ≡ opened → SeekFinds old offset whence target found → PassesAll opened (stream_of found) (Ok tt) (stream_of mid) → GoesTo (stream_of mid) target (stream_of new) → Answers (stream_of old) (Seek offset whence) (Place target) (stream_of new)
+seeking_arrives access.Read old found mid new offset whence target opened seek passed goes =
+    going_answers (stream_of old) (stream_of found) (stream_of new) offset whence target seek.may (owes_nothing old seek.is (ap is_read opened)) seek.finds (subst (λ (stream : Stream). GoesTo stream target (stream_of new)) passed.1 goes)
+seeking_arrives other old found mid new offset whence target opened seek passed goes =
+    seek_answers (stream_of old) (stream_of found) (stream_of mid) (stream_of new) offset whence target (seeks_writing old found seek.is seek.may (ap is_read opened)) seek.finds passed goes
 
 -- Giving bytes.
 

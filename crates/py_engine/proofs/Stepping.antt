@@ -1,5 +1,5 @@
 -- What a step of a stream that is written leaves: by its raw, where that stands, its window and its life.
-use Rattle.std.proofs.Common.{◌≡◌, ◌≢◌, ℕ, ◌+◌, ◌-◌, ◌<◌, ◌≤◌, false, IsTrue, List, [], ◌++◌, length, take, drop, Option, Some, Result, Ok, Err, refl, sym, ap, ◌∙◌, subst, arith, add-zero, length-append}
+use Rattle.std.proofs.Common.{◌≡◌, ◌≢◌, ℕ, ◌+◌, ◌-◌, ◌<◌, ◌≤◌, ◌⊎◌, inl, inr, false, IsTrue, List, [], ◌++◌, length, take, drop, Option, Some, Result, Ok, Err, refl, sym, ap, ◌∙◌, subst, arith, add-zero, length-append}
 use Rattle.std.proofs.lemmas.List.{append-nil, length-take-le, take_all, drop_all}
 use Rattle.py_flat.specs.declared.life.Life.TheVariants as life
 use Rattle.py_flat.specs.Causes.{Rose}
@@ -93,26 +93,32 @@ shows_now engine is writes = shows_itself engine.window is.window_is (owes_befor
 pub stands_there : (engine : EngineView) → Stands engine → is_read engine.access ≡ false → engine.life ≡ life.Live → IsTrue engine.raw.tells_place → engine.raw.place ≡ (stream_of engine).owed.place
 stands_there engine is writes live tells = is.stands tells live ∙ (owes_before engine.access engine.raw_place engine.window writes is.shape).stands
 
+-- a step that leaves the life as it was
+steps_on : (old : EngineView) (raw : Raw) (raw_place : ℕ) (window : WindowView) (place : ℕ) (owed : List ℕ) → Stands old → is_read old.access ≡ false → Keeps old.raw raw → StaysOpen old.raw raw → Shows window old.window.size place owed → raw_place ≡ place → (old.life ≡ life.Live → IsTrue raw.tells_place → raw.place ≡ place) → Stepped old (record old { raw = raw; raw_place = raw_place; window = window }) place owed
+steps_on old raw raw_place window place owed is writes keeps stays shows at there = stepped old (record old { raw = raw; raw_place = raw_place; window = window }) place owed is writes (record {
+  access = refl;
+  short = refl;
+  raw = keeps;
+  stays = stays;
+  shows = shows;
+  raw_place = at;
+  attached = is.attached;
+  stands = there;
+  lives = λ lives. lives;
+})
+
 -- The raw took some of what it was owed.
 
 -- the engine after its raw took n of the bytes that it was owed
 pub drained : (old : EngineView) (raw : Raw) (count : ℕ) → Stands old → is_read old.access ≡ false → old.life ≡ life.Live → Keeps old.raw raw → StaysOpen old.raw raw → 0 < count → WritesBytes old.raw (pending_of old.window) count raw →
     Stepped old (record old { raw = raw; raw_place = old.raw_place + count; window = passed_on count old.window }) ((stream_of old).owed.place + count) (drop count (pending_of old.window))
 drained old raw count is writes live keeps stays some wrote =
-    let shape = owes_before old.access old.raw_place old.window writes is.shape in
-    stepped old (record old { raw = raw; raw_place = old.raw_place + count; window = passed_on count old.window }) ((stream_of old).owed.place + count) (drop count (pending_of old.window)) is writes (record {
-      access = refl;
-      short = refl;
-      raw = keeps;
-      stays = stays;
-      shows = passed_shows old.window count old.window.size (stream_of old).owed.place (stream_of old).owed.bytes wrote.fits (shows_now old is writes);
-      raw_place = ap (λ (n : ℕ). n + count) shape.stands;
-      attached = is.attached;
-      stands = λ lives tells.
-          let told : IsTrue old.raw.tells_place = sym keeps.tells_place ∙ tells in
-          wrote.place told ∙ ap (λ (n : ℕ). n + count) (stands_there old is writes live told);
-      lives = λ lives. lives;
-    })
+    steps_on old raw (old.raw_place + count) (passed_on count old.window) ((stream_of old).owed.place + count) (drop count (pending_of old.window)) is writes keeps stays
+    (passed_shows old.window count old.window.size (stream_of old).owed.place (stream_of old).owed.bytes wrote.fits (shows_now old is writes))
+    (ap (λ (n : ℕ). n + count) (owes_before old.access old.raw_place old.window writes is.shape).stands)
+    (λ lives tells.
+    let told : IsTrue old.raw.tells_place = sym keeps.tells_place ∙ tells in
+    wrote.place told ∙ ap (λ (n : ℕ). n + count) (stands_there old is writes live told))
 
 -- the stream took nothing, and passed on n of the bytes that it owed
 pub took_drained : (old : EngineView) (raw : Raw) (count : ℕ) → Stands old → is_read old.access ≡ false → old.life ≡ life.Live → Keeps old.raw raw → StaysOpen old.raw raw → 0 < count → WritesBytes old.raw (pending_of old.window) count raw →
@@ -139,19 +145,10 @@ took_drained old raw count is writes live keeps stays some wrote =
 -- the stream took nothing, and passed nothing on, where the raw would have blocked
 pub waited : (old : EngineView) (raw : Raw) → Stands old → is_read old.access ≡ false → old.life ≡ life.Live → Keeps old.raw raw → StaysOpen old.raw raw → AsksToWait old.raw raw → Took (stream_of old) [] (stream_of (record old { raw = raw }))
 waited old raw is writes live keeps stays waits =
-    let step = stepped old (record old { raw = raw }) (stream_of old).owed.place (stream_of old).owed.bytes is writes (record {
-      access = refl;
-      short = refl;
-      raw = keeps;
-      stays = stays;
-      shows = shows_now old is writes;
-      raw_place = (owes_before old.access old.raw_place old.window writes is.shape).stands;
-      attached = is.attached;
-      stands = λ lives tells.
-          let told : IsTrue old.raw.tells_place = sym keeps.tells_place ∙ tells in
-          waits.still.place told ∙ stands_there old is writes live told;
-      lives = λ lives. lives;
-    }) in
+    let step = steps_on old raw old.raw_place old.window (stream_of old).owed.place (stream_of old).owed.bytes is writes keeps stays (shows_now old is writes) (owes_before old.access old.raw_place old.window writes is.shape).stands
+    (λ lives tells.
+    let told : IsTrue old.raw.tells_place = sym keeps.tells_place ∙ tells in
+    waits.still.place told ∙ stands_there old is writes live told) in
     record {
       kept = step.kept;
       was = step.was;
@@ -175,9 +172,9 @@ pub record FaultsWriting (old : Raw) (piece : List ℕ) (new : Raw) : Type 0 whe
   pub written : AnswersFor 0 old new
   pub told : WhereTold old ((count : ℕ) × (count ≤ length piece) × (new.bytes ≡ lay old.bytes old.place (take count piece)))
 
--- a raw that takes nothing of a piece that isn't empty failed
-pub faults_taking_none : (old new : Raw) (piece : List ℕ) (result : Result (Option ℕ) RawError) → 0 < length piece → result ≡ Ok (Some 0) → WriteOutcome old piece result new → FaultsWriting old piece new
-faults_taking_none old new piece result some is outcome =
+-- a raw that takes nothing of a piece that isn't empty failed, as one did that answers a fault
+pub faults_writing : (old new : Raw) (piece : List ℕ) (result : Result (Option ℕ) RawError) → 0 < length piece → (result ≡ Ok (Some 0)) ⊎ (result ≡ Err raw_error.Fault) → WriteOutcome old piece result new → FaultsWriting old piece new
+faults_writing old new piece result some (inl is) outcome =
     let writes : WritesBytes old piece 0 new = subst (λ (r : Result (Option ℕ) RawError). WriteOutcome old piece r new) is outcome in
     record {
       cause = writes.none refl (λ none. absurd (omega (arith, some, ap length none)));
@@ -185,10 +182,7 @@ faults_taking_none old new piece result some is outcome =
       written = writes.written;
       told = λ tells. (0, omega arith, writes.told tells);
     }
-
--- a raw that answers a fault failed
-pub faults_writing : (old new : Raw) (piece : List ℕ) (result : Result (Option ℕ) RawError) → result ≡ Err raw_error.Fault → WriteOutcome old piece result new → FaultsWriting old piece new
-faults_writing old new piece result is outcome =
+faults_writing old new piece result some (inr is) outcome =
     let fails : FailsWriting old piece new = subst (λ (r : Result (Option ℕ) RawError). WriteOutcome old piece r new) is outcome in
     record { cause = fails.cause; no_wait = fails.no_wait; written = fails.written; told = fails.told }
 
@@ -247,17 +241,10 @@ fails_passing old raw bytes is writes live none keeps stays faults =
 -- the engine after bytes were put behind those that it owed
 pub kept_behind : (old : EngineView) (bytes : List ℕ) → Stands old → is_read old.access ≡ false → 0 < length bytes → length bytes ≤ room_of old.window → place_of old.window + length bytes ≤ 9223372036854775807 →
     Stepped old (record old { window = pushed bytes old.window }) (stream_of old).owed.place (pending_of old.window ++ bytes)
-kept_behind old bytes is writes some room far = stepped old (record old { window = pushed bytes old.window }) (stream_of old).owed.place (pending_of old.window ++ bytes) is writes (record {
-  access = refl;
-  short = refl;
-  raw = keeps_same old.raw;
-  stays = refl;
-  shows = pushed_shows old.window bytes old.window.size (stream_of old).owed.place (pending_of old.window) some room far (shows_now old is writes);
-  raw_place = (owes_before old.access old.raw_place old.window writes is.shape).stands;
-  attached = is.attached;
-  stands = λ lives tells. stands_there old is writes lives tells;
-  lives = λ lives. lives;
-})
+kept_behind old bytes is writes some room far =
+    steps_on old old.raw old.raw_place (pushed bytes old.window) (stream_of old).owed.place (pending_of old.window ++ bytes) is writes (keeps_same old.raw) refl
+    (pushed_shows old.window bytes old.window.size (stream_of old).owed.place (pending_of old.window) some room far (shows_now old is writes))
+    (owes_before old.access old.raw_place old.window writes is.shape).stands (stands_there old is writes)
 
 -- the stream took bytes that the buffer has room for
 pub took_kept : (old : EngineView) (bytes : List ℕ) → Stands old → is_read old.access ≡ false → old.life ≡ life.Live → 0 < length bytes → length bytes ≤ room_of old.window → place_of old.window + length bytes ≤ 9223372036854775807 →
@@ -285,19 +272,11 @@ pub given_on : (old : EngineView) (raw : Raw) (bytes : List ℕ) (count : ℕ) �
     Stepped old (record old { raw = raw; raw_place = place_of old.window + count; window = emptied_at (place_of old.window + count) old.window }) (place_of old.window + count) []
 given_on old raw bytes count is writes live none keeps stays far wrote =
     let ends : (stream_of old).owed.place ≡ place_of old.window = omega (arith, ap length none, (owes_behind old is writes).ends) in
-    stepped old (record old { raw = raw; raw_place = place_of old.window + count; window = emptied_at (place_of old.window + count) old.window }) (place_of old.window + count) [] is writes (record {
-      access = refl;
-      short = refl;
-      raw = keeps;
-      stays = stays;
-      shows = shows_none old.window (place_of old.window + count) is.window_is (omega (arith, far, wrote.fits));
-      raw_place = refl;
-      attached = is.attached;
-      stands = λ lives tells.
-          let told : IsTrue old.raw.tells_place = sym keeps.tells_place ∙ tells in
-          wrote.place told ∙ ap (λ (n : ℕ). n + count) (stands_there old is writes live told ∙ ends);
-      lives = λ lives. lives;
-    })
+    steps_on old raw (place_of old.window + count) (emptied_at (place_of old.window + count) old.window) (place_of old.window + count) [] is writes keeps stays
+    (shows_none old.window (place_of old.window + count) is.window_is (omega (arith, far, wrote.fits))) refl
+    (λ lives tells.
+    let told : IsTrue old.raw.tells_place = sym keeps.tells_place ∙ tells in
+    wrote.place told ∙ ap (λ (n : ℕ). n + count) (stands_there old is writes live told ∙ ends))
 
 -- the stream took n bytes that went straight to the raw
 pub took_given : (old : EngineView) (raw : Raw) (bytes : List ℕ) (count : ℕ) → Stands old → is_read old.access ≡ false → old.life ≡ life.Live → pending_of old.window ≡ [] → Keeps old.raw raw → StaysOpen old.raw raw → place_of old.window + length bytes ≤ 9223372036854775807 → 0 < count → WritesBytes old.raw bytes count raw →
@@ -329,17 +308,9 @@ took_given old raw bytes count is writes live none keeps stays far some wrote =
 -- the stream drops what it owes from a place on
 pub cut_back : (old : EngineView) (start : ℕ) → Stands old → is_read old.access ≡ false → (stream_of old).owed.place ≤ start → start ≤ place_of old.window → CutsBack start (stream_of old) (stream_of (record old { window = cut_at start old.window }))
 cut_back old start is writes behind within =
-    let step = stepped old (record old { window = cut_at start old.window }) (stream_of old).owed.place (take (start - (stream_of old).owed.place) (pending_of old.window)) is writes (record {
-      access = refl;
-      short = refl;
-      raw = keeps_same old.raw;
-      stays = refl;
-      shows = cut_shows old.window start old.window.size (stream_of old).owed.place (pending_of old.window) behind within (shows_now old is writes);
-      raw_place = (owes_before old.access old.raw_place old.window writes is.shape).stands;
-      attached = is.attached;
-      stands = λ lives tells. stands_there old is writes lives tells;
-      lives = λ lives. lives;
-    }) in
+    let step = steps_on old old.raw old.raw_place (cut_at start old.window) (stream_of old).owed.place (take (start - (stream_of old).owed.place) (pending_of old.window)) is writes (keeps_same old.raw) refl
+    (cut_shows old.window start old.window.size (stream_of old).owed.place (pending_of old.window) behind within (shows_now old is writes))
+    (owes_before old.access old.raw_place old.window writes is.shape).stands (stands_there old is writes) in
     record { kept = step.kept; behind = step.behind; raw = refl; life_is = refl; place = step.place_is; owed = step.bytes_are }
 
 -- the room behind what is owed is the window's

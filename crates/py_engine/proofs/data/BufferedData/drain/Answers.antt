@@ -1,10 +1,9 @@
-use Rattle.std.proofs.Common.{rules, ◌≡◌, ◌⊎◌, inl, inr, ◌<◌, ℕ, length, Ok, Err, Some, subst, List, ap, arith}
+use Rattle.std.proofs.Common.{rules, ◌<◌, ℕ, length, subst, List, ap, arith}
 use Rattle.std.proofs.lemmas.List.{length-drop}
-use Rattle.py_raw.specs.declared.raw_error.RawError.TheVariants as raw_error
 use Rattle.py_raw.specs.RawStream.{Raw, WritesBytes}
 use Rattle.py_engine.specs.Window.{pending_of, passed_on}
 use Rattle.py_engine.specs.Engine.{EngineView}
-use Rattle.py_engine.proofs.Stepping.{FaultsWriting, faults_taking_none, faults_writing, fails_draining, drained, took_drained}
+use Rattle.py_engine.proofs.Stepping.{FaultsWriting, faults_writing, fails_draining, drained, took_drained}
 use Rattle.py_engine.proofs.data.BufferedData.drain.Goals as goal
 
 pub returns-in-Ok-Some-clause-outcome : goal.returns-in-Ok-Some-clause-outcome
@@ -28,9 +27,5 @@ returns-in-Ok-Some-eq0-clause-outcome g c =
     let raw : Raw = g.R.RawStream.shows c.write.new.self in
     let piece : List ℕ = c.pending.result.now in
     let some : 0 < length piece = rw c.pending.ensures needs.some in
-    let how : (c.write.result ≡ Ok (Some 0)) ⊎ (c.write.result ≡ Err raw_error.Fault) = search rules in
-    let faults : FaultsWriting given.raw piece raw = elim how [
-      | inl is ↦ faults_taking_none given.raw raw piece c.write.result some is c.write.ensures.outcome
-      | inr is ↦ faults_writing given.raw raw piece c.write.result is c.write.ensures.outcome
-    ] in
+    let faults : FaultsWriting given.raw piece raw = faults_writing given.raw raw piece c.write.result some (search rules) c.write.ensures.outcome in
     rw (← c.self.view_is) (fails_draining given raw piece c.self.invariant needs.writes needs.live c.pending.ensures c.write.ensures.keeps c.write.ensures.open faults, faults.no_wait, needs.some)

@@ -1,8 +1,7 @@
-use Rattle.std.proofs.Common.{rules, ◌≡◌, ◌⊎◌, inl, inr, ◌<◌, ℕ, List, Ok, Err, Some, refl}
-use Rattle.py_raw.specs.declared.raw_error.RawError.TheVariants as raw_error
+use Rattle.std.proofs.Common.{rules, ◌<◌, ℕ, List, refl}
 use Rattle.py_raw.specs.RawStream.{Raw, WritesBytes, AsksToWait}
 use Rattle.py_engine.specs.Engine.{EngineView}
-use Rattle.py_engine.proofs.Stepping.{FaultsWriting, faults_taking_none, faults_writing, fails_passing, took_given, waited}
+use Rattle.py_engine.proofs.Stepping.{FaultsWriting, faults_writing, fails_passing, took_given, waited}
 use Rattle.py_engine.proofs.data.BufferedData.hand_on.Goals as goal
 
 pub returns-in-Ok-Some-clause-outcome : goal.returns-in-Ok-Some-clause-outcome
@@ -33,9 +32,5 @@ returns-in-Ok-Some-eq0-clause-outcome g c =
     let needs = rw (← c.self.view_is) at c.requires in
     let raw : Raw = g.R.RawStream.shows c.write.new.self in
     let bytes : List ℕ = c.args.bytes.now in
-    let how : (c.write.result ≡ Ok (Some 0)) ⊎ (c.write.result ≡ Err raw_error.Fault) = search rules in
-    let faults : FaultsWriting given.raw bytes raw = elim how [
-      | inl is ↦ faults_taking_none given.raw raw bytes c.write.result c.requires.some is c.write.ensures.outcome
-      | inr is ↦ faults_writing given.raw raw bytes c.write.result is c.write.ensures.outcome
-    ] in
+    let faults : FaultsWriting given.raw bytes raw = faults_writing given.raw raw bytes c.write.result c.requires.some (search rules) c.write.ensures.outcome in
     rw (← c.self.view_is) (fails_passing given raw bytes c.self.invariant needs.writes needs.live needs.none c.write.ensures.keeps c.write.ensures.open faults, needs.none)

@@ -43,7 +43,7 @@ returns-in_err-pass_all g c =
     let free : is_appended c.begin.new.self.access ≡ false = sym (ap (λ (engine : EngineView). is_appended engine.access) c.self-2.view_is) ∙ sym c.appends.ensures ∙ c.if-appends.false in
     let is : Stands c.args.self.now = subst Stands c.self.view_is c.self.invariant in
     let seek : SeekFinds c.args.self.now c.args.offset c.args.whence c.in_ok-target.target c.target.new.self = seek_found c.args.self.now c.begin.new.self c.target.new.self c.args.offset c.args.whence c.in_ok-target.target is c.in_ok-begin.ensures can free found c.target.ensures.access in
-    rw (left.1, left.2) (seeking_stops c.args.self.now c.target.new.self c.pass_all.new.self c.args.offset c.args.whence c.in_ok-target.target c.in_err-pass_all.field-0.0 seek c.in_err-pass_all.ensures.outcome)
+    rw (left.1, left.2) (seeking_stops c.target.new.self.access c.args.self.now c.target.new.self c.pass_all.new.self c.args.offset c.args.whence c.in_ok-target.target c.in_err-pass_all.field-0.0 (sym seek.same) seek c.in_err-pass_all.ensures.outcome)
 
 pub returns-in_err-go_to : goal.returns-in_err-go_to
 returns-in_err-go_to g c =
@@ -53,7 +53,7 @@ returns-in_err-go_to g c =
     let free : is_appended c.begin.new.self.access ≡ false = sym (ap (λ (engine : EngineView). is_appended engine.access) c.self-2.view_is) ∙ sym c.appends.ensures ∙ c.if-appends.false in
     let is : Stands c.args.self.now = subst Stands c.self.view_is c.self.invariant in
     let seek : SeekFinds c.args.self.now c.args.offset c.args.whence c.in_ok-target.target c.target.new.self = seek_found c.args.self.now c.begin.new.self c.target.new.self c.args.offset c.args.whence c.in_ok-target.target is c.in_ok-begin.ensures can free found c.target.ensures.access in
-    rw (left.1, left.2) (seeking_fails c.args.self.now c.target.new.self c.pass_all.new.self c.go_to.new.self c.args.offset c.args.whence c.in_ok-target.target c.in_err-go_to.field-0.0 seek c.in_ok-pass_all.ensures.outcome c.in_err-go_to.ensures.outcome)
+    rw (left.1, left.2) (seeking_fails c.target.new.self.access c.args.self.now c.target.new.self c.pass_all.new.self c.go_to.new.self c.args.offset c.args.whence c.in_ok-target.target c.in_err-go_to.field-0.0 (sym seek.same) seek c.in_ok-pass_all.ensures.outcome c.in_err-go_to.ensures.outcome)
 
 pub returns : goal.returns
 returns g c =
@@ -62,4 +62,4 @@ returns g c =
     let free : is_appended c.begin.new.self.access ≡ false = sym (ap (λ (engine : EngineView). is_appended engine.access) c.self-2.view_is) ∙ sym c.appends.ensures ∙ c.if-appends.false in
     let is : Stands c.args.self.now = subst Stands c.self.view_is c.self.invariant in
     let seek : SeekFinds c.args.self.now c.args.offset c.args.whence c.in_ok-target.target c.target.new.self = seek_found c.args.self.now c.begin.new.self c.target.new.self c.args.offset c.args.whence c.in_ok-target.target is c.in_ok-begin.ensures can free found c.target.ensures.access in
-    seeking_arrives c.args.self.now c.target.new.self c.pass_all.new.self c.go_to.new.self c.args.offset c.args.whence c.in_ok-target.target seek c.in_ok-pass_all.ensures.outcome c.in_ok-go_to.ensures.outcome
+    seeking_arrives c.target.new.self.access c.args.self.now c.target.new.self c.pass_all.new.self c.go_to.new.self c.args.offset c.args.whence c.in_ok-target.target (sym seek.same) seek c.in_ok-pass_all.ensures.outcome c.in_ok-go_to.ensures.outcome
