@@ -4,3 +4,5 @@ pub mod Numbers
 pub mod Lent
 pub mod Calm
 pub mod AsBuffer
+pub mod FirstLine
+pub mod Spelling

@@ -1,4 +1,6 @@
 pub mod InMemory
 pub mod Replies
+pub mod Seeking
 pub mod BytesIO
 pub mod Lending
+pub mod StringIO
