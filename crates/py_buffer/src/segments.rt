@@ -1,6 +1,5 @@
 //! The ranges of bytes that hold the items of a descriptor, in row order.
 ghost use Rattle.std.specs.Prelude.{◌≡◌, ◌+◌, ◌^◌, ◌<◌, ◌↔◌, ◌&&◌, IsTrue, map, ◌∷◌, []};
-ghost use Rattle.std.specs.List.{FoldsTo};
 ghost use Rattle.py_buffer.specs.Descriptor.{IsValid, Each, IsSound, items_in, reach_of};
 ghost use Rattle.py_buffer.specs.Segments.{segments_of, walked_of, width_of, rows_join, is_row, paired_segments, Covers};
 ghost use Rattle.py_buffer.specs.Calls.{CallsUntil};
@@ -116,19 +115,27 @@ impl BufferDescriptor {
         }
     }
 
-    /// Calls `f` with each segment, as `segments` gives them.
-    pub fn for_each_segment<F: FnMut(Range<isize>)>(&self, try_conti: bool, mut f: F)
+    /// Calls `f` with the segments, as `segments` gives them, up to the first answer that is true, and answers whether one was.
+    pub fn for_each_segment<F: FnMut(Range<isize>) -> bool>(
+        &self,
+        try_conti: bool,
+        mut f: F,
+    ) -> bool
         requires valid { IsValid self.now }
         requires calls { F.IsAlwaysCallable f }
-        ensures { (last : F) × FoldsTo (λ p x q. F.step p x tt q) f (segments_of self.now try_conti) last }
+        ensures { (last : F) × CallsUntil (λ p x b q. F.step p x b q) f (segments_of self.now try_conti) result last }
     {
         let mut segments = self.segments(try_conti);
         while let Some(segment) = segments.next() {
-            f(segment);
+            if f(segment) {
+                return true;
+            }
         }
+        false
     }
 
-    /// Calls `f` with the segments of two descriptors of the same shapes, side by side, up to the first answer that is true.
+    /// Calls `f` with the segments of two descriptors of the same shapes, side by side, up to the first answer that is true, and
+    /// answers whether one was.
     ///
     /// Rows are joined where `try_conti` asks for it and those of both can be.
     pub fn zip_eq<F: FnMut(Range<isize>, Range<isize>) -> bool>(
@@ -136,24 +143,25 @@ impl BufferDescriptor {
         other: &Self,
         try_conti: bool,
         mut f: F,
-    )
+    ) -> bool
         requires valid { IsValid self.now }
         requires other_valid { IsValid other.now }
         requires same_shapes { map (λ d. d.0) self.now.dim_desc.items ≡ map (λ d. d.0) other.now.dim_desc.items }
         requires calls { F.IsAlwaysCallable f }
-        ensures { (last : F) × CallsUntil (λ p x b q. F.step p x.0 x.1 b q) f (paired_segments self.now other.now try_conti) last }
+        ensures { (last : F) × CallsUntil (λ p x b q. F.step p x.0 x.1 b q) f (paired_segments self.now other.now try_conti) result last }
     {
         let joined = self.joins_rows_beside(other, try_conti);
         let mut segments = self.segments(joined);
         let mut others = other.segments(joined);
         while let Some(segment) = segments.next() {
             let Some(beside) = others.next() else {
-                return;
+                return false;
             };
             if f(segment, beside) {
-                return;
+                return true;
             }
         }
+        false
     }
 
     /// Whether each segment, joined or single, an empty one too, lies within the first `bytes_len` bytes.
