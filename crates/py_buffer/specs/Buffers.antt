@@ -1,5 +1,5 @@
 -- Buffers: bytes with a descriptor that doesn't leave them.
-use Rattle.std.specs.Prelude.{◌≡◌, ℕ, pos, Bool, List, [], ◌∷◌, length}
+use Rattle.std.specs.Prelude.{◌≡◌, ℕ, pos, Bool, List, [], ◌∷◌, ◌++◌, length, take, drop}
 use Rattle.py_buffer.specs.declared.descriptor.BufferDescriptor.{BufferDescriptor}
 use Rattle.py_buffer.specs.Descriptor.{IsValid}
 use Rattle.py_buffer.specs.Segments.{Covers, bytes_of}
@@ -25,3 +25,15 @@ pub record IsSimple (descriptor : BufferDescriptor) (n : ℕ) (readonly : Bool) 
   pub itemsize : descriptor.itemsize ≡ 1
   pub letter : descriptor.format.now ≡ 66 ∷ []
   pub dimension : descriptor.dim_desc.items ≡ (n, pos 1, pos 0) ∷ []
+
+-- the buffer with these bytes
+abbrev pub with_bytes : BufferView → List ℕ → BufferView
+with_bytes buffer bytes = record buffer { bytes = bytes }
+
+-- the buffer with these bytes in the place of its first ones
+abbrev pub with_front : BufferView → List ℕ → BufferView
+with_front buffer front = with_bytes buffer (front ++ drop (length front) buffer.bytes)
+
+-- other bytes were left in the place of a buffer's first `len`, and of these there are as many
+abbrev pub LeavesFront : BufferView → List ℕ → BufferView → Type 0
+LeavesFront before new after = (length new ≡ length (take before.desc.len before.bytes)) × (after ≡ with_front before new)

@@ -6,3 +6,4 @@ pub mod Edges
 pub mod Calls
 pub mod Buffers
 pub mod Arguments
+pub mod Lending

@@ -1,12 +1,15 @@
 //! Bytes that are lent to be read and written.
-ghost use Rattle.std.specs.Prelude.{◌≡◌, ◌++◌, take, false, is_ok, IfOk, MatchOption, OnErr, if◌then◌else◌};
-ghost use Rattle.std.specs.Fn.{FnOnceReturnsAt};
+ghost use Rattle.std.specs.Prelude.{◌≡◌, ◌++◌, ℕ, List, take, false, is_ok, IfOk, MatchOption, OnErr, if◌then◌else◌};
+ghost use Rattle.std.specs.Fn.{FnOnceReturnsAt, FnOnceReturnsAtMut};
 ghost use Rattle.py_flat.specs.declared.fault.IoFault.TheVariants as fault;
 ghost use Rattle.py_buffer.specs.Descriptor.{IsValid, IsContiguous};
-ghost use Rattle.py_buffer.specs.Buffers.{IsOver, items_of};
+ghost use Rattle.py_buffer.specs.Buffers.{IsOver, LeavesFront, items_of};
+ghost use Rattle.py_buffer.specs.Lending.{WritesAll};
+ghost use Rattle.std.specs.Borrow.{sem};
 
 use crate::BufferDescriptor;
 use crate::lent::{append, collected, contiguous};
+use crate::writing::called_on_front;
 use py_flat::IoFault;
 use std::alloc::Global;
 use std::marker::Model;
@@ -69,11 +72,12 @@ impl<'a> PyBufferMut<'a> {
         &self.bytes[..]
     }
 
-    /// All bytes that were lent, to be written.
+    /// All bytes that were lent, to be written: the buffer ends with what is left in them.
     pub fn obj_bytes_mut(&mut self) -> &mut [u8]
-        ensures { result.now ≡ self.old.bytes }
+        ensures* writes_back { sem 𝓛 (WritesAll self.entry result) }
+        ensures value { result.now ≡ self.old.bytes }
     {
-        &mut self.bytes[..]
+        &mut *self.bytes
     }
 
     /// The first `len` bytes, which are those of all items, or `None` where the descriptor isn't contiguous.
@@ -93,6 +97,15 @@ impl<'a> PyBufferMut<'a> {
         } else {
             None
         }
+    }
+
+    /// What `f` answers of the first `len` bytes, which it may write: the buffer ends with what it left in them.
+    pub(crate) fn call_on_front<R, F: FnOnce(&mut [u8]) -> R>(&mut self, f: F) -> R
+        requires { F.IsAlwaysCallable f }
+        ensures { (new : List ℕ) × FnOnceReturnsAtMut F.FnOnce f (take self.old.desc.len self.old.bytes) result new × LeavesFront self.old new self.new }
+    {
+        let len = self.desc.len.min(self.bytes.len());
+        called_on_front(f, &mut *self.bytes, len)
     }
 
     /// Appends the bytes of all items, in row order; or nothing, with NoMemory.

@@ -18,6 +18,7 @@ mod position;
 mod segments;
 mod step;
 mod walk;
+mod writing;
 
 pub use arguments::{ArgAsciiBuffer, ArgBytesLike, ArgFault, ArgStrOrBytesLike, try_bytes_like};
 pub use buffer::PyBuffer;

@@ -5,17 +5,11 @@ ghost use Rattle.py_buffer.specs.declared.arguments.ArgFault.TheVariants as arg_
 ghost use Rattle.py_buffer.specs.Descriptor.{IsValid, IsContiguous};
 ghost use Rattle.py_buffer.specs.Segments.{Covers};
 ghost use Rattle.py_buffer.specs.Arguments.{MemoryOutcome};
+ghost use Rattle.py_buffer.specs.Buffers.{LeavesFront};
 
+use crate::writing::called_on_front;
 use crate::{ArgFault, BufferDescriptor, PyBufferMut};
 use std::marker::Model;
-
-/// What `f` answers of some bytes.
-fn called<R, F: FnOnce(&mut [u8]) -> R>(f: F, bytes: &mut [u8]) -> R
-    requires { F.IsAlwaysCallable f }
-    ensures { FnOnceReturnsAtMut F.FnOnce f bytes.old result bytes.new }
-{
-    f(bytes)
-}
 
 /// A contiguous buffer that is written. Contracts see the buffer.
 #[derive(Drop)]
@@ -60,12 +54,13 @@ impl<'a> ArgMemoryBuffer<'a> {
         &mut self.bytes[..len]
     }
 
-    /// What `f` answers of the bytes of all items, which it may write.
+    /// What `f` answers of the bytes of all items, which it may write: the argument ends with what it left in them.
     pub fn with_ref<R, F: FnOnce(&mut [u8]) -> R>(&mut self, f: F) -> R
         requires { F.IsAlwaysCallable f }
-        ensures { (new : List ℕ) × FnOnceReturnsAtMut F.FnOnce f (take self.old.desc.len self.old.bytes) result new }
+        ensures { (new : List ℕ) × FnOnceReturnsAtMut F.FnOnce f (take self.old.desc.len self.old.bytes) result new × LeavesFront self.old new self.new }
     {
-        called(f, self.borrow_buf_mut())
+        let len = self.desc.len.min(self.bytes.len());
+        called_on_front(f, &mut *self.bytes, len)
     }
 
     /// How many bytes the argument has.
@@ -92,17 +87,18 @@ impl<'a> From<ArgMemoryBuffer<'a>> for PyBufferMut<'a> {
     }
 }
 
-/// What `f` answers of the bytes of a buffer, which it may write, or NotContiguous.
+/// What `f` answers of the bytes of a buffer, which it may write, or NotContiguous. The buffer ends with what `f` left in them.
 pub fn try_rw_bytes_like<R, F: FnOnce(&mut [u8]) -> R>(
     buffer: &mut PyBufferMut<'_>,
     f: F,
 ) -> Result<R, ArgFault>
     requires { F.IsAlwaysCallable f }
-    ensures { MatchResult result (λ r. (new : List ℕ) × FnOnceReturnsAtMut F.FnOnce f (take buffer.old.desc.len buffer.old.bytes) r new × IsContiguous buffer.old.desc)
-        (λ refused. (refused ≡ arg_fault.NotContiguous) × (IsContiguous buffer.old.desc → ⊥)) }
+    ensures { MatchResult result (λ r. (new : List ℕ) × FnOnceReturnsAtMut F.FnOnce f (take buffer.old.desc.len buffer.old.bytes) r new × LeavesFront buffer.old new buffer.new × IsContiguous buffer.old.desc)
+        (λ refused. (refused ≡ arg_fault.NotContiguous) × (IsContiguous buffer.old.desc → ⊥) × (buffer.new ≡ buffer.old)) }
 {
-    match buffer.as_contiguous_mut() {
-        Some(bytes) => Ok(called(f, bytes)),
-        None => Err(ArgFault::NotContiguous),
+    if buffer.desc().is_contiguous() {
+        Ok(buffer.call_on_front(f))
+    } else {
+        Err(ArgFault::NotContiguous)
     }
 }
