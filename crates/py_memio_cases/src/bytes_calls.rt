@@ -70,13 +70,17 @@ fn fill(stream: &mut BytesIO, export: Export) -> Result<(), IoFault> {
     Ok(())
 }
 
+/// Writes by what may change how many bytes there are.
+fn resize(alloc: Global, stream: &mut BytesIO, word: &str) -> Result<String> {
+    let bytes = bytes_of(alloc, word)?;
+    match stream.try_resizable() {
+        Ok(mut resizable) => answers::count(alloc, resizable.write(&bytes)),
+        Err(fault) => answers::refused(alloc, fault),
+    }
+}
+
 /// A call of an export.
-fn use_export(
-    alloc: Global,
-    stream: &mut BytesIO,
-    name: &str,
-    export: Export,
-) -> Result<String> {
+fn use_export(alloc: Global, stream: &mut BytesIO, name: &str, export: Export) -> Result<String> {
     match name {
         "release" => answers::done(alloc, stream.release(export)),
         "fill" => answers::done(alloc, fill(stream, export)),
@@ -98,13 +102,17 @@ pub(crate) fn answer(alloc: Global, stream: &mut BytesIO, call: &str) -> Result<
         "readinto" => read_into(alloc, stream, words.parse::<usize>()?, false),
         "readinto1" => read_into(alloc, stream, words.parse::<usize>()?, true),
         "write" => answers::count(alloc, stream.write(&bytes_of(alloc, words)?)),
+        "resize" => resize(alloc, stream, words),
         "writelines" => {
             let lines = lines_of(alloc, words)?;
             answers::done(alloc, stream.writelines(alloc, &lines))
         }
         "seek" => {
             let (offset, whence) = split(words);
-            answers::number(alloc, stream.seek(offset.parse::<i64>()?, whence.parse::<i32>()?))
+            answers::number(
+                alloc,
+                stream.seek(offset.parse::<i64>()?, whence.parse::<i32>()?),
+            )
         }
         "tell" => answers::number(alloc, stream.tell()),
         "truncate" => answers::number(alloc, stream.truncate(place_of(words)?)),

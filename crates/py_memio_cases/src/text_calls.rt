@@ -23,7 +23,10 @@ pub(crate) fn answer(alloc: Global, stream: &mut StringIO, call: &str) -> Result
         }
         "seek" => {
             let (offset, whence) = split(words);
-            answers::number(alloc, stream.seek(offset.parse::<i64>()?, whence.parse::<i32>()?))
+            answers::number(
+                alloc,
+                stream.seek(offset.parse::<i64>()?, whence.parse::<i32>()?),
+            )
         }
         "tell" => answers::number(alloc, stream.tell()),
         "truncate" => answers::number(alloc, stream.truncate(place_of(words)?)),
