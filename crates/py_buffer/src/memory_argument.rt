@@ -59,8 +59,7 @@ impl<'a> ArgMemoryBuffer<'a> {
         requires { F.IsAlwaysCallable f }
         ensures { (new : List ℕ) × FnOnceReturnsAtMut F.FnOnce f (take self.old.desc.len self.old.bytes) result new × LeavesFront self.old new self.new }
     {
-        let len = self.desc.len.min(self.bytes.len());
-        called_on_front(f, &mut *self.bytes, len)
+        called_on_front(f, &mut *self.bytes, self.desc.len)
     }
 
     /// How many bytes the argument has.

@@ -1,5 +1,5 @@
 //! Bytes that a closure may write.
-ghost use Rattle.std.specs.Prelude.{◌≡◌, ◌≤◌, ◌++◌, ℕ, List, length, take, drop};
+ghost use Rattle.std.specs.Prelude.{◌≡◌, ◌++◌, ℕ, List, length, take, drop};
 ghost use Rattle.std.specs.Fn.{FnOnceReturnsAtMut};
 
 /// What `f` answers of some bytes.
@@ -10,11 +10,11 @@ fn called<R, F: FnOnce(&mut [u8]) -> R>(f: F, bytes: &mut [u8]) -> R
     f(bytes)
 }
 
-/// What `f` answers of the first of some bytes, of which it leaves as many.
-pub(crate) fn called_on_front<R, F: FnOnce(&mut [u8]) -> R>(f: F, bytes: &mut [u8], count: usize) -> R
-    requires calls { F.IsAlwaysCallable f }
-    requires within { count ≤ length bytes.old }
-    ensures { (new : List ℕ) × FnOnceReturnsAtMut F.FnOnce f (take count bytes.old) result new × (length new ≡ count) × (bytes.new ≡ new ++ drop count bytes.old) }
+/// What `f` answers of the first `len` of some bytes, or of all where there are fewer; it leaves as many.
+pub(crate) fn called_on_front<R, F: FnOnce(&mut [u8]) -> R>(f: F, bytes: &mut [u8], len: usize) -> R
+    requires { F.IsAlwaysCallable f }
+    ensures { (new : List ℕ) × FnOnceReturnsAtMut F.FnOnce f (take len bytes.old) result new × (length new ≡ length (take len bytes.old)) × (bytes.new ≡ new ++ drop (length new) bytes.old) }
 {
+    let count = len.min(bytes.len());
     called(f, &mut bytes[..count])
 }

@@ -31,6 +31,28 @@ fn compare_segments(
     left.is_empty()
 }
 
+/// Compares the calls of both calling forms with the segments, and the first call with a stop.
+fn compare_calls(descriptor: &BufferDescriptor, joined: bool) -> bool
+    requires { IsValid descriptor.now }
+{
+    let mut segments = descriptor.segments(joined);
+    let differs = descriptor.for_each_segment(joined, |segment| match segments.next() {
+        Some(own) => own.start != segment.start || own.end != segment.end,
+        None => true,
+    });
+    let all = segments.next().is_none();
+    let apart = descriptor.zip_eq(descriptor, joined, |one, other| {
+        one.start != other.start || one.end != other.end
+    });
+    let mut calls = 0usize;
+    let stopped = descriptor.for_each_segment(joined, |_| {
+        calls = calls.saturating_add(1);
+        true
+    });
+    let has_some = descriptor.segments(joined).next().is_some();
+    !differs && all && !apart && stopped == has_some && calls == usize::from(has_some)
+}
+
 /// Compares the position of each item, its last index counted from the front and from the end, and of one past the end.
 fn compare_positions(
     alloc: Global,
@@ -120,7 +142,9 @@ pub(crate) fn agrees(
     tally.segments = tally.segments.saturating_add(items.len() as u64);
     let mut same = compare_segments(descriptor, false, items.as_slice(), itemsize)
         && descriptor.is_contiguous() == contiguous
-        && descriptor.is_zero_in_shape() == items.is_empty();
+        && descriptor.is_zero_in_shape() == items.is_empty()
+        && compare_calls(descriptor, false)
+        && compare_calls(descriptor, true);
     same &= if joins {
         compare_segments(descriptor, true, rows.as_slice(), wide)
     } else {
