@@ -1,0 +1,76 @@
+//! Times a stream in memory: prints what came, and the best time of some rounds to standard error.
+//!
+//! `bench/memory` runs this program, and does the same by CPython and by Rust's std.
+#![tactic(auto)]
+
+mod counts;
+mod filled;
+mod task;
+
+use counts::Counts;
+use std::time::{Duration, Instant};
+use std::{env, io};
+use task::Task;
+
+/// What the words of the command line ask for.
+#[derive(Drop)]
+struct Asked {
+    task: Task,
+    count: u32,
+    rounds: u32,
+}
+
+/// The words `<task> <count> <rounds>`.
+fn command_words(rt: &HostRuntime) -> io::Result<Option<Asked>> {
+    let mut words = env::args(rt)?.skip(1);
+    let (Some(task), Some(count), Some(rounds), None) = (
+        words.next(),
+        words.next(),
+        words.next(),
+        words.next(),
+    ) else {
+        return Ok(None);
+    };
+    match (
+        Task::from_word(task.as_str()),
+        count.parse(),
+        rounds.parse(),
+    ) {
+        (Some(task), Ok(count), Ok(rounds)) => Ok(Some(Asked {
+            task,
+            count,
+            rounds,
+        })),
+        _ => Ok(None),
+    }
+}
+
+/// Does a task over and over, each time over a stream that is made before the clock begins; answers what came at last, and the
+/// best time.
+fn timed(rt: &HostRuntime, asked: &Asked) -> io::Result<(Option<Counts>, Duration)> {
+    let mut counts = None;
+    let mut best = Duration::MAX;
+    for _ in 0..asked.rounds {
+        let Ok(mut stream) = asked.task.prepare(rt.alloc(), asked.count) else {
+            return Ok((None, best));
+        };
+        let start = Instant::now(rt)?;
+        counts = asked.task.run(rt.alloc(), asked.count, &mut stream).ok();
+        best = best.min(start.elapsed(rt)?);
+    }
+    Ok((counts, best))
+}
+
+fn main(rt: HostRuntime) -> io::Result<()> {
+    let Some(asked) = command_words(&rt)? else {
+        return rt.println(
+            "usage: py_memory_bench writes|lines|pieces|appends|text-lines <count> <rounds>",
+        );
+    };
+    let (counts, best) = timed(&rt, &asked)?;
+    match counts {
+        Some(counts) => println!(rt; "answers {} units {}", counts.answers, counts.units)?,
+        None => rt.println("out of memory")?,
+    }
+    eprintln!(rt; "{}", best.as_micros())
+}
