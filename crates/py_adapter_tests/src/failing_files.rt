@@ -51,7 +51,7 @@ impl<F: OpenFile> OpenFile for Stuck<F> {
     }
 }
 
-/// What opens such files.
+/// A system whose files fail to seek, with an error of its own.
 #[derive(Drop)]
 pub(crate) struct FailingFiles<'a, R> {
     pub(crate) files: &'a R,

@@ -51,7 +51,7 @@ impl<R: RawStream> Kind<R> {
         }
     }
 
-    /// What became of it.
+    /// What became of the stream.
     pub fn life(&self) -> Life
         ensures { result ≡ (shown self.now).life }
     {

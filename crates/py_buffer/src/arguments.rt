@@ -172,7 +172,7 @@ impl<'a> ArgAsciiBuffer<'a> {
         }
     }
 
-    /// Whether there are none.
+    /// Whether the argument has no byte.
     pub fn is_empty(&self) -> bool
         ensures { IsTrue result ↔ (ascii_len self.now ≡ 0) }
     {

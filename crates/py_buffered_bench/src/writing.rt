@@ -5,7 +5,7 @@ use py_raw::{IoFault, RawStream};
 /// How many writes there are.
 const WRITES: u32 = 2_000_000;
 
-/// What each of them writes.
+/// What each write writes: 10 bytes.
 const LINE: &[u8] = b"nine char\n";
 
 /// Makes many short writes, flushes and closes, and counts what was taken.

@@ -164,7 +164,7 @@ impl Codec {
         }
     }
 
-    /// Whether the plain slow program does.
+    /// Whether the plain slow program decodes the bytes to that text.
     pub(crate) fn plainly_decodes(
         self,
         alloc: Global,
@@ -184,7 +184,7 @@ impl Codec {
         }
     }
 
-    /// Whether the plain slow program does.
+    /// Whether the plain slow program encodes the text to those bytes.
     pub(crate) fn plainly_encodes(
         self,
         alloc: Global,

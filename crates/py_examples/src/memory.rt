@@ -21,7 +21,7 @@ pub(crate) fn reader_of(
     Ok(BufferedReader::new(alloc, raw, buffer_size)?)
 }
 
-/// A writer to such a stream.
+/// A writer to a stream in memory, whose transfers are cut and fail as a plan says.
 pub(crate) fn writer_to(
     alloc: Global,
     bytes: &[u8],

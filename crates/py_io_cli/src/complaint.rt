@@ -24,12 +24,12 @@ where
         0 => String::from_str(alloc, ""),
         2 => words_complaint(alloc, words),
         3 => script_complaint(alloc, script.seen()),
-        4 => format!(in alloc; "the opening of {path} is refused, by the name that was printed"),
+        4 => format!(in alloc; "the opening of {path:?} is refused, by the name that was printed"),
         5 => String::from_str(alloc, "the script can't be read from standard input"),
         6 => String::from_str(alloc, "standard output can't be written"),
         8 => match opener.last_error() {
-            Some(kind) => format!(in alloc; "{path} can't be opened: {kind}"),
-            None => format!(in alloc; "{path} can't be closed"),
+            Some(kind) => format!(in alloc; "{path:?} can't be opened: {kind}"),
+            None => format!(in alloc; "{path:?} can't be closed"),
         },
         _ => String::from_str(alloc, "out of memory"),
     }
@@ -52,7 +52,7 @@ fn words_complaint(alloc: Global, words: &[String]) -> Result<String, AllocError
         let front = words.get(..count).unwrap_or(words);
         if let (None, Some(word)) = (parse_words(alloc, front)?, front.last()) {
             let word = if count == 3 { &words[0] } else { word };
-            return format!(in alloc; "the word {word} is malformed: try --help");
+            return format!(in alloc; "the word {word:?} is malformed: try --help");
         }
     }
     String::from_str(alloc, "a word is not UTF-8")

@@ -30,7 +30,7 @@ pub record ClosesRaw (old new : Stream) : Type 0 where
   pub owed : new.owed ≡ old.owed
   pub far : new.place ≤ greatest_place
 
--- the raw of a live stream is closed: it did, or failed, which closes the stream too; or it wanted memory
+-- what closing the raw of a live stream comes to: it is closed, also where that failed, and the stream with it; or memory ran out
 abbrev pub CloseRawOutcome : Stream → Result (Unit {0}) IoFault → Stream → Type 0
 CloseRawOutcome old (Ok done) new = ClosesRaw old new × NoFault old.raw new.raw
 CloseRawOutcome old (Err fault.RawFault) new = ClosesRaw old new × Rose old.raw.faults new.raw.faults

@@ -19,7 +19,7 @@ place_handed stream owed = if stream.can.seekable then Some owed.place else None
 abbrev pub handed_over : Stream → Raw → Owed → Stream
 handed_over stream raw owed = record stream { raw = raw; owed = owed; life = life.Detached; short = false }
 
--- what is left
+-- the stream that is left once its raw was handed back
 abbrev pub left_behind : Stream → Stream
 left_behind stream = detached_stream stream.can stream.buffer
 

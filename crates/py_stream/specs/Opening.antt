@@ -90,7 +90,7 @@ abbrev pub Lacking : Bool → Raw → Raw → Type 0
 Lacking true raw back = Untouched raw back × LeavesCounts raw back × StandsWhereItStood raw back
 Lacking false raw back = back ≡ raw
 
--- a raw is asked where a stream begins: it answers, fails, or wants memory
+-- a raw is asked where a stream begins: it answers, fails, or runs out of memory
 abbrev pub PlaceOutcome : Bool → Raw → Result ℕ RawError → Raw → Type 0
 PlaceOutcome appends old (Ok place) new = PlaceOf appends old place new
 PlaceOutcome appends old (Err raw_error.Fault) new = IsTrue old.seekable × Rose old.faults new.faults × Untouched old new

@@ -24,14 +24,19 @@ pub fn a_seek_to_the_told_place_keeps_all()
 {}
 
 /// `read` and `readinto` of a stream with a buffer give the next bytes, as many as were asked for or all that are left, and the place
-/// moves past them: where the stream lives and reads, its raw tells its bytes and its place, no count of it rose, and memory didn't run
-/// out. So of the laws below.
+/// moves past them.
+///
+/// Of a call that goes smoothly: the stream lives and reads, its raw tells its bytes and its place, no count of the raw rose, and memory
+/// didn't run out.
 pub fn a_smooth_read_gives_what_comes_next()
     ensures read { (before : Stream) (size : Option ℕ) (reply : FileReply) (after : Stream) → Answers before (Read size) reply after → before.can.readable ≡ true → GoesSmoothly before reply after → GivesJust before (first_of size (rest (file_of before))) reply after }
     ensures readinto { (before : Stream) (size : ℕ) (reply : FileReply) (after : Stream) → Answers before (ReadInto size) reply after → before.can.readable ≡ true → GoesSmoothly before reply after → GivesJust before (first_of (Some size) (rest (file_of before))) reply after }
 {}
 
 /// `readline` gives the first line of what is left, within its limit, and `readlines` the lines up to its hint.
+///
+/// Of a call that goes smoothly: the stream lives and reads, its raw tells its bytes and its place, no count of the raw rose, and memory
+/// didn't run out.
 pub fn a_smooth_line_is_the_first_that_is_left()
     ensures readline { (before : Stream) (limit : Option ℕ) (reply : FileReply) (after : Stream) → Answers before (ReadLine limit) reply after → before.can.readable ≡ true → GoesSmoothly before reply after → GivesJust before (first_line Lf limit (rest (file_of before))) reply after }
     ensures readlines { (before : Stream) (hint : Option ℕ) (reply : FileReply) (after : Stream) → Answers before (ReadLines hint) reply after → before.can.readable ≡ true → GoesSmoothly before reply after → GivesJustLines before (lines_within hint (rest (file_of before))) reply after }
@@ -39,6 +44,9 @@ pub fn a_smooth_line_is_the_first_that_is_left()
 
 /// `read1`, `readinto1` and `peek` give some front of what they ask for, by at most one transfer, and nothing only where nothing is
 /// asked for or left.
+///
+/// Of a call that goes smoothly: the stream lives and reads, its raw tells its bytes and its place, no count of the raw rose, and memory
+/// didn't run out.
 pub fn a_smooth_single_transfer_gives_a_front()
     ensures read1 { (before : Stream) (size : Option ℕ) (reply : FileReply) (after : Stream) → Answers before (Read1 size) reply after → before.can.readable ≡ true → GoesSmoothly before reply after → Transfers (file_of before) (Read1 size) (one_transfer (file_of before).buffering size (rest (file_of before))) reply (file_of after) }
     ensures readinto1 { (before : Stream) (size : ℕ) (reply : FileReply) (after : Stream) → Answers before (ReadInto1 size) reply after → before.can.readable ≡ true → GoesSmoothly before reply after → Transfers (file_of before) (ReadInto1 size) (first_of (Some size) (rest (file_of before))) reply (file_of after) }
@@ -47,6 +55,9 @@ pub fn a_smooth_single_transfer_gives_a_front()
 
 /// `write` and `writelines` take all bytes, and lay them at the place, which moves past them. They have to end at a place that a stream
 /// can have, at most 9223372036854775807.
+///
+/// Of a call that goes smoothly: the stream lives and writes, its raw tells its bytes and its place, no count of the raw rose, and memory
+/// didn't run out.
 pub fn a_smooth_write_takes_all()
     ensures write { (before : Stream) (bytes : List ℕ) (reply : FileReply) (after : Stream) → Answers before (Write bytes) reply after → before.can.writable ≡ true → before.place + length bytes ≤ greatest_place → GoesSmoothly before reply after → TakesJust before (Count (length bytes)) bytes reply after }
     ensures writelines { (before : Stream) (lines : List (List ℕ)) (reply : FileReply) (after : Stream) → Answers before (WriteLines lines) reply after → before.can.writable ≡ true → before.place + length (joined lines) ≤ greatest_place → GoesSmoothly before reply after → TakesJust before Done (joined lines) reply after }
