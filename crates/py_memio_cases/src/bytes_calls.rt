@@ -1,5 +1,6 @@
 //! The calls of a `BytesIO`.
 use crate::answers;
+use crate::lent::mark_first;
 use crate::words::{bytes_of, hex_of, place_of, size_of, split};
 use anyhow::{Result, anyhow};
 use py_memio::{BytesIO, Data, Export, IoFault, Lines};
@@ -121,6 +122,7 @@ pub(crate) fn answer(alloc: Global, stream: &mut BytesIO, call: &str) -> Result<
         "release" | "fill" | "export" => {
             use_export(alloc, stream, name, Export(words.parse::<u64>()?))
         }
+        "mark" => answers::done(alloc, mark_first(stream, words.parse::<u8>()?)),
         "flush" => answers::done(alloc, stream.flush()),
         "close" => answers::done(alloc, stream.close()),
         "closed" => answers::flag(alloc, stream.closed()),

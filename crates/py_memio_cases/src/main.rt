@@ -6,6 +6,7 @@
 
 mod answers;
 mod bytes_calls;
+mod lent;
 mod lists;
 mod text_calls;
 mod words;
