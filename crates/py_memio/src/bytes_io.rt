@@ -11,6 +11,7 @@ mod reading;
 mod resizing;
 mod writing;
 
+use crate::standing::check_open;
 use py_flat::IoFault;
 pub use resizing::Resizable;
 use std::alloc::Global;
@@ -93,11 +94,7 @@ impl BytesIO {
     fn check_open(&self) -> Result<(), IoFault>
         ensures { OpenOutcome self.now.file.life result }
     {
-        if self.closed {
-            Err(IoFault::Closed)
-        } else {
-            Ok(())
-        }
+        check_open(self.closed)
     }
 
     /// What changes how many bytes there are is refused where an export of them is out.

@@ -10,6 +10,7 @@ ghost use Rattle.py_memio.specs.BytesIO.{is_lent, GivesAll};
 ghost use Rattle.py_flat.specs.Refusals.{life_fault};
 
 use super::BytesIO;
+use crate::standing::{front, left_from};
 use py_flat::{IoFault, Lines};
 use py_lines::{Collected, Collector, LineCollector, LinesCollector};
 use py_raw::fill_front;
@@ -125,18 +126,13 @@ impl BytesIO {
     fn rest(&self) -> &[u8]
         ensures { result.now ≡ rest self.now.file }
     {
-        let start = self.bytes.len().min(self.place as usize);
-        &self.bytes[start..]
+        left_from(&self.bytes, self.place)
     }
 
     /// The next n bytes, or all that are left.
     fn next_bytes(&self, size: Option<usize>) -> &[u8]
         ensures { result.now ≡ first_of size (rest self.now.file) }
     {
-        let rest = self.rest();
-        match size {
-            Some(size) if size < rest.len() => &rest[..size],
-            _ => rest,
-        }
+        front(self.rest(), size)
     }
 }
