@@ -17,6 +17,13 @@ number-given next number is fits =
     ap (λ (n : Option ℕ). number_or_too_far (next_number n)) is
     ∙ cond-true (nat_lt number (2 ^ 64)) (Ok number) (Err TooFar) (lt-ltb number (2 ^ 64) below)
 
+-- a number that is left is not the limit
+pub not-far : {A : Type 0} (next : Option ℕ) (number : ℕ) → next ≡ Some number → IsNext next → next_number next ≡ 2 ^ 64 → A
+not-far next number is fits far =
+    let below : number < 2 ^ 64 = number-fits next number is fits in
+    let same : number ≡ 2 ^ 64 = sym (ap next_number is) ∙ far in
+    absurd (omega (arith, below, same))
+
 next-rises_by : (after : Option ℕ) (number : ℕ) → number < 2 ^ 64 → SomeIff after (number + 1 < 18446744073709551616) (number + 1) → next_number after ≡ number + 1
 next-rises_by None number fits is = elim-le number fits is
   where

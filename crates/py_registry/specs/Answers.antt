@@ -64,6 +64,11 @@ chosen (Some codec) (Some handler) = Ok (codec, handler)
 abbrev pub chosen_by : {S H : Type 0} → (S → List ℕ → Option (PyCodec S)) → (S → ℕ → Bool) → Machine S H → (only_text : Bool) → (name : List ℕ) → (errors : Option (List ℕ)) → Result (PyCodec S × HandlerRef H) IoFault
 chosen_by finds texts machine only_text name errors = chosen (only_if only_text (is_text texts) (found finds machine name)) (handler_of machine (name_or_strict errors))
 
+-- where a codec is known, so that no function has to be asked for it, and the choice of it and of a handler is refused, an
+-- answer is that refusal, and never running out of memory
+abbrev pub ChosenFirst : {S H T : Type 0} → (finds : S → List ℕ → Option (PyCodec S)) → (texts : S → ℕ → Bool) → Machine S H → (only_text : Bool) → (name : List ℕ) → (errors : Option (List ℕ)) → Result T IoFault → Type 0
+ChosenFirst {S} finds texts machine only_text name errors result = (codec : PyCodec S) (why : IoFault) → known machine name ≡ Some codec → chosen_by finds texts machine only_text name errors ≡ Err why → result ≡ Err why
+
 -- the work of a codec with a handler
 abbrev pub worked : {S H : Type 0} → (PyCodec S → HandlerRef H → Coded) → Result (PyCodec S × HandlerRef H) IoFault → Coded
 worked work (Ok pair) = work pair.0 pair.1

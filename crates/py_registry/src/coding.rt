@@ -1,9 +1,9 @@
-ghost use Rattle.std.specs.Prelude.{◌≡◌, true, false, None, Some, chars, option_map, IfErr, OnOk, OnErr};
+ghost use Rattle.std.specs.Prelude.{◌≡◌, true, false, None, Some, chars, Ok, option_map, IfErr};
 ghost use Rattle.py_flat.specs.declared.fault.IoFault.TheVariants.{NoMemory};
 ghost use Rattle.py_codec.specs.Answers.{text_of, bytes_of};
 ghost use Rattle.py_registry.specs.Coding.{codec_encoding, codec_decoding};
 ghost use Rattle.py_registry.specs.Machine.{known, found, looked_up};
-ghost use Rattle.py_registry.specs.Answers.{IsExpected, name_or_strict, chosen_by, WorksByNames, RefusedFirstByNames};
+ghost use Rattle.py_registry.specs.Answers.{IsExpected, Answers, name_or_strict, chosen_by, ChosenFirst, WorksByNames, RefusedFirstByNames};
 
 use crate::{CodecsRegistry, PyCodec, SearchFunction};
 use py_codec::{ErrorHandler, HandlerRef, IoFault};
@@ -46,9 +46,7 @@ impl<S: SearchFunction, H: ErrorHandler> CodecsRegistry<S, H> {
     /// The codec that was found for a name is kept as a lookup keeps it.
     fn keep(&mut self, alloc: Global, name: &str, codec: PyCodec<S>) -> Result<(), IoFault>
         requires { found S.finds self.old (chars name.now) ≡ Some codec }
-        ensures ok { OnOk result (self.new ≡ looked_up S.finds self.old (chars name.now)) }
-        ensures err { OnErr result (self.new ≡ self.old) }
-        ensures memory { IfErr result (λ why. why ≡ NoMemory) }
+        ensures { Answers result (Ok tt) self.old (looked_up S.finds self.old (chars name.now)) self.new }
     {
         if self.known(name).is_none() {
             self.settle(alloc, name, codec)?;
@@ -70,6 +68,7 @@ impl<S: SearchFunction, H: ErrorHandler> CodecsRegistry<S, H> {
             only_text (chars name.now) (option_map (λ errors. chars errors.now) errors.entry) self.old self.new result }
         ensures first { RefusedFirstByNames (codec_encoding S.slot_encodes H.decodes H.encodes (chars text.now))
             (chars name.now) (option_map (λ errors. chars errors.now) errors.entry) self.old result }
+        ensures chosen { ChosenFirst S.finds S.text_slots self.old only_text (chars name.now) (option_map (λ errors. chars errors.now) errors.entry) result }
     {
         let (codec, handler) = self.choose(alloc, name, errors, only_text)?;
         let bytes = codec.encode(alloc, text, handler)?;
@@ -87,8 +86,9 @@ impl<S: SearchFunction, H: ErrorHandler> CodecsRegistry<S, H> {
         errors: Option<&str>,
         only_text: bool,
     ) -> Result<String, IoFault>
-        ensures { WorksByNames text_of S.finds S.text_slots (codec_decoding S.slot_decodes H.decodes H.encodes bytes.now)
+        ensures answer { WorksByNames text_of S.finds S.text_slots (codec_decoding S.slot_decodes H.decodes H.encodes bytes.now)
             only_text (chars name.now) (option_map (λ errors. chars errors.now) errors.entry) self.old self.new result }
+        ensures chosen { ChosenFirst S.finds S.text_slots self.old only_text (chars name.now) (option_map (λ errors. chars errors.now) errors.entry) result }
     {
         let (codec, handler) = self.choose(alloc, name, errors, only_text)?;
         let text = codec.decode(alloc, bytes, handler)?;
@@ -100,8 +100,8 @@ impl<S: SearchFunction, H: ErrorHandler> CodecsRegistry<S, H> {
     /// handler is that of the name `strict`.
     ///
     /// `UnknownEncoding`: there is no such codec; `UnknownHandler`: no such handler; the other refusals are those of
-    /// `PyCodec::encode`, and of a codec that no function has to be asked for they come before memory is taken as there. A
-    /// refusal leaves the registry as it was.
+    /// `PyCodec::encode`. Where no function has to be asked for the codec, `UnknownHandler` comes before memory is taken, and
+    /// the other refusals as there. A refusal leaves the registry as it was.
     pub fn encode(
         &mut self,
         alloc: Global,
@@ -113,6 +113,7 @@ impl<S: SearchFunction, H: ErrorHandler> CodecsRegistry<S, H> {
             false (chars name.now) (option_map (λ errors. chars errors.now) errors.entry) self.old self.new result }
         ensures first { RefusedFirstByNames (codec_encoding S.slot_encodes H.decodes H.encodes (chars text.now))
             (chars name.now) (option_map (λ errors. chars errors.now) errors.entry) self.old result }
+        ensures chosen { ChosenFirst S.finds S.text_slots self.old false (chars name.now) (option_map (λ errors. chars errors.now) errors.entry) result }
     {
         self.encode_by(alloc, text, name, errors, false)
     }
@@ -120,7 +121,8 @@ impl<S: SearchFunction, H: ErrorHandler> CodecsRegistry<S, H> {
     /// The text of some bytes, after which none follow, by the codec of a name, which is looked up, and the handler of
     /// another; without one the handler is that of the name `strict`.
     ///
-    /// The refusals are those of `encode` and of `PyCodec::decode`; a refusal leaves the registry as it was.
+    /// The refusals are those of `encode` and of `PyCodec::decode`, `UnknownHandler` before memory is taken where no function
+    /// has to be asked for the codec. A refusal leaves the registry as it was.
     pub fn decode(
         &mut self,
         alloc: Global,
@@ -128,8 +130,9 @@ impl<S: SearchFunction, H: ErrorHandler> CodecsRegistry<S, H> {
         name: &str,
         errors: Option<&str>,
     ) -> Result<String, IoFault>
-        ensures { WorksByNames text_of S.finds S.text_slots (codec_decoding S.slot_decodes H.decodes H.encodes bytes.now)
+        ensures answer { WorksByNames text_of S.finds S.text_slots (codec_decoding S.slot_decodes H.decodes H.encodes bytes.now)
             false (chars name.now) (option_map (λ errors. chars errors.now) errors.entry) self.old self.new result }
+        ensures chosen { ChosenFirst S.finds S.text_slots self.old false (chars name.now) (option_map (λ errors. chars errors.now) errors.entry) result }
     {
         self.decode_by(alloc, bytes, name, errors, false)
     }
@@ -137,8 +140,9 @@ impl<S: SearchFunction, H: ErrorHandler> CodecsRegistry<S, H> {
     /// The bytes of a text by the codec of a name, which has to be a codec for text, and the handler of another; without one
     /// the handler is that of the name `strict`.
     ///
-    /// `UnknownEncoding`: there is no codec of that name, or it isn't for text; the other refusals are those of `encode`, and
-    /// come before memory is taken where those do. A refusal leaves the registry as it was.
+    /// `UnknownEncoding`: there is no codec of that name, or it isn't for text, which comes before memory is taken where no
+    /// function has to be asked for the codec; the other refusals are those of `encode`, and come before memory is taken where
+    /// those do. A refusal leaves the registry as it was.
     pub fn encode_text(
         &mut self,
         alloc: Global,
@@ -150,6 +154,7 @@ impl<S: SearchFunction, H: ErrorHandler> CodecsRegistry<S, H> {
             true (chars name.now) (option_map (λ errors. chars errors.now) errors.entry) self.old self.new result }
         ensures first { RefusedFirstByNames (codec_encoding S.slot_encodes H.decodes H.encodes (chars text.now))
             (chars name.now) (option_map (λ errors. chars errors.now) errors.entry) self.old result }
+        ensures chosen { ChosenFirst S.finds S.text_slots self.old true (chars name.now) (option_map (λ errors. chars errors.now) errors.entry) result }
     {
         self.encode_by(alloc, text, name, errors, true)
     }
@@ -157,8 +162,9 @@ impl<S: SearchFunction, H: ErrorHandler> CodecsRegistry<S, H> {
     /// The text of some bytes, after which none follow, by the codec of a name, which has to be a codec for text, and the
     /// handler of another; without one the handler is that of the name `strict`.
     ///
-    /// `UnknownEncoding`: there is no codec of that name, or it isn't for text; the other refusals are those of `decode`. A
-    /// refusal leaves the registry as it was.
+    /// `UnknownEncoding`: there is no codec of that name, or it isn't for text, which comes before memory is taken where no
+    /// function has to be asked for the codec; the other refusals are those of `decode`, and come before memory is taken where
+    /// those do. A refusal leaves the registry as it was.
     pub fn decode_text(
         &mut self,
         alloc: Global,
@@ -166,8 +172,9 @@ impl<S: SearchFunction, H: ErrorHandler> CodecsRegistry<S, H> {
         name: &str,
         errors: Option<&str>,
     ) -> Result<String, IoFault>
-        ensures { WorksByNames text_of S.finds S.text_slots (codec_decoding S.slot_decodes H.decodes H.encodes bytes.now)
+        ensures answer { WorksByNames text_of S.finds S.text_slots (codec_decoding S.slot_decodes H.decodes H.encodes bytes.now)
             true (chars name.now) (option_map (λ errors. chars errors.now) errors.entry) self.old self.new result }
+        ensures chosen { ChosenFirst S.finds S.text_slots self.old true (chars name.now) (option_map (λ errors. chars errors.now) errors.entry) result }
     {
         self.decode_by(alloc, bytes, name, errors, true)
     }

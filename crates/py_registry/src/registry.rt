@@ -1,5 +1,5 @@
-ghost use Rattle.std.specs.Prelude.{◌≡◌, Ok, chars, nat_eq, MatchOption, IfOk, IfErr, OnOk, OnErr};
-ghost use Rattle.py_flat.specs.declared.fault.IoFault.TheVariants.{NoMemory};
+ghost use Rattle.std.specs.Prelude.{◌≡◌, ◌^◌, Ok, Err, chars, nat_eq, MatchOption, IfOk, IfErr, OnOk};
+ghost use Rattle.py_flat.specs.declared.fault.IoFault.TheVariants.{NoMemory, TooFar};
 ghost use Rattle.py_codec.specs.declared.handler_ref.HandlerRef.TheVariants as given;
 ghost use Rattle.py_plain.specs.Names.{handler_name};
 ghost use Rattle.py_registry.specs.Entries.{IsEntry, IsNoEntry};
@@ -102,9 +102,10 @@ impl<S: Copy, H: Copy> CodecsRegistry<S, H> {
     /// Registers a search function behind the others, and answers its number: 0 for the first, and one more for each
     /// next, so that no number is given twice.
     ///
-    /// `TooFar`: all numbers are given; `NoMemory` means out of memory.
+    /// `TooFar`: all numbers are given, which is told before memory is taken; `NoMemory` means out of memory.
     pub fn register(&mut self, alloc: Global, function: S) -> Result<u64, IoFault>
-        ensures { Answers result (number_or_too_far self.old.next) self.old (registered self.old function) self.new }
+        ensures far { self.old.next ≡ 2 ^ 64 → result ≡ Err TooFar }
+        ensures answer { Answers result (number_or_too_far self.old.next) self.old (registered self.old function) self.new }
     {
         let Some(number) = self.next else {
             return Err(IoFault::TooFar);
@@ -143,9 +144,7 @@ impl<S: Copy, H: Copy> CodecsRegistry<S, H> {
         name: &str,
         codec: PyCodec<S>,
     ) -> Result<(), IoFault>
-        ensures ok { OnOk result (self.new ≡ registered_manually self.old (chars name.now) codec) }
-        ensures err { OnErr result (self.new ≡ self.old) }
-        ensures memory { IfErr result (λ why. why ≡ NoMemory) }
+        ensures { Answers result (Ok tt) self.old (registered_manually self.old (chars name.now) codec) self.new }
     {
         self.cache.put(spelled(alloc, name)?, codec)?;
         Ok(())

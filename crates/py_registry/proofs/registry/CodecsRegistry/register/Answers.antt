@@ -1,11 +1,11 @@
-use Rattle.std.proofs.Common.{◌≡◌, ℕ, ◌+◌, ◌∷◌, [], ◌++◌, List, Option, Ok, sym, ap, ◌∙◌}
+use Rattle.std.proofs.Common.{◌≡◌, ℕ, ◌+◌, ◌^◌, ◌∷◌, [], ◌++◌, List, Option, Ok, sym, ap, ◌∙◌}
 use Rattle.py_registry.specs.Machine.{Machine, next_number, registered}
 use Rattle.py_registry.specs.Answers.{number_or_too_far}
-use Rattle.py_registry.proofs.Registering.{number-given, number-rises}
+use Rattle.py_registry.proofs.Registering.{number-given, number-rises, not-far}
 use Rattle.py_registry.proofs.registry.CodecsRegistry.register.Goals as goal
 
-pub returns : goal.returns
-returns g c =
+pub returns-clause-answer : goal.returns-clause-answer
+returns-clause-answer g c =
     let Registry : Type 0 = Machine g.row.S.Denot g.row.H.Denot in
     let inside = c.self.inside in
     let after = c.checked_add-self-inside.result in
@@ -21,3 +21,9 @@ returns g c =
     ∙ ap (λ (fs : List (ℕ × g.row.S.Denot)). record { next = next_number inside.next + 1; functions = fs; cache = inside.cache; handlers = inside.handlers }) (pushed ∙ own) in
     let view : shown ≡ c.args.self.now = c.self.view_is in
     (ap (λ (m : Registry). number_or_too_far m.next) (sym view) ∙ number, made ∙ ap (λ (m : Registry). registered m c.args.function) view)
+
+pub returns-clause-far : goal.returns-clause-far
+returns-clause-far g c far =
+    let inside = c.self.inside in
+    let shown : next_number inside.next ≡ 2 ^ 64 = ap (λ (m : Machine g.row.S.Denot g.row.H.Denot). m.next) c.self.view_is ∙ far in
+    not-far inside.next c.in-Some.number c.in-Some.is c.self.invariant shown
