@@ -1,5 +1,5 @@
 -- What the calls of a registry answer.
-use Rattle.std.specs.Prelude.{◌≡◌, ℕ, ◌^◌, ◌⊎◌, Bool, true, false, nat_lt, if◌then◌else◌, List, codes, Option, Some, None, Result, Ok, Err}
+use Rattle.std.specs.Prelude.{◌≡◌, ℕ, ◌^◌, Bool, true, false, nat_lt, if◌then◌else◌, List, codes, Option, Some, None, Result, Ok, Err}
 use Rattle.py_flat.specs.declared.fault.IoFault.{IoFault}
 use Rattle.py_flat.specs.declared.fault.IoFault.TheVariants.{NoMemory, TooFar, UnknownEncoding, UnknownHandler}
 use Rattle.py_plain.specs.declared.encoding.Encoding.{Encoding}
@@ -9,7 +9,7 @@ use Rattle.py_registry.specs.declared.codec.PyCodec.{PyCodec}
 use Rattle.py_registry.specs.declared.codec.PyCodec.TheVariants.{Builtin}
 use Rattle.py_registry.specs.declared.path.Probe.{Probe}
 use Rattle.py_registry.specs.declared.path.Probe.TheVariants.{Hit, Search}
-use Rattle.py_registry.specs.Coding.{is_text, Coded, IsCoded}
+use Rattle.py_registry.specs.Coding.{is_text, Coded, listed, IsExpected}
 use Rattle.py_registry.specs.Machine.{Machine, known, found, looked_up, handler_of}
 
 -- a value that is there, or a fault
@@ -22,11 +22,6 @@ abbrev pub IsProbe : {S : Type 0} → (known : Option (PyCodec S)) → (path : L
 IsProbe known path (Ok (Hit codec)) = known ≡ Some codec
 IsProbe known path (Ok (Search functions)) = (known ≡ None) × (functions ≡ path)
 IsProbe known path (Err why) = (known ≡ None) × (why ≡ NoMemory)
-
--- an answer is what was expected, or out of memory
-abbrev pub IsExpected : {T : Type 0} → Result T IoFault → (expected : Result T IoFault) → Type 0
-IsExpected (Ok value) expected = expected ≡ Ok value
-IsExpected (Err why) expected = (why ≡ NoMemory) ⊎ (expected ≡ Err why)
 
 -- an answer is what was expected, and what it leaves is `after`; or it is the expected refusal or running out of memory, and
 -- leaves all as it was
@@ -76,8 +71,7 @@ worked work (Err why) = Err why
 
 -- an answer is the expected work's, and what it leaves is `after`; a refusal and running out of memory leave all as it was
 abbrev pub Works : {T M : Type 0} → (shown : T → List ℕ) → Result T IoFault → Coded → (before after new : M) → Type 0
-Works shown (Ok value) expected before after new = IsCoded shown (Ok value) expected × (new ≡ after)
-Works shown (Err why) expected before after new = IsCoded shown (Err why) expected × (new ≡ before)
+Works shown result expected before after new = Answers (listed shown result) expected before after new
 
 -- by the codec of one name and the handler of another an answer is their work's, and what it leaves is what a lookup of the
 -- codec's name leaves; a refusal and running out of memory leave all as it was

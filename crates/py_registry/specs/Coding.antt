@@ -57,7 +57,16 @@ abbrev pub codec_decoding : {S H : Type 0} → (S → SlotMeaning) → (H → De
 codec_decoding slots decodes encodes bytes (Builtin encoding) errors = list_of (decoding_by decodes errors encoding true bytes)
 codec_decoding slots decodes encodes bytes (Slot owner slot) errors = slot_answer UnicodeDecodeError (slots owner slot bytes (meaning_of decodes encodes errors))
 
--- an answer is what was expected, or out of memory; `shown` reads a list off the value
+-- an answer by the list that `shown` reads off its value
+abbrev pub listed : {T : Type 0} → (shown : T → List ℕ) → Result T IoFault → Coded
+listed shown (Ok value) = Ok (shown value)
+listed shown (Err why) = Err why
+
+-- an answer is what was expected, or out of memory
+abbrev pub IsExpected : {T : Type 0} → Result T IoFault → (expected : Result T IoFault) → Type 0
+IsExpected (Ok value) expected = expected ≡ Ok value
+IsExpected (Err why) expected = (why ≡ NoMemory) ⊎ (expected ≡ Err why)
+
+-- an answer, by the list that `shown` reads off its value, is what was expected, or out of memory
 abbrev pub IsCoded : {T : Type 0} → (shown : T → List ℕ) → Result T IoFault → Coded → Type 0
-IsCoded shown (Ok value) expected = expected ≡ Ok (shown value)
-IsCoded shown (Err why) expected = (why ≡ NoMemory) ⊎ (expected ≡ Err why)
+IsCoded shown result expected = IsExpected (listed shown result) expected

@@ -1,9 +1,9 @@
 ghost use Rattle.std.specs.Prelude.{◌≡◌, true, false, None, Some, chars, Ok, option_map, IfErr};
 ghost use Rattle.py_flat.specs.declared.fault.IoFault.TheVariants.{NoMemory};
 ghost use Rattle.py_codec.specs.Answers.{text_of, bytes_of};
-ghost use Rattle.py_registry.specs.Coding.{codec_encoding, codec_decoding};
+ghost use Rattle.py_registry.specs.Coding.{codec_encoding, codec_decoding, IsExpected};
 ghost use Rattle.py_registry.specs.Machine.{known, found, looked_up};
-ghost use Rattle.py_registry.specs.Answers.{IsExpected, Answers, name_or_strict, chosen_by, ChosenFirst, WorksByNames, RefusedFirstByNames};
+ghost use Rattle.py_registry.specs.Answers.{Answers, name_or_strict, chosen_by, ChosenFirst, WorksByNames, RefusedFirstByNames};
 
 use crate::{CodecsRegistry, PyCodec, SearchFunction};
 use py_codec::{ErrorHandler, HandlerRef, IoFault};
