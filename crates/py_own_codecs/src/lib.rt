@@ -1,10 +1,10 @@
-//! An error handler and a search function of one's own. docs/CODECS.md goes through them.
+//! An error handler and a search function of one's own, and a registry that has both. docs/CODECS.md goes through them.
 #![tactic(auto)]
 
 mod own_handler;
+mod own_registry;
 mod own_search;
-#[cfg(test)]
-mod tests;
 
 pub use own_handler::Marks;
+pub use own_registry::marked_registry;
 pub use own_search::Marked;

@@ -2,10 +2,10 @@
 use crate::finds::Finds;
 use crate::shown;
 use anyhow::{Result, anyhow};
-use py_own_codecs::Marks;
+use py_own_codecs::{Marked, Marks, marked_registry};
 use py_registry::{
-    CodecsRegistry, DEFAULT_ENCODING, Handler, HandlerRef, NoHandler, NoSearch, Path, Probe,
-    PyCodec,
+    CodecsRegistry, DEFAULT_ENCODING, Handler, HandlerRef, IoFault, NoHandler, NoSearch, Path,
+    Probe, PyCodec,
 };
 use std::alloc::Global;
 
@@ -78,6 +78,29 @@ fn alone(alloc: Global, given: &str) -> Result<String> {
         Ok(codec) => Ok(shown::codec(alloc, codec)?),
         Err(fault) => Ok(shown::fault(alloc, fault)?),
     }
+}
+
+/// The bytes of a text in hex, `-` for none, or a refusal.
+fn shown_bytes(alloc: Global, made: Result<Vec<u8>, IoFault>) -> Result<String> {
+    match made {
+        Ok(bytes) if bytes.is_empty() => Ok(String::from_str(alloc, "-")?),
+        Ok(bytes) => Ok(hex::encode(alloc, bytes.as_slice())?),
+        Err(fault) => Ok(shown::fault(alloc, fault)?),
+    }
+}
+
+/// `own HEX ERRORS NAME`: `encode_text` in a new registry that has the search function and the handler of one's own which
+/// the documents show.
+fn own(alloc: Global, line: &str) -> Result<String> {
+    let (word, rest) = split(line);
+    let (given, name) = split(rest);
+    let mut registry = marked_registry(alloc, Marked, Marks { mark: "<?>" })?;
+    let bytes = hex::decode(alloc, word.as_bytes())?;
+    let text = str::from_utf8(&bytes)?;
+    shown_bytes(
+        alloc,
+        registry.encode_text(alloc, text, name, errors(given)),
+    )
 }
 
 impl Case {
@@ -183,11 +206,7 @@ impl Case {
         } else {
             self.registry.encode(alloc, text, name, errors(given))
         };
-        match made {
-            Ok(bytes) if bytes.is_empty() => Ok(String::from_str(alloc, "-")?),
-            Ok(bytes) => Ok(hex::encode(alloc, bytes.as_slice())?),
-            Err(fault) => Ok(shown::fault(alloc, fault)?),
-        }
+        shown_bytes(alloc, made)
     }
 
     /// `decode HEX ERRORS NAME` and `decode_text`.
@@ -241,6 +260,7 @@ impl Case {
             "decode_text" => self.decode(alloc, rest, true),
             "pieces" => self.pieces(alloc, rest),
             "alone" => alone(alloc, rest),
+            "own" => own(alloc, rest),
             "refusals" => Ok(shown::refusals(alloc)?),
             _ => Err(anyhow!("no call")),
         }
