@@ -19,7 +19,7 @@ pub enum HandlerRefusal {
 }
 
 /// What a handler gives for a run of characters that have no bytes.
-#[derive(Debug, Drop)]
+#[derive(Debug, PartialEq, Eq, Drop)]
 pub enum EncodeReplace {
     /// A text, which is encoded in its turn: one with a character that has no bytes itself is refused.
     Str(String),
