@@ -1,5 +1,5 @@
 -- What a reading that goes on answers, by where it stopped: of all that is left, of a size, of a line, of lines.
-use Rattle.std.proofs.Common.{◌≡◌, ◌≢◌, ℕ, zero, suc, ◌+◌, ◌<◌, ◌≤◌, inl, inr, Bool, true, false, ◌||◌, IsTrue, List, [], ◌∷◌, ◌++◌, length, take, drop, replicate, Option, None, Result, Ok, Err, refl, sym, ap, ◌∙◌, subst, arith, rules}
+use Rattle.std.proofs.Common.{◌≡◌, ◌≢◌, ℕ, zero, suc, ◌+◌, ◌<◌, ◌≤◌, ◌⊎◌, inl, inr, Bool, true, false, ◌||◌, IsTrue, List, [], ◌∷◌, ◌++◌, length, take, drop, replicate, Option, Some, None, Result, Ok, Err, refl, sym, ap, ◌∙◌, subst, arith, rules}
 use Rattle.std.proofs.lemmas.List.{append-nil, nil_from_length, length-append, length-replicate, take_all, take-take, take-append-drop}
 use Rattle.std.proofs.Math.ListN.{drop_of_length-le}
 use Rattle.std.proofs.Math.Seq.{take-append_seam}
@@ -8,23 +8,29 @@ use Rattle.std.specs.Bool.{◌==◌}
 use Rattle.py_flat.specs.declared.fault.IoFault.{IoFault}
 use Rattle.py_flat.specs.declared.fault.IoFault.TheVariants as fault
 use Rattle.py_flat.specs.declared.life.Life.TheVariants as life
-use Rattle.py_flat.specs.Bytes.{left_at}
+use Rattle.py_flat.specs.Bytes.{left_at, lay}
 use Rattle.py_flat.specs.Lines.{lines_of, joined}
+use Rattle.py_flat.specs.Causes.{counted}
 use Rattle.py_flat.specs.Calls.{FileCall, Read, ReadLine, ReadLines, NotReady, Refused}
-use Rattle.py_flat.specs.ExactStep.{rest}
+use Rattle.py_flat.specs.FlatFile.{FlatFile}
+use Rattle.py_flat.specs.ExactStep.{is_closed, rest}
+use Rattle.py_flat.specs.AllowedStep.{out_of_memory}
 use Rattle.py_flat.specs.BinaryStep.{IsFrontOf}
 use Rattle.py_lines.specs.Collecting.{LineView, LinesView, line_wanted, lines_wanted}
-use Rattle.py_raw.specs.RawStream.{WhereTold}
+use Rattle.py_raw.specs.RawStream.{Raw, WhereTold}
+use Rattle.py_raw.proofs.Telling.{tells_its_bytes}
 use Rattle.py_stream.specs.declared.stop.Stop.{Stop}
 use Rattle.py_stream.specs.declared.stop.Stop.TheVariants as stops
 use Rattle.py_stream.specs.Stream.{Stream, file_of}
-use Rattle.py_stream.specs.Kinds.{goes_on, has_room, takes_space_first, asks_none, by_several}
-use Rattle.py_stream.specs.Answers.{Answers, ahead}
-use Rattle.py_stream.specs.Reading.{ComesNext, Gives, StarvesReading, StopOutcome, RestOutcome, has_answer, answered_at, wanted_by, reply_by, GathersEnough, GathersFront, Gathers, IsOpen, WantsHeld, GatherOutcome}
+use Rattle.py_stream.specs.Kinds.{goes_on, makes_one, has_room, takes_space_first, asks_none, by_several}
+use Rattle.py_stream.specs.Answers.{Answers, IsNear, OnlyAsked, ahead}
+use Rattle.py_stream.specs.Reading.{KeepsReading, ComesNext, Gives, StarvesReading, StopOutcome, RestOutcome, has_answer, answered_at, wanted_by, reply_by, GathersEnough, GathersFront, Gathers, IsOpen, WantsHeld, StarvesWanting, GatherOutcome}
+use Rattle.py_stream.proofs.Accepting.{work_reaches}
+use Rattle.py_stream.proofs.Stopping.{starves_alive, starves_there}
 use Rattle.py_stream.proofs.ReadingCalls.{reading_on, on_suits, nothing_held, in_hand_held, wanted_within, is_several}
 use Rattle.py_stream.proofs.ReadingSteps.{next_parts}
-use Rattle.py_stream.proofs.ReadingAnswers.{Reads, ReadingBegins, answers_begun}
-use Rattle.py_stream.proofs.ReadingStops.{needs_enough, needs_open, answers_all, answers_part, answers_unready, several_asks, answers_faulted, answers_failing}
+use Rattle.py_stream.proofs.ReadingAnswers.{works, Reads, ReadingBegins, answers_coming, answers_begun}
+use Rattle.py_stream.proofs.ReadingStops.{needs_enough, needs_open, answers_all, answers_part, answers_unready, several_asks, answers_faulted, unmoved, answers_failing}
 
 -- By where the reading stopped.
 
@@ -64,7 +70,9 @@ or_right false second is = is
 
 -- where memory ran out, before anything moved or after bytes had left the raw
 starved : (before after : Stream) (call : FileCall) (part : List ℕ) → by_several before.buffer call ≡ true → Reads before → StarvesReading before after → GatherOutcome (wanted_by call) before (Err fault.NoMemory) part after → (IsTrue (has_room call || takes_space_first call) → IsTrue before.raw.takes_memory) → Answers before call (Refused fault.NoMemory) after
-starved before after call part several begun (inl same) outcome takes = grind arith
+starved before after call part several begun (inl same) outcome takes =
+    let on = (is_several before.buffer call several).on in
+    subst (Answers before call (Refused fault.NoMemory)) (sym same) (unmoved before call (reading_on call on) (on_suits (file_of before) call on begun.readable) begun (λ room. takes (ap (λ (has : Bool). has || takes_space_first call) room)))
 starved before after call part several begun (inr fails) outcome takes =
     answers_failing before after call several begun fails (λ bound is. outcome.within bound (wanted_within call bound (is_several before.buffer call several).on is)) (λ room. takes (ap (λ (has : Bool). has || takes_space_first call) room)) (λ first. takes (or_right (has_room call) (takes_space_first call) first)) (λ held. (outcome.idle held).0) (outcome.starves fails.failed)
 
@@ -138,30 +146,107 @@ rest_not_held before held = omega (arith, held (replicate (ahead before + 1) 0),
 open_rest : (part : List ℕ) → IsOpen (wanted_by (Read None)) part
 open_rest part whole = omega (arith, ap length (whole (0 ∷ [])), length-append part (0 ∷ []))
 
+never_none : (buffer : Option ℕ) → IsTrue (asks_none buffer (Read None)) → ⊥
+never_none buffer asks = grind arith
+
+never_single : (buffer : Option ℕ) → IsTrue (makes_one buffer (Read None)) → ⊥
+never_single buffer single = grind arith
+
+always_several : (buffer : Option ℕ) → by_several buffer (Read None) ≡ true
+always_several None = refl
+always_several (Some size) = refl
+
+asked_transfers : (old new : ℕ) → (new ≡ old) ⊎ (new ≡ counted old 0) → new ≤ old
+asked_transfers old new (inl same) = omega (arith, same)
+asked_transfers old new (inr same) = omega (arith, same)
+
+asked_near : (before : Stream) (raw : Raw) → OnlyAsked before (record before { raw = raw; short = false }) → IsNear before → IsNear (record before { raw = raw })
+asked_near before raw is near = record {
+  after_first = near.after_first;
+  before_end = near.before_end;
+  fits = near.fits;
+  read_ahead = near.read_ahead;
+  ahead = near.ahead;
+  behind = near.behind;
+  stands = λ tells. is.place (sym is.kept.tells_place ∙ tells) ∙ near.stands (sym is.kept.tells_place ∙ tells);
+}
+
+-- a stream whose raw was at most asked where it ends keeps what every step of a reading keeps
+asked_keeps : (before : Stream) (raw : Raw) → Reads before → OnlyAsked before (record before { raw = raw; short = false }) → KeepsReading before (record before { raw = raw })
+asked_keeps before raw begun is = record {
+  raw = is.kept;
+  stays = is.stays;
+  bytes = is.bytes;
+  written = is.written;
+  can = refl;
+  buffer = refl;
+  short = refl;
+  owed = begun.bare;
+  far = begun.placed.far;
+  near = λ living. asked_near before raw is (begun.placed.near living);
+}
+
+-- the flat file is as it was
+asked_file : (before : Stream) (raw : Raw) → Reads before → OnlyAsked before (record before { raw = raw; short = false }) → WhereTold before.raw (file_of (record before { raw = raw }) ≡ file_of before)
+asked_file before raw begun is tells = ap (λ (bytes : List ℕ). let file : FlatFile = record (file_of before) { bytes = lay bytes before.owed.place before.owed.bytes } in file) (is.bytes (tells_its_bytes before.raw tells))
+
+-- where memory ran out before any byte came, of a stream whose raw was asked where it ends
+starved_asked : (before : Stream) (raw : Raw) → Reads before → OnlyAsked before (record before { raw = raw; short = false }) → Answers before (Read None) (Refused fault.NoMemory) (record before { raw = raw; short = false })
+starved_asked before raw begun is =
+    let mid : Stream = record before { raw = raw } in
+    answers_coming before mid (Read None) (Refused fault.NoMemory) false refl (on_suits (file_of before) (Read None) refl begun.readable) begun (record {
+      kept = asked_keeps before raw begun is;
+      is_open = ap is_closed begun.live;
+      causes = record { waits = λ short. absurd (cc); faults = λ faulted. absurd (cc) };
+      counted = λ exactly. record { faults = λ sound. is.counts.no_fault exactly; waits = λ whole outlasts. is.counts.no_wait exactly; once = λ short. absurd (cc) };
+      shorts = refl;
+      life_is = starves_alive before.buffer (Read None) before.life;
+      place = starves_there before.buffer (Read None) before.life before.place;
+      within = tt;
+      wants = λ wanting room. absurd (cc);
+      starves = λ wanting goes. record {
+        unmoved = λ living none. is;
+        moved = λ failed. absurd (let both : life.Failed ≡ life.Live = sym failed ∙ begun.live in cc);
+        stands = λ failed. absurd (let both : life.Failed ≡ life.Live = sym failed ∙ begun.live in cc);
+      };
+      first = λ wanting takes. absurd (cc);
+      sound = λ _. refl;
+      nothing = λ asks. absurd (never_none before.buffer asks);
+      one = λ single. absurd (never_single before.buffer single);
+      ready = λ _ held. absurd held;
+      in_hand = λ _ held. absurd held;
+      needs = λ _. record { enough = λ whole. absurd whole; whole = λ whole. absurd whole; last = λ tells. omega (arith, asked_transfers before.raw.transfers raw.transfers (is.transfers tells)) };
+      answers = tt;
+      told = λ tells. out_of_memory refl (work_reaches (file_of before) (Read None) (works before (Read None) refl (on_suits (file_of before) (Read None) refl begun.readable) begun.live), inl (asked_file before raw begun is tells));
+      reach = λ tells. omega arith;
+      hides = λ short. absurd (cc);
+    })
+
 starves_wanting_rest : (before after : Stream) → before.life ≡ life.Live → StarvesReading before after → after.life ≡ life.Failed → WhereTold before.raw (rest (file_of before) ≢ [])
 starves_wanting_rest before after live (inl same) failed = absurd (let both : life.Failed ≡ life.Live = sym failed ∙ ap (λ (stream : Stream). stream.life) same ∙ live in cc)
 starves_wanting_rest before after live (inr fails) failed = fails.some
 
--- a reading of all that is left
-pub rest_gathers : (before after : Stream) (part : List ℕ) (result : Result Stop IoFault) → before.life ≡ life.Live → RestOutcome before result part after → GatherOutcome (wanted_by (Read None)) before result part after
-rest_gathers before after part (Ok stops.Enough) live outcome = absurd outcome
-rest_gathers before after part (Ok stops.End) live outcome = gathers_ok (wanted_by (Read None)) before stops.End part after outcome (gathers_at_end (wanted_by (Read None)) before part refl outcome.0.told (λ tells. let place = outcome.0.place in omega (arith, place, outcome.2 tells)), open_rest part) (λ held. absurd (rest_not_held before held))
-rest_gathers before after part (Ok stops.Waits) live outcome = gathers_ok (wanted_by (Read None)) before stops.Waits part after outcome (gathers_waiting (wanted_by (Read None)) before part refl (λ more. (more, refl)) outcome.0.told, open_rest part) (λ held. absurd (rest_not_held before held))
-rest_gathers before after part (Err fault.RawFault) live outcome = record {
+-- a reading of all that is left, with an answer or without
+pub rest_gathers : (before after : Stream) (part : List ℕ) (stop : Stop) → RestOutcome before (Ok stop) part after → GatherOutcome (wanted_by (Read None)) before (Ok stop) part after
+rest_gathers before after part stops.Enough outcome = absurd outcome
+rest_gathers before after part stops.End outcome = gathers_ok (wanted_by (Read None)) before stops.End part after outcome (gathers_at_end (wanted_by (Read None)) before part refl outcome.0.told (λ tells. let place = outcome.0.place in omega (arith, place, outcome.2 tells)), open_rest part) (λ held. absurd (rest_not_held before held))
+rest_gathers before after part stops.Waits outcome = gathers_ok (wanted_by (Read None)) before stops.Waits part after outcome (gathers_waiting (wanted_by (Read None)) before part refl (λ more. (more, refl)) outcome.0.told, open_rest part) (λ held. absurd (rest_not_held before held))
+
+rest_stopped : (before after : Stream) (part : List ℕ) (why : IoFault) → StarvesWanting (wanted_by (Read None)) before (Err why) after → StopOutcome before part (Err why) after → GatherOutcome (wanted_by (Read None)) before (Err why) part after
+rest_stopped before after part why starves outcome = record {
   stops = outcome;
   gathers = tt;
-  starves = tt;
+  starves = starves;
   idle = λ held. absurd (rest_not_held before held);
   within = λ most bound. absurd (omega (arith, bound (replicate (most + 1) 0), length-replicate {A = ℕ} (most + 1) 0));
 }
-rest_gathers before after part (Err fault.NoMemory) live outcome = record {
-  stops = outcome;
-  gathers = tt;
-  starves = starves_wanting_rest before after live outcome;
-  idle = λ held. absurd (rest_not_held before held);
-  within = λ most bound. absurd (omega (arith, bound (replicate (most + 1) 0), length-replicate {A = ℕ} (most + 1) 0));
-}
-rest_gathers before after part (Err why) live outcome = absurd outcome
+
+-- a reading of all that is left that was refused
+pub refused_rest : (before after : Stream) (part : List ℕ) (why : IoFault) → Reads before → RestOutcome before (Err why) part after → Answers before (Read None) (Refused why) after
+refused_rest before after part fault.RawFault begun outcome = refused_stop before after (Read None) part fault.RawFault (always_several before.buffer) begun (rest_stopped before after part fault.RawFault tt outcome) (λ wants takes. absurd (cc))
+refused_rest before after part fault.NoMemory begun (inl asked) = subst (Answers before (Read None) (Refused fault.NoMemory)) (sym asked.same) (starved_asked before after.raw begun (subst (OnlyAsked before) asked.same asked))
+refused_rest before after part fault.NoMemory begun (inr fails) = refused_stop before after (Read None) part fault.NoMemory (always_several before.buffer) begun (rest_stopped before after part fault.NoMemory (λ failed. fails.some) (inr fails)) (λ wants takes. absurd (cc))
+refused_rest before after part why begun outcome = absurd outcome
 
 -- Of a size.
 

@@ -7,7 +7,7 @@ use Rattle.py_flat.specs.Bytes.{left_at}
 use Rattle.py_flat.specs.Causes.{counted}
 use Rattle.py_flat.specs.ExactStep.{rest, after_read}
 use Rattle.py_flat.specs.BinaryStep.{Fails}
-use Rattle.py_raw.specs.RawStream.{tells, WhereTold, NoWait, WaitsOnce}
+use Rattle.py_raw.specs.RawStream.{Raw, tells, WhereTold, NoWait, WaitsOnce, LeavesCounts}
 use Rattle.py_raw.proofs.ReadingOn.{no_fault_then}
 use Rattle.py_stream.specs.Stream.{Stream, file_of, nothing_owed}
 use Rattle.py_stream.specs.Answers.{IsNear}
@@ -65,6 +65,10 @@ each_then before mid after others kept first second tells = omega (arith, first 
 -- a raw that told its bytes and its place before a step tells both after it
 pub still_tells : (before after : Stream) → KeepsReading before after → WhereTold before.raw (IsTrue (tells after.raw))
 still_tells before after kept told = grind arith
+
+-- a raw that stayed as it was counted nothing
+pub uncounted : (old new : Raw) → new ≡ old → LeavesCounts old new
+uncounted old new same = record { no_fault = λ exact. ap (λ (raw : Raw). raw.faults) same; no_wait = λ exact. ap (λ (raw : Raw). raw.waits) same }
 
 -- The flat file.
 

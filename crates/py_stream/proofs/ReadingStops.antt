@@ -1,5 +1,5 @@
 -- What a reading answers, by what it gave and where it stopped.
-use Rattle.std.proofs.Common.{◌≡◌, ◌≢◌, ℕ, ◌+◌, ◌≤◌, inr, Bool, true, false, IsTrue, List, [], ◌++◌, length, take, Option, Some, None, IsSome, refl, sym, ap, ◌∙◌, subst, arith}
+use Rattle.std.proofs.Common.{◌≡◌, ◌≢◌, ℕ, ◌+◌, ◌≤◌, inl, inr, Bool, true, false, IsTrue, List, [], ◌++◌, length, take, Option, Some, None, IsSome, refl, sym, ap, ◌∙◌, subst, arith}
 use Rattle.std.proofs.lemmas.List.{length-take}
 use Rattle.py_flat.specs.declared.fault.IoFault.{IoFault}
 use Rattle.py_flat.specs.declared.fault.IoFault.TheVariants as fault
@@ -17,13 +17,14 @@ use Rattle.py_flat.specs.BinaryStep.{BinaryStep, if_unbuffered, CarriedOut, Acce
 use Rattle.py_flat.proofs.Cutting.{joined_lines}
 use Rattle.py_lines.proofs.Lines.{lines_left}
 use Rattle.py_raw.specs.RawStream.{WhereTold, NoWait, WaitsOnce}
+use Rattle.py_raw.proofs.Telling.{keeps_same}
 use Rattle.py_stream.specs.Stream.{Stream, size_of, buffering_of, file_of}
 use Rattle.py_stream.specs.Kinds.{is_reading, reads_on, goes_on, makes_one, has_room, takes_space_first, asks_none, by_several}
-use Rattle.py_stream.specs.Answers.{Answers, IsShort, PlaceMoves, PlaceStarves, MovesForth, moves_most, StarvesTo, GivesWithin, InHandOf, IsWhole, AsksNoMore}
+use Rattle.py_stream.specs.Answers.{Answers, IsShort, PlaceMoves, PlaceStarves, MovesForth, moves_most, StarvesTo, GivesWithin, InHandOf, IsWhole, AsksNoMore, OnlyAsked, Unmoved}
 use Rattle.py_stream.specs.Reading.{KeepsReading, EachBrings, OneTransfer, IsNeeded, Gives, FailsReading, FailsMoved, wanted_by, reply_by, GathersEnough, GathersFront, IsOpen, WantsHeld}
 use Rattle.py_stream.proofs.Accepting.{work_reaches}
 use Rattle.py_stream.proofs.ReadingCalls.{IsReadingCall, reading_call, refused_within, starved_by_failing, reading_on, on_suits, nothing_held, in_hand_held, is_several}
-use Rattle.py_stream.proofs.ReadingSteps.{file_after, file_fails, next_reaches}
+use Rattle.py_stream.proofs.ReadingSteps.{uncounted, file_after, file_fails, next_reaches}
 use Rattle.py_stream.proofs.ReadingAnswers.{accepted, works, Reads, answers_coming}
 
 -- What a reading that goes on gives.
@@ -219,9 +220,27 @@ answers_faulted before after call reads has begun fails within stays asks_some o
     let is : IsReadingCall call = reading_call call reads in
     unshortened before after call (Refused fault.RawFault) begun fails.kept (answers_coming before after call (Refused fault.RawFault) false reads has begun (grind arith))
 
+-- a stream that is as it was, and not even asked where its raw ends
+pub asked_none : (stream : Stream) → stream.short ≡ false → OnlyAsked stream stream
+asked_none stream whole = record {
+  same = (λ k. record stream { short = whole k });
+  unasked = λ _. refl;
+  kept = keeps_same stream.raw;
+  stays = refl;
+  counts = uncounted stream.raw stream.raw refl;
+  written = λ tells. refl;
+  bytes = λ tells. refl;
+  place = λ tells. refl;
+  transfers = λ tells. inl refl;
+}
+
+stays_unmoved : (call : FileCall) (stream : Stream) → stream.short ≡ false → Unmoved call stream stream
+stays_unmoved (Read None) stream whole = asked_none stream whole
+stays_unmoved call stream whole = (λ k. record stream { short = whole k })
+
 -- a reading that wanted memory before anything moved: all is as it was
 pub unmoved : (before : Stream) (call : FileCall) → is_reading call ≡ true → lacks (file_of before) call ≡ false → Reads before → (IsTrue (has_room call) → IsTrue before.raw.takes_memory) → Answers before call (Refused fault.NoMemory) before
-unmoved before call reads has begun room = grind arith
+unmoved before call reads has begun room = grind (arith, stays_unmoved)
 
 starving_fails : (may : Bool) (before after : Life) → may ≡ true → after ≡ life.Failed → StarvesTo may before after
 starving_fails true before after is failed = inr failed

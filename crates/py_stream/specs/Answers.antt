@@ -12,7 +12,7 @@ use Rattle.py_flat.specs.Calls.{FileCall, Read, Read1, ReadLine, ReadLines, Peek
 use Rattle.py_flat.specs.Refusals.{is_getter, is_other_getter, lets_through, lacks, refusal, moved_by, target_refusal}
 use Rattle.py_flat.specs.ExactStep.{is_closed}
 use Rattle.py_flat.specs.BinaryStep.{asks_end, BinaryStep}
-use Rattle.py_raw.specs.RawStream.{Raw, Keeps, WhereTold, WhereBytes, WherePlace, WhereTransfers, KeepsBytes, AnswersFor}
+use Rattle.py_raw.specs.RawStream.{Raw, Keeps, WhereTold, WhereBytes, WherePlace, WhereTransfers, KeepsBytes, AnswersFor, StaysOpen, LeavesCounts, KeepsPlace}
 use Rattle.py_stream.specs.Stream.{Span, Stream, size_of, buffering_of, file_of, nothing_owed}
 use Rattle.py_stream.specs.Kinds.{profile, is_reading, reads_on, by_several, has_room, takes_space_first, calls_none, says_wait, says_fault, says_no_memory}
 use Rattle.py_stream.specs.Writing.{Writes}
@@ -235,10 +235,35 @@ SeeksByEnd before call reply after = Unit {0}
 abbrev pub WantsMemory : Bool → FileReply → Raw → Type 0
 WantsMemory room reply raw = IsTrue (says_no_memory reply) → IsTrue room → IsTrue raw.takes_memory
 
+-- a `read` of all of a stream with a buffer asks a raw that can be moved where it ends, before space is taken
+abbrev pub asks_ahead : Stream → Bool
+asks_ahead stream = is_some stream.buffer && stream.raw.seekable
+
+-- where the raw tells its transfers, none was made, as far as a count can tell
+abbrev pub NoTransfer : Raw → Raw → Type 0
+NoTransfer old new = WhereTransfers old ((new.transfers ≡ old.transfers) ⊎ (new.transfers ≡ counted old.transfers 0))
+
+-- at most the raw was asked where it ends: the stream is as it was, and so is all that its raw tells and counts
+pub record OnlyAsked (before after : Stream) : Type 0 where
+  pub same : after ≡ record before { raw = after.raw; short = false }
+  pub unasked : asks_ahead before ≡ false → after.raw ≡ before.raw
+  pub kept : Keeps before.raw after.raw
+  pub stays : StaysOpen before.raw after.raw
+  pub counts : LeavesCounts before.raw after.raw
+  pub written : AnswersFor 0 before.raw after.raw
+  pub bytes : KeepsBytes before.raw after.raw
+  pub place : KeepsPlace before.raw after.raw
+  pub transfers : NoTransfer before.raw after.raw
+
+-- all is as it was, but that a `read` of all may have asked the raw where it ends
+abbrev pub Unmoved : FileCall → Stream → Stream → Type 0
+Unmoved (Read None) before after = OnlyAsked before after
+Unmoved call before after = after ≡ record before { short = false }
+
 -- running out of memory leaves a reading that goes on as it was, its raw too where nothing was owed, or fails it; that only where
 -- bytes left the raw in this call
-pub record Starves (before after : Stream) : Type 0 where
-  pub unmoved : after.life ≡ life.Live → before.owed.bytes ≡ [] → after ≡ record before { short = false }
+pub record Starves (call : FileCall) (before after : Stream) : Type 0 where
+  pub unmoved : after.life ≡ life.Live → before.owed.bytes ≡ [] → Unmoved call before after
   pub moved : after.life ≡ life.Failed → before.raw_place < after.raw_place
   pub stands : after.life ≡ life.Failed → WherePlace before.raw (before.raw.place < after.raw.place)
 
@@ -354,7 +379,7 @@ pub record AnswersWith (room : FileCall → Bool) (before : Stream) (call : File
   -- a call that has its room wants memory only where its raw takes some
   pub wants : WantsMemory (room call) reply before.raw
   -- running out of memory leaves a reading that goes on as it was, or fails it once bytes left the raw
-  pub starves : IsTrue (says_no_memory reply) → IsTrue (reads_on call) → Starves before after
+  pub starves : IsTrue (says_no_memory reply) → IsTrue (reads_on call) → Starves call before after
   -- a call that takes its space first leaves all as it was where there is none
   pub first : StarvesFirst before call reply after
   -- calls that ask no raw leave the raw as it was, and answer no fault

@@ -14,7 +14,7 @@ use Rattle.py_raw.specs.RawStream.{Keeps, StaysOpen, WhereTold, WherePlace, Wher
 use Rattle.py_stream.specs.declared.stop.Stop.{Stop}
 use Rattle.py_stream.specs.declared.stop.Stop.TheVariants as stop
 use Rattle.py_stream.specs.Stream.{Stream, file_of, nothing_owed}
-use Rattle.py_stream.specs.Answers.{ahead, IsNear}
+use Rattle.py_stream.specs.Answers.{ahead, IsNear, OnlyAsked}
 
 -- What a reading keeps.
 
@@ -103,9 +103,11 @@ StopOutcome before part (Err fault.RawFault) after = FailsReading before after
 StopOutcome before part (Err fault.NoMemory) after = StarvesReading before after
 StopOutcome before part (Err other) after = ⊥
 
--- a reading of all that is left stops as any other, but never with just enough
+-- a reading of all that is left stops as any other, but never with just enough; where memory ran out before any byte came, its raw may
+-- have been asked where it ends
 abbrev pub RestOutcome : Stream → Result Stop IoFault → List ℕ → Stream → Type 0
 RestOutcome before (Ok stop.Enough) bytes after = ⊥
+RestOutcome before (Err fault.NoMemory) bytes after = OnlyAsked before after ⊎ FailsMoved before after
 RestOutcome before result bytes after = StopOutcome before bytes result after
 
 -- what the stops mean for the answer
