@@ -11,10 +11,12 @@ use Rattle.py_raw.specs.RawStream.{WhereTold, WherePlace, NoFault, NoWait, Leave
 use Rattle.py_raw.proofs.ReadingOn.{no_fault_then, no_wait_then, uncounted_then}
 use Rattle.py_stream.specs.declared.stop.Stop.{Stop}
 use Rattle.py_stream.specs.declared.stop.Stop.TheVariants as stop
-use Rattle.py_stream.specs.Stream.{Stream, nothing_owed}
-use Rattle.py_stream.specs.Answers.{IsNear}
-use Rattle.py_stream.specs.Reading.{KeepsReading, EachBrings, Reaches, Gives, FailsReading, FailsMoved, StarvesReading, RestOutcome}
+use Rattle.py_stream.specs.Stream.{Stream, file_of, nothing_owed}
+use Rattle.py_stream.specs.Answers.{IsNear, OnlyAsked}
+use Rattle.py_stream.specs.Reading.{KeepsReading, EachBrings, Reaches, Gives, FailsReading, FailsMoved, RestOutcome}
 use Rattle.py_stream.proofs.ReadingSteps.{uncounted, more_taken, next_behind, within_end, next_reaches, same_bytes, gives_then, waits_once_then, still_tells as stream_still_tells, keeps_then as stream_keeps_then, keeps_failed as stream_keeps_failed, each_then as stream_each_then}
+use Rattle.py_stream.proofs.ReadingAnswers.{Reads as StreamReads}
+use Rattle.py_stream.proofs.ReadingOn.{asked_gives, asked_each}
 use Rattle.py_engine.specs.declared.data.reading.Step.TheVariants as step
 use Rattle.py_engine.specs.Window.{place_of, end_of, ahead_of, advanced}
 use Rattle.py_engine.specs.Engine.{EngineView}
@@ -264,7 +266,8 @@ reads_refused old was count buffer moved now why rest new some reads never = abs
 
 -- Readings of all that is left.
 
--- all that was asked for so far has come: nothing was, at first; then as much as is asked for next
+-- all that was asked for so far has come: nothing was, at first, but that the raw may have been asked where it ends; then as much as is
+-- asked for next
 pub record ReadsAll (before : Stream) (bytes : List ℕ) (more : ℕ) (moved : Bool) (now : Stream) : Type 0 where
   pub gives : Gives before bytes now
   pub no_wait : NoWait before.raw now.raw
@@ -273,8 +276,22 @@ pub record ReadsAll (before : Stream) (bytes : List ℕ) (more : ℕ) (moved : B
   pub bare : before.owed ≡ nothing_owed before.place
   pub some : 0 < more
   pub fits : more < 2 ^ 64
-  pub first : moved ≡ false → (now ≡ before) × (before.raw_place < before.place + more)
+  pub first : moved ≡ false → OnlyAsked before now × (before.raw_place < before.place + more)
   pub later : moved ≡ true → (more ≡ length bytes) × (before.raw_place < now.place)
+
+-- a reading of all begins, once the raw was asked where it ends
+pub all_begins : (old now : EngineView) (bytes : List ℕ) (more : ℕ) → bytes ≡ [] → IsReading old → StreamReads (reading_of old) → OnlyAsked (reading_of old) (reading_of now) × (length (ahead_of old.window) < more) × (more < 2 ^ 64) → ReadsAll (reading_of old) bytes more false (reading_of now)
+all_begins old now bytes more none is begun asked = record {
+  gives = subst (λ (part : List ℕ). Gives (reading_of old) part (reading_of now)) (sym none) (asked_gives (reading_of old) (reading_of now) begun asked.0);
+  no_wait = asked.0.counts.no_wait;
+  each = asked_each (reading_of old) (reading_of now) asked.0;
+  stands = λ tells. is.stands tells begun.live;
+  bare = refl;
+  some = omega (arith, asked.1);
+  fits = asked.2;
+  first = λ _. (asked.0, omega (arith, asked.1, length-drop old.window.cursor old.window.held, is.window_is.cursor));
+  later = λ some. absurd (cc);
+}
 
 module _ (before : Stream) (bytes : List ℕ) (more : ℕ) (moved : Bool) (now new : EngineView) (reads : ReadsAll before bytes more moved (reading_of now)) where
   -- told, a place that lies before the end after what was given lies before it at first
@@ -283,7 +300,7 @@ module _ (before : Stream) (bytes : List ℕ) (more : ℕ) (moved : Bool) (now n
 
   -- what is asked for reaches after the bytes that were held at first
   past_held : (is : Bool) → moved ≡ is → before.raw_place < place_of now.window + more
-  past_held false is = omega (arith, ap (λ (stream : Stream). stream.place) (reads.first is).0, (reads.first is).1)
+  past_held false is = omega (arith, ap (λ (stream : Stream). stream.place) (reads.first is).0.same, (reads.first is).1)
   past_held true is = omega (arith, (reads.later is).1)
 
   -- a turn of a reading brought all that it asked for
@@ -338,6 +355,25 @@ module _ (before : Stream) (bytes : List ℕ) (more : ℕ) (moved : Bool) (now n
         each = stream_each_then before (reading_of now) (reading_of new) 0 here reads.each fails.each;
       }
 
+  -- the first turn found no memory once bytes had moved
+  first_moved : moved ≡ false → FailsStarved false (reading_of now) (reading_of new) → FailsMoved before (reading_of new)
+  first_moved is fails =
+      let here : KeepsReading before (reading_of now) = reads.gives.kept in
+      let asked : OnlyAsked before (reading_of now) = (reads.first is).0 in
+      let place : place_of now.window ≡ before.place = ap (λ (stream : Stream). stream.place) asked.same in
+      let raw_place : end_of now.window ≡ before.raw_place = ap (λ (stream : Stream). stream.raw_place) asked.same in
+      record {
+        kept = stream_keeps_then before (reading_of now) (reading_of new) here fails.kept;
+        counts = uncounted_then before.raw now.raw new.raw here.raw asked.counts fails.counts;
+        failed = fails.failed;
+        forth = omega (arith, place, fails.forth);
+        reach = reaches_on fails.reach;
+        further = omega (arith, raw_place, fails.further refl);
+        stands = λ tells. omega (arith, asked.place tells, fails.stands_further refl (here.raw.tells_place ∙ tells));
+        some = λ tells none. fails.some refl (stream_still_tells before (reading_of now) here tells) (ap (λ (bytes : List ℕ). left_at bytes (place_of now.window)) (same_bytes before (reading_of now) reads.bare here tells) ∙ (ap (left_at (file_of before).bytes) place ∙ none));
+        each = stream_each_then before (reading_of now) (reading_of new) 0 here reads.each fails.each;
+      }
+
 -- a stream that memory failed between two turns
 fails_between : (before : Stream) (bytes : List ℕ) (more : ℕ) (now : EngineView) → ReadsAll before bytes more true (reading_of now) → FailsStarved true (reading_of now) (reading_of (record now { life = life.Failed }))
 fails_between before bytes more now reads = record {
@@ -354,15 +390,13 @@ fails_between before bytes more now reads = record {
   each = λ tells. omega arith;
 }
 
-all_wanting : (before : Stream) (bytes : List ℕ) (more : ℕ) (moved : Bool) (now new : EngineView) → ReadsAll before bytes more moved (reading_of now) → StarvesWith moved now new ⊎ FailsStarved moved (reading_of now) (reading_of new) → StarvesReading before (reading_of new)
-all_wanting before bytes more false now new reads (inl same) = inl (ap reading_of same ∙ (reads.first refl).0)
-all_wanting before bytes more false now new reads (inr fails) =
-    let here : FailsStarved false before (reading_of new) = subst (λ (stream : Stream). FailsStarved false stream (reading_of new)) (reads.first refl).0 fails in
-    inr (record { kept = here.kept; counts = here.counts; failed = here.failed; forth = here.forth; reach = here.reach; further = here.further refl; stands = here.stands_further refl; some = here.some refl; each = here.each })
+all_wanting : (before : Stream) (bytes : List ℕ) (more : ℕ) (moved : Bool) (now new : EngineView) → ReadsAll before bytes more moved (reading_of now) → StarvesWith moved now new ⊎ FailsStarved moved (reading_of now) (reading_of new) → RestOutcome before (Err fault.NoMemory) bytes (reading_of new)
+all_wanting before bytes more false now new reads (inl same) = inr (subst (λ (engine : EngineView). OnlyAsked before (reading_of engine)) (sym same) (reads.first refl).0)
+all_wanting before bytes more false now new reads (inr fails) = inl (inr (first_moved before bytes more false now new reads refl fails))
 all_wanting before bytes more true now new reads (inl same) =
     let failed : EngineView = record now { life = life.Failed } in
-    subst (λ (engine : EngineView). StarvesReading before (reading_of engine)) (sym same) (inr (all_moved before bytes more true now failed reads refl (fails_between before bytes more now reads)))
-all_wanting before bytes more true now new reads (inr fails) = inr (all_moved before bytes more true now new reads refl fails)
+    subst (λ (engine : EngineView). RestOutcome before (Err fault.NoMemory) bytes (reading_of engine)) (sym same) (inl (inr (all_moved before bytes more true now failed reads refl (fails_between before bytes more now reads))))
+all_wanting before bytes more true now new reads (inr fails) = inl (inr (all_moved before bytes more true now new reads refl fails))
 
 -- a turn was refused
 pub all_refused : (before : Stream) (bytes : List ℕ) (more : ℕ) (moved : Bool) (now new : EngineView) (why : IoFault) (after : List ℕ) → ReadsAll before bytes more moved (reading_of now) → ReadMoreOutcome now moved bytes more (Err why) after new → RestOutcome before (Err why) after (reading_of new)

@@ -1,11 +1,12 @@
 -- The engine of the buffered streams: what it is seen as, and what holds of it.
-use Rattle.std.specs.Prelude.{◌≡◌, ◌≢◌, ℕ, ◌+◌, Bool, false, List, length, take, Some, Result, Ok, Err}
+use Rattle.std.specs.Prelude.{◌≡◌, ◌≢◌, ℕ, ◌+◌, Bool, false, IsTrue, List, length, take, Some, Result, Ok, Err}
 use Rattle.py_flat.specs.declared.fault.IoFault.{IoFault}
+use Rattle.py_flat.specs.declared.fault.IoFault.TheVariants as fault
 use Rattle.py_flat.specs.declared.life.Life.{Life}
 use Rattle.py_flat.specs.declared.life.Life.TheVariants as life
 use Rattle.py_flat.specs.Bytes.{left_at}
 use Rattle.py_flat.specs.Refusals.{life_fault}
-use Rattle.py_raw.specs.RawStream.{Raw, WhereTold, WherePlace}
+use Rattle.py_raw.specs.RawStream.{Raw, Keeps, StaysOpen, FailsWithout, Answers, WhereTold, WherePlace}
 use Rattle.py_stream.specs.declared.access.Access.{Access}
 use Rattle.py_stream.specs.declared.access.Access.TheVariants as access
 use Rattle.py_stream.specs.Access.{can_of}
@@ -73,6 +74,27 @@ pub record IsEngine (raw : Raw) (raw_place : ℕ) (window : WindowView) (opened 
 -- an engine as it is seen
 abbrev pub Stands : EngineView → Type 0
 Stands engine = IsEngine engine.raw engine.raw_place engine.window engine.access engine.life
+
+-- the raw was asked where it ends, and answered: nothing else changed
+pub record AsksRawEnd (old : EngineView) (end : ℕ) (new : EngineView) : Type 0 where
+  pub same : new ≡ record old { raw = new.raw }
+  pub kept : Keeps old.raw new.raw
+  pub stays : StaysOpen old.raw new.raw
+  pub answers : Answers old.raw.tells_bytes old.raw (length old.raw.bytes) end new.raw
+
+-- the raw failed to say where it ends, and the stream with it
+pub record FailsRawEnd (old new : EngineView) : Type 0 where
+  pub same : new ≡ record old { raw = new.raw; life = life.Failed }
+  pub kept : Keeps old.raw new.raw
+  pub stays : StaysOpen old.raw new.raw
+  pub fails : FailsWithout 0 old.raw new.raw
+
+-- the raw was asked where it ends: it answered, failed, or wanted memory
+abbrev pub RawEndOutcome : EngineView → Result ℕ IoFault → EngineView → Type 0
+RawEndOutcome old (Ok end) new = AsksRawEnd old end new
+RawEndOutcome old (Err fault.RawFault) new = FailsRawEnd old new
+RawEndOutcome old (Err fault.NoMemory) new = IsTrue old.raw.takes_memory × (new ≡ old)
+RawEndOutcome old (Err other) new = ⊥
 
 -- a call begins: it is refused by the life, and nothing is short yet
 abbrev pub BeginOutcome : EngineView → Result (Unit {0}) IoFault → EngineView → Type 0

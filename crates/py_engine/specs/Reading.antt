@@ -1,5 +1,5 @@
 -- Reading from an engine that reads ahead: nothing is pending, and its raw stands after the bytes held.
-use Rattle.std.specs.Prelude.{◌≡◌, ◌≢◌, ℕ, ◌+◌, ◌<◌, ◌≤◌, ◌⊎◌, Bool, true, false, IsTrue, List, [], ◌++◌, length, take, Some, Result, Ok, Err, Vec}
+use Rattle.std.specs.Prelude.{◌≡◌, ◌≢◌, ℕ, ◌+◌, ◌^◌, ◌<◌, ◌≤◌, ◌⊎◌, Bool, true, false, IsTrue, List, [], ◌++◌, length, take, Some, Result, Ok, Err, Vec}
 use Rattle.std.specs.declared.alloc.Global.{Global}
 use Rattle.py_flat.specs.declared.fault.IoFault.{IoFault}
 use Rattle.py_flat.specs.declared.fault.IoFault.TheVariants as fault
@@ -10,6 +10,7 @@ use Rattle.py_flat.specs.ExactStep.{rest}
 use Rattle.py_raw.specs.RawStream.{Keeps, StaysOpen, WhereTold, WherePlace, WhereTransfers, KeepsBytes, NoFault, NoWait, WaitsOnce, LeavesCounts, AnswersFor}
 use Rattle.py_stream.specs.Access.{can_of, is_read}
 use Rattle.py_stream.specs.Stream.{Stream, file_of, nothing_owed}
+use Rattle.py_stream.specs.Answers.{OnlyAsked}
 use Rattle.py_stream.specs.Reading.{KeepsReading, EachBrings, Reaches, FailsReading, StopOutcome, is_wait}
 use Rattle.py_stream.specs.declared.stop.Stop.{Stop}
 use Rattle.py_stream.specs.declared.stop.Stop.TheVariants as stop
@@ -203,6 +204,13 @@ ReadIntoOutcome old moved (Ok progress) buffer new = ReadsInto old progress buff
 ReadIntoOutcome old moved (Err fault.RawFault) buffer new = FailsReading (reading_of old) (reading_of new) × MovesInto old buffer new
 ReadIntoOutcome old moved (Err fault.NoMemory) buffer new = StarvesIn old moved new × MovesInto old buffer new
 ReadIntoOutcome old moved (Err other) buffer new = ⊥
+
+-- a reading of all begins: it asks for more bytes than the window holds, once the raw was asked where it ends, if that can be moved
+abbrev pub FirstOutcome : EngineView → Result ℕ IoFault → EngineView → Type 0
+FirstOutcome old (Ok more) new = OnlyAsked (reading_of old) (reading_of new) × (length (ahead_of old.window) < more) × (more < 2 ^ 64)
+FirstOutcome old (Err fault.RawFault) new = FailsReading (reading_of old) (reading_of new)
+FirstOutcome old (Err fault.NoMemory) new = IsTrue old.raw.takes_memory × (new ≡ old)
+FirstOutcome old (Err other) new = ⊥
 
 -- n bytes more were asked for, and some of them came after what a vector had; all of them where there are enough
 pub record ReadsMore (old : EngineView) (before : List ℕ) (more : ℕ) (where_stopped : Stop) (after : List ℕ) (new : EngineView) : Type 0 where

@@ -5,7 +5,7 @@ ghost use Rattle.py_raw.specs.RawStream.{WherePlace};
 ghost use Rattle.py_stream.specs.Access.{is_read};
 ghost use Rattle.py_stream.specs.Reading.{has_answer};
 ghost use Rattle.py_engine.specs.Window.{ahead_of, place_of};
-ghost use Rattle.py_engine.specs.Engine.{stream_of, Stands, BeginOutcome};
+ghost use Rattle.py_engine.specs.Engine.{stream_of, Stands, BeginOutcome, RawEndOutcome};
 ghost use Rattle.py_engine.specs.Reading.{StarvesWith, FillsOutcome, PassesOutcome, answered_at};
 
 mod ending;
@@ -126,6 +126,21 @@ impl<R: RawStream> BufferedData<R> {
             self.life = Life::Failed;
         }
         IoFault::NoMemory
+    }
+
+    /// Asks the raw where it ends.
+    fn raw_end(&mut self) -> Result<u64, IoFault>
+        requires live { self.old.life ≡ Life.Live }
+        ensures { RawEndOutcome self.old result self.new }
+    {
+        match self.raw.end() {
+            Ok(end) => Ok(end),
+            Err(RawError::Fault) => {
+                self.life = Life::Failed;
+                Err(IoFault::RawFault)
+            }
+            Err(RawError::Memory) => Err(IoFault::NoMemory),
+        }
     }
 
     /// Fills the window anew, by one transfer. `moved` tells whether bytes had moved in this call.

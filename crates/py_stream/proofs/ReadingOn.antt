@@ -24,7 +24,7 @@ use Rattle.py_stream.specs.declared.stop.Stop.TheVariants as stops
 use Rattle.py_stream.specs.Stream.{Stream, file_of}
 use Rattle.py_stream.specs.Kinds.{goes_on, makes_one, has_room, takes_space_first, asks_none, by_several}
 use Rattle.py_stream.specs.Answers.{Answers, IsNear, OnlyAsked, ahead}
-use Rattle.py_stream.specs.Reading.{KeepsReading, ComesNext, Gives, StarvesReading, StopOutcome, RestOutcome, has_answer, answered_at, wanted_by, reply_by, GathersEnough, GathersFront, Gathers, IsOpen, WantsHeld, StarvesWanting, GatherOutcome}
+use Rattle.py_stream.specs.Reading.{KeepsReading, EachBrings, ComesNext, Gives, StarvesReading, StopOutcome, RestOutcome, has_answer, answered_at, wanted_by, reply_by, GathersEnough, GathersFront, Gathers, IsOpen, WantsHeld, StarvesWanting, GatherOutcome}
 use Rattle.py_stream.proofs.Accepting.{work_reaches}
 use Rattle.py_stream.proofs.Stopping.{starves_alive, starves_there}
 use Rattle.py_stream.proofs.ReadingCalls.{reading_on, on_suits, nothing_held, in_hand_held, wanted_within, is_several}
@@ -190,6 +190,22 @@ asked_keeps before raw begun is = record {
 asked_file : (before : Stream) (raw : Raw) → Reads before → OnlyAsked before (record before { raw = raw; short = false }) → WhereTold before.raw (file_of (record before { raw = raw }) ≡ file_of before)
 asked_file before raw begun is tells = ap (λ (bytes : List ℕ). let file : FlatFile = record (file_of before) { bytes = lay bytes before.owed.place before.owed.bytes } in file) (is.bytes (tells_its_bytes before.raw tells))
 
+-- a stream whose raw was at most asked where it ends gave nothing
+pub asked_gives : (before after : Stream) → Reads before → OnlyAsked before after → Gives before [] after
+asked_gives before after begun is =
+    let same : after ≡ record before { raw = after.raw } = is.same ∙ (λ k. record before { raw = after.raw; short = sym begun.whole k }) in
+    subst (Gives before []) (sym same) (record {
+      kept = asked_keeps before after.raw begun (subst (OnlyAsked before) is.same is);
+      no_fault = is.counts.no_fault;
+      live = begun.live;
+      place = omega arith;
+      told = λ tells. refl;
+    })
+
+-- no transfer was made for it
+pub asked_each : (before after : Stream) → OnlyAsked before after → EachBrings 0 before after
+asked_each before after is tells = omega (arith, ap (λ (stream : Stream). stream.raw_place) is.same, asked_transfers before.raw.transfers after.raw.transfers (is.transfers tells))
+
 -- where memory ran out before any byte came, of a stream whose raw was asked where it ends
 starved_asked : (before : Stream) (raw : Raw) → Reads before → OnlyAsked before (record before { raw = raw; short = false }) → Answers before (Read None) (Refused fault.NoMemory) (record before { raw = raw; short = false })
 starved_asked before raw begun is =
@@ -244,8 +260,8 @@ rest_stopped before after part why starves outcome = record {
 -- a reading of all that is left that was refused
 pub refused_rest : (before after : Stream) (part : List ℕ) (why : IoFault) → Reads before → RestOutcome before (Err why) part after → Answers before (Read None) (Refused why) after
 refused_rest before after part fault.RawFault begun outcome = refused_stop before after (Read None) part fault.RawFault (always_several before.buffer) begun (rest_stopped before after part fault.RawFault tt outcome) (λ wants takes. absurd (cc))
-refused_rest before after part fault.NoMemory begun (inl asked) = subst (Answers before (Read None) (Refused fault.NoMemory)) (sym asked.same) (starved_asked before after.raw begun (subst (OnlyAsked before) asked.same asked))
-refused_rest before after part fault.NoMemory begun (inr fails) = refused_stop before after (Read None) part fault.NoMemory (always_several before.buffer) begun (rest_stopped before after part fault.NoMemory (λ failed. fails.some) (inr fails)) (λ wants takes. absurd (cc))
+refused_rest before after part fault.NoMemory begun (inr asked) = subst (Answers before (Read None) (Refused fault.NoMemory)) (sym asked.same) (starved_asked before after.raw begun (subst (OnlyAsked before) asked.same asked))
+refused_rest before after part fault.NoMemory begun (inl starves) = refused_stop before after (Read None) part fault.NoMemory (always_several before.buffer) begun (rest_stopped before after part fault.NoMemory (starves_wanting_rest before after begun.live starves) starves) (λ wants takes. absurd (cc))
 refused_rest before after part why begun outcome = absurd outcome
 
 -- Of a size.

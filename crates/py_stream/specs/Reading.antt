@@ -103,11 +103,11 @@ StopOutcome before part (Err fault.RawFault) after = FailsReading before after
 StopOutcome before part (Err fault.NoMemory) after = StarvesReading before after
 StopOutcome before part (Err other) after = ⊥
 
--- a reading of all that is left stops as any other, but never with just enough; where memory ran out before any byte came, its raw may
--- have been asked where it ends
+-- a reading of all that is left stops as any other, but never with just enough; or memory ran out before any byte came, once its raw was
+-- asked where it ends
 abbrev pub RestOutcome : Stream → Result Stop IoFault → List ℕ → Stream → Type 0
 RestOutcome before (Ok stop.Enough) bytes after = ⊥
-RestOutcome before (Err fault.NoMemory) bytes after = OnlyAsked before after ⊎ FailsMoved before after
+RestOutcome before (Err fault.NoMemory) bytes after = StarvesReading before after ⊎ OnlyAsked before after
 RestOutcome before result bytes after = StopOutcome before bytes result after
 
 -- what the stops mean for the answer

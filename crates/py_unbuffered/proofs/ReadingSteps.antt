@@ -122,7 +122,7 @@ pub rest_refused : (old now : EngineView) (part : List ℕ) (why : IoFault) (any
 rest_refused old now part fault.RawFault any bytes new took outcome = fails_after old now part took new outcome
 rest_refused old now part fault.NoMemory any bytes new took outcome =
     let came = some_came part (length part) refl in
-    starves_after old now part took (nat_lt 0 (length part)) new came.0 came.1 outcome
+    inl (starves_after old now part took (nat_lt 0 (length part)) new came.0 came.1 outcome)
 rest_refused old now part why any bytes new took outcome = absurd outcome
 
 -- a vector that was lengthened: what it had stands in front

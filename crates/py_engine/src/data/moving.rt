@@ -76,14 +76,12 @@ impl<R: RawStream> BufferedData<R> {
         ensures outcome { EndOutcome (stream_of self.old) result (stream_of self.new) }
         ensures access { self.new.access ≡ self.old.access }
     {
-        match self.raw.end() {
-            Ok(end) if self.window.is_settled() => Ok(end),
-            Ok(end) => Ok(end.max(self.window.pending_end())),
-            Err(RawError::Fault) => {
-                self.life = Life::Failed;
-                Err(IoFault::RawFault)
-            }
-            Err(RawError::Memory) => Err(IoFault::NoMemory),
+        let _ = &self.raw;
+        let end = self.raw_end()?;
+        if self.window.is_settled() {
+            Ok(end)
+        } else {
+            Ok(end.max(self.window.pending_end()))
         }
     }
 

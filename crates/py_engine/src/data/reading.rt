@@ -8,7 +8,7 @@ ghost use Rattle.py_stream.specs.Reading.{RestOutcome};
 ghost use Rattle.py_engine.specs.Window.{ahead_of};
 ghost use Rattle.py_engine.specs.Engine.{Stands};
 ghost use Rattle.py_engine.specs.Reading.{reading_of};
-ghost use Rattle.py_engine.specs.Reading.{ReadIntoOutcome, ReadMoreOutcome, StepOutcome};
+ghost use Rattle.py_engine.specs.Reading.{FirstOutcome, ReadIntoOutcome, ReadMoreOutcome, StepOutcome};
 ghost use Rattle.py_stream.specs.Replies.{bytes_reply, into_reply, CountFits, KeepsBuffer};
 
 use super::BufferedData;
@@ -103,16 +103,18 @@ impl<R: RawStream> BufferedData<R> {
         }
     }
 
-    /// Reads all that is left after what a vector has. What `read_more` is asked for grows with what came, and is more
-    /// than the window holds at first, so that bytes leave the raw before space is wanted again.
+    /// Reads all that is left after what a vector has. What `read_more` is asked for at first is what `first_more` answers,
+    /// and then as much as came, until the end is met: where the raw said that it ends was a guess.
     fn read_all(&mut self, bytes: &mut Vec<u8>) -> Result<Stop, IoFault>
         requires live { self.old.life ≡ Live }
         requires reads { is_read self.old.access ≡ true }
+        requires whole { self.old.short ≡ false }
         requires none { bytes.old.items ≡ [] }
         ensures { RestOutcome (reading_of self.old) result bytes.new.items (reading_of self.new) }
     {
+        let _ = &self.raw;
         let mut moved = false;
-        let mut more = self.window.ahead().len() + self.window.size();
+        let mut more = self.first_more()?;
         loop {
             match self.read_more(bytes, more, moved)? {
                 Stop::Enough => {
@@ -122,6 +124,29 @@ impl<R: RawStream> BufferedData<R> {
                 stop => return Ok(stop),
             }
         }
+    }
+
+    /// How many bytes a reading of all asks for at first: more than the window holds, so that bytes leave the raw before
+    /// space is wanted again. Of a raw that can be moved, and says that it ends after the place, these are all up to that
+    /// end, and one more, by which the end is met.
+    fn first_more(&mut self) -> Result<usize, IoFault>
+        requires live { self.old.life ≡ Live }
+        requires reads { is_read self.old.access ≡ true }
+        requires whole { self.old.short ≡ false }
+        ensures { FirstOutcome self.old result self.new }
+    {
+        let ahead = self.window.ahead().len();
+        let unknown = ahead + self.window.size();
+        if !self.raw.seekable() {
+            return Ok(unknown);
+        }
+        let end = self.raw_end()?;
+        let place = self.window.place();
+        if end <= place {
+            return Ok(unknown);
+        }
+        let left = (end - place) as usize;
+        Ok(left.max(ahead) + 1)
     }
 
     /// Reads n bytes more after what a vector has, whose space is taken first. `moved` tells whether bytes had moved
