@@ -1,5 +1,5 @@
 -- The calls that give nothing, or bytes, by what the stream is opened for: what holds when a call begins, and what its steps come to.
-use Rattle.std.proofs.Common.{◌≡◌, ℕ, ℤ, ◌+◌, ◌≤◌, ◌⊎◌, inl, inr, Bool, true, false, not, ◌||◌, length, Some, Result, Ok, Err, refl, sym, ap, ◌∙◌, subst}
+use Rattle.std.proofs.Common.{◌≡◌, ℕ, ℤ, ◌+◌, ◌≤◌, ◌⊎◌, Bool, true, false, not, ◌||◌, length, Result, Ok, Err, refl, ap, subst, arith}
 use Rattle.py_flat.specs.declared.fault.IoFault.{IoFault}
 use Rattle.py_flat.specs.declared.fault.IoFault.TheVariants as fault
 use Rattle.py_flat.specs.declared.life.Life.TheVariants as life
@@ -10,7 +10,7 @@ use Rattle.py_stream.specs.declared.access.Access.{Access}
 use Rattle.py_stream.specs.declared.access.Access.TheVariants as access
 use Rattle.py_stream.specs.Access.{can_of, is_read, is_appended}
 use Rattle.py_stream.specs.Stream.{Stream}
-use Rattle.py_stream.specs.Kinds.{is_writing, goes_on, makes_one}
+use Rattle.py_stream.specs.Kinds.{is_writing}
 use Rattle.py_stream.specs.Replies.{done_reply}
 use Rattle.py_stream.specs.Answers.{Answers}
 use Rattle.py_stream.specs.Moving.{TargetOutcome, GoOutcome, GoesTo}
@@ -34,9 +34,7 @@ use Rattle.py_engine.proofs.Standing.{is_placed, is_sound, owes_behind, owes_not
 
 -- a stream that isn't opened to be read writes, and doesn't read
 pub writes_only : (opened : Access) (seekable : Bool) → is_read opened ≡ false → ((can_of opened seekable).writable ≡ true) × ((can_of opened seekable).readable ≡ false)
-writes_only access.Read seekable other = absurd (cc)
-writes_only access.Write seekable other = (refl, refl)
-writes_only access.Append seekable other = (refl, refl)
+writes_only opened seekable other = grind arith
 
 -- a stream that is opened to be read doesn't write
 pub reads_only : (opened : Access) (seekable : Bool) → is_read opened ≡ true → (can_of opened seekable).writable ≡ false
@@ -49,18 +47,11 @@ can_seek access.Read seekable = refl
 can_seek access.Write seekable = refl
 can_seek access.Append seekable = refl
 
--- a stream that doesn't append is moved where its raw can be
-free_of : (opened : Access) (seekable : Bool) → is_appended opened ≡ false → (can_of opened seekable).appending ≡ false
-free_of access.Read seekable free = refl
-free_of access.Write seekable free = refl
-free_of access.Append seekable free = absurd (cc)
-
 -- How a call begins.
 
 -- a call of an engine begins as one of its stream does
 pub begins : (old new : EngineView) (result : Result (Unit {0}) IoFault) → BeginOutcome old result new → Begins (stream_of old) result (stream_of new)
-begins old new (Ok done) began = (began.0, ap stream_of began.1)
-begins old new (Err why) began = (began.0, ap stream_of began.1)
+begins old new result began = grind arith
 
 -- an engine that forgot a wait stands as it stood
 stands_whole : (engine : EngineView) → Stands engine → Stands (record engine { short = false })
@@ -68,24 +59,13 @@ stands_whole engine is = is
 
 -- a live stream that is written
 pub is_writing_live : (engine : EngineView) → Stands engine → is_read engine.access ≡ false → engine.life ≡ life.Live → IsWriting (begun (stream_of engine))
-is_writing_live engine is writes live = record {
-  sound = is_sound (record engine { short = false }) (stands_whole engine is);
-  live = live;
-  whole = refl;
-  size = engine.window.size;
-  buffered = refl;
-  writes = (writes_only engine.access engine.raw.seekable writes).0;
-}
+is_writing_live engine is writes live = grind (arith, is_sound, stands_whole, writes_only)
 
 -- Flushing.
 
 -- a `flush` answers what passing all on came to
 pub flushes : (opened : Access) (old started new : EngineView) (result : Result (Unit {0}) IoFault) → old.access ≡ opened → Stands old → BeginOutcome old (Ok tt) started → PassesAll opened (stream_of started) result (stream_of new) → Answers (stream_of old) Flush (done_reply result) (stream_of new)
-flushes access.Read old started new result opened is began passed =
-    let reads : is_read old.access ≡ true = ap is_read opened in
-    let bare : Answers (stream_of old) Flush (done_reply (Ok tt)) (stream_of started) =
-    flush_answers (stream_of old) (stream_of started) (Ok tt) (is_placed old is) (owes_nothing old is reads) (λ writes. absurd (cc (reads_only old.access old.raw.seekable reads))) (begins old started (Ok tt) began) in
-    rw (passed.0, passed.1) bare
+flushes access.Read old started new result opened is began passed = grind (arith, flush_answers, is_placed, owes_nothing, reads_only, begins)
 flushes other old started new result opened is began passed =
     flush_passes_on (stream_of old) (stream_of started) (stream_of new) result (is_writing_live old is (ap is_read opened) began.0) (begins old started (Ok tt) began) passed
 
@@ -98,8 +78,7 @@ closing_stops other old started new why opened is began stops = close_stops (str
 
 -- a `close` that passed all on answers what the closing of the raw came to
 pub closes : (opened : Access) (old started mid new : EngineView) (result : Result (Unit {0}) IoFault) → old.access ≡ opened → Stands old → BeginOutcome old (Ok tt) started → PassesToClose opened (stream_of started) (Ok tt) (stream_of mid) → CloseRawOutcome (stream_of mid) result (stream_of new) → Answers (stream_of old) Close (done_reply result) (stream_of new)
-closes access.Read old started mid new result opened is began passed shut =
-    close_answers_at_once (stream_of old) (stream_of started) (stream_of new) result (is_sound (record old { short = false }) (stands_whole old is)) (owes_nothing old is (ap is_read opened)) (begins old started (Ok tt) began) (subst (λ (stream : Stream). CloseRawOutcome stream result (stream_of new)) passed.1 shut)
+closes access.Read old started mid new result opened is began passed shut = grind (arith, close_answers_at_once, is_sound, stands_whole, owes_nothing, begins)
 closes other old started mid new result opened is began passed shut =
     close_answers (stream_of old) (stream_of started) (stream_of mid) (stream_of new) result (is_writing_live old is (ap is_read opened) began.0) (begins old started (Ok tt) began) passed shut
 
@@ -107,17 +86,13 @@ closes other old started mid new result opened is began passed shut =
 
 -- a stream that can't be moved: its raw can't, or the stream appends
 not_moved : (opened : Access) (seekable : Bool) → seekable ≡ false → not (can_of opened seekable).seekable || (can_of opened seekable).appending ≡ true
-not_moved access.Read seekable none = ap (λ (moves : Bool). not moves || false) none
-not_moved access.Write seekable none = ap (λ (moves : Bool). not moves || false) none
-not_moved access.Append seekable none = ap (λ (moves : Bool). not moves || true) none
+not_moved opened seekable none = grind arith
 
 never_moved : (opened : Access) (seekable : Bool) → is_appended opened ≡ true → not (can_of opened seekable).seekable || (can_of opened seekable).appending ≡ true
-never_moved access.Append seekable appends = or_true (not seekable)
-never_moved other seekable appends = absurd (cc)
+never_moved opened seekable appends = grind (arith, or_true)
 
 cannot_move : (old started : EngineView) → BeginOutcome old (Ok tt) started → (started.raw.seekable ≡ false) ⊎ (is_appended started.access ≡ true) → not (can_of old.access old.raw.seekable).seekable || (can_of old.access old.raw.seekable).appending ≡ true
-cannot_move old started began (inl still) = not_moved old.access old.raw.seekable (sym (ap (λ (engine : EngineView). engine.raw.seekable) began.1) ∙ still)
-cannot_move old started began (inr appends) = never_moved old.access old.raw.seekable (sym (ap (λ (engine : EngineView). is_appended engine.access) began.1) ∙ appends)
+cannot_move old started began cannot = grind (arith, not_moved, never_moved)
 
 -- a seek of a stream that can't be moved is refused as unsupported
 pub seek_unsupported : (old started : EngineView) (offset whence : ℤ) → Stands old → BeginOutcome old (Ok tt) started → (started.raw.seekable ≡ false) ⊎ (is_appended started.access ≡ true) → Answers (stream_of old) (Seek offset whence) (Refused fault.Unsupported) (stream_of started)
@@ -125,13 +100,7 @@ seek_unsupported old started offset whence is began cannot = refused_by_ability 
 
 -- a seek of a live stream that may be moved
 pub may_seek : (old started : EngineView) → Stands old → BeginOutcome old (Ok tt) started → started.raw.seekable ≡ true → is_appended started.access ≡ false → MaySeek (begun (stream_of old))
-may_seek old started is began can free = record {
-  sound = is_sound (record old { short = false }) (stands_whole old is);
-  live = began.0;
-  seeks = can_seek old.access old.raw.seekable ∙ sym (ap (λ (engine : EngineView). engine.raw.seekable) began.1) ∙ can;
-  free = free_of old.access old.raw.seekable (sym (ap (λ (engine : EngineView). is_appended engine.access) began.1) ∙ free);
-  whole = refl;
-}
+may_seek old started is began can free = grind (arith, is_sound, stands_whole, can_seek)
 
 seeks_writing : (old started : EngineView) → Stands old → MaySeek (begun (stream_of old)) → is_read old.access ≡ false → SeeksWriting (begun (stream_of old))
 seeks_writing old started is may writes = record {
@@ -154,12 +123,7 @@ pub record SeekFinds (old : EngineView) (offset whence : ℤ) (target : ℕ) (fo
 pub seek_found : (old started found : EngineView) (offset whence : ℤ) (target : ℕ) → Stands old → BeginOutcome old (Ok tt) started → started.raw.seekable ≡ true → is_appended started.access ≡ false → TargetOutcome (stream_of started) offset whence (Ok target) (stream_of found) → found.access ≡ started.access → SeekFinds old offset whence target found
 seek_found old started found offset whence target is began can free found_is same =
     let may : MaySeek (begun (stream_of old)) = may_seek old started is began can free in
-    record {
-      is = is;
-      may = may;
-      finds = seek_finds (stream_of old) (stream_of started) (stream_of found) offset whence target may (begins old started (Ok tt) began) found_is;
-      same = same ∙ ap (λ (engine : EngineView). engine.access) began.1;
-    }
+    grind (arith, seek_finds (stream_of old) (stream_of started) (stream_of found) offset whence target may (begins old started (Ok tt) began) found_is)
 
 -- a seek that passing all on refused answers that refusal
 pub seeking_stops : (opened : Access) (old found new : EngineView) (offset whence : ℤ) (target : ℕ) (why : IoFault) → old.access ≡ opened → SeekFinds old offset whence target found → PassesAll opened (stream_of found) (Err why) (stream_of new) → Answers (stream_of old) (Seek offset whence) (Refused why) (stream_of new)
@@ -168,8 +132,7 @@ seeking_stops other old found new offset whence target why opened seek stops = s
 
 -- a seek whose moving failed answers that failure
 pub seeking_fails : (opened : Access) (old found mid new : EngineView) (offset whence : ℤ) (target : ℕ) (why : IoFault) → old.access ≡ opened → SeekFinds old offset whence target found → PassesAll opened (stream_of found) (Ok tt) (stream_of mid) → GoOutcome (stream_of mid) target (Err why) (stream_of new) → Answers (stream_of old) (Seek offset whence) (Refused why) (stream_of new)
-seeking_fails access.Read old found mid new offset whence target why opened seek passed fails =
-    going_fails (stream_of old) (stream_of found) (stream_of new) offset whence target why seek.may seek.finds (subst (λ (stream : Stream). GoOutcome stream target (Err why) (stream_of new)) passed.1 fails)
+seeking_fails access.Read old found mid new offset whence target why opened seek passed fails = grind (arith, going_fails)
 seeking_fails other old found mid new offset whence target why opened seek passed fails =
     seek_fails (stream_of old) (stream_of found) (stream_of mid) (stream_of new) offset whence target why (seeks_writing old found seek.is seek.may (ap is_read opened)) seek.finds passed fails
 
@@ -184,12 +147,4 @@ seeking_arrives other old found mid new offset whence target opened seek passed 
 
 -- a call that gives bytes begins, where these have a place
 pub writing_begun : (first old : EngineView) (call : FileCall) → is_writing call ≡ true → Stands first → is_read first.access ≡ false → BeginOutcome first (Ok tt) old → place_of old.window + length (payload call) ≤ greatest_place → Begun (stream_of first) (stream_of old) call
-writing_begun first old call writing is writes began within =
-    let stands : Stands old = subst Stands (sym began.1) is in
-    let same : is_read old.access ≡ false = ap (λ (engine : EngineView). is_read engine.access) began.1 ∙ writes in
-    record {
-      began = begins first old (Ok tt) began;
-      may = record { writing = writing; sound = is_sound old stands; behind = owes_behind old stands same; live = ap (λ (engine : EngineView). engine.life) began.1 ∙ began.0; can = (writes_only old.access old.raw.seekable same).0; within = within };
-      many = of_both (λ (call : FileCall). makes_one (Some old.window.size) call ≡ false) (λ bytes. refl) (λ lines. refl) call writing;
-      goes = of_both (λ (call : FileCall). goes_on (Some old.window.size) call ≡ true) (λ bytes. refl) (λ lines. refl) call writing;
-    }
+writing_begun first old call writing is writes began within = grind (arith, begins, is_sound, owes_behind, writes_only, of_both)

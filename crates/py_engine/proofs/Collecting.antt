@@ -1,10 +1,10 @@
 -- A window of a stream that is written: what it owes ends at the cursor, where all ends that it holds.
-use Rattle.std.proofs.Common.{◌≡◌, ℕ, ◌+◌, ◌-◌, ◌<◌, ◌≤◌, min, max, Bool, List, [], ◌++◌, length, take, drop, nat_eq, if◌then◌else◌, refl, sym, ap, ◌∙◌, subst, arith, ⊎_elim}
+use Rattle.std.proofs.Common.{◌≡◌, ℕ, ◌+◌, ◌-◌, ◌<◌, ◌≤◌, min, max, Bool, List, ◌++◌, length, take, drop, nat_eq, if◌then◌else◌, refl, sym, ap, ◌∙◌, subst, arith, ⊎_elim}
 use Rattle.std.proofs.Math.ListN.{drop_of_length-le}
 use Rattle.std.proofs.lemmas.Bool.Decides.{eqb_tells}
 use Rattle.std.proofs.lemmas.Bool.{cases_lt, le-leb, lt-leb}
 use Rattle.std.proofs.lemmas.List.{length-drop, length-append, length-take-le, take_all, drop-append-le, drop-drop, append-nil}
-use Rattle.py_engine.specs.Window.{WindowView, IsWindow, Collects, place_of, pending_of, is_settled, kept_before, room_of, pasted, laid_at_cursor, without_front, pushed, passed_on, cut_at, emptied_at}
+use Rattle.py_engine.specs.Window.{WindowView, IsWindow, Collects, place_of, pending_of, is_settled, kept_before, room_of, pasted, laid_at_cursor, without_front, pushed, passed_on, cut_at}
 use Rattle.py_engine.proofs.Held.{from_start}
 
 -- What is pending.
@@ -39,31 +39,15 @@ pub record Shows (window : WindowView) (size place : ℕ) (bytes : List ℕ) : T
 pub shows_itself : (window : WindowView) → IsWindow window → Collects window → Shows window window.size (window.begin + window.from) (pending_of window)
 shows_itself window is collects = record { is = is; collects = collects; size_is = refl; place_is = refl; bytes_are = refl }
 
--- a window that holds nothing shows no byte owed
-pub shows_none : (window : WindowView) (place : ℕ) → IsWindow window → place ≤ 9223372036854775807 → Shows (emptied_at place window) window.size place []
-shows_none window place is far = record {
-  is = record { some = is.some; cursor = omega arith; held = omega arith; far = omega (arith, far); ordered = omega arith; within = omega arith; rests = λ _. refl };
-  collects = record { to = refl; end = refl };
-  size_is = refl;
-  place_is = omega arith;
-  bytes_are = refl;
-}
-
 -- Putting bytes behind.
 
 -- the first pending byte is the one that it was
 from_stays : (window : WindowView) → IsWindow window → Collects window → (if is_settled window then window.cursor else min window.from window.cursor) ≡ window.from
-from_stays window is collects = ⊎_elim
-    (λ same. ap (λ (settled : Bool). if settled then window.cursor else min window.from window.cursor) same.0 ∙ sym (is.rests same.1))
-    (λ other. ap (λ (settled : Bool). if settled then window.cursor else min window.from window.cursor) other.0 ∙ omega (arith, is.ordered, collects.to))
-    (eqb_tells window.from window.to)
+from_stays window is collects = grind (arith, eqb_tells)
 
 -- the last pending byte is the last of those that were put
 to_follows : (window : WindowView) (after : ℕ) → Collects window → window.cursor ≤ after → (if is_settled window then after else max window.to after) ≡ after
-to_follows window after collects forth = ⊎_elim
-    (λ same. ap (λ (settled : Bool). if settled then after else max window.to after) same.0)
-    (λ other. ap (λ (settled : Bool). if settled then after else max window.to after) other.0 ∙ omega (arith, collects.to, forth))
-    (eqb_tells window.from window.to)
+to_follows window after collects forth = grind (arith, eqb_tells)
 
 pasted_behind : (held bytes : List ℕ) (cursor : ℕ) → cursor ≡ length held → pasted held cursor bytes ≡ held ++ bytes
 pasted_behind held bytes cursor end =
@@ -74,22 +58,20 @@ pasted_behind held bytes cursor end =
 -- bytes that were put at the cursor, where there was room after it
 laid_shows : (window : WindowView) (bytes : List ℕ) (size place : ℕ) (owed : List ℕ) → window.cursor + length bytes ≤ window.size → place_of window + length bytes ≤ 9223372036854775807 → 0 < length bytes → Shows window size place owed → Shows (laid_at_cursor bytes window) size place (owed ++ bytes)
 laid_shows window bytes size place owed room far some shows =
-    let is = shows.is in
-    let collects = shows.collects in
     let after : ℕ = window.cursor + length bytes in
-    let held : pasted window.held window.cursor bytes ≡ window.held ++ bytes = pasted_behind window.held bytes window.cursor collects.end in
-    let long : length (pasted window.held window.cursor bytes) ≡ after = ap length held ∙ (length-append window.held bytes ∙ ap (λ (n : ℕ). n + length bytes) (sym collects.end)) in
-    let from : (if is_settled window then window.cursor else min window.from window.cursor) ≡ window.from = from_stays window is collects in
-    let to : (if is_settled window then after else max window.to after) ≡ after = to_follows window after collects (omega arith) in
+    let held : pasted window.held window.cursor bytes ≡ window.held ++ bytes = pasted_behind window.held bytes window.cursor shows.collects.end in
+    let long : length (pasted window.held window.cursor bytes) ≡ after = ap length held ∙ (length-append window.held bytes ∙ ap (λ (n : ℕ). n + length bytes) (sym shows.collects.end)) in
+    let from : (if is_settled window then window.cursor else min window.from window.cursor) ≡ window.from = from_stays window shows.is shows.collects in
+    let to : (if is_settled window then after else max window.to after) ≡ after = to_follows window after shows.collects (omega arith) in
     let put : WindowView = laid_at_cursor bytes window in
     let is_put : IsWindow put = record {
-      some = is.some;
+      some = shows.is.some;
       cursor = omega (arith, long);
       held = omega (arith, long, room);
       far = omega (arith, long, far);
-      ordered = omega (arith, from, to, is.ordered, collects.to);
+      ordered = omega (arith, from, to, shows.is.ordered, shows.collects.to);
       within = omega (arith, to, long);
-      rests = λ none. absurd (omega (arith, none, from, to, is.ordered, collects.to, some));
+      rests = λ none. absurd (omega (arith, none, from, to, shows.is.ordered, shows.collects.to, some));
     } in
     let collects_put : Collects put = record { to = to; end = sym long } in
     record {
@@ -100,38 +82,13 @@ laid_shows window bytes size place owed room far some shows =
       bytes_are = pending_held put collects_put
           ∙ (ap (λ (n : ℕ). drop n (pasted window.held window.cursor bytes)) from
           ∙ (ap (drop window.from) held
-          ∙ (drop-append-le window.from window.held bytes (omega (arith, is.ordered, is.within))
-          ∙ ap (λ (xs : List ℕ). xs ++ bytes) (sym (pending_held window collects) ∙ shows.bytes_are))));
+          ∙ (drop-append-le window.from window.held bytes (omega (arith, shows.is.ordered, shows.is.within))
+          ∙ ap (λ (xs : List ℕ). xs ++ bytes) (sym (pending_held window shows.collects) ∙ shows.bytes_are))));
     }
 
 -- what need not stay before the cursor is let go of
 let_go_shows : (window : WindowView) (size place : ℕ) (owed : List ℕ) → Shows window size place owed → Shows (without_front (window.cursor - kept_before window) window) size place owed
-let_go_shows window size place owed shows =
-    let is = shows.is in
-    let collects = shows.collects in
-    let front : ℕ = window.cursor - kept_before window in
-    let front_is : front ≡ window.from = omega (arith, is.ordered, collects.to) in
-    let long : length (drop front window.held) ≡ window.cursor - window.from = length-drop front window.held ∙ omega (arith, front_is, collects.end) in
-    let left : WindowView = without_front front window in
-    let collects_left : Collects left = record { to = ap (λ (n : ℕ). n - front) collects.to; end = omega (arith, long, front_is) } in
-    record {
-      is = record {
-        some = is.some;
-        cursor = omega (arith, long, front_is);
-        held = omega (arith, long, is.held, is.cursor);
-        far = omega (arith, long, front_is, is.far, collects.end, is.ordered, collects.to);
-        ordered = omega (arith, is.ordered, front_is);
-        within = omega (arith, long, front_is, collects.to);
-        rests = λ none. omega (arith, none, front_is, collects.to, is.ordered);
-      };
-      collects = collects_left;
-      size_is = shows.size_is;
-      place_is = omega (arith, front_is, shows.place_is);
-      bytes_are = pending_held left collects_left
-          ∙ (drop-drop (window.from - front) front window.held
-          ∙ (ap (λ (n : ℕ). drop n window.held) (let n : front + (window.from - front) ≡ window.from = omega (arith, front_is) in n)
-          ∙ (sym (pending_held window collects) ∙ shows.bytes_are)));
-    }
+let_go_shows window size place owed shows = grind (arith, length-drop, pending_held, drop-drop)
 
 -- bytes put behind what is owed
 pub pushed_shows : (window : WindowView) (bytes : List ℕ) (size place : ℕ) (owed : List ℕ) → 0 < length bytes → length bytes ≤ room_of window → place_of window + length bytes ≤ 9223372036854775807 → Shows window size place owed → Shows (pushed bytes window) size place (owed ++ bytes)
@@ -150,36 +107,28 @@ pushed_shows window bytes size place owed some room far shows =
 
 -- the range of what is pending once the first n bytes of it aren't any more
 passed_from : (window : WindowView) (count : ℕ) → IsWindow window → Collects window → count ≤ window.to - window.from → (if nat_eq (window.from + count) window.to then window.cursor else window.from + count) ≡ window.from + count
-passed_from window count is collects fits = ⊎_elim
-    (λ same. ap (λ (settled : Bool). if settled then window.cursor else window.from + count) same.0 ∙ (sym collects.to ∙ sym same.1))
-    (λ other. ap (λ (settled : Bool). if settled then window.cursor else window.from + count) other.0)
-    (eqb_tells (window.from + count) window.to)
+passed_from window count is collects fits = grind (arith, eqb_tells)
 
 passed_to : (window : WindowView) (count : ℕ) → Collects window → (if nat_eq (window.from + count) window.to then window.cursor else window.to) ≡ window.to
-passed_to window count collects = ⊎_elim
-    (λ same. ap (λ (settled : Bool). if settled then window.cursor else window.to) same.0 ∙ sym collects.to)
-    (λ other. ap (λ (settled : Bool). if settled then window.cursor else window.to) other.0)
-    (eqb_tells (window.from + count) window.to)
+passed_to window count collects = grind (arith, eqb_tells)
 
 -- the first n pending bytes were passed on
 pub passed_shows : (window : WindowView) (count size place : ℕ) (owed : List ℕ) → count ≤ length owed → Shows window size place owed → Shows (passed_on count window) size (place + count) (drop count owed)
 passed_shows window count size place owed fits shows =
-    let is = shows.is in
-    let collects = shows.collects in
-    let within : count ≤ window.cursor - window.from = omega (arith, fits, ap length shows.bytes_are, pending_length window collects) in
-    let from = passed_from window count is collects (omega (arith, within, collects.to)) in
-    let to = passed_to window count collects in
+    let within : count ≤ window.cursor - window.from = omega (arith, fits, ap length shows.bytes_are, pending_length window shows.collects) in
+    let from = passed_from window count shows.is shows.collects (omega (arith, within, shows.collects.to)) in
+    let to = passed_to window count shows.collects in
     let put : WindowView = passed_on count window in
-    let collects_put : Collects put = record { to = to ∙ collects.to; end = collects.end } in
+    let collects_put : Collects put = record { to = to ∙ shows.collects.to; end = shows.collects.end } in
     record {
       is = record {
-        some = is.some;
-        cursor = is.cursor;
-        held = is.held;
-        far = is.far;
-        ordered = omega (arith, from, to, within, collects.to);
-        within = omega (arith, to, is.within);
-        rests = λ none. none ∙ (to ∙ collects.to);
+        some = shows.is.some;
+        cursor = shows.is.cursor;
+        held = shows.is.held;
+        far = shows.is.far;
+        ordered = omega (arith, from, to, within, shows.collects.to);
+        within = omega (arith, to, shows.is.within);
+        rests = λ none. none ∙ (to ∙ shows.collects.to);
       };
       collects = collects_put;
       size_is = shows.size_is;
@@ -187,34 +136,31 @@ passed_shows window count size place owed fits shows =
       bytes_are = pending_held put collects_put
           ∙ (ap (λ (n : ℕ). drop n window.held) from
           ∙ (sym (drop-drop count window.from window.held)
-          ∙ ap (drop count) (sym (pending_held window collects) ∙ shows.bytes_are)));
+          ∙ ap (drop count) (sym (pending_held window shows.collects) ∙ shows.bytes_are)));
     }
 
 -- what is owed was cut back to a place
 pub cut_shows : (window : WindowView) (end size place : ℕ) (owed : List ℕ) → place ≤ end → end ≤ place_of window → Shows window size place owed → Shows (cut_at end window) size place (take (end - place) owed)
 cut_shows window end size place owed behind within shows =
-    let is = shows.is in
-    let collects = shows.collects in
     let count : ℕ = end - window.begin in
-    let start : window.begin + window.from ≡ place = shows.place_is in
-    let long : length (take count window.held) ≡ count = length-take-le count window.held (omega (arith, within, is.cursor)) in
+    let long : length (take count window.held) ≡ count = length-take-le count window.held (omega (arith, within, shows.is.cursor)) in
     let put : WindowView = cut_at end window in
     let collects_put : Collects put = record { to = refl; end = sym long } in
     record {
       is = record {
-        some = is.some;
+        some = shows.is.some;
         cursor = omega (arith, long);
-        held = omega (arith, long, within, is.cursor, is.held);
-        far = omega (arith, long, within, is.far, is.cursor, start, behind);
-        ordered = omega (arith, start, behind);
+        held = omega (arith, long, within, shows.is.cursor, shows.is.held);
+        far = omega (arith, long, within, shows.is.far, shows.is.cursor, shows.place_is, behind);
+        ordered = omega (arith, shows.place_is, behind);
         within = omega (arith, long);
         rests = λ none. none;
       };
       collects = collects_put;
       size_is = shows.size_is;
-      place_is = start;
+      place_is = shows.place_is;
       bytes_are = pending_held put collects_put
-          ∙ (from_start window.held window.from count (omega (arith, start, behind))
-          ∙ (ap (λ (n : ℕ). take n (drop window.from window.held)) (let n : count - window.from ≡ end - place = omega (arith, start, behind) in n)
-          ∙ ap (take (end - place)) (sym (pending_held window collects) ∙ shows.bytes_are)));
+          ∙ (from_start window.held window.from count (omega (arith, shows.place_is, behind))
+          ∙ (ap (λ (n : ℕ). take n (drop window.from window.held)) (let n : count - window.from ≡ end - place = omega (arith, shows.place_is, behind) in n)
+          ∙ ap (take (end - place)) (sym (pending_held window shows.collects) ∙ shows.bytes_are)));
     }

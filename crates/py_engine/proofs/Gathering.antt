@@ -81,17 +81,10 @@ record Took (old : EngineView) (part : List ℕ) (moved : Bool) (now : EngineVie
 module _ (old now : EngineView) (part : List ℕ) (moved : Bool) (gathered : GatheredTo old part moved now) where
   -- what is held after the bytes that were collected comes next
   held_behind : (used : ℕ) → used ≤ length (ahead_of now.window) → WhereTold old.raw (take used (left_at old.raw.bytes (place_of old.window + length part)) ≡ take used (ahead_of now.window))
-  held_behind used fits = λ tells.
-      let kept : KeepsEngine old now = gathered.kept in
-      ap (take used) (ap (left_at old.raw.bytes) (sym gathered.place) ∙ ap (λ (bytes : List ℕ). left_at bytes (place_of now.window)) (sym (keeps_told old now kept tells)))
-      ∙ held_next now.raw now.window used kept.is.window_is.cursor fits (kept.is.told (still_tells old now kept tells) gathered.live)
+  held_behind used fits = grind (arith, keeps_told, held_next, still_tells)
 
   comes_with : (used : ℕ) → used ≤ length (ahead_of now.window) → WhereTold old.raw (ComesNext (reading_of old) (part ++ take used (ahead_of now.window)))
-  comes_with used fits = λ tells.
-      let ahead : List ℕ = ahead_of now.window in
-      let size : length (part ++ take used ahead) ≡ length part + used = length-append part (take used ahead) ∙ ap (λ (n : ℕ). length part + n) (length-take-le used ahead fits) in
-      ap (λ (n : ℕ). take n (left_at old.raw.bytes (place_of old.window))) size
-      ∙ next_behind old.raw.bytes part ahead (place_of old.window) (length part) used refl (gathered.told tells) (held_behind used fits tells)
+  comes_with used fits = grind (arith, length-append, length-take-le, next_behind, held_behind)
 
   comes_with_all : WhereTold old.raw (ComesNext (reading_of old) (part ++ ahead_of now.window))
   comes_with_all = λ tells. subst (λ (t : List ℕ). ComesNext (reading_of old) (part ++ t)) (take_all (length (ahead_of now.window)) (ahead_of now.window) (omega arith)) (comes_with (length (ahead_of now.window)) (omega arith) tells)
@@ -101,13 +94,7 @@ module _ (old now : EngineView) (part : List ℕ) (moved : Bool) (gathered : Gat
   gives_some used after fits is =
       let kept : KeepsEngine old now = gathered.kept in
       let size : length after ≡ length part + used = ap length is ∙ (length-append part (take used (ahead_of now.window)) ∙ ap (λ (n : ℕ). length part + n) (length-take-le used (ahead_of now.window) fits)) in
-      record {
-        kept = keeps_reading old (record now { window = advanced used now.window }) (keeps_then old now (record now { window = advanced used now.window }) kept (keeps_advanced now used kept.is fits));
-        no_fault = gathered.no_fault;
-        live = gathered.live;
-        place = omega (arith, gathered.place, size);
-        told = λ tells. subst (ComesNext (reading_of old)) (sym is) (comes_with used fits tells);
-      }
+      grind (arith, keeps_reading old (record now { window = advanced used now.window }) (keeps_then old now (record now { window = advanced used now.window }) kept (keeps_advanced now used kept.is fits)), gathered.place, size, comes_with)
 
   -- a collector that has enough wants no more of all that comes
   gathers_enough : (wanted first : List ℕ → List ℕ) (used : ℕ) (after : List ℕ) → ((rest : List ℕ) → wanted rest ≡ first rest) → HasEnough wanted part (ahead_of now.window) used after → GathersEnough first (reading_of old) after
@@ -161,12 +148,10 @@ module _ (old now : EngineView) (part : List ℕ) (moved : Bool) (gathered : Gat
 
 module _ (old now : EngineView) (part : List ℕ) (moved : Bool) (took : Took old part moved now) where
   end_not_back : (is : Bool) → moved ≡ is → end_of old.window ≤ end_of now.window
-  end_not_back true is = omega (arith, took.forth is)
-  end_not_back false is = omega (arith, ap (λ (e : EngineView). end_of e.window) (took.unmoved is))
+  end_not_back has_moved is = grind arith
 
   not_back : (is : Bool) → moved ≡ is → WherePlace old.raw (old.raw.place ≤ now.raw.place)
-  not_back true is = λ tells. omega (arith, took.raw_forth is tells)
-  not_back false is = λ tells. omega (arith, ap (λ (e : EngineView). e.raw.place) (took.unmoved is))
+  not_back has_moved is = grind arith
 
   -- all that was held was taken
   all_held : ahead (reading_of old) ≤ length part
@@ -174,45 +159,18 @@ module _ (old now : EngineView) (part : List ℕ) (moved : Bool) (took : Took ol
 
   -- the window was filled anew
   filled_on : (new : EngineView) (count : ℕ) → Fills now count new → GatheredTo old part true new
-  filled_on new count fills =
-      let kept : KeepsEngine old new = keeps_then old now new took.kept fills.transferred.kept in
-      record {
-        kept = kept;
-        no_fault = no_fault_then old.raw now.raw new.raw took.kept.raw took.counts.no_fault fills.transferred.no_fault;
-        live = fills.transferred.live;
-        place = omega (arith, took.end, fills.holds.begin, fills.holds.cursor);
-        told = took.told;
-        no_wait = no_wait_then old.raw now.raw new.raw took.kept.raw took.counts.no_wait fills.no_wait;
-        each = each_then old now new 0 took.kept took.each fills.each;
-        unmoved = λ e. cc;
-        further = λ is. omega (arith, end_not_back moved refl, fills.holds.begin, fills.holds.cursor);
-        ahead = λ is. omega (arith, fills.some, fills.holds.as_many, fills.holds.cursor, length-drop new.window.cursor new.window.held);
-        forth = λ is. omega (arith, end_not_back moved refl, fills.some, fills.holds.begin, fills.holds.as_many);
-        raw_forth = λ is tells. omega (arith, not_back moved refl tells, fills.forth (took.kept.raw.tells_place ∙ tells));
-      }
+  filled_on new count fills = grind (arith, keeps_then, no_fault_then, no_wait_then, each_then, end_not_back, length-drop, not_back)
 
   -- a window that was filled anew shows that something came after what was collected
   some_behind : (new : EngineView) (count : ℕ) → Fills now count new → WhereTold old.raw (left_at old.raw.bytes (place_of old.window + length part) ≢ [])
-  some_behind new count fills = λ tells none.
-      let bytes : now.raw.bytes ≡ old.raw.bytes = keeps_told old now took.kept tells in
-      let nothing : left_at now.raw.bytes (end_of now.window) ≡ [] = ap (λ (bytes : List ℕ). left_at bytes (end_of now.window)) bytes ∙ (ap (left_at old.raw.bytes) took.end ∙ none) in
-      let held : new.window.held ≡ take count [] = sym (fills.told (still_tells old now took.kept tells)) ∙ ap (take count) nothing in
-      absurd (omega (arith, fills.some, fills.holds.as_many, ap length held, length-take count (left_at [] 0)))
+  some_behind new count fills = grind (arith, keeps_told, still_tells, length-take)
 
   -- nothing more comes, or not yet: all that was collected is given
   gives_all : (new : EngineView) → UsesUp now new → Gives (reading_of old) part (reading_of new)
-  gives_all new used = record {
-    kept = keeps_reading old new (keeps_then old now new took.kept used.transferred.kept);
-    no_fault = no_fault_then old.raw now.raw new.raw took.kept.raw took.counts.no_fault used.transferred.no_fault;
-    live = used.transferred.live;
-    place = omega (arith, took.end, used.place);
-    told = took.told;
-  }
+  gives_all new used = grind (arith, keeps_reading, keeps_then, no_fault_then)
 
   last_of : (new : EngineView) → UsesUp now new → IsLast now → WhereTold old.raw (length old.raw.bytes ≤ place_of new.window)
-  last_of new used last = λ tells.
-      let same : length now.raw.bytes ≡ length old.raw.bytes = ap length (keeps_told old now took.kept tells) in
-      omega (arith, used.place, last (still_tells old now took.kept tells), same)
+  last_of new used last = grind (arith, keeps_told, still_tells)
 
   ends_at_last : (new : EngineView) (first : List ℕ → List ℕ) → first part ≡ part → WantsOn first part → UsesUp now new → IsLast now → NoWait now.raw new.raw → GatherOutcome first (reading_of old) (Ok stop.End) part (reading_of new)
   ends_at_last new first alone asks used last no_wait =

@@ -1,5 +1,5 @@
 -- A range of a buffer: the bytes that it holds.
-use Rattle.std.proofs.Common.{◌≡◌, ℕ, ◌+◌, ◌-◌, ◌≤◌, max, List, ◌++◌, length, take, drop, sym, ap, ◌∙◌, arith, ⊎_elim}
+use Rattle.std.proofs.Common.{◌≡◌, ℕ, ◌+◌, ◌-◌, ◌≤◌, max, List, ◌++◌, length, take, drop, sym, ap, ◌∙◌, arith}
 use Rattle.std.specs.List.{copy_within}
 use Rattle.std.proofs.Math.Seq.{take-append-add}
 use Rattle.std.proofs.Math.ListN.{drop_of_length-le}
@@ -16,22 +16,16 @@ from_start items start end ordered =
 
 -- what stands after a start and up to an end is nothing where the end lies before the start
 pub from_past : (items : List ℕ) (start end : ℕ) → end ≤ start → drop start (take end items) ≡ take (end - start) (drop start items)
-from_past items start end past =
-    let none : end - start ≡ 0 = omega arith in
-    drop_of_length-le (take end items) (omega (arith, length-take end items)) ∙ ap (λ (n : ℕ). take n (drop start items)) (sym none)
+from_past items start end past = grind (arith, drop_of_length-le, length-take)
 
 -- what stands after a start and up to an end, whichever comes first
 pub from_either : (items : List ℕ) (start end : ℕ) → drop start (take end items) ≡ take (end - start) (drop start items)
-from_either items start end = ⊎_elim
-    (λ before. from_start items start end (omega arith))
-    (λ past. from_past items start end past)
-    (cases_lt start end)
+from_either items start end = grind (arith, from_start, from_past, cases_lt)
 
 -- the held bytes moved to the front of the buffer, without those before a start
 pub moved_to_front : (items : List ℕ) (start end : ℕ) → start ≤ end → end ≤ length items → take (end - start) (copy_within items start end 0) ≡ drop start (take end items)
 moved_to_front items start end ordered within =
-    let sum : end - start ≡ 0 + (end - start) = omega arith in
-    ap (λ (n : ℕ). take n (copy_within items start end 0)) sum
+    ap (λ (n : ℕ). take n (copy_within items start end 0)) (omega arith)
     ∙ take-paste items 0 (drop start items) (end - start) (omega arith) (omega (arith, length-drop start items))
     ∙ sym (from_start items start end ordered)
 
@@ -41,9 +35,7 @@ held_pasted items bytes cursor end within fits =
     let after : ℕ = cursor + length bytes in
     let front : List ℕ = take cursor items in
     let rest : List ℕ = drop after items in
-    let long : length front ≡ cursor = length-take-le cursor items (omega arith) in
-    let sum : max end after ≡ length front + (length bytes + (end - after)) = omega (arith, long) in
-    ap (λ (n : ℕ). take n (front ++ (bytes ++ rest))) sum
+    ap (λ (n : ℕ). take n (front ++ (bytes ++ rest))) (omega (arith, (length-take-le cursor items (omega arith))))
     ∙ (take-append-add front (bytes ++ rest) (length bytes + (end - after))
     ∙ (ap (λ (xs : List ℕ). front ++ xs) (take-append-add bytes rest (end - after))
     ∙ (ap (λ (xs : List ℕ). front ++ (bytes ++ xs)) (sym (from_either items after end))

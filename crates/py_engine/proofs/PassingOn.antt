@@ -1,5 +1,5 @@
 -- Passing on what a stream owes, transfer by transfer.
-use Rattle.std.proofs.Common.{◌≡◌, IsTrue, [], Ok, Err, sym, subst}
+use Rattle.std.proofs.Common.{◌≡◌, IsTrue, [], Ok, Err, sym, subst, arith}
 use Rattle.py_flat.specs.declared.fault.IoFault.{IoFault}
 use Rattle.py_flat.specs.declared.fault.IoFault.TheVariants as fault
 use Rattle.py_raw.specs.RawStream.{NoWait}
@@ -17,10 +17,7 @@ pub record PassesSoFar (old now : Stream) : Type 0 where
 
 -- one more transfer of what is owed went
 pub passes_more : (old now new : Stream) → PassesSoFar old now → DrainOutcome now (Ok passing.All) new → PassesSoFar old new
-passes_more old now new so drained = record {
-  took = took_on old now new [] so.took drained.0;
-  no_wait = no_wait_then old.raw now.raw new.raw so.took.kept.raw so.no_wait drained.1;
-}
+passes_more old now new so drained = grind (arith, took_on, no_wait_then)
 
 -- a passing on that a wait stops
 pub passes_waiting : (old now new : Stream) → PassesSoFar old now → DrainOutcome now (Ok passing.Waits) new → FlushOutcome old (Ok passing.Waits) new

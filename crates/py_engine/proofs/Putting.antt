@@ -1,15 +1,14 @@
 -- Taking the bytes of a call: into the buffer, or straight to the raw.
-use Rattle.std.proofs.Common.{◌≡◌, ℕ, ◌+◌, ◌≤◌, inl, inr, Bool, true, false, IsTrue, List, [], ◌++◌, length, take, drop, Option, None, Some, Result, Ok, Err, sym, ap, ◌∙◌, subst, arith, length-append}
+use Rattle.std.proofs.Common.{◌≡◌, ℕ, ◌+◌, ◌≤◌, inr, Bool, true, false, List, [], ◌++◌, length, take, drop, Option, None, Some, Result, Ok, Err, sym, ap, ◌∙◌, subst, arith, length-append}
 use Rattle.std.proofs.Math.Seq.{take-nil}
 use Rattle.std.proofs.lemmas.List.{take-append-le, take_all, drop_all, drop-drop, append-nil}
 use Rattle.py_flat.specs.declared.fault.IoFault.{IoFault}
 use Rattle.py_flat.specs.declared.fault.IoFault.TheVariants as fault
-use Rattle.py_flat.specs.declared.life.Life.TheVariants as life
 use Rattle.py_flat.specs.Causes.{Rose}
 use Rattle.py_stream.specs.Stream.{Stream}
 use Rattle.py_stream.specs.Keeping.{OwesBehind}
 use Rattle.py_stream.specs.Writing.{OwesRest, OwesOld}
-use Rattle.py_stream.specs.Taking.{Calm, WaitsAsOne, Took, TookAll, FailsTaking, Lacks, Starved, PutsOutcome, PutOutcome}
+use Rattle.py_stream.specs.Taking.{Calm, WaitsAsOne, Took, TookAll, FailsTaking, Lacks, PutsOutcome, PutOutcome}
 use Rattle.py_stream.proofs.Taking.{take_behind, took_then, took_on, fails_then, fails_more, starves_then, waited_then, waited_before}
 use Rattle.py_stream.proofs.Putting.{put_then}
 use Rattle.py_stream.proofs.Flat.{fails_ends, took_none_ends}
@@ -34,11 +33,7 @@ owes_nothing old new behind none = record {
 }
 
 rest_of : (old new : Stream) → OwesBehind new → new.place ≡ old.place → OwesRest old.owed new.owed → OwesOld old new
-rest_of old new behind same rest = record {
-  rest = rest;
-  stands = λ up_to left. omega (arith, behind.stands, behind.ends, ap length left);
-  moved = λ elsewhere. absurd (elsewhere same);
-}
+rest_of old new behind same rest = grind arith
 
 -- some of the bytes that were owed were passed on
 pub owes_passing : (old new : Stream) → Took old [] new → OwesOld old new
@@ -47,10 +42,9 @@ owes_passing old new took = rest_of old new took.behind (took_none_ends old new 
 -- the raw failed while it was given only the bytes that it was owed
 owes_failing : (old new : Stream) → FailsTaking old [] new → OwesOld old new
 owes_failing old new fails =
-    let none : take fails.taken [] ≡ [] = take-nil fails.taken in
     rest_of old new fails.behind (omega (arith, fails_ends old new [] fails, fails.fits)) (record {
       passed = fails.passed;
-      bytes = fails.owed ∙ ap (drop fails.passed) (ap (λ (xs : List ℕ). old.owed.bytes ++ xs) none ∙ append-nil old.owed.bytes);
+      bytes = fails.owed ∙ ap (drop fails.passed) (ap (λ (xs : List ℕ). old.owed.bytes ++ xs) (take-nil fails.taken) ∙ append-nil old.owed.bytes);
       place = λ some. fails.place;
     })
 
@@ -66,11 +60,6 @@ owes_then old mid new first owes = record {
   moved = λ elsewhere. owes.moved (λ same. elsewhere (same ∙ took_none_ends old mid first));
 }
 
--- what a live stream was left owing of what it owed before, it still owes where running out of memory fails it
-owes_starved : (old mid new : Stream) (start : ℕ) → mid.life ≡ life.Live → OwesOld old mid → Starved start mid new → new.life ≡ life.Failed → OwesOld old new
-owes_starved old mid new start live owes (inl cut) failed = absurd (let wrong : life.Live ≡ life.Failed = sym live ∙ (sym cut.1.life_is ∙ failed) in cc)
-owes_starved old mid new start live owes (inr past) failed = subst (OwesOld old) (sym past.1) (record { rest = owes.rest; stands = owes.stands; moved = owes.moved })
-
 -- Putting one piece.
 
 -- a piece is put after a passing on of what was owed before
@@ -81,9 +70,7 @@ put_behind old mid new bytes start result first put = put_then old mid new [] by
 
 -- what one piece answers is what several do
 pub puts_one : (old new : Stream) (bytes : List ℕ) (start : ℕ) (result : Result Bool IoFault) → PutOutcome old bytes start result new → PutsOutcome old bytes start result new
-puts_one old new bytes start (Err fault.RawFault) put = put.0
-puts_one old new bytes start (Err fault.NoMemory) put = put.0
-puts_one old new bytes start result put = put
+puts_one old new bytes start result put = grind arith
 
 -- after a wait what fits was taken
 pub fits_then : (size : ℕ) (old mid new : Stream) (front more : List ℕ) (start : ℕ) (all : Bool) → old.buffer ≡ Some size → Took old front mid → Rose old.raw.waits mid.raw.waits → FitOutcome mid more all new → PutOutcome old (front ++ more) start (Ok all) new
@@ -109,12 +96,7 @@ StopsAt old bytes other mid = ⊥
 
 -- the answer of a call whose raw refused
 pub stopped : (size : ℕ) (old mid new : Stream) (bytes : List ℕ) (start : ℕ) (why : IoFault) → old.buffer ≡ Some size → StopsAt old bytes why mid → StopOutcome why start mid new → PutOutcome old bytes start (Err why) new
-stopped size old mid new bytes start fault.RawFault buffered stops left = subst (λ (stream : Stream). FailsTaking old bytes stream × OwesOld old stream) (sym left) stops
-stopped size old mid new bytes start fault.NoMemory buffered stops left = (
-  record { taken = stops.0; fits = stops.1; between = mid; lacks = stops.2; calm = subst (λ (buffer : Option ℕ). Calm buffer old.raw mid.raw) (sym buffered) tt; starved = left },
-  owes_starved old mid new start stops.2.took.live stops.3 left,
-)
-stopped size old mid new bytes start why buffered stops left = absurd stops
+stopped size old mid new bytes start why buffered stops left = grind arith
 
 -- a passing on of what was owed before
 pub flush_stops : (old mid : Stream) (bytes : List ℕ) (why : IoFault) → FlushOutcome old (Err why) mid → StopsAt old bytes why mid
@@ -128,11 +110,7 @@ hand_on_stops old now mid front more fault.RawFault first none give = (fails_the
 hand_on_stops old now mid front more fault.NoMemory first none give = (
   length front,
   omega (arith, length-append front more),
-  record {
-    takes = subst IsTrue first.took.kept.raw.takes_memory give.0;
-    took = subst (λ (stream : Stream). Took old (take (length front) (front ++ more)) stream) (sym give.1)
-        (subst (λ (some : List ℕ). Took old some now) (sym (take-append-le (length front) front more (omega arith) ∙ take_all (length front) front (omega arith))) first.took);
-  },
+  (grind (arith, take-append-le, take_all)),
   subst (OwesOld old) (sym give.1) (owes_nothing old now first.took.behind none),
 )
 hand_on_stops old now mid front more why first none give = absurd give

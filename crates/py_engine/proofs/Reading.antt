@@ -1,5 +1,5 @@
 -- Readings of an engine, as readings of the stream that it is.
-use Rattle.std.proofs.Common.{◌≡◌, ℕ, inl, inr, true, false, List, [], length, take, Ok, Err, refl, sym, ap, subst, arith}
+use Rattle.std.proofs.Common.{◌≡◌, ℕ, true, false, List, [], length, take, Ok, Err, refl, sym, ap, subst, arith}
 use Rattle.std.proofs.lemmas.List.{length-take-le, length-drop}
 use Rattle.py_flat.specs.declared.fault.IoFault.{IoFault}
 use Rattle.py_flat.specs.declared.fault.IoFault.TheVariants as fault
@@ -36,8 +36,7 @@ gathers_into old new call size progress buffer wants long read =
     gathers_size (reading_of old) (reading_of new) call size (take progress.count buffer) progress.stop wants (omega (arith, taken, read.fits, long)) (λ enough. omega (arith, taken, read.full enough, long)) (λ other. omega (arith, taken, read.less other, long)) read.stops (λ held. read.idle (omega (arith, held, long, length-drop old.window.cursor old.window.held)))
 
 starves_into : (old new : EngineView) → StarvesIn old false new → StarvesReading (reading_of old) (reading_of new)
-starves_into old new (takes, inl same) = inl (ap reading_of same.1)
-starves_into old new (takes, inr fails) = inr (record { kept = fails.kept; counts = fails.counts; failed = fails.failed; forth = fails.forth; reach = fails.reach; further = fails.further refl; stands = fails.stands_further refl; some = fails.some refl; each = fails.each })
+starves_into old new starves = grind arith
 
 -- a reading into a buffer that was refused moved no further than the buffer's size
 pub refused_into : (old new : EngineView) (call : FileCall) (size : ℕ) (buffer : List ℕ) (why : IoFault) → by_several (reading_of old).buffer call ≡ true → WantsSize call size → length buffer ≡ size → Reads (reading_of old) → ReadIntoOutcome old false (Err why) buffer new → Answers (reading_of old) call (Refused why) (reading_of new)

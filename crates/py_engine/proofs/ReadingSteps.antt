@@ -26,9 +26,7 @@ use Rattle.py_engine.proofs.Transfers.{held_next, keeps_self, keeps_then, keeps_
 
 -- a buffer after what is left of it was written
 pub end_written : (count : ℕ) (buffer rest : List ℕ) → count < length buffer → length rest ≡ length (take (length buffer - count) (drop count buffer)) → put_mid count (length buffer - count) buffer rest ≡ take count buffer ++ rest
-end_written count buffer rest fits long =
-    let none : drop (length buffer - count) (drop count buffer) ≡ [] = drop_all (length buffer - count) (drop count buffer) (omega (arith, length-drop count buffer)) in
-    ap (λ (xs : List ℕ). take count buffer ++ (rest ++ xs)) none ∙ ap (λ (xs : List ℕ). take count buffer ++ xs) (append-nil rest)
+end_written count buffer rest fits long = grind (arith, drop_all, length-drop, append-nil)
 
 -- a list that was lengthened by zeros
 abbrev pub lengthened : ℕ → ℕ → List ℕ → List ℕ
@@ -53,15 +51,7 @@ vector_read before resized buffer after start more count long size is same front
 
 -- the front of a buffer was given
 pub gives_front : (old new : EngineView) (count : ℕ) (buffer : List ℕ) → count ≤ length buffer → KeepsEngine old new → NoFault old.raw new.raw → new.life ≡ life.Live → place_of new.window ≡ place_of old.window + count → WhereTold old.raw (take count (left_at old.raw.bytes (place_of old.window)) ≡ take count buffer) → Gives (reading_of old) (take count buffer) (reading_of new)
-gives_front old new count buffer fits kept no_fault live place told =
-    let long : length (take count buffer) ≡ count = length-take-le count buffer fits in
-    record {
-      kept = keeps_reading old new kept;
-      no_fault = no_fault;
-      live = live;
-      place = place ∙ ap (λ (n : ℕ). place_of old.window + n) (sym long);
-      told = λ tells. ap (λ (n : ℕ). take n (left_at old.raw.bytes (place_of old.window))) long ∙ told tells;
-    }
+gives_front old new count buffer fits kept no_fault live place told = grind (arith, length-take-le, keeps_reading)
 
 -- all that is asked for was held
 pub held_enough : (old : EngineView) (count : ℕ) (buffer : List ℕ) → IsReading old → old.life ≡ life.Live → count ≡ length buffer → count ≤ length (ahead_of old.window) → take count buffer ≡ take count (ahead_of old.window) → ReadsInto old (record { count = count; stop = stop.Enough }) buffer (record old { window = advanced count old.window })
@@ -93,20 +83,7 @@ pub record Reads (old : EngineView) (was : Bool) (count : ℕ) (buffer : List �
 
 -- how far a reading is before its first transfer
 pub reads_first : (old : EngineView) (was : Bool) (count : ℕ) (buffer : List ℕ) → IsReading old → old.life ≡ life.Live → count ≡ min (length (ahead_of old.window)) (length buffer) → count ≢ length buffer → take count buffer ≡ take count (ahead_of old.window) → Reads old was count buffer was old
-reads_first old was count buffer is live least more front =
-    let all : count ≡ length (ahead_of old.window) = omega arith in
-    record {
-      kept = keeps_self old is;
-      counts = uncounted old.raw old.raw refl;
-      live = live;
-      less = omega arith;
-      place = omega arith;
-      end = omega (arith, is.window_is.cursor, length-drop old.window.cursor old.window.held);
-      told = λ tells. held_next old.raw old.window count is.window_is.cursor (omega arith) (is.told tells live) ∙ sym front;
-      ahead = omega (arith, all);
-      each = λ tells. omega arith;
-      stepped = inl (refl, refl);
-    }
+reads_first old was count buffer is live least more front = grind (arith, keeps_self, length-drop, held_next)
 
 -- the raw doesn't go back
 pub not_back : (old : EngineView) (was : Bool) (count : ℕ) (buffer : List ℕ) (moved : Bool) (now : EngineView) → Reads old was count buffer moved now → WherePlace old.raw (old.raw.place ≤ now.raw.place)
@@ -122,29 +99,13 @@ came_within old was count buffer moved now reads tells = within_end old.raw.byte
 
 -- what one more transfer brings, after what came
 pub behind_told : (old : EngineView) (was : Bool) (count : ℕ) (buffer : List ℕ) (moved : Bool) (now : EngineView) (more : ℕ) (rest : List ℕ) (new : EngineView) → Reads old was count buffer moved now → StepsOn now more rest new → WhereTold old.raw (take (count + more) (left_at old.raw.bytes (place_of old.window)) ≡ take (count + more) (take count buffer ++ rest))
-behind_told old was count buffer moved now more rest new reads steps tells =
-    let bytes : now.raw.bytes ≡ old.raw.bytes = keeps_told old now reads.kept tells in
-    let next : take more (left_at now.raw.bytes (end_of now.window)) ≡ take more rest = steps.told (still_tells old now reads.kept tells) in
-    next_behind old.raw.bytes (take count buffer) rest (place_of old.window) count more (length-take-le count buffer (omega (arith, reads.less))) (reads.told tells)
-    (ap (λ (place : ℕ). take more (left_at old.raw.bytes place)) (sym reads.end) ∙ (ap (λ (xs : List ℕ). take more (left_at xs (end_of now.window))) (sym bytes) ∙ next))
-    ∙ sym (more_taken count more (take count buffer) rest (length-take-le count buffer (omega (arith, reads.less))))
+behind_told old was count buffer moved now more rest new reads steps tells = grind (arith, keeps_told, still_tells, next_behind, length-take-le, more_taken)
 
 -- how far a reading is after one more transfer
 pub reads_on : (old : EngineView) (was : Bool) (count : ℕ) (buffer : List ℕ) (moved : Bool) (now : EngineView) (more : ℕ) (rest : List ℕ) (new : EngineView) → Reads old was count buffer moved now → StepOutcome now moved (Ok (step.On more)) rest new → Reads old was (count + more) (take count buffer ++ rest) true new
 reads_on old was count buffer moved now more rest new reads outcome =
     let steps : StepsOn now more rest new = outcome.0 in
-    record {
-      kept = keeps_then old now new reads.kept steps.kept;
-      counts = uncounted_then old.raw now.raw new.raw reads.kept.raw reads.counts steps.counts;
-      live = steps.live;
-      less = omega (arith, outcome.1, length-append (take count buffer) rest, length-take-le count buffer (omega (arith, reads.less)));
-      place = omega (arith, reads.end, steps.place);
-      end = omega (arith, reads.end, outcome.2);
-      told = behind_told old was count buffer moved now more rest new reads steps;
-      ahead = omega (arith, reads.ahead);
-      each = each_then old now new 0 reads.kept reads.each steps.each;
-      stepped = inr (refl, omega (arith, steps.some), omega (arith, end_not_back old was count buffer moved now reads, outcome.2, steps.some), λ tells. omega (arith, not_back old was count buffer moved now reads tells, steps.forth (reads.kept.raw.tells_place ∙ tells)));
-    }
+    grind (arith, keeps_then old now new reads.kept steps.kept, uncounted_then old.raw now.raw new.raw reads.kept.raw reads.counts steps.counts, outcome.1, length-append (take count buffer) rest, length-take-le count buffer (omega (arith, reads.less)), reads.end, steps.place, outcome.2, behind_told old was count buffer moved now more rest new reads steps, reads.ahead, each_then old now new 0 reads.kept reads.each steps.each, end_not_back, not_back)
 
 -- the last transfer filled the buffer
 pub reads_enough : (old : EngineView) (was : Bool) (count : ℕ) (buffer : List ℕ) (moved : Bool) (now : EngineView) (more : ℕ) (rest : List ℕ) (new : EngineView) → Reads old was count buffer moved now → StepsOn now more rest new → more ≡ length rest → place_of new.window ≡ end_of now.window + more → ReadsInto old (record { count = count + more; stop = stop.Enough }) (take count buffer ++ rest) new
@@ -165,10 +126,7 @@ reads_enough old was count buffer moved now more rest new reads steps all place 
 
 -- no more came: what came is given
 pub reads_given : (old : EngineView) (was : Bool) (count : ℕ) (buffer : List ℕ) (moved : Bool) (now : EngineView) (rest : List ℕ) (new : EngineView) → Reads old was count buffer moved now → UsesUp now new → Gives (reading_of old) (take count (take count buffer ++ rest)) (reading_of new)
-reads_given old was count buffer moved now rest new reads uses =
-    let long : length (take count buffer) ≡ count = length-take-le count buffer (omega (arith, reads.less)) in
-    gives_front old new count (take count buffer ++ rest) (omega (arith, length-append (take count buffer) rest)) (keeps_then old now new reads.kept uses.transferred.kept) (no_fault_then old.raw now.raw new.raw reads.kept.raw reads.counts.no_fault uses.transferred.no_fault) uses.transferred.live (uses.place ∙ reads.end)
-    (λ tells. reads.told tells ∙ sym (take_at (take count buffer) rest count long))
+reads_given old was count buffer moved now rest new reads uses = grind (arith, length-take-le, gives_front, length-append, keeps_then, no_fault_then, take_at)
 
 -- a reading into a buffer whose last transfer brought nothing comes to what came before
 pub reads_none : (old : EngineView) (was : Bool) (count : ℕ) (buffer : List ℕ) (moved : Bool) (now : EngineView) (rest : List ℕ) (new : EngineView) (why : Stop) → why ≢ stop.Enough → 0 < length rest → Reads old was count buffer moved now → StepOutcome now moved (Ok (step.Stopped 0 why)) rest new → ReadsInto old (record { count = count; stop = why }) (take count buffer ++ rest) new
@@ -215,15 +173,7 @@ reaches_come old was count buffer moved now new reads within tells = omega (arit
 
 -- the transfer failed
 reads_failed : (old : EngineView) (was : Bool) (count : ℕ) (buffer : List ℕ) (moved : Bool) (now new : EngineView) → Reads old was count buffer moved now → FailsByRaw now new → FailsReading (reading_of old) (reading_of new)
-reads_failed old was count buffer moved now new reads fails = record {
-  kept = keeps_reading old new (keeps_then old now new reads.kept fails.kept);
-  cause = omega (arith, reads.kept.raw.faults, fails.cause);
-  no_wait = no_wait_then old.raw now.raw new.raw reads.kept.raw reads.counts.no_wait fails.no_wait;
-  failed = fails.failed;
-  forth = omega (arith, fails.place, reads.end);
-  reach = reaches_come old was count buffer moved now new reads (omega (arith, fails.place, reads.end));
-  each = each_then old now new 1 reads.kept reads.each (each_but_failed now new fails);
-}
+reads_failed old was count buffer moved now new reads fails = grind (arith, keeps_reading old new (keeps_then old now new reads.kept fails.kept), reads.kept.raw.faults, fails.cause, no_wait_then old.raw now.raw new.raw reads.kept.raw reads.counts.no_wait fails.no_wait, fails.place, reads.end, reaches_come old was count buffer moved now new reads (omega (arith, fails.place, reads.end)), each_then old now new 1 reads.kept reads.each (each_but_failed now new fails))
 
 -- memory ran out once bytes had moved
 reads_starved : (old : EngineView) (was : Bool) (count : ℕ) (buffer : List ℕ) (now : EngineView) → Reads old was count buffer true now → FailsStarved was (reading_of old) (reading_of (record now { life = life.Failed }))
@@ -249,8 +199,7 @@ reads_wanting old was count buffer true now new reads starves = inr (subst (λ (
 
 -- running out of memory leaves the place
 starved_place : (moved : Bool) (now new : EngineView) → StarvesWith moved now new → place_of new.window ≡ place_of now.window
-starved_place true now new starves = ap (λ (engine : EngineView). place_of engine.window) starves
-starved_place false now new starves = ap (λ (engine : EngineView). place_of engine.window) starves
+starved_place moved now new starves = grind arith
 
 -- a reading into a buffer whose last transfer was refused is refused
 pub reads_refused : (old : EngineView) (was : Bool) (count : ℕ) (buffer : List ℕ) (moved : Bool) (now : EngineView) (why : IoFault) (rest : List ℕ) (new : EngineView) → 0 < length rest → Reads old was count buffer moved now → StepOutcome now moved (Err why) rest new → ReadIntoOutcome old was (Err why) (take count buffer ++ rest) new
@@ -339,21 +288,7 @@ module _ (before : Stream) (bytes : List ℕ) (more : ℕ) (moved : Bool) (now n
 
   -- a turn found no memory once bytes had moved
   all_moved : moved ≡ true → FailsStarved true (reading_of now) (reading_of new) → FailsMoved before (reading_of new)
-  all_moved is fails =
-      let here : KeepsReading before (reading_of now) = reads.gives.kept in
-      let near : IsNear (reading_of now) = here.near reads.gives.live in
-      let later : (more ≡ length bytes) × (before.raw_place < place_of now.window) = reads.later is in
-      record {
-        kept = stream_keeps_then before (reading_of now) (reading_of new) here fails.kept;
-        counts = uncounted_then before.raw now.raw new.raw here.raw (record { no_fault = reads.gives.no_fault; no_wait = reads.no_wait }) fails.counts;
-        failed = fails.failed;
-        forth = omega (arith, reads.gives.place, fails.forth);
-        reach = reaches_on fails.reach;
-        further = omega (arith, later.1, near.before_end, fails.raw_forth);
-        stands = λ tells. omega (arith, reads.stands tells, near.stands (here.raw.tells_place ∙ tells), later.1, near.before_end, fails.stands (here.raw.tells_place ∙ tells));
-        some = λ tells none. absurd (omega (arith, reads.some, later.0, ap length (reads.gives.told tells), ap (λ (left : List ℕ). length (take (length bytes) left)) none, length-take {A = ℕ} (length bytes) []));
-        each = stream_each_then before (reading_of now) (reading_of new) 0 here reads.each fails.each;
-      }
+  all_moved is fails = grind (arith, stream_keeps_then, uncounted_then, reaches_on, length-take, stream_each_then)
 
   -- the first turn found no memory once bytes had moved
   first_moved : moved ≡ false → FailsStarved false (reading_of now) (reading_of new) → FailsMoved before (reading_of new)
@@ -376,19 +311,7 @@ module _ (before : Stream) (bytes : List ℕ) (more : ℕ) (moved : Bool) (now n
 
 -- a stream that memory failed between two turns
 fails_between : (before : Stream) (bytes : List ℕ) (more : ℕ) (now : EngineView) → ReadsAll before bytes more true (reading_of now) → FailsStarved true (reading_of now) (reading_of (record now { life = life.Failed }))
-fails_between before bytes more now reads = record {
-  kept = stream_keeps_failed (reading_of now) refl (record { far = reads.gives.kept.far; near = reads.gives.kept.near });
-  counts = uncounted now.raw now.raw refl;
-  failed = refl;
-  forth = omega arith;
-  reach = λ tells. omega arith;
-  raw_forth = omega arith;
-  further = λ none. absurd (cc);
-  stands = λ tells. omega arith;
-  stands_further = λ none. absurd (cc);
-  some = λ none. absurd (cc);
-  each = λ tells. omega arith;
-}
+fails_between before bytes more now reads = grind (arith, stream_keeps_failed)
 
 all_wanting : (before : Stream) (bytes : List ℕ) (more : ℕ) (moved : Bool) (now new : EngineView) → ReadsAll before bytes more moved (reading_of now) → StarvesWith moved now new ⊎ FailsStarved moved (reading_of now) (reading_of new) → RestOutcome before (Err fault.NoMemory) bytes (reading_of new)
 all_wanting before bytes more false now new reads (inl same) = inr (subst (λ (engine : EngineView). OnlyAsked before (reading_of engine)) (sym same) (reads.first refl).0)
@@ -400,14 +323,6 @@ all_wanting before bytes more true now new reads (inr fails) = inl (inr (all_mov
 
 -- a turn was refused
 pub all_refused : (before : Stream) (bytes : List ℕ) (more : ℕ) (moved : Bool) (now new : EngineView) (why : IoFault) (after : List ℕ) → ReadsAll before bytes more moved (reading_of now) → ReadMoreOutcome now moved bytes more (Err why) after new → RestOutcome before (Err why) after (reading_of new)
-all_refused before bytes more moved now new fault.RawFault after reads fails = record {
-  kept = stream_keeps_then before (reading_of now) (reading_of new) reads.gives.kept fails.kept;
-  cause = omega (arith, reads.gives.kept.raw.faults, fails.cause);
-  no_wait = no_wait_then before.raw now.raw new.raw reads.gives.kept.raw reads.no_wait fails.no_wait;
-  failed = fails.failed;
-  forth = omega (arith, reads.gives.place, fails.forth);
-  reach = reaches_on before bytes more moved now new reads fails.reach;
-  each = stream_each_then before (reading_of now) (reading_of new) 1 reads.gives.kept reads.each fails.each;
-}
+all_refused before bytes more moved now new fault.RawFault after reads fails = grind (arith, stream_keeps_then before (reading_of now) (reading_of new) reads.gives.kept fails.kept, reads.gives.kept.raw.faults, fails.cause, no_wait_then before.raw now.raw new.raw reads.gives.kept.raw reads.no_wait fails.no_wait, reads.gives.place, fails.forth, reaches_on before bytes more moved now new reads fails.reach, stream_each_then before (reading_of now) (reading_of new) 1 reads.gives.kept reads.each fails.each)
 all_refused before bytes more moved now new fault.NoMemory after reads wants = all_wanting before bytes more moved now new reads wants
 all_refused before bytes more moved now new why after reads never = absurd never

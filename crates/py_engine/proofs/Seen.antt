@@ -1,15 +1,13 @@
 -- An engine that reads ahead, as the stream that it is.
-use Rattle.std.proofs.Common.{◌≡◌, ◌≤◌, Bool, true, refl, ◌∙◌, arith}
+use Rattle.std.proofs.Common.{◌≡◌, ◌≤◌, Bool, true, refl, arith}
 use Rattle.py_flat.specs.declared.life.Life.TheVariants as life
 use Rattle.py_flat.specs.Limits.{greatest_place}
-use Rattle.py_raw.specs.RawStream.{Raw}
 use Rattle.py_stream.specs.declared.access.Access.{Access}
-use Rattle.py_stream.specs.declared.access.Access.TheVariants as access
 use Rattle.py_stream.specs.Access.{can_of, is_read}
 use Rattle.py_stream.specs.Answers.{IsNear}
 use Rattle.py_stream.proofs.Refusing.{IsPlaced}
 use Rattle.py_engine.specs.Window.{WindowView, IsWindow, place_of}
-use Rattle.py_engine.specs.Engine.{EngineView, stream_of, HoldsBytes, HoldsRead, Stands}
+use Rattle.py_engine.specs.Engine.{EngineView, stream_of, Stands}
 use Rattle.py_engine.specs.Reading.{reading_of, IsReading}
 use Rattle.py_engine.proofs.Standing.{reads_ahead, owes_nothing}
 
@@ -29,31 +27,14 @@ placed engine is = record { far = within_window engine.window is.window_is; near
 
 -- a stream that is opened to be read reads
 pub readable : (opened : Access) (seekable : Bool) → is_read opened ≡ true → (can_of opened seekable).readable ≡ true
-readable access.Read seekable reads = refl
-readable other seekable reads = absurd (cc)
+readable opened seekable reads = grind arith
 
 -- From what holds of every engine, and back.
 
-holds_read : (opened : Access) (raw : Raw) (window : WindowView) → is_read opened ≡ true → HoldsRead opened raw.bytes window → HoldsBytes raw.bytes window
-holds_read access.Read raw window reads holds = holds
-holds_read other raw window reads holds = absurd (cc)
-
 -- an engine that is opened to be read is one that reads ahead
 pub seen_reading : (engine : EngineView) → Stands engine → is_read engine.access ≡ true → IsReading engine
-seen_reading engine is reads =
-    let ahead = reads_ahead engine.access engine.raw_place engine.window reads is.shape in
-    record {
-      reads = reads;
-      window_is = is.window_is;
-      is_open = is.is_open;
-      attached = is.attached;
-      ahead = ahead;
-      stands = λ tells live. is.stands tells live ∙ ahead.stands;
-      told = λ tells live. holds_read engine.access engine.raw engine.window reads (is.told tells live);
-    }
+seen_reading engine is reads = grind (arith, reads_ahead)
 
 -- the stream of an engine that is opened to be read is its stream as an engine that reads ahead
 pub same_stream : (engine : EngineView) → Stands engine → is_read engine.access ≡ true → stream_of engine ≡ reading_of engine
-same_stream engine is reads =
-    let ahead = reads_ahead engine.access engine.raw_place engine.window reads is.shape in
-    (λ k. record (stream_of engine) { raw_place = ahead.stands k; owed = owes_nothing engine is reads k })
+same_stream engine is reads = grind (arith, reads_ahead, owes_nothing)

@@ -2,22 +2,20 @@
 use Rattle.std.proofs.Common.{◌≡◌, ◌≢◌, ℕ, suc, zero, ◌<◌, ◌≤◌, Bool, true, false, List, [], ◌∷◌, ◌++◌, length, take, drop, min, Some, Ok, Err, refl, sym, ap, ◌∙◌, subst, arith}
 use Rattle.std.proofs.lemmas.List.{length-take, length-drop, take_all, take_min, take-append-drop, drop_all}
 use Rattle.py_flat.specs.declared.fault.IoFault.{IoFault}
-use Rattle.py_flat.specs.declared.fault.IoFault.TheVariants as fault
 use Rattle.py_flat.specs.declared.life.Life.TheVariants as life
 use Rattle.py_flat.specs.Bytes.{left_at}
-use Rattle.py_flat.specs.Calls.{FileCall, Read1, Peek, ReadInto1, FileReply, Bytes, NotReady, Refused}
+use Rattle.py_flat.specs.Calls.{FileCall, Peek, FileReply, Bytes, NotReady, Refused}
 use Rattle.py_flat.specs.BinaryStep.{IsFrontOf}
 use Rattle.py_raw.specs.RawStream.{WhereTold, LeavesCounts}
 use Rattle.py_stream.specs.declared.stop.Stop.{Stop}
 use Rattle.py_stream.specs.declared.stop.Stop.TheVariants as stops
 use Rattle.py_stream.specs.Stream.{Stream}
-use Rattle.py_stream.specs.Kinds.{is_single, reads_on, has_room, asks_nothing}
+use Rattle.py_stream.specs.Kinds.{is_single, asks_nothing}
 use Rattle.py_stream.specs.Answers.{Answers}
 use Rattle.py_stream.specs.Replies.{look_reply}
 use Rattle.py_stream.specs.Reading.{has_answer}
-use Rattle.py_stream.proofs.ReadingSteps.{uncounted}
-use Rattle.py_stream.proofs.ReadingAnswers.{Reads, answers_begun, reading_refused}
-use Rattle.py_stream.proofs.SingleReading.{asks_for, moves_by, moves_within, single_call, GivesOnce, answers_once, unready_once, faulted_once, unmoved_once, wanting_once}
+use Rattle.py_stream.proofs.ReadingAnswers.{answers_begun, reading_refused}
+use Rattle.py_stream.proofs.SingleReading.{asks_for, moves_by, moves_within, single_call, GivesOnce, answers_once, unready_once, faulted_once, unmoved_once}
 use Rattle.py_engine.specs.Window.{WindowView, IsWindow, place_of, end_of, ahead_of, advanced}
 use Rattle.py_engine.specs.Engine.{EngineView, BeginOutcome}
 use Rattle.py_engine.specs.Reading.{reading_of, IsReading, KeepsEngine, Transferred, answered_at}
@@ -91,16 +89,10 @@ ready_still old mid stops.Waits ready some = absurd (omega (arith, some, ready.5
 
 -- nothing of the bytes held is given only where nothing is asked or left
 nothing_left : (old mid : EngineView) (asked : ℕ) (stop : Stop) → ReadyOutcome old (Ok stop) mid → has_answer stop true ≡ true → WhereTold old.raw (take asked (ahead_of mid.window) ≡ [] → take asked (left_at old.raw.bytes (place_of old.window)) ≡ [])
-nothing_left old mid asked stops.Enough ready answered tells none =
-    let no_more : asked ≡ 0 = omega (arith, ap length none, length-take asked (ahead_of mid.window), ready.2) in
-    ap (λ (n : ℕ). take n (left_at old.raw.bytes (place_of old.window))) no_more
-nothing_left old mid asked stops.End ready answered tells none = ap (take asked) (drop_all (place_of old.window) old.raw.bytes (ready.3 tells)) ∙ take_all asked [] (omega arith)
-nothing_left old mid asked stops.Waits ready answered tells none = absurd (cc)
+nothing_left old mid asked stop ready answered tells none = grind (arith, length-take, drop_all, take_all)
 
 whole_answer : (stop : Stop) (mid : EngineView) → has_answer stop true ≡ true → answered_at stop mid ≡ record mid { short = false }
-whole_answer stops.Enough mid answered = refl
-whole_answer stops.End mid answered = refl
-whole_answer stops.Waits mid answered = absurd (cc)
+whole_answer stop mid answered = grind arith
 
 -- what is given of the bytes held
 gives_held : (old mid : EngineView) (call : FileCall) (stop : Stop) → asks_nothing call ≡ false → IsReading old → ReadyOutcome old (Ok stop) mid → has_answer stop true ≡ true → GivesOnce (reading_of old) call (take (asks_for old.window.size call) (ahead_of mid.window)) (reading_of (record mid { window = advanced (moves_by call (length (take (asks_for old.window.size call) (ahead_of mid.window)))) mid.window }))
@@ -110,43 +102,13 @@ gives_held old mid call stop asks is ready answered =
     let size : length part ≡ min asked (length (ahead_of mid.window)) = length-take asked (ahead_of mid.window) in
     let new : EngineView = record mid { window = advanced (moves_by call (length part)) mid.window } in
     let moved : Transferred old mid × (place_of mid.window ≡ place_of old.window) = moved_to_ready old mid stop ready in
-    record {
-      kept = keeps_reading old new (keeps_then old mid new moved.0.kept (keeps_advanced mid (moves_by call (length part)) moved.0.kept.is (omega (arith, moves_within call (length part), size))));
-      counts = ready_counts old mid stop ready answered;
-      sized = λ bytes same. omega (arith, is.window_is.some, (let sizes : old.window.size ≡ bytes = cc in sizes));
-      idle = λ none. absurd (cc);
-      still = λ _ some. ready_still old mid stop ready (omega (arith, some));
-      live = moved.0.live;
-      place = omega (arith, moved.1);
-      most = omega (arith, size);
-      one = moved.0.transfers;
-      is = λ tells. record { front = front_held asked (ahead_of mid.window) (left_at old.raw.bytes (place_of old.window)) (ahead_next old mid moved.0.kept moved.0.live moved.1 tells); some = nothing_left old mid asked stop ready answered tells };
-    }
+    grind (arith, keeps_reading old new (keeps_then old mid new moved.0.kept (keeps_advanced mid (moves_by call (length part)) moved.0.kept.is (omega (arith, moves_within call (length part), size)))), ready_counts old mid stop ready answered, ready_still, moved.1, size, front_held, ahead_next, nothing_left)
 
 -- The calls.
 
-moves_none : (call : FileCall) → moves_by call 0 ≡ 0
-moves_none Peek = refl
-moves_none call = refl
-
 -- a call that asks for nothing
 pub once_nothing : (first begun : EngineView) (call : FileCall) → is_single call ≡ true → IsReading first → BeginOutcome first (Ok tt) begun → asks_for begun.window.size call ≡ 0 → Answers (reading_of first) call (Bytes []) (reading_of begun)
-once_nothing first begun call single is began none =
-    let here : IsReading begun = begun_is first begun is began in
-    let reads : Reads (reading_of begun) = (reading_begins first begun is began).reads in
-    let answers : Answers (reading_of begun) call (Bytes []) (reading_of (record begun { short = false })) = answers_once (reading_of begun) (reading_of begun) call [] single reads (record {
-      kept = keeps_reading begun begun (keeps_self begun here);
-      counts = uncounted begun.raw begun.raw refl;
-      sized = λ bytes same. omega (arith, here.window_is.some, (let sizes : begun.window.size ≡ bytes = cc in sizes));
-      idle = λ asks. refl;
-      still = λ _ some. refl;
-      live = reads.live;
-      place = omega (arith, moves_none call);
-      most = omega arith;
-      one = λ tells. omega arith;
-      is = λ tells. record { front = (take (asks_for begun.window.size call) (left_at begun.raw.bytes (place_of begun.window)), refl); some = λ empty. ap (λ (n : ℕ). take n (left_at begun.raw.bytes (place_of begun.window))) none };
-    }) in
-    from_begun first begun call (Bytes []) (reading_of begun) began (subst (λ (cut : Bool). Answers (reading_of begun) call (Bytes []) (reading_of (record begun { short = cut }))) (sym reads.whole) answers)
+once_nothing first begun call single is began none = grind (arith, reading_begins, answers_once, keeps_reading, keeps_self, asks_for, from_begun)
 
 -- a call that gives of the bytes held
 pub once_held : (first begun mid answered new : EngineView) (call : FileCall) (stop : Stop) (part : List ℕ) → is_single call ≡ true → asks_nothing call ≡ false → IsReading first → BeginOutcome first (Ok tt) begun → ReadyOutcome begun (Ok stop) mid → has_answer stop true ≡ true → answered ≡ answered_at stop mid → part ≡ take (asks_for begun.window.size call) (ahead_of answered.window) → new ≡ record answered { window = advanced (moves_by call (length part)) answered.window } → Answers (reading_of first) call (Bytes part) (reading_of new)
@@ -175,53 +137,11 @@ once_looked first begun mid new stop is began ready answers new_is =
 
 -- a call that the raw made wait
 pub once_unready : (first begun mid new : EngineView) (call : FileCall) (stop : Stop) → is_single call ≡ true → asks_nothing call ≡ false → IsReading first → BeginOutcome first (Ok tt) begun → ReadyOutcome begun (Ok stop) mid → has_answer stop true ≡ false → new ≡ answered_at stop mid → Answers (reading_of first) call NotReady (reading_of new)
-once_unready first begun mid new call stops.Enough single asks is began ready unready new_is = absurd (cc)
-once_unready first begun mid new call stops.End single asks is began ready unready new_is = absurd (cc)
-once_unready first begun mid new call stops.Waits single asks is began ready unready new_is =
-    from_begun first begun call NotReady (reading_of new) began
-    (subst (λ (engine : EngineView). Answers (reading_of begun) call NotReady (reading_of engine)) (sym new_is)
-    (unready_once (reading_of begun) (reading_of mid) call single asks (reading_begins first begun is began).reads (record {
-      kept = keeps_reading begun mid ready.0.kept;
-      no_fault = ready.0.no_fault;
-      live = ready.0.live;
-      place = omega (arith, ready.1);
-      told = λ tells. refl;
-    }) ready.3 (used_up_stands mid.window ready.0.kept.is.window_is ready.2) ready.4 ready.0.transfers (λ _ some. omega (arith, some, ready.5))))
+once_unready first begun mid new call stop single asks is began ready unready new_is = grind (arith, from_begun, unready_once, reading_begins, keeps_reading, used_up_stands)
 
 -- a call whose one transfer failed, or wanted memory
 pub once_failed : (first begun new : EngineView) (call : FileCall) (why : IoFault) → is_single call ≡ true → asks_nothing call ≡ false → IsReading first → BeginOutcome first (Ok tt) begun → ReadyOutcome begun (Err why) new → Answers (reading_of first) call (Refused why) (reading_of new)
-once_failed first begun new call fault.RawFault single asks is began fails =
-    from_begun first begun call (Refused fault.RawFault) (reading_of new) began
-    (faulted_once (reading_of begun) (reading_of new) call single asks (reading_begins first begun is began).reads (record {
-      kept = keeps_reading begun new fails.0.kept;
-      cause = fails.0.cause;
-      no_wait = fails.0.no_wait;
-      failed = fails.0.failed;
-      forth = omega (arith, fails.1);
-      reach = λ tells. omega (arith, fails.1);
-      each = each_but_failed begun new fails.0;
-    }) fails.1 fails.0.transfers (λ _ some. omega (arith, some, fails.2)))
-once_failed first begun new call fault.NoMemory single asks is began wants =
-    from_begun first begun call (Refused fault.NoMemory) (reading_of new) began
-    (subst (λ (engine : EngineView). Answers (reading_of begun) call (Refused fault.NoMemory) (reading_of engine)) (sym wants.1) (unmoved_once (reading_of begun) call single (reading_begins first begun is began).reads wants.0))
-once_failed first begun new call why single asks is began wants = absurd wants
-
-single_ends : (call : FileCall) → is_single call ≡ true → reads_on call ≡ false
-single_ends (Read1 size) single = refl
-single_ends (ReadInto1 size) single = refl
-single_ends Peek single = refl
-single_ends call single = absurd (cc)
-
--- a call that wanted memory of its own, once bytes were held
-pub once_wanting : (first begun mid answered new : EngineView) (call : FileCall) (stop : Stop) → is_single call ≡ true → asks_nothing call ≡ false → has_room call ≡ false → IsReading first → BeginOutcome first (Ok tt) begun → ReadyOutcome begun (Ok stop) mid → has_answer stop true ≡ true → answered ≡ answered_at stop mid → new ≡ answered → Answers (reading_of first) call (Refused fault.NoMemory) (reading_of new)
-once_wanting first begun mid answered new call stop single asks room is began ready answers answered_is new_is =
-    let reads : Reads (reading_of begun) = (reading_begins first begun is began).reads in
-    let moved : Transferred begun mid × (place_of mid.window ≡ place_of begun.window) = moved_to_ready begun mid stop ready in
-    let same : mid ≡ record mid { short = false } = ap (λ (cut : Bool). let left : EngineView = record mid { short = cut } in left) (moved.0.kept.short ∙ reads.whole) in
-    let left_is : new ≡ mid = new_is ∙ (answered_is ∙ (whole_answer stop mid answers ∙ sym same)) in
-    from_begun first begun call (Refused fault.NoMemory) (reading_of new) began
-    (subst (λ (engine : EngineView). Answers (reading_of begun) call (Refused fault.NoMemory) (reading_of engine)) (sym left_is)
-    (wanting_once (reading_of begun) (reading_of mid) call single asks reads (keeps_reading begun mid moved.0.kept) (ready_counts begun mid stop ready answers) moved.0.live moved.1 room (single_ends call single) moved.0.transfers (λ _ some. ready_still begun mid stop ready (omega (arith, some)))))
+once_failed first begun new call why single asks is began wants = grind (arith, from_begun, faulted_once, reading_begins, keeps_reading, each_but_failed, unmoved_once)
 
 -- the bytes held are shown, or the raw made the call wait
 pub once_look : (first begun mid new : EngineView) (stop : Stop) (shown : Bool) → IsReading first → BeginOutcome first (Ok tt) begun → ReadyOutcome begun (Ok stop) mid → shown ≡ has_answer stop true → new ≡ answered_at stop mid → Answers (reading_of first) Peek (look_reply (Ok shown) (ahead_of new.window)) (reading_of new)

@@ -5,7 +5,7 @@ use Rattle.py_flat.specs.declared.fault.IoFault.TheVariants as fault
 use Rattle.py_flat.specs.declared.life.Life.TheVariants as life
 use Rattle.py_stream.specs.declared.access.Access.{Access}
 use Rattle.py_stream.specs.declared.access.Access.TheVariants as access
-use Rattle.py_stream.specs.Access.{can_of, is_read}
+use Rattle.py_stream.specs.Access.{is_read}
 use Rattle.py_stream.specs.Stream.{nothing_owed}
 use Rattle.py_stream.specs.Answers.{IsNear}
 use Rattle.py_stream.specs.Keeping.{IsSound, OwesBehind}
@@ -24,48 +24,13 @@ reads_ahead other raw_place window reads shape = absurd (cc)
 
 -- a stream that is written has its raw where what is owed begins
 pub owes_before : (opened : Access) (raw_place : ℕ) (window : WindowView) → is_read opened ≡ false → HasShape opened raw_place window → OwesBefore raw_place window
-owes_before access.Read raw_place window writes shape = absurd (cc)
-owes_before other raw_place window writes shape = shape
+owes_before opened raw_place window writes shape = grind arith
 
 -- How near the raw stands to the place.
 
--- the raw stands within the bytes that the buffer may hold, from the first that is held on
-pub record InReach (opened : Access) (seekable : Bool) (raw_place : ℕ) (window : WindowView) : Type 0 where
-  pub from : window.begin ≤ raw_place
-  pub to : raw_place ≤ end_of window
-  pub ahead : (can_of opened seekable).writable ≡ false → end_of window ≡ raw_place
-
-in_reach : (opened : Access) (seekable : Bool) (raw_place : ℕ) (window : WindowView) → IsWindow window → HasShape opened raw_place window → InReach opened seekable raw_place window
-in_reach access.Read seekable raw_place window is shape = record {
-  from = omega (arith, shape.stands);
-  to = omega (arith, shape.stands);
-  ahead = λ writes. sym shape.stands;
-}
-in_reach access.Write seekable raw_place window is shape = record {
-  from = omega (arith, shape.stands);
-  to = omega (arith, shape.stands, is.ordered, is.within);
-  ahead = λ writes. absurd (cc);
-}
-in_reach access.Append seekable raw_place window is shape = record {
-  from = omega (arith, shape.stands);
-  to = omega (arith, shape.stands, is.ordered, is.within);
-  ahead = λ writes. absurd (cc);
-}
-
 -- a live stream's raw stands near its place
 pub is_near : (engine : EngineView) → Stands engine → engine.life ≡ life.Live → IsNear (stream_of engine)
-is_near engine is live =
-    let window = is.window_is in
-    let reach = in_reach engine.access engine.raw.seekable engine.raw_place engine.window window is.shape in
-    record {
-      after_first = omega arith;
-      before_end = omega (arith, window.cursor);
-      fits = omega (arith, window.held);
-      read_ahead = reach.ahead;
-      ahead = omega (arith, reach.to, window.held);
-      behind = omega (arith, reach.from, window.cursor, window.held);
-      stands = λ tells. is.stands tells live;
-    }
+is_near engine is live = grind arith
 
 -- an engine's place is one that a stream can have
 pub is_far : (engine : EngineView) → Stands engine → place_of engine.window ≤ 9223372036854775807
@@ -109,16 +74,10 @@ end_refused old new why is never = absurd never
 
 -- a stream that is written owes what ends at its place
 pub owes_behind : (engine : EngineView) → Stands engine → is_read engine.access ≡ false → OwesBehind (stream_of engine)
-owes_behind engine is writes =
-    let shape = owes_before engine.access engine.raw_place engine.window writes is.shape in
-    record { ends = pending_ends engine.window is.window_is shape.collects; stands = shape.stands }
+owes_behind engine is writes = grind (arith, owes_before, pending_ends)
 
 none_between : (window : WindowView) → window.from ≡ window.to → IsWindow window → owed_of window ≡ nothing_owed (place_of window)
-none_between window settled is =
-    let none : window.to - window.from ≡ 0 = omega (arith, settled) in
-    let bytes : take (window.to - window.from) (drop window.from window.held) ≡ [] = ap (λ (n : ℕ). take n (drop window.from window.held)) none in
-    let place : window.begin + window.from ≡ place_of window = ap (λ (n : ℕ). window.begin + n) (is.rests settled) in
-    λ k. record { bytes = bytes k; place = place k }
+none_between window settled is = grind arith
 
 -- a stream that is read owes nothing
 pub owes_nothing : (engine : EngineView) → Stands engine → is_read engine.access ≡ true → (stream_of engine).owed ≡ nothing_owed (stream_of engine).place

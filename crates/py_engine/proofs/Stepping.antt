@@ -1,34 +1,24 @@
 -- What a step of a stream that is written leaves: by its raw, where that stands, its window and its life.
-use Rattle.std.proofs.Common.{◌≡◌, ◌≢◌, ℕ, ◌+◌, ◌-◌, ◌<◌, ◌≤◌, ◌⊎◌, inl, inr, false, IsTrue, List, [], ◌++◌, length, take, drop, Option, Some, Result, Ok, Err, refl, sym, ap, ◌∙◌, subst, arith, add-zero, length-append}
+use Rattle.std.proofs.Common.{◌≡◌, ◌≢◌, ℕ, ◌+◌, ◌-◌, ◌<◌, ◌≤◌, ◌⊎◌, false, IsTrue, List, [], ◌++◌, length, take, drop, Option, Some, Result, Ok, Err, refl, sym, ap, ◌∙◌, subst, arith, add-zero, length-append}
 use Rattle.std.proofs.lemmas.List.{append-nil, length-take-le, take_all, drop_all}
 use Rattle.py_flat.specs.declared.life.Life.TheVariants as life
 use Rattle.py_flat.specs.Causes.{Rose}
 use Rattle.py_flat.specs.Bytes.{lay}
 use Rattle.py_raw.specs.declared.raw_error.RawError.{RawError}
 use Rattle.py_raw.specs.declared.raw_error.RawError.TheVariants as raw_error
-use Rattle.py_raw.specs.RawStream.{Raw, Keeps, StaysOpen, WhereTold, NoWait, AnswersFor, AsksToWait, WritesBytes, FailsWriting, WriteOutcome}
+use Rattle.py_raw.specs.RawStream.{Raw, Keeps, StaysOpen, WhereTold, NoWait, AnswersFor, AsksToWait, WritesBytes, WriteOutcome}
 use Rattle.py_raw.proofs.Telling.{keeps_same, tells_its_place, tells_its_bytes}
-use Rattle.py_stream.specs.declared.access.Access.{Access}
-use Rattle.py_stream.specs.declared.access.Access.TheVariants as access
-use Rattle.py_stream.specs.Access.{can_of, is_read}
+use Rattle.py_stream.specs.Access.{is_read}
 use Rattle.py_stream.specs.Keeping.{KeepsOn, OwesBehind}
 use Rattle.py_stream.specs.Taking.{Took, FailsTaking, CutsBack}
 use Rattle.py_stream.proofs.Taking.{calm_of}
 use Rattle.py_engine.specs.Window.{WindowView, place_of, pending_of, pushed, passed_on, emptied_at, cut_at, room_of}
-use Rattle.py_engine.specs.Engine.{EngineView, stream_of, OwesBefore, HasShape, HoldsRead, Stands}
-use Rattle.py_engine.proofs.Collecting.{Shows, shows_itself, shows_none, passed_shows, pushed_shows, cut_shows, room_left}
+use Rattle.py_engine.specs.Engine.{EngineView, stream_of, Stands}
+use Rattle.py_engine.proofs.Collecting.{Shows, shows_itself, passed_shows, pushed_shows, cut_shows, room_left}
 use Rattle.py_engine.specs.Passing.{room_behind}
 use Rattle.py_engine.proofs.Standing.{owes_before, owes_behind, is_sound}
 
 -- By what the stream is opened for.
-
-shape_before : (opened : Access) (raw_place : ℕ) (window : WindowView) → is_read opened ≡ false → OwesBefore raw_place window → HasShape opened raw_place window
-shape_before access.Read raw_place window writes owes = absurd (cc)
-shape_before other raw_place window writes owes = owes
-
-nothing_read : (opened : Access) (bytes : List ℕ) (window : WindowView) → is_read opened ≡ false → HoldsRead opened bytes window
-nothing_read access.Read bytes window writes = absurd (cc)
-nothing_read other bytes window writes = tt
 
 -- What holds of an engine after a step.
 
@@ -44,18 +34,6 @@ pub record Leaves (old new : EngineView) (place : ℕ) (owed : List ℕ) : Type 
   pub stands : new.life ≡ life.Live → IsTrue new.raw.tells_place → new.raw.place ≡ place
   pub lives : new.life ≡ life.Live → old.life ≡ life.Live
 
-stands_so : (old new : EngineView) (place : ℕ) (owed : List ℕ) → Stands old → is_read old.access ≡ false → Leaves old new place owed → Stands new
-stands_so old new place owed is writes leaves =
-    let still : is_read new.access ≡ false = ap is_read leaves.access ∙ writes in
-    record {
-      window_is = leaves.shows.is;
-      is_open = λ live. leaves.stays ∙ is.is_open (leaves.lives live);
-      attached = leaves.attached;
-      shape = shape_before new.access new.raw_place new.window still (record { collects = leaves.shows.collects; stands = leaves.raw_place ∙ sym leaves.shows.place_is });
-      stands = λ tells live. leaves.stands live tells ∙ sym leaves.raw_place;
-      told = λ tells live. nothing_read new.access new.raw.bytes new.window still;
-    }
-
 -- the stream after a step, with what it owes
 pub record Stepped (old new : EngineView) (place : ℕ) (owed : List ℕ) : Type 0 where
   pub is : Stands new
@@ -67,23 +45,7 @@ pub record Stepped (old new : EngineView) (place : ℕ) (owed : List ℕ) : Type
 
 -- what a step leaves of an engine makes the stream after the step
 pub stepped : (old new : EngineView) (place : ℕ) (owed : List ℕ) → Stands old → is_read old.access ≡ false → Leaves old new place owed → Stepped old new place owed
-stepped old new place owed is writes leaves =
-    let now : Stands new = stands_so old new place owed is writes leaves in
-    record {
-      is = now;
-      kept = record {
-        raw = leaves.raw;
-        stays = leaves.stays;
-        buffer = ap Some leaves.shows.size_is;
-        can = (λ k. can_of (leaves.access k) new.raw.seekable) ∙ ap (can_of old.access) leaves.raw.seekable;
-        short = leaves.short;
-        sound = is_sound new now;
-      };
-      was = owes_behind old is writes;
-      behind = owes_behind new now (ap is_read leaves.access ∙ writes);
-      place_is = leaves.shows.place_is;
-      bytes_are = leaves.shows.bytes_are;
-    }
+stepped old new place owed is writes leaves = grind (arith, is_sound, owes_behind)
 
 -- what the window of a stream that is written shows
 pub shows_now : (engine : EngineView) → Stands engine → is_read engine.access ≡ false → Shows engine.window engine.window.size (stream_of engine).owed.place (stream_of engine).owed.bytes
@@ -95,17 +57,7 @@ stands_there engine is writes live tells = is.stands tells live ∙ (owes_before
 
 -- a step that leaves the life as it was
 steps_on : (old : EngineView) (raw : Raw) (raw_place : ℕ) (window : WindowView) (place : ℕ) (owed : List ℕ) → Stands old → is_read old.access ≡ false → Keeps old.raw raw → StaysOpen old.raw raw → Shows window old.window.size place owed → raw_place ≡ place → (old.life ≡ life.Live → IsTrue raw.tells_place → raw.place ≡ place) → Stepped old (record old { raw = raw; raw_place = raw_place; window = window }) place owed
-steps_on old raw raw_place window place owed is writes keeps stays shows at there = stepped old (record old { raw = raw; raw_place = raw_place; window = window }) place owed is writes (record {
-  access = refl;
-  short = refl;
-  raw = keeps;
-  stays = stays;
-  shows = shows;
-  raw_place = at;
-  attached = is.attached;
-  stands = there;
-  lives = λ lives. lives;
-})
+steps_on old raw raw_place window place owed is writes keeps stays shows at there = stepped old (record old { raw = raw; raw_place = raw_place; window = window }) place owed is writes (grind arith)
 
 -- The raw took some of what it was owed.
 
@@ -149,19 +101,7 @@ waited old raw is writes live keeps stays waits =
     (λ lives tells.
     let told : IsTrue old.raw.tells_place = sym keeps.tells_place ∙ tells in
     waits.still.place told ∙ stands_there old is writes live told) in
-    record {
-      kept = step.kept;
-      was = step.was;
-      behind = step.behind;
-      live = live;
-      no_fault = waits.no_fault;
-      passed = 0;
-      within = omega arith;
-      answered = waits.written;
-      place = sym (add-zero (stream_of old).owed.place);
-      owed = sym (append-nil (stream_of old).owed.bytes);
-      told = λ tells. waits.still.bytes (let both : IsTrue old.raw.tells_bytes = tells_its_bytes old.raw tells in both);
-    }
+    grind (arith, add-zero, append-nil, tells_its_bytes)
 
 -- The raw failed while it was given what it was owed and some bytes more, or took none of them.
 
@@ -174,17 +114,7 @@ pub record FaultsWriting (old : Raw) (piece : List ℕ) (new : Raw) : Type 0 whe
 
 -- a raw that takes nothing of a piece that isn't empty failed, as one did that answers a fault
 pub faults_writing : (old new : Raw) (piece : List ℕ) (result : Result (Option ℕ) RawError) → 0 < length piece → (result ≡ Ok (Some 0)) ⊎ (result ≡ Err raw_error.Fault) → WriteOutcome old piece result new → FaultsWriting old piece new
-faults_writing old new piece result some (inl is) outcome =
-    let writes : WritesBytes old piece 0 new = subst (λ (r : Result (Option ℕ) RawError). WriteOutcome old piece r new) is outcome in
-    record {
-      cause = writes.none refl (λ none. absurd (omega (arith, some, ap length none)));
-      no_wait = writes.no_wait;
-      written = writes.written;
-      told = λ tells. (0, omega arith, writes.told tells);
-    }
-faults_writing old new piece result some (inr is) outcome =
-    let fails : FailsWriting old piece new = subst (λ (r : Result (Option ℕ) RawError). WriteOutcome old piece r new) is outcome in
-    record { cause = fails.cause; no_wait = fails.no_wait; written = fails.written; told = fails.told }
+faults_writing old new piece result some takes_none outcome = grind arith
 
 -- a stream whose raw fails while it is given bytes fails too, and owes what it owed
 pub fails_giving : (old : EngineView) (raw : Raw) (bytes : List ℕ) → Stands old → is_read old.access ≡ false → old.life ≡ life.Live → (0 < length (pending_of old.window) → bytes ≡ []) → Keeps old.raw raw → StaysOpen old.raw raw → FaultsWriting old.raw (pending_of old.window ++ bytes) raw → FailsTaking (stream_of old) bytes (stream_of (record old { raw = raw; life = life.Failed }))
@@ -251,57 +181,14 @@ pub took_kept : (old : EngineView) (bytes : List ℕ) → Stands old → is_read
     Took (stream_of old) bytes (stream_of (record old { window = pushed bytes old.window }))
 took_kept old bytes is writes live some room far =
     let step = kept_behind old bytes is writes some room far in
-    record {
-      kept = step.kept;
-      was = step.was;
-      behind = step.behind;
-      live = live;
-      no_fault = λ exact. refl;
-      passed = 0;
-      within = omega arith;
-      answered = λ tells. refl;
-      place = step.place_is ∙ sym (add-zero (stream_of old).owed.place);
-      owed = step.bytes_are;
-      told = λ tells. refl;
-    }
+    grind (arith, add-zero)
 
 -- Bytes are given straight to the raw, while nothing is owed.
-
--- the window is empty behind bytes that went straight to the raw
-pub given_on : (old : EngineView) (raw : Raw) (bytes : List ℕ) (count : ℕ) → Stands old → is_read old.access ≡ false → old.life ≡ life.Live → pending_of old.window ≡ [] → Keeps old.raw raw → StaysOpen old.raw raw → place_of old.window + length bytes ≤ 9223372036854775807 → WritesBytes old.raw bytes count raw →
-    Stepped old (record old { raw = raw; raw_place = place_of old.window + count; window = emptied_at (place_of old.window + count) old.window }) (place_of old.window + count) []
-given_on old raw bytes count is writes live none keeps stays far wrote =
-    let ends : (stream_of old).owed.place ≡ place_of old.window = omega (arith, ap length none, (owes_behind old is writes).ends) in
-    steps_on old raw (place_of old.window + count) (emptied_at (place_of old.window + count) old.window) (place_of old.window + count) [] is writes keeps stays
-    (shows_none old.window (place_of old.window + count) is.window_is (omega (arith, far, wrote.fits))) refl
-    (λ lives tells.
-    let told : IsTrue old.raw.tells_place = sym keeps.tells_place ∙ tells in
-    wrote.place told ∙ ap (λ (n : ℕ). n + count) (stands_there old is writes live told ∙ ends))
 
 -- the stream took n bytes that went straight to the raw
 pub took_given : (old : EngineView) (raw : Raw) (bytes : List ℕ) (count : ℕ) → Stands old → is_read old.access ≡ false → old.life ≡ life.Live → pending_of old.window ≡ [] → Keeps old.raw raw → StaysOpen old.raw raw → place_of old.window + length bytes ≤ 9223372036854775807 → 0 < count → WritesBytes old.raw bytes count raw →
     Took (stream_of old) (take count bytes) (stream_of (record old { raw = raw; raw_place = place_of old.window + count; window = emptied_at (place_of old.window + count) old.window }))
-took_given old raw bytes count is writes live none keeps stays far some wrote =
-    let step = given_on old raw bytes count is writes live none keeps stays far wrote in
-    let part : List ℕ = take count bytes in
-    let long : length part ≡ count = length-take-le count bytes wrote.fits in
-    let all : pending_of old.window ++ part ≡ part = ap (λ (xs : List ℕ). xs ++ part) none in
-    let ends : (stream_of old).owed.place ≡ place_of old.window = omega (arith, ap length none, (owes_behind old is writes).ends) in
-    record {
-      kept = step.kept;
-      was = step.was;
-      behind = step.behind;
-      live = live;
-      no_fault = wrote.no_fault (λ zero. absurd (omega (arith, some, zero)));
-      passed = count;
-      within = omega (arith, long);
-      answered = wrote.written;
-      place = omega (arith, step.place_is, ends);
-      owed = step.bytes_are ∙ sym (ap (drop count) all ∙ drop_all count part (omega (arith, long)));
-      told = λ tells. wrote.told tells
-          ∙ ((λ k. lay old.raw.bytes (stands_there old is writes live (tells_its_place old.raw tells) k) part)
-          ∙ ap (lay old.raw.bytes (stream_of old).owed.place) (sym (ap (take count) all ∙ take_all count part (omega (arith, long)))));
-    }
+took_given old raw bytes count is writes live none keeps stays far some wrote = grind (arith, length-take-le, owes_behind, drop_all, stands_there, tells_its_place, take_all)
 
 -- What is owed is cut back.
 

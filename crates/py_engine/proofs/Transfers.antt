@@ -1,5 +1,5 @@
 -- What an engine holds, and what stays of it from transfer to transfer.
-use Rattle.std.proofs.Common.{◌≡◌, ℕ, ◌+◌, ◌≤◌, Bool, IsTrue, length, take, drop, true, Some, if◌then◌else◌, refl, sym, ap, ◌∙◌, arith}
+use Rattle.std.proofs.Common.{◌≡◌, ℕ, ◌+◌, ◌≤◌, Bool, IsTrue, length, take, drop, if◌then◌else◌, refl, sym, ap, ◌∙◌, arith}
 use Rattle.std.proofs.lemmas.List.{length-drop, take-take, drop-take, drop-drop}
 use Rattle.std.proofs.lemmas.Bool.{eq-eqb}
 use Rattle.py_flat.specs.Bytes.{left_at}
@@ -12,10 +12,9 @@ use Rattle.py_engine.specs.Window.{WindowView, IsWindow, place_of, ahead_of, is_
 use Rattle.py_engine.specs.Engine.{EngineView, HoldsBytes}
 use Rattle.py_engine.specs.Reading.{reading_of, IsReading, KeepsEngine, FailsByRaw, UsesUp}
 use Rattle.py_stream.specs.declared.access.Access.{Access}
-use Rattle.py_stream.specs.Access.{can_of}
 use Rattle.py_stream.specs.Reading.{KeepsReading, EachBrings}
 use Rattle.py_stream.proofs.ReadingSteps.{each_then as stream_each_then}
-use Rattle.py_engine.proofs.Seen.{near, within_window}
+use Rattle.py_engine.proofs.Seen.{near}
 
 -- Engines.
 
@@ -23,10 +22,9 @@ use Rattle.py_engine.proofs.Seen.{near, within_window}
 pub ahead_told : (raw : Raw) (window : WindowView) → window.cursor ≤ length window.held → HoldsBytes raw.bytes window → take (length (ahead_of window)) (left_at raw.bytes (place_of window)) ≡ ahead_of window
 ahead_told raw window within told =
     let count : ℕ = length (ahead_of window) in
-    let size : length window.held ≡ window.cursor + count = omega (arith, length-drop window.cursor window.held) in
     ap (take count) (sym (drop-drop window.cursor window.begin raw.bytes))
     ∙ (sym (drop-take window.cursor count (left_at raw.bytes window.begin))
-    ∙ (ap (λ (n : ℕ). drop window.cursor (take n (left_at raw.bytes window.begin))) (sym size)
+    ∙ (ap (λ (n : ℕ). drop window.cursor (take n (left_at raw.bytes window.begin))) (sym (omega (arith, length-drop window.cursor window.held)))
     ∙ ap (drop window.cursor) told))
 
 -- a front of the bytes held from the place on is the raw's too
@@ -43,16 +41,7 @@ keeps_self engine is = keeps_at engine engine.window engine.life refl is
 
 -- two steps, one after the other, keep what each keeps
 pub keeps_then : (old mid new : EngineView) → KeepsEngine old mid → KeepsEngine mid new → KeepsEngine old new
-keeps_then old mid new first second = record {
-  raw = Keeps-then old.raw mid.raw new.raw first.raw second.raw;
-  stays = second.stays ∙ first.stays;
-  bytes = λ tells. second.bytes (first.raw.tells_bytes ∙ tells) ∙ first.bytes tells;
-  written = λ tells. second.written (first.raw.tells_transfers ∙ tells) ∙ first.written tells;
-  size = second.size ∙ first.size;
-  access = second.access ∙ first.access;
-  short = second.short ∙ first.short;
-  is = second.is;
-}
+keeps_then old mid new first second = grind (arith, Keeps-then)
 
 -- a raw that told its bytes and its place before a step tells both after it
 pub still_tells : (old new : EngineView) → KeepsEngine old new → WhereTold old.raw (IsTrue (tells new.raw))
@@ -64,18 +53,7 @@ keeps_told old new kept told = kept.bytes (tells_its_bytes old.raw told)
 
 -- each step of an engine is one of a reading
 pub keeps_reading : (old new : EngineView) → KeepsEngine old new → KeepsReading (reading_of old) (reading_of new)
-keeps_reading old new kept = record {
-  raw = kept.raw;
-  stays = kept.stays;
-  bytes = kept.bytes;
-  written = kept.written;
-  can = (λ k. can_of (kept.access k) new.raw.seekable) ∙ ap (can_of old.access) kept.raw.seekable;
-  buffer = ap Some kept.size;
-  short = kept.short;
-  owed = refl;
-  far = within_window new.window kept.is.window_is;
-  near = near new kept.is;
-}
+keeps_reading old new kept = grind (arith, near)
 
 -- How many transfers were made, by the bytes that they brought.
 
@@ -97,40 +75,15 @@ settled_advanced window count settled = ap (λ (n : ℕ). if is_settled window t
 
 -- a window whose cursor moved on over bytes held is a window
 pub window_advanced : (window : WindowView) (count : ℕ) → window.from ≡ window.to → IsWindow window → count ≤ length (ahead_of window) → IsWindow (advanced count window)
-window_advanced window count settled is fits =
-    let at : (advanced count window).from ≡ window.cursor + count = ap (λ (none : Bool). if none then window.cursor + count else window.from) (eq-eqb window.from window.to settled) in
-    let both = settled_advanced window count settled in
-    let within : window.cursor + count ≤ length window.held = omega (arith, fits, is.cursor, length-drop window.cursor window.held) in
-    record {
-      some = is.some;
-      cursor = within;
-      held = is.held;
-      far = is.far;
-      ordered = omega (arith, both);
-      within = omega (arith, both, at, within);
-      rests = λ none. at;
-    }
+window_advanced window count settled is fits = grind (arith, eq-eqb, length-drop)
 
 -- a cursor that moves on by none stays
 pub advanced_none : (window : WindowView) → window.from ≡ window.to → IsWindow window → window ≡ advanced 0 window
-advanced_none window settled is =
-    let none : is_settled window ≡ true = eq-eqb window.from window.to settled in
-    let cursor : window.cursor ≡ window.cursor + 0 = omega arith in
-    let from : window.from ≡ (if is_settled window then window.cursor + 0 else window.from) = is.rests settled ∙ (cursor ∙ sym (ap (λ (at : Bool). if at then window.cursor + 0 else window.from) none)) in
-    let to : window.to ≡ (if is_settled window then window.cursor + 0 else window.to) = sym settled ∙ (is.rests settled ∙ (cursor ∙ sym (ap (λ (at : Bool). if at then window.cursor + 0 else window.to) none))) in
-    (λ k. record window { cursor = cursor k; from = from k; to = to k })
+advanced_none window settled is = grind (arith, eq-eqb)
 
 -- an engine whose cursor moved on over bytes held keeps what a step of a reading keeps
 pub keeps_advanced : (old : EngineView) (count : ℕ) → IsReading old → count ≤ length (ahead_of old.window) → KeepsEngine old (record old { window = advanced count old.window })
-keeps_advanced old count is fits = keeps_at old (advanced count old.window) old.life refl (record {
-  reads = is.reads;
-  window_is = window_advanced old.window count is.ahead.settled is.window_is fits;
-  is_open = is.is_open;
-  attached = is.attached;
-  ahead = record { settled = settled_advanced old.window count is.ahead.settled; stands = is.ahead.stands };
-  stands = is.stands;
-  told = is.told;
-})
+keeps_advanced old count is fits = grind (arith, keeps_at, window_advanced, settled_advanced)
 
 -- whether the last answer was short is nothing that has to hold
 pub reading_whole : (engine : EngineView) (short : Bool) → IsReading engine → IsReading (record engine { short = short })
@@ -138,15 +91,7 @@ reading_whole engine short is = record { reads = is.reads; window_is = is.window
 
 -- an engine that failed
 pub keeps_failed : (engine : EngineView) → IsReading engine → KeepsEngine engine (record engine { life = life.Failed })
-keeps_failed engine is = keeps_at engine engine.window life.Failed refl (record {
-  reads = is.reads;
-  window_is = is.window_is;
-  is_open = λ live. absurd (cc);
-  attached = λ detached. cc;
-  ahead = is.ahead;
-  stands = λ tells live. absurd (cc);
-  told = λ tells live. absurd (cc);
-})
+keeps_failed engine is = grind (arith, keeps_at)
 
 -- an engine by its parts
 abbrev pub made : Raw → ℕ → WindowView → Access → Life → Bool → EngineView

@@ -21,11 +21,8 @@ returns-in-Ok-Some-clause-outcome g c =
 
 pub returns-in-Ok-Some-eq0-clause-outcome : goal.returns-in-Ok-Some-eq0-clause-outcome
 returns-in-Ok-Some-eq0-clause-outcome g c =
-    let inside = c.self.inside in
-    let given : EngineView = record { raw = g.R.RawStream.shows inside.raw; raw_place = inside.raw_place; window = inside.window; access = inside.access; life = inside.life; short = inside.short } in
+    let given : EngineView = record { raw = g.R.RawStream.shows c.self.inside.raw; raw_place = c.self.inside.raw_place; window = c.self.inside.window; access = c.self.inside.access; life = c.self.inside.life; short = c.self.inside.short } in
     let needs = rw (← c.self.view_is) at c.requires in
     let raw : Raw = g.R.RawStream.shows c.write.new.self in
-    let piece : List ℕ = c.pending.result.now in
-    let some : 0 < length piece = rw c.pending.ensures needs.some in
-    let faults : FaultsWriting given.raw piece raw = faults_writing given.raw raw piece c.write.result some (search rules) c.write.ensures.outcome in
-    rw (← c.self.view_is) (fails_draining given raw piece c.self.invariant needs.writes needs.live c.pending.ensures c.write.ensures.keeps c.write.ensures.open faults, faults.no_wait, needs.some)
+    let faults : FaultsWriting given.raw c.pending.result.now raw = faults_writing given.raw raw c.pending.result.now c.write.result (rw c.pending.ensures needs.some) (search rules) c.write.ensures.outcome in
+    rw (← c.self.view_is) (fails_draining given raw c.pending.result.now c.self.invariant needs.writes needs.live c.pending.ensures c.write.ensures.keeps c.write.ensures.open faults, faults.no_wait, needs.some)

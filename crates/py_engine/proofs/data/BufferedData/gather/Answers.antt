@@ -1,4 +1,4 @@
-use Rattle.std.proofs.Common.{rules, ◌≡◌, ℕ, List, Result, Err, sym, ap, ◌∙◌, subst}
+use Rattle.std.proofs.Common.{rules, ◌≡◌, ℕ, List, Result, Err, sym, ap, ◌∙◌, subst, arith}
 use Rattle.py_flat.specs.declared.fault.IoFault.{IoFault}
 use Rattle.py_flat.specs.Causes.{Rose}
 use Rattle.py_raw.specs.RawStream.{NoWait, WaitsOnce}
@@ -14,16 +14,12 @@ use Rattle.py_engine.proofs.data.BufferedData.gather.Goals as goal
 
 pub returns-in-Ok-Enough : goal.returns-in-Ok-Enough
 returns-in-Ok-Enough g c =
-    let now : EngineView = c.loop-used.self in
     let wanted : List ℕ → List ℕ = g.C.Collector.wanted c.loop-used.collector in
     let before : List ℕ = g.C.Collector.collected c.loop-used.collector in
     let after : List ℕ = g.C.Collector.collected c.collect.new.self in
-    let used : ℕ = c.in-Ok-Enough.used in
-    let lent : c.ahead.result.now ≡ ahead_of now.window = c.ahead.ensures ∙ ap (λ (e : EngineView). ahead_of e.window) c.self-in-loop-used.view_is in
-    let found : HasEnough wanted before c.ahead.result.now used after = rw c.in-Ok-Enough.field-0-is at c.in-Ok-Enough.ensures.outcome in
-    stops_enough c.args.self.now now before c.loop-used.moved c.loop-used.invariant.gathered _ wanted (g.C.Collector.wanted c.args.collector.now) used after c.loop-used.invariant.same c.loop-used.invariant.some
-    (made_advanced now (g.R.RawStream.shows c.self-in-loop-used.inside.raw) c.self-in-loop-used.inside.raw_place c.self-in-loop-used.inside.window c.advance.new.self c.self-in-loop-used.inside.access c.self-in-loop-used.inside.life c.self-in-loop-used.inside.short used c.self-in-loop-used.view_is c.advance.ensures)
-    (subst (λ (bytes : List ℕ). HasEnough wanted before bytes used after) lent found)
+    stops_enough c.args.self.now c.loop-used.self before c.loop-used.moved c.loop-used.invariant.gathered _ wanted (g.C.Collector.wanted c.args.collector.now) c.in-Ok-Enough.used after c.loop-used.invariant.same c.loop-used.invariant.some
+    (made_advanced c.loop-used.self (g.R.RawStream.shows c.self-in-loop-used.inside.raw) c.self-in-loop-used.inside.raw_place c.self-in-loop-used.inside.window c.advance.new.self c.self-in-loop-used.inside.access c.self-in-loop-used.inside.life c.self-in-loop-used.inside.short c.in-Ok-Enough.used c.self-in-loop-used.view_is c.advance.ensures)
+    (subst (λ (bytes : List ℕ). HasEnough wanted before bytes c.in-Ok-Enough.used after) (c.ahead.ensures ∙ ap (λ (e : EngineView). ahead_of e.window) c.self-in-loop-used.view_is) (rw c.in-Ok-Enough.field-0-is at c.in-Ok-Enough.ensures.outcome))
 
 pub loop-used-preserved : goal.loop-used-preserved
 loop-used-preserved g c =
@@ -32,30 +28,17 @@ loop-used-preserved g c =
     let lent : c.ahead.result.now ≡ ahead_of now.window = c.ahead.ensures ∙ ap (λ (e : EngineView). ahead_of e.window) c.self-in-loop-used.view_is in
     let more : WantsMore wanted (g.C.Collector.collected c.loop-used.collector) c.ahead.result.now (g.C.Collector.collected c.collect.new.self) = rw c.in-Ok-All.field-0-is at c.in-Ok-All.ensures.outcome in
     let fills : Fills now c.in-More.field-0 c.fill.new.self = rw c.in-More.is at c.in_ok-fill.ensures in
-    record {
-      gathered = goes_on c.args.self.now now _ _ _ c.loop-used.moved c.loop-used.invariant.gathered wanted lent more c.fill.new.self c.in-More.field-0 fills;
-      some = moved_some c.args.self.now now _ _ _ c.loop-used.moved c.loop-used.invariant.gathered wanted lent more c.fill.new.self (g.C.Collector.wanted c.args.collector.now) c.in-More.field-0 c.loop-used.invariant.same fills;
-      same = λ rest. c.in-Ok-All.ensures.same rest ∙ c.loop-used.invariant.same rest;
-      stays = rw c.in-Ok-All.field-0-is at c.in-Ok-All.ensures.open;
-    }
+    grind (arith, goes_on c.args.self.now now _ _ _ c.loop-used.moved c.loop-used.invariant.gathered wanted lent more c.fill.new.self c.in-More.field-0 fills, moved_some c.args.self.now now _ _ _ c.loop-used.moved c.loop-used.invariant.gathered wanted lent more c.fill.new.self (g.C.Collector.wanted c.args.collector.now) c.in-More.field-0 c.loop-used.invariant.same fills)
 
 pub returns-in-End : goal.returns-in-End
 returns-in-End g c =
-    let now : EngineView = c.loop-used.self in
-    let wanted : List ℕ → List ℕ = g.C.Collector.wanted c.loop-used.collector in
-    let lent : c.ahead.result.now ≡ ahead_of now.window = c.ahead.ensures ∙ ap (λ (e : EngineView). ahead_of e.window) c.self-in-loop-used.view_is in
-    let more : WantsMore wanted (g.C.Collector.collected c.loop-used.collector) c.ahead.result.now (g.C.Collector.collected c.collect.new.self) = rw c.in-Ok-All.field-0-is at c.in-Ok-All.ensures.outcome in
-    let ends : UsesUp now c.fill.new.self × IsLast now × NoWait now.raw c.fill.new.self.raw = rw c.in-End.is at c.in_ok-fill.ensures in
-    stops_at_end c.args.self.now now _ _ _ c.loop-used.moved c.loop-used.invariant.gathered wanted lent more c.fill.new.self (g.C.Collector.wanted c.args.collector.now) c.loop-used.invariant.same ends.0 ends.1 ends.2
+    let ends : UsesUp c.loop-used.self c.fill.new.self × IsLast c.loop-used.self × NoWait c.loop-used.self.raw c.fill.new.self.raw = rw c.in-End.is at c.in_ok-fill.ensures in
+    stops_at_end c.args.self.now c.loop-used.self _ _ _ c.loop-used.moved c.loop-used.invariant.gathered (g.C.Collector.wanted c.loop-used.collector) (c.ahead.ensures ∙ ap (λ (e : EngineView). ahead_of e.window) c.self-in-loop-used.view_is) (rw c.in-Ok-All.field-0-is at c.in-Ok-All.ensures.outcome) c.fill.new.self (g.C.Collector.wanted c.args.collector.now) c.loop-used.invariant.same ends.0 ends.1 ends.2
 
 pub returns-in-Waits : goal.returns-in-Waits
 returns-in-Waits g c =
-    let now : EngineView = c.loop-used.self in
-    let wanted : List ℕ → List ℕ = g.C.Collector.wanted c.loop-used.collector in
-    let lent : c.ahead.result.now ≡ ahead_of now.window = c.ahead.ensures ∙ ap (λ (e : EngineView). ahead_of e.window) c.self-in-loop-used.view_is in
-    let more : WantsMore wanted (g.C.Collector.collected c.loop-used.collector) c.ahead.result.now (g.C.Collector.collected c.collect.new.self) = rw c.in-Ok-All.field-0-is at c.in-Ok-All.ensures.outcome in
-    let waits : UsesUp now c.fill.new.self × Rose now.raw.waits c.fill.new.self.raw.waits × WaitsOnce now.raw c.fill.new.self.raw = rw c.in-Waits.is at c.in_ok-fill.ensures in
-    stops_waiting c.args.self.now now _ _ _ c.loop-used.moved c.loop-used.invariant.gathered wanted lent more c.fill.new.self (g.C.Collector.wanted c.args.collector.now) c.loop-used.invariant.same waits.0 waits.1 waits.2
+    let waits : UsesUp c.loop-used.self c.fill.new.self × Rose c.loop-used.self.raw.waits c.fill.new.self.raw.waits × WaitsOnce c.loop-used.self.raw c.fill.new.self.raw = rw c.in-Waits.is at c.in_ok-fill.ensures in
+    stops_waiting c.args.self.now c.loop-used.self _ _ _ c.loop-used.moved c.loop-used.invariant.gathered (g.C.Collector.wanted c.loop-used.collector) (c.ahead.ensures ∙ ap (λ (e : EngineView). ahead_of e.window) c.self-in-loop-used.view_is) (rw c.in-Ok-All.field-0-is at c.in-Ok-All.ensures.outcome) c.fill.new.self (g.C.Collector.wanted c.args.collector.now) c.loop-used.invariant.same waits.0 waits.1 waits.2
 
 pub returns-in-Err : goal.returns-in-Err
 returns-in-Err g c =
@@ -66,11 +49,7 @@ returns-in-Err g c =
 
 pub returns-in_err-fill : goal.returns-in_err-fill
 returns-in_err-fill g c =
-    let wanted : List ℕ → List ℕ = g.C.Collector.wanted c.loop-used.collector in
     let first : List ℕ → List ℕ = g.C.Collector.wanted c.args.collector.now in
     let after : List ℕ = g.C.Collector.collected c.collect.new.self in
-    let more : WantsMore wanted (g.C.Collector.collected c.loop-used.collector) c.ahead.result.now after = rw c.in-Ok-All.field-0-is at c.in-Ok-All.ensures.outcome in
-    let lent : c.ahead.result.now ≡ ahead_of c.loop-used.self.window = c.ahead.ensures ∙ ap (λ (e : EngineView). ahead_of e.window) c.self-in-loop-used.view_is in
-    let says : c.from_residual.result ≡ Err c.in_err-fill.field-0.0 = search rules in
-    subst (λ (result : Result Stop IoFault). GatherOutcome first (reading_of c.args.self.now) result after (reading_of c.fill.new.self)) (sym says)
-    (fails_so_far c.args.self.now c.loop-used.self c.fill.new.self _ after c.loop-used.moved wanted first c.ahead.result.now c.in_err-fill.field-0.0 c.loop-used.invariant.gathered c.loop-used.invariant.some lent c.loop-used.invariant.same more c.in_err-fill.ensures)
+    subst (λ (result : Result Stop IoFault). GatherOutcome first (reading_of c.args.self.now) result after (reading_of c.fill.new.self)) (sym (search rules))
+    (fails_so_far c.args.self.now c.loop-used.self c.fill.new.self _ after c.loop-used.moved (g.C.Collector.wanted c.loop-used.collector) first c.ahead.result.now c.in_err-fill.field-0.0 c.loop-used.invariant.gathered c.loop-used.invariant.some (c.ahead.ensures ∙ ap (λ (e : EngineView). ahead_of e.window) c.self-in-loop-used.view_is) c.loop-used.invariant.same (rw c.in-Ok-All.field-0-is at c.in-Ok-All.ensures.outcome) c.in_err-fill.ensures)

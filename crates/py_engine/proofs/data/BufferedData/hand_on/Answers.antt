@@ -1,7 +1,7 @@
-use Rattle.std.proofs.Common.{rules, ◌<◌, ℕ, List, refl}
+use Rattle.std.proofs.Common.{rules, ◌<◌, ℕ, refl}
 use Rattle.py_raw.specs.RawStream.{Raw, WritesBytes, AsksToWait}
 use Rattle.py_engine.specs.Engine.{EngineView}
-use Rattle.py_engine.proofs.Stepping.{FaultsWriting, faults_writing, fails_passing, took_given, waited}
+use Rattle.py_engine.proofs.Stepping.{faults_writing, fails_passing, took_given, waited}
 use Rattle.py_engine.proofs.data.BufferedData.hand_on.Goals as goal
 
 pub returns-in-Ok-Some-clause-outcome : goal.returns-in-Ok-Some-clause-outcome
@@ -18,8 +18,7 @@ returns-in-Ok-Some-clause-outcome g c =
 
 pub returns-in-Ok-None-clause-outcome : goal.returns-in-Ok-None-clause-outcome
 returns-in-Ok-None-clause-outcome g c =
-    let inside = c.self.inside in
-    let given : EngineView = record { raw = g.R.RawStream.shows inside.raw; raw_place = inside.raw_place; window = inside.window; access = inside.access; life = inside.life; short = inside.short } in
+    let given : EngineView = record { raw = g.R.RawStream.shows c.self.inside.raw; raw_place = c.self.inside.raw_place; window = c.self.inside.window; access = c.self.inside.access; life = c.self.inside.life; short = c.self.inside.short } in
     let needs = rw (← c.self.view_is) at c.requires in
     let raw : Raw = g.R.RawStream.shows c.write.new.self in
     let waits : AsksToWait given.raw raw = search rules in
@@ -27,10 +26,7 @@ returns-in-Ok-None-clause-outcome g c =
 
 pub returns-in-Ok-Some-eq0-clause-outcome : goal.returns-in-Ok-Some-eq0-clause-outcome
 returns-in-Ok-Some-eq0-clause-outcome g c =
-    let inside = c.self.inside in
-    let given : EngineView = record { raw = g.R.RawStream.shows inside.raw; raw_place = inside.raw_place; window = inside.window; access = inside.access; life = inside.life; short = inside.short } in
+    let given : EngineView = record { raw = g.R.RawStream.shows c.self.inside.raw; raw_place = c.self.inside.raw_place; window = c.self.inside.window; access = c.self.inside.access; life = c.self.inside.life; short = c.self.inside.short } in
     let needs = rw (← c.self.view_is) at c.requires in
     let raw : Raw = g.R.RawStream.shows c.write.new.self in
-    let bytes : List ℕ = c.args.bytes.now in
-    let faults : FaultsWriting given.raw bytes raw = faults_writing given.raw raw bytes c.write.result c.requires.some (search rules) c.write.ensures.outcome in
-    rw (← c.self.view_is) (fails_passing given raw bytes c.self.invariant needs.writes needs.live needs.none c.write.ensures.keeps c.write.ensures.open faults, needs.none)
+    rw (← c.self.view_is) (fails_passing given raw c.args.bytes.now c.self.invariant needs.writes needs.live needs.none c.write.ensures.keeps c.write.ensures.open (faults_writing given.raw raw c.args.bytes.now c.write.result c.requires.some (search rules) c.write.ensures.outcome), needs.none)

@@ -12,8 +12,7 @@ pub returns-in-Ok-All-clause-outcome : goal.returns-in-Ok-All-clause-outcome
 returns-in-Ok-All-clause-outcome g c =
     let old : Stream = stream_of c.args.self.now in
     let mid : Stream = stream_of c.flush_pending.new.self in
-    let flushed : FlushOutcome old (Ok passing.All) mid = rw c.in-Ok-All.field-0-is at c.in-Ok-All.ensures.outcome in
-    put_behind old mid (stream_of c.put_large.new.self) c.args.bytes.now c.args.start c.put_large.result (all_taken c.args.self.now.window.size old mid [] refl flushed.0) c.put_large.ensures.outcome
+    put_behind old mid (stream_of c.put_large.new.self) c.args.bytes.now c.args.start c.put_large.result (all_taken c.args.self.now.window.size old mid [] refl (rw c.in-Ok-All.field-0-is at c.in-Ok-All.ensures.outcome).0) c.put_large.ensures.outcome
 
 pub returns-in-Ok-Waits-clause-outcome : goal.returns-in-Ok-Waits-clause-outcome
 returns-in-Ok-Waits-clause-outcome g c =

@@ -1,8 +1,8 @@
-use Rattle.std.proofs.Common.{rules, ◌≡◌, ℕ, List, false, Bool, Result, Ok, Err, subst, sym, ◌∙◌, arith}
+use Rattle.std.proofs.Common.{rules, ◌≡◌, ℕ, List, false, Bool, Result, Ok, Err, subst, sym, arith}
 use Rattle.py_flat.specs.declared.fault.IoFault.{IoFault}
 use Rattle.py_flat.specs.Lines.{joined}
 use Rattle.py_stream.specs.Stream.{Stream}
-use Rattle.py_stream.specs.Taking.{FillsUp, TookAll, PutOutcome, PutsOutcome}
+use Rattle.py_stream.specs.Taking.{FillsUp, PutsOutcome}
 use Rattle.py_stream.proofs.Putting.{lines_stopped, lines_taken, line_within}
 use Rattle.py_engine.specs.Engine.{stream_of}
 use Rattle.py_engine.proofs.Putting.{puts_one}
@@ -29,18 +29,9 @@ returns-in_err-put-clause-outcome g c =
 pub returns-then-not-branch-clause-outcome : goal.returns-then-not-branch-clause-outcome
 returns-then-not-branch-clause-outcome g c =
     let old : Stream = stream_of c.args.self.now in
-    let now : Stream = stream_of c.loop-line.self in
     let new : Stream = stream_of c.put.new.self in
-    let lines : List (List ℕ) = c.as_slice-line-items.result.now in
-    let put : PutOutcome now c.as_slice.result.now c.args.start (Ok false) new = rw c.if-not-branch.true at c.in_ok-put.ensures.outcome in
     subst (λ (all : List (List ℕ)). FillsUp old (joined all) new) c.as_slice-line-items.ensures
-    (lines_stopped old now new lines c.loop-line.line-index c.line-item.result c.as_slice.result.now c.args.start (Ok false) (omega arith) c.line-item.is c.as_slice.ensures c.loop-line.invariant.0 put (λ same. absurd (cc)))
+    (lines_stopped old (stream_of c.loop-line.self) new c.as_slice-line-items.result.now c.loop-line.line-index c.line-item.result c.as_slice.result.now c.args.start (Ok false) (omega arith) c.line-item.is c.as_slice.ensures c.loop-line.invariant.0 (rw c.if-not-branch.true at c.in_ok-put.ensures.outcome) (λ same. absurd (cc)))
 
 pub loop-line-preserved : goal.loop-line-preserved
-loop-line-preserved g c =
-    let old : Stream = stream_of c.args.self.now in
-    let now : Stream = stream_of c.loop-line.self in
-    let new : Stream = stream_of c.put.new.self in
-    let lines : List (List ℕ) = c.as_slice-line-items.result.now in
-    let put : TookAll now c.as_slice.result.now new = rw c.if-not-branch.false at c.in_ok-put.ensures.outcome in
-    (lines_taken old now new lines c.loop-line.line-index c.line-item.result c.as_slice.result.now (omega arith) c.line-item.is c.as_slice.ensures c.loop-line.invariant.0 put, c.put.ensures.access ∙ c.loop-line.invariant.1)
+loop-line-preserved g c = grind (arith, lines_taken)

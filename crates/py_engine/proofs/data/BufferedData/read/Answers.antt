@@ -1,30 +1,19 @@
-use Rattle.std.proofs.Common.{rules, ◌≡◌, ℕ, Option, None, Some, refl, sym, ap, subst}
-use Rattle.py_flat.specs.Calls.{FileReply, Refused, Read}
+use Rattle.std.proofs.Common.{rules, refl, sym, ap, subst, arith}
+use Rattle.py_flat.specs.Calls.{FileReply, Read}
 use Rattle.py_stream.specs.Answers.{Answers}
-use Rattle.py_engine.specs.Engine.{EngineView, Stands}
+use Rattle.py_engine.specs.Engine.{Stands}
 use Rattle.py_engine.specs.Reading.{reading_of}
-use Rattle.py_stream.specs.Replies.{bytes_reply}
 use Rattle.py_stream.proofs.ReadingAnswers.{answers_begun, reading_refused}
 use Rattle.py_engine.proofs.Seen.{placed, seen_reading}
 use Rattle.py_engine.proofs.data.BufferedData.read.Goals as goal
 
 pub returns-in_err-begin : goal.returns-in_err-begin
 returns-in_err-begin g c =
-    let first : EngineView = c.args.self.now in
-    let says : bytes_reply c.from_residual.result ≡ Refused c.in_err-begin.field-0.0 = search rules in
-    subst (λ (reply : FileReply). Answers (reading_of first) (Read c.args.size) reply (reading_of c.begin.new.self)) (sym says)
-    (reading_refused (reading_of first) (reading_of c.begin.new.self) (Read c.args.size) c.in_err-begin.field-0.0 refl (placed first (seen_reading c.args.self.now (subst Stands c.self.view_is c.self.invariant) c.requires.reads)) (c.in_err-begin.ensures.0, ap reading_of c.in_err-begin.ensures.1))
+    subst (λ (reply : FileReply). Answers (reading_of c.args.self.now) (Read c.args.size) reply (reading_of c.begin.new.self)) (sym (search rules))
+    (reading_refused (reading_of c.args.self.now) (reading_of c.begin.new.self) (Read c.args.size) c.in_err-begin.field-0.0 refl (placed c.args.self.now (seen_reading c.args.self.now (subst Stands c.self.view_is c.self.invariant) c.requires.reads)) (c.in_err-begin.ensures.0, ap reading_of c.in_err-begin.ensures.1))
 
 pub returns-in-Some : goal.returns-in-Some
-returns-in-Some g c =
-    let first : EngineView = c.args.self.now in
-    let reply : FileReply = bytes_reply c.read_size.result in
-    subst (λ (size : Option ℕ). Answers (reading_of first) (Read size) reply (reading_of c.read_size.new.self)) (sym c.in-Some.is)
-    (answers_begun (reading_of first) (reading_of c.begin.new.self) (Read (Some c.in-Some.size)) reply (reading_of c.read_size.new.self) (ap reading_of c.in_ok-begin.ensures.1) c.read_size.ensures)
+returns-in-Some g c = grind (arith, answers_begun)
 
 pub returns-in-None : goal.returns-in-None
-returns-in-None g c =
-    let first : EngineView = c.args.self.now in
-    let reply : FileReply = bytes_reply c.read_rest.result in
-    subst (λ (size : Option ℕ). Answers (reading_of first) (Read size) reply (reading_of c.read_rest.new.self)) (sym c.in-None.is)
-    (answers_begun (reading_of first) (reading_of c.begin.new.self) (Read None) reply (reading_of c.read_rest.new.self) (ap reading_of c.in_ok-begin.ensures.1) c.read_rest.ensures)
+returns-in-None g c = grind (arith, answers_begun)

@@ -29,17 +29,13 @@ pub returns-then-answers : goal.returns-then-answers
 returns-then-answers g c =
     let first : Stream = reading_of c.args.self.now in
     let after : Stream = reading_of c.answers.new.self in
-    let lines : List (List ℕ) = c.into_lines-lines.result in
-    let handed = c.into_lines-lines.ensures in
     let part : List ℕ = lines_collected c.gather.new.collector in
     let gathered = lines_gathered c.new-collector.result c.args.hint (reading_of c.begin.new.self) (reading_of c.gather.new.self) (Ok c.in_ok-stop.stop) part c.new-collector.ensures.new.2 c.in_ok-stop.ensures in
-    subst (λ (all : List (List ℕ)). Answers first (ReadLines c.args.hint) (Lines all) after) (sym (lines_are lines part handed.all handed.cut))
-    (answered_from first (reading_of c.begin.new.self) (reading_of c.gather.new.self) after (ReadLines c.args.hint) part c.in_ok-stop.stop (c.len.result == 0) refl (reading_begins c.args.self.now c.begin.new.self (seen_reading c.args.self.now (subst Stands c.self.view_is c.self.invariant) c.requires.reads) c.in_ok-begin.ensures) gathered (λ left. some_joined lines part handed.all handed.cut (some_counted lines c.len.result (c.len.result == 0) c.len.ensures refl left)) (sym c.answers.ensures.answer ∙ c.if-answers.true) (ap reading_of c.answers.ensures.stream))
+    subst (λ (all : List (List ℕ)). Answers first (ReadLines c.args.hint) (Lines all) after) (sym (lines_are c.into_lines-lines.result part c.into_lines-lines.ensures.all c.into_lines-lines.ensures.cut))
+    (answered_from first (reading_of c.begin.new.self) (reading_of c.gather.new.self) after (ReadLines c.args.hint) part c.in_ok-stop.stop (c.len.result == 0) refl (reading_begins c.args.self.now c.begin.new.self (seen_reading c.args.self.now (subst Stands c.self.view_is c.self.invariant) c.requires.reads) c.in_ok-begin.ensures) gathered (λ left. some_joined c.into_lines-lines.result part c.into_lines-lines.ensures.all c.into_lines-lines.ensures.cut (some_counted c.into_lines-lines.result c.len.result (c.len.result == 0) c.len.ensures refl left)) (sym c.answers.ensures.answer ∙ c.if-answers.true) (ap reading_of c.answers.ensures.stream))
 
 pub returns-else-answers : goal.returns-else-answers
 returns-else-answers g c =
-    let lines : List (List ℕ) = c.into_lines-lines.result in
-    let handed = c.into_lines-lines.ensures in
     let part : List ℕ = lines_collected c.gather.new.collector in
     let gathered = lines_gathered c.new-collector.result c.args.hint (reading_of c.begin.new.self) (reading_of c.gather.new.self) (Ok c.in_ok-stop.stop) part c.new-collector.ensures.new.2 c.in_ok-stop.ensures in
-    unready_from (reading_of c.args.self.now) (reading_of c.begin.new.self) (reading_of c.gather.new.self) (reading_of c.answers.new.self) (ReadLines c.args.hint) part c.in_ok-stop.stop (c.len.result == 0) refl (reading_begins c.args.self.now c.begin.new.self (seen_reading c.args.self.now (subst Stands c.self.view_is c.self.invariant) c.requires.reads) c.in_ok-begin.ensures) gathered (λ over. none_joined lines part handed.all (none_counted lines c.len.result (c.len.result == 0) c.len.ensures refl over)) (sym c.answers.ensures.answer ∙ c.if-answers.false) (ap reading_of c.answers.ensures.stream)
+    unready_from (reading_of c.args.self.now) (reading_of c.begin.new.self) (reading_of c.gather.new.self) (reading_of c.answers.new.self) (ReadLines c.args.hint) part c.in_ok-stop.stop (c.len.result == 0) refl (reading_begins c.args.self.now c.begin.new.self (seen_reading c.args.self.now (subst Stands c.self.view_is c.self.invariant) c.requires.reads) c.in_ok-begin.ensures) gathered (λ over. none_joined c.into_lines-lines.result part c.into_lines-lines.ensures.all (none_counted c.into_lines-lines.result c.len.result (c.len.result == 0) c.len.ensures refl over)) (sym c.answers.ensures.answer ∙ c.if-answers.false) (ap reading_of c.answers.ensures.stream)

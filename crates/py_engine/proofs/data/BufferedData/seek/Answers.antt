@@ -20,18 +20,14 @@ pub returns-in_err-target : goal.returns-in_err-target
 returns-in_err-target g c =
     let left = err_from_is_err_and c.from_residual-in_err-target.result c.from_residual-in_err-target.ensures.1 in
     let found = subst₂ (λ (offset : ℤ) (whence : ℤ). TargetOutcome (stream_of c.begin.new.self) offset whence (Err c.in_err-target.field-0.0) (stream_of c.target.new.self)) (to_z-of_z c.ranges.offset) (to_z-of_z c.ranges.whence) c.in_err-target.ensures.outcome in
-    let can : c.begin.new.self.raw.seekable ≡ true = sym (ap (λ (engine : EngineView). engine.raw.seekable) c.self-2.view_is) ∙ sym c.seekable.ensures ∙ c.if-not-seekable.false in
-    let free : is_appended c.begin.new.self.access ≡ false = sym (ap (λ (engine : EngineView). is_appended engine.access) c.self-2.view_is) ∙ sym c.appends.ensures ∙ c.if-appends.false in
     rw (left.1, left.2) (seek_finds_nothing (stream_of c.args.self.now) (stream_of c.begin.new.self) (stream_of c.target.new.self) c.args.offset c.args.whence c.in_err-target.field-0.0
-    (may_seek c.args.self.now c.begin.new.self (subst Stands c.self.view_is c.self.invariant) c.in_ok-begin.ensures can free) (begins c.args.self.now c.begin.new.self (Ok tt) c.in_ok-begin.ensures) found)
+    (may_seek c.args.self.now c.begin.new.self (subst Stands c.self.view_is c.self.invariant) c.in_ok-begin.ensures (sym (ap (λ (engine : EngineView). engine.raw.seekable) c.self-2.view_is) ∙ sym c.seekable.ensures ∙ c.if-not-seekable.false) (sym (ap (λ (engine : EngineView). is_appended engine.access) c.self-2.view_is) ∙ sym c.appends.ensures ∙ c.if-appends.false)) (begins c.args.self.now c.begin.new.self (Ok tt) c.in_ok-begin.ensures) found)
 
 pub returns-then-not-seekable : goal.returns-then-not-seekable
 returns-then-not-seekable g c =
-    let seen : c.begin.new.self.raw.seekable ≡ c.seekable.result = sym (ap (λ (engine : EngineView). engine.raw.seekable) c.self-2.view_is) ∙ sym c.seekable.ensures in
-    let opened : is_appended c.begin.new.self.access ≡ is_appended c.self-2.inside.access = sym (ap (λ (engine : EngineView). is_appended engine.access) c.self-2.view_is) in
     let cannot : (c.begin.new.self.raw.seekable ≡ false) ⊎ (is_appended c.begin.new.self.access ≡ true) = elim c.then-not-seekable.branch [
-      | then-not-seekable-via-then-not-seekable w ↦ inl (seen ∙ w.if-not-seekable.true)
-      | then-not-seekable-via-else-not-seekable+then-appends w ↦ inr (opened ∙ sym w.appends.ensures ∙ w.if-appends.true)
+      | then-not-seekable-via-then-not-seekable w ↦ inl ((sym (ap (λ (engine : EngineView). engine.raw.seekable) c.self-2.view_is) ∙ sym c.seekable.ensures) ∙ w.if-not-seekable.true)
+      | then-not-seekable-via-else-not-seekable+then-appends w ↦ inr ((sym (ap (λ (engine : EngineView). is_appended engine.access) c.self-2.view_is)) ∙ sym w.appends.ensures ∙ w.if-appends.true)
     ] in
     seek_unsupported c.args.self.now c.begin.new.self c.args.offset c.args.whence (subst Stands c.self.view_is c.self.invariant) c.in_ok-begin.ensures cannot
 
@@ -39,27 +35,18 @@ pub returns-in_err-pass_all : goal.returns-in_err-pass_all
 returns-in_err-pass_all g c =
     let left = err_from_is_err_and c.from_residual-in_err-pass_all.result c.from_residual-in_err-pass_all.ensures.1 in
     let found = subst₂ (λ (offset : ℤ) (whence : ℤ). TargetOutcome (stream_of c.begin.new.self) offset whence (Ok c.in_ok-target.target) (stream_of c.target.new.self)) (to_z-of_z c.ranges.offset) (to_z-of_z c.ranges.whence) c.in_ok-target.ensures.outcome in
-    let can : c.begin.new.self.raw.seekable ≡ true = sym (ap (λ (engine : EngineView). engine.raw.seekable) c.self-2.view_is) ∙ sym c.seekable.ensures ∙ c.if-not-seekable.false in
-    let free : is_appended c.begin.new.self.access ≡ false = sym (ap (λ (engine : EngineView). is_appended engine.access) c.self-2.view_is) ∙ sym c.appends.ensures ∙ c.if-appends.false in
-    let is : Stands c.args.self.now = subst Stands c.self.view_is c.self.invariant in
-    let seek : SeekFinds c.args.self.now c.args.offset c.args.whence c.in_ok-target.target c.target.new.self = seek_found c.args.self.now c.begin.new.self c.target.new.self c.args.offset c.args.whence c.in_ok-target.target is c.in_ok-begin.ensures can free found c.target.ensures.access in
+    let seek : SeekFinds c.args.self.now c.args.offset c.args.whence c.in_ok-target.target c.target.new.self = seek_found c.args.self.now c.begin.new.self c.target.new.self c.args.offset c.args.whence c.in_ok-target.target (subst Stands c.self.view_is c.self.invariant) c.in_ok-begin.ensures (sym (ap (λ (engine : EngineView). engine.raw.seekable) c.self-2.view_is) ∙ sym c.seekable.ensures ∙ c.if-not-seekable.false) (sym (ap (λ (engine : EngineView). is_appended engine.access) c.self-2.view_is) ∙ sym c.appends.ensures ∙ c.if-appends.false) found c.target.ensures.access in
     rw (left.1, left.2) (seeking_stops c.target.new.self.access c.args.self.now c.target.new.self c.pass_all.new.self c.args.offset c.args.whence c.in_ok-target.target c.in_err-pass_all.field-0.0 (sym seek.same) seek c.in_err-pass_all.ensures.outcome)
 
 pub returns-in_err-go_to : goal.returns-in_err-go_to
 returns-in_err-go_to g c =
     let left = err_from_is_err_and c.from_residual-in_err-go_to.result c.from_residual-in_err-go_to.ensures.1 in
     let found = subst₂ (λ (offset : ℤ) (whence : ℤ). TargetOutcome (stream_of c.begin.new.self) offset whence (Ok c.in_ok-target.target) (stream_of c.target.new.self)) (to_z-of_z c.ranges.offset) (to_z-of_z c.ranges.whence) c.in_ok-target.ensures.outcome in
-    let can : c.begin.new.self.raw.seekable ≡ true = sym (ap (λ (engine : EngineView). engine.raw.seekable) c.self-2.view_is) ∙ sym c.seekable.ensures ∙ c.if-not-seekable.false in
-    let free : is_appended c.begin.new.self.access ≡ false = sym (ap (λ (engine : EngineView). is_appended engine.access) c.self-2.view_is) ∙ sym c.appends.ensures ∙ c.if-appends.false in
-    let is : Stands c.args.self.now = subst Stands c.self.view_is c.self.invariant in
-    let seek : SeekFinds c.args.self.now c.args.offset c.args.whence c.in_ok-target.target c.target.new.self = seek_found c.args.self.now c.begin.new.self c.target.new.self c.args.offset c.args.whence c.in_ok-target.target is c.in_ok-begin.ensures can free found c.target.ensures.access in
+    let seek : SeekFinds c.args.self.now c.args.offset c.args.whence c.in_ok-target.target c.target.new.self = seek_found c.args.self.now c.begin.new.self c.target.new.self c.args.offset c.args.whence c.in_ok-target.target (subst Stands c.self.view_is c.self.invariant) c.in_ok-begin.ensures (sym (ap (λ (engine : EngineView). engine.raw.seekable) c.self-2.view_is) ∙ sym c.seekable.ensures ∙ c.if-not-seekable.false) (sym (ap (λ (engine : EngineView). is_appended engine.access) c.self-2.view_is) ∙ sym c.appends.ensures ∙ c.if-appends.false) found c.target.ensures.access in
     rw (left.1, left.2) (seeking_fails c.target.new.self.access c.args.self.now c.target.new.self c.pass_all.new.self c.go_to.new.self c.args.offset c.args.whence c.in_ok-target.target c.in_err-go_to.field-0.0 (sym seek.same) seek c.in_ok-pass_all.ensures.outcome c.in_err-go_to.ensures.outcome)
 
 pub returns : goal.returns
 returns g c =
     let found = subst₂ (λ (offset : ℤ) (whence : ℤ). TargetOutcome (stream_of c.begin.new.self) offset whence (Ok c.in_ok-target.target) (stream_of c.target.new.self)) (to_z-of_z c.ranges.offset) (to_z-of_z c.ranges.whence) c.in_ok-target.ensures.outcome in
-    let can : c.begin.new.self.raw.seekable ≡ true = sym (ap (λ (engine : EngineView). engine.raw.seekable) c.self-2.view_is) ∙ sym c.seekable.ensures ∙ c.if-not-seekable.false in
-    let free : is_appended c.begin.new.self.access ≡ false = sym (ap (λ (engine : EngineView). is_appended engine.access) c.self-2.view_is) ∙ sym c.appends.ensures ∙ c.if-appends.false in
-    let is : Stands c.args.self.now = subst Stands c.self.view_is c.self.invariant in
-    let seek : SeekFinds c.args.self.now c.args.offset c.args.whence c.in_ok-target.target c.target.new.self = seek_found c.args.self.now c.begin.new.self c.target.new.self c.args.offset c.args.whence c.in_ok-target.target is c.in_ok-begin.ensures can free found c.target.ensures.access in
+    let seek : SeekFinds c.args.self.now c.args.offset c.args.whence c.in_ok-target.target c.target.new.self = seek_found c.args.self.now c.begin.new.self c.target.new.self c.args.offset c.args.whence c.in_ok-target.target (subst Stands c.self.view_is c.self.invariant) c.in_ok-begin.ensures (sym (ap (λ (engine : EngineView). engine.raw.seekable) c.self-2.view_is) ∙ sym c.seekable.ensures ∙ c.if-not-seekable.false) (sym (ap (λ (engine : EngineView). is_appended engine.access) c.self-2.view_is) ∙ sym c.appends.ensures ∙ c.if-appends.false) found c.target.ensures.access in
     seeking_arrives c.target.new.self.access c.args.self.now c.target.new.self c.pass_all.new.self c.go_to.new.self c.args.offset c.args.whence c.in_ok-target.target (sym seek.same) seek c.in_ok-pass_all.ensures.outcome c.in_ok-go_to.ensures.outcome

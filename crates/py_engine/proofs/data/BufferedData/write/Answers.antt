@@ -2,7 +2,6 @@ use Rattle.std.proofs.Common.{◌≡◌, ◌+◌, ◌<◌, true, false, length, 
 use Rattle.std.proofs.lemmas.Result.{err_from_is_err_and}
 use Rattle.py_flat.specs.Limits.{greatest_place}
 use Rattle.py_flat.specs.Calls.{Write}
-use Rattle.py_stream.specs.Taking.{PutOutcome}
 use Rattle.py_stream.proofs.Alone.{begins_in_vain}
 use Rattle.py_stream.proofs.Giving.{writing_too_far}
 use Rattle.py_stream.proofs.Given.{giving_takes, giving_blocks, giving_fails, one_write, puts_one}
@@ -19,8 +18,7 @@ returns-in_err-begin g c =
 
 pub returns-then-bytes-start : goal.returns-then-bytes-start
 returns-then-bytes-start g c =
-    let start : c.place-start.result ≡ place_of c.begin.new.self.window = c.place-start.ensures.place ∙ ap (λ (engine : EngineView). place_of engine.window) c.self-2.view_is in
-    let past = subst (λ (engine : EngineView). greatest_place < place_of engine.window + length c.args.bytes.now) c.in_ok-begin.ensures.1 (omega (arith, start, c.if-bytes-start.true)) in
+    let past = subst (λ (engine : EngineView). greatest_place < place_of engine.window + length c.args.bytes.now) c.in_ok-begin.ensures.1 (omega (arith, (c.place-start.ensures.place ∙ ap (λ (engine : EngineView). place_of engine.window) c.self-2.view_is), c.if-bytes-start.true)) in
     writing_too_far (stream_of c.args.self.now) (stream_of c.begin.new.self) (Write c.args.bytes.now) refl (is_placed c.args.self.now (subst Stands c.self.view_is c.self.invariant)) (writes_only c.args.self.now.access c.args.self.now.raw.seekable c.requires.writes).0 (begins c.args.self.now c.begin.new.self (Ok tt) c.in_ok-begin.ensures) past
 
 pub returns-in_err-put : goal.returns-in_err-put
@@ -34,14 +32,11 @@ returns-in_err-put g c =
 
 pub returns-then-branch : goal.returns-then-branch
 returns-then-branch g c =
-    let start : c.place-start.result ≡ place_of c.begin.new.self.window = c.place-start.ensures.place ∙ ap (λ (engine : EngineView). place_of engine.window) c.self-2.view_is in
-    let begun = writing_begun c.args.self.now c.begin.new.self (Write c.args.bytes.now) refl (subst Stands c.self.view_is c.self.invariant) c.requires.writes c.in_ok-begin.ensures (omega (arith, start, c.place-start.ensures.within, c.if-bytes-start.false)) in
-    let took : PutOutcome (stream_of c.begin.new.self) c.args.bytes.now c.place-start.result (Ok true) (stream_of c.put.new.self) = rw c.if-branch.true at c.in_ok-put.ensures.outcome in
-    giving_takes (stream_of c.args.self.now) (stream_of c.begin.new.self) (stream_of c.put.new.self) (Write c.args.bytes.now) begun took
+    let begun = writing_begun c.args.self.now c.begin.new.self (Write c.args.bytes.now) refl (subst Stands c.self.view_is c.self.invariant) c.requires.writes c.in_ok-begin.ensures (omega (arith, (c.place-start.ensures.place ∙ ap (λ (engine : EngineView). place_of engine.window) c.self-2.view_is), c.place-start.ensures.within, c.if-bytes-start.false)) in
+    giving_takes (stream_of c.args.self.now) (stream_of c.begin.new.self) (stream_of c.put.new.self) (Write c.args.bytes.now) begun (rw c.if-branch.true at c.in_ok-put.ensures.outcome)
 
 pub returns-else-branch : goal.returns-else-branch
 returns-else-branch g c =
     let start : c.place-start.result ≡ place_of c.begin.new.self.window = c.place-start.ensures.place ∙ ap (λ (engine : EngineView). place_of engine.window) c.self-2.view_is in
     let begun = writing_begun c.args.self.now c.begin.new.self (Write c.args.bytes.now) refl (subst Stands c.self.view_is c.self.invariant) c.requires.writes c.in_ok-begin.ensures (omega (arith, start, c.place-start.ensures.within, c.if-bytes-start.false)) in
-    let filled : PutOutcome (stream_of c.begin.new.self) c.args.bytes.now c.place-start.result (Ok false) (stream_of c.put.new.self) = rw c.if-branch.false at c.in_ok-put.ensures.outcome in
-    giving_blocks (stream_of c.args.self.now) (stream_of c.begin.new.self) (stream_of c.put.new.self) (stream_of c.blocked.new.self) (Write c.args.bytes.now) c.place-start.result c.blocked.result begun start filled c.blocked.ensures.fault (ap stream_of c.blocked.ensures.stream)
+    giving_blocks (stream_of c.args.self.now) (stream_of c.begin.new.self) (stream_of c.put.new.self) (stream_of c.blocked.new.self) (Write c.args.bytes.now) c.place-start.result c.blocked.result begun start (rw c.if-branch.false at c.in_ok-put.ensures.outcome) c.blocked.ensures.fault (ap stream_of c.blocked.ensures.stream)

@@ -1,9 +1,8 @@
-use Rattle.std.proofs.Common.{◌≡◌, ◌<◌, ◌≤◌, ◌+◌, ℕ, List, true, false, length, Ok, Err, refl, ap, ◌∙◌, subst, arith}
+use Rattle.std.proofs.Common.{◌≡◌, ◌<◌, ◌+◌, true, false, length, Ok, Err, refl, ap, ◌∙◌, subst, arith}
 use Rattle.std.proofs.lemmas.Result.{err_from_is_err_and}
 use Rattle.py_flat.specs.Limits.{greatest_place}
 use Rattle.py_flat.specs.Lines.{joined}
 use Rattle.py_flat.specs.Calls.{WriteLines}
-use Rattle.py_stream.specs.Taking.{PutsOutcome}
 use Rattle.py_stream.proofs.Alone.{begins_in_vain}
 use Rattle.py_stream.proofs.Giving.{writing_too_far, lines_fit, lines_too_far}
 use Rattle.py_stream.proofs.Given.{giving_takes, giving_blocks, giving_fails}
@@ -20,35 +19,23 @@ returns-in_err-begin g c =
 
 pub returns-then-is_none : goal.returns-then-is_none
 returns-then-is_none g c =
-    let lines : List (List ℕ) = c.args.lines.now in
-    let start : c.place-start.result ≡ place_of c.begin.new.self.window = c.place-start.ensures.place ∙ ap (λ (engine : EngineView). place_of engine.window) c.self-2.view_is in
-    let far : greatest_place < c.place-start.result + length (joined lines) = lines_too_far (c.place-start.result + length (joined lines)) c.end_of_lines.result c.end_of_lines.ensures c.if-is_none.ensures in
-    let past = subst (λ (engine : EngineView). greatest_place < place_of engine.window + length (joined lines)) c.in_ok-begin.ensures.1 (omega (arith, start, far)) in
-    writing_too_far (stream_of c.args.self.now) (stream_of c.begin.new.self) (WriteLines lines) refl (is_placed c.args.self.now (subst Stands c.self.view_is c.self.invariant)) (writes_only c.args.self.now.access c.args.self.now.raw.seekable c.requires.writes).0 (begins c.args.self.now c.begin.new.self (Ok tt) c.in_ok-begin.ensures) past
+    let past = subst (λ (engine : EngineView). greatest_place < place_of engine.window + length (joined c.args.lines.now)) c.in_ok-begin.ensures.1 (omega (arith, (c.place-start.ensures.place ∙ ap (λ (engine : EngineView). place_of engine.window) c.self-2.view_is), (lines_too_far (c.place-start.result + length (joined c.args.lines.now)) c.end_of_lines.result c.end_of_lines.ensures c.if-is_none.ensures))) in
+    writing_too_far (stream_of c.args.self.now) (stream_of c.begin.new.self) (WriteLines c.args.lines.now) refl (is_placed c.args.self.now (subst Stands c.self.view_is c.self.invariant)) (writes_only c.args.self.now.access c.args.self.now.raw.seekable c.requires.writes).0 (begins c.args.self.now c.begin.new.self (Ok tt) c.in_ok-begin.ensures) past
 
 pub returns-in_err-put_lines : goal.returns-in_err-put_lines
 returns-in_err-put_lines g c =
-    let lines : List (List ℕ) = c.args.lines.now in
     let start : c.place-start.result ≡ place_of c.begin.new.self.window = c.place-start.ensures.place ∙ ap (λ (engine : EngineView). place_of engine.window) c.self-2.view_is in
-    let fits : c.place-start.result + length (joined lines) ≤ greatest_place = lines_fit (c.place-start.result + length (joined lines)) c.end_of_lines.result c.end_of_lines.ensures c.if-is_none.ensures in
-    let begun = writing_begun c.args.self.now c.begin.new.self (WriteLines lines) refl (subst Stands c.self.view_is c.self.invariant) c.requires.writes c.in_ok-begin.ensures (omega (arith, start, fits)) in
+    let begun = writing_begun c.args.self.now c.begin.new.self (WriteLines c.args.lines.now) refl (subst Stands c.self.view_is c.self.invariant) c.requires.writes c.in_ok-begin.ensures (omega (arith, start, (lines_fit (c.place-start.result + length (joined c.args.lines.now)) c.end_of_lines.result c.end_of_lines.ensures c.if-is_none.ensures))) in
     let left = err_from_is_err_and c.from_residual-in_err-put_lines.result c.from_residual-in_err-put_lines.ensures.1 in
-    rw (left.1, left.2) (giving_fails (stream_of c.args.self.now) (stream_of c.begin.new.self) (stream_of c.put_lines.new.self) (WriteLines lines) c.place-start.result c.in_err-put_lines.field-0.0 begun start c.in_err-put_lines.ensures.outcome tt)
+    rw (left.1, left.2) (giving_fails (stream_of c.args.self.now) (stream_of c.begin.new.self) (stream_of c.put_lines.new.self) (WriteLines c.args.lines.now) c.place-start.result c.in_err-put_lines.field-0.0 begun start c.in_err-put_lines.ensures.outcome tt)
 
 pub returns-then-branch : goal.returns-then-branch
 returns-then-branch g c =
-    let lines : List (List ℕ) = c.args.lines.now in
-    let start : c.place-start.result ≡ place_of c.begin.new.self.window = c.place-start.ensures.place ∙ ap (λ (engine : EngineView). place_of engine.window) c.self-2.view_is in
-    let fits : c.place-start.result + length (joined lines) ≤ greatest_place = lines_fit (c.place-start.result + length (joined lines)) c.end_of_lines.result c.end_of_lines.ensures c.if-is_none.ensures in
-    let begun = writing_begun c.args.self.now c.begin.new.self (WriteLines lines) refl (subst Stands c.self.view_is c.self.invariant) c.requires.writes c.in_ok-begin.ensures (omega (arith, start, fits)) in
-    let took : PutsOutcome (stream_of c.begin.new.self) (joined lines) c.place-start.result (Ok true) (stream_of c.put_lines.new.self) = rw c.if-branch.true at c.in_ok-put_lines.ensures.outcome in
-    giving_takes (stream_of c.args.self.now) (stream_of c.begin.new.self) (stream_of c.put_lines.new.self) (WriteLines lines) begun took
+    let begun = writing_begun c.args.self.now c.begin.new.self (WriteLines c.args.lines.now) refl (subst Stands c.self.view_is c.self.invariant) c.requires.writes c.in_ok-begin.ensures (omega (arith, (c.place-start.ensures.place ∙ ap (λ (engine : EngineView). place_of engine.window) c.self-2.view_is), (lines_fit (c.place-start.result + length (joined c.args.lines.now)) c.end_of_lines.result c.end_of_lines.ensures c.if-is_none.ensures))) in
+    giving_takes (stream_of c.args.self.now) (stream_of c.begin.new.self) (stream_of c.put_lines.new.self) (WriteLines c.args.lines.now) begun (rw c.if-branch.true at c.in_ok-put_lines.ensures.outcome)
 
 pub returns-else-branch : goal.returns-else-branch
 returns-else-branch g c =
-    let lines : List (List ℕ) = c.args.lines.now in
     let start : c.place-start.result ≡ place_of c.begin.new.self.window = c.place-start.ensures.place ∙ ap (λ (engine : EngineView). place_of engine.window) c.self-2.view_is in
-    let fits : c.place-start.result + length (joined lines) ≤ greatest_place = lines_fit (c.place-start.result + length (joined lines)) c.end_of_lines.result c.end_of_lines.ensures c.if-is_none.ensures in
-    let begun = writing_begun c.args.self.now c.begin.new.self (WriteLines lines) refl (subst Stands c.self.view_is c.self.invariant) c.requires.writes c.in_ok-begin.ensures (omega (arith, start, fits)) in
-    let filled : PutsOutcome (stream_of c.begin.new.self) (joined lines) c.place-start.result (Ok false) (stream_of c.put_lines.new.self) = rw c.if-branch.false at c.in_ok-put_lines.ensures.outcome in
-    giving_blocks (stream_of c.args.self.now) (stream_of c.begin.new.self) (stream_of c.put_lines.new.self) (stream_of c.blocked.new.self) (WriteLines lines) c.place-start.result c.blocked.result begun start filled c.blocked.ensures.fault (ap stream_of c.blocked.ensures.stream)
+    let begun = writing_begun c.args.self.now c.begin.new.self (WriteLines c.args.lines.now) refl (subst Stands c.self.view_is c.self.invariant) c.requires.writes c.in_ok-begin.ensures (omega (arith, start, (lines_fit (c.place-start.result + length (joined c.args.lines.now)) c.end_of_lines.result c.end_of_lines.ensures c.if-is_none.ensures))) in
+    giving_blocks (stream_of c.args.self.now) (stream_of c.begin.new.self) (stream_of c.put_lines.new.self) (stream_of c.blocked.new.self) (WriteLines c.args.lines.now) c.place-start.result c.blocked.result begun start (rw c.if-branch.false at c.in_ok-put_lines.ensures.outcome) c.blocked.ensures.fault (ap stream_of c.blocked.ensures.stream)
