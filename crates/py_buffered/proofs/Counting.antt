@@ -1,9 +1,7 @@
 -- How many bytes of its argument a write took: as many as its place moved by.
-use Rattle.std.proofs.Common.{◌≡◌, ℕ, ◌-◌, ◌≤◌, List, length, Some, Result, Ok, Err, refl, arith}
+use Rattle.std.proofs.Common.{◌≡◌, ℕ, ◌-◌, ◌≤◌, List, Some, Result, arith}
 use Rattle.py_flat.specs.declared.fault.IoFault.{IoFault}
-use Rattle.py_flat.specs.declared.fault.IoFault.TheVariants as fault
 use Rattle.py_flat.specs.declared.life.Life.{Life}
-use Rattle.py_flat.specs.declared.life.Life.TheVariants as life
 use Rattle.py_flat.specs.Lines.{joined}
 use Rattle.py_flat.specs.Calls.{FileReply, Write, WriteLines}
 use Rattle.py_stream.specs.Replies.{count_reply, done_reply}
@@ -18,26 +16,15 @@ pub record Counts (bytes : List ℕ) (reply : FileReply) (before after : ℕ) : 
 
 -- the place is where it was, or moved forth
 starved : (current : Life) (most before after : ℕ) → PlaceStarves current (Some most) before after → before ≤ after
-starved life.Live most before after same = omega arith
-starved life.Failed most before after forth = forth.0
-starved life.Closed most before after forth = forth.0
-starved life.Detached most before after forth = forth.0
+starved current most before after forth = grind arith
 
 -- after a `write`
 write_counts : (result : Result ℕ IoFault) (size : ℕ) (bytes : List ℕ) (current : Life) (before after : ℕ) → PlaceMoves (Some size) (Write bytes) (count_reply result) current before after → Counts bytes (count_reply result) before after
-write_counts (Ok count) size bytes current before after (takes, place) = record { forth = omega arith; taken = omega arith }
-write_counts (Err (fault.WouldBlock taken)) size bytes current before after (less, place) = record { forth = omega arith; taken = omega arith }
-write_counts (Err fault.RawFault) size bytes current before after (low, high) = record { forth = low; taken = refl }
-write_counts (Err fault.NoMemory) size bytes current before after starves = record { forth = starved current (length bytes) before after starves; taken = refl }
-write_counts (Err why) size bytes current before after same = record { forth = omega arith; taken = omega arith }
+write_counts result size bytes current before after same = grind (arith, starved)
 
 -- after a `writelines`
 writelines_counts : (result : Result (Unit {0}) IoFault) (size : ℕ) (lines : List (List ℕ)) (current : Life) (before after : ℕ) → PlaceMoves (Some size) (WriteLines lines) (done_reply result) current before after → Counts (joined lines) (done_reply result) before after
-writelines_counts (Ok done) size lines current before after place = record { forth = omega arith; taken = omega arith }
-writelines_counts (Err (fault.WouldBlock taken)) size lines current before after (less, place) = record { forth = omega arith; taken = omega arith }
-writelines_counts (Err fault.RawFault) size lines current before after (low, high) = record { forth = low; taken = refl }
-writelines_counts (Err fault.NoMemory) size lines current before after starves = record { forth = starved current (length (joined lines)) before after starves; taken = refl }
-writelines_counts (Err why) size lines current before after same = record { forth = omega arith; taken = omega arith }
+writelines_counts result size lines current before after same = grind (arith, starved)
 
 -- what a writing call of a stream with a buffer took, by its one clause
 pub write_takes : (before after : Stream) (size : ℕ) (bytes : List ℕ) (result : Result ℕ IoFault) → before.buffer ≡ Some size → Answers before (Write bytes) (count_reply result) after → Counts bytes (count_reply result) before.place after.place

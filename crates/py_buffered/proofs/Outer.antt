@@ -1,10 +1,8 @@
 -- A buffered stream over its engine, and one whose raw was handed back.
-use Rattle.std.proofs.Common.{◌≡◌, ℕ, Bool, true, Some, refl, sym, ap, ◌∙◌, subst, inr}
-use Rattle.py_flat.specs.FlatFile.{Abilities}
+use Rattle.std.proofs.Common.{◌≡◌, ℕ, Bool, true, Some, refl, inr, arith}
 use Rattle.py_flat.specs.declared.fault.IoFault.{IoFault}
 use Rattle.py_flat.specs.Calls.{FileCall, FileReply, OtherKind, Refused}
 use Rattle.py_stream.specs.declared.access.Access.{Access}
-use Rattle.py_stream.specs.declared.access.Access.TheVariants as access
 use Rattle.py_stream.specs.Access.{can_of, is_read}
 use Rattle.py_stream.specs.Stream.{Stream}
 use Rattle.py_stream.specs.Answers.{Answers, KeepsStream, RefusesAlone}
@@ -17,18 +15,11 @@ use Rattle.py_engine.proofs.Seen.{same_stream}
 
 -- a stream that can be read is opened for that
 pub is_opened_to_read : (opened : Access) (seekable : Bool) → (can_of opened seekable).readable ≡ true → is_read opened ≡ true
-is_opened_to_read access.Read seekable reads = refl
-is_opened_to_read access.Write seekable reads = absurd (cc)
-is_opened_to_read access.Append seekable reads = absurd (cc)
+is_opened_to_read opened seekable reads = grind arith
 
 -- what an engine that is read answers, the stream does that it is
 pub reads_seen : (old new : EngineView) (call : FileCall) (reply : FileReply) → Stands old → Stands new → (can_of old.access old.raw.seekable).readable ≡ true → Answers (reading_of old) call reply (reading_of new) → Answers (stream_of old) call reply (stream_of new)
-reads_seen old new call reply is now reads answers =
-    let still : (can_of new.access new.raw.seekable).readable ≡ true = ap (λ (can : Abilities). can.readable) answers.keeps.can ∙ reads in
-    let before : stream_of old ≡ reading_of old = same_stream old is (is_opened_to_read old.access old.raw.seekable reads) in
-    let after : stream_of new ≡ reading_of new = same_stream new now (is_opened_to_read new.access new.raw.seekable still) in
-    subst (λ (stream : Stream). Answers stream call reply (stream_of new)) (sym before)
-    (subst (λ (stream : Stream). Answers (reading_of old) call reply stream) (sym after) answers)
+reads_seen old new call reply is now reads answers = grind (arith, same_stream, is_opened_to_read)
 
 -- What a refused call keeps.
 
@@ -42,7 +33,4 @@ refusal_keeps_can old new why refuses = (refusal_keeps old new why refuses).can
 
 -- what is kept beside an engine that refused is the engine's own still
 pub stays_buffered : (old new : EngineView) (opened : Access) (seekable : Bool) (size : ℕ) (why : IoFault) → IsBuffered (Some old) opened seekable size → ((call : FileCall) → RefusesAlone (stream_of old) call → Answers (stream_of old) call (Refused why) (stream_of new)) → IsBuffered (Some new) opened seekable size
-stays_buffered old new opened seekable size why is refuses =
-    let keeps : KeepsStream (stream_of old) (stream_of new) = refusal_keeps (stream_of old) (stream_of new) why refuses in
-    let sizes : Some new.window.size ≡ Some old.window.size = keeps.buffer in
-    (keeps.can ∙ is.0, cc (sizes, is.1))
+stays_buffered old new opened seekable size why is refuses = grind (arith, refusal_keeps)
