@@ -64,15 +64,7 @@ laid_shows window bytes size place owed room far some shows =
     let from : (if is_settled window then window.cursor else min window.from window.cursor) ≡ window.from = from_stays window shows.is shows.collects in
     let to : (if is_settled window then after else max window.to after) ≡ after = to_follows window after shows.collects (omega arith) in
     let put : WindowView = laid_at_cursor bytes window in
-    let is_put : IsWindow put = record {
-      some = shows.is.some;
-      cursor = omega (arith, long);
-      held = omega (arith, long, room);
-      far = omega (arith, long, far);
-      ordered = omega (arith, from, to, shows.is.ordered, shows.collects.to);
-      within = omega (arith, to, long);
-      rests = λ none. absurd (omega (arith, none, from, to, shows.is.ordered, shows.collects.to, some));
-    } in
+    let is_put : IsWindow put = grind (arith, long, room, far, from, to, shows.is.ordered, shows.collects.to) in
     let collects_put : Collects put = record { to = to; end = sym long } in
     record {
       is = is_put;
@@ -121,15 +113,7 @@ passed_shows window count size place owed fits shows =
     let put : WindowView = passed_on count window in
     let collects_put : Collects put = record { to = to ∙ shows.collects.to; end = shows.collects.end } in
     record {
-      is = record {
-        some = shows.is.some;
-        cursor = shows.is.cursor;
-        held = shows.is.held;
-        far = shows.is.far;
-        ordered = omega (arith, from, to, within, shows.collects.to);
-        within = omega (arith, to, shows.is.within);
-        rests = λ none. none ∙ (to ∙ shows.collects.to);
-      };
+      is = grind (arith, from, to, within, shows.collects.to, shows.is.within);
       collects = collects_put;
       size_is = shows.size_is;
       place_is = omega (arith, from, shows.place_is);
@@ -147,15 +131,7 @@ cut_shows window end size place owed behind within shows =
     let put : WindowView = cut_at end window in
     let collects_put : Collects put = record { to = refl; end = sym long } in
     record {
-      is = record {
-        some = shows.is.some;
-        cursor = omega (arith, long);
-        held = omega (arith, long, within, shows.is.cursor, shows.is.held);
-        far = omega (arith, long, within, shows.is.far, shows.is.cursor, shows.place_is, behind);
-        ordered = omega (arith, shows.place_is, behind);
-        within = omega (arith, long);
-        rests = λ none. none;
-      };
+      is = grind (arith, long, within, shows.is.cursor, shows.is.held, shows.is.far, shows.place_is, behind);
       collects = collects_put;
       size_is = shows.size_is;
       place_is = shows.place_is;

@@ -120,17 +120,7 @@ faults_writing old new piece result some takes_none outcome = grind arith
 pub fails_giving : (old : EngineView) (raw : Raw) (bytes : List ℕ) → Stands old → is_read old.access ≡ false → old.life ≡ life.Live → (0 < length (pending_of old.window) → bytes ≡ []) → Keeps old.raw raw → StaysOpen old.raw raw → FaultsWriting old.raw (pending_of old.window ++ bytes) raw → FailsTaking (stream_of old) bytes (stream_of (record old { raw = raw; life = life.Failed }))
 fails_giving old raw bytes is writes live alone keeps stays faults =
     let owed : List ℕ = pending_of old.window in
-    let step = stepped old (record old { raw = raw; life = life.Failed }) (stream_of old).owed.place owed is writes (record {
-      access = refl;
-      short = refl;
-      raw = keeps;
-      stays = stays;
-      shows = shows_now old is writes;
-      raw_place = (owes_before old.access old.raw_place old.window writes is.shape).stands;
-      attached = λ detached. absurd (let both : life.Failed ≡ life.Detached = detached in cc);
-      stands = λ lives. absurd (let both : life.Failed ≡ life.Live = lives in cc);
-      lives = λ lives. absurd (let both : life.Failed ≡ life.Live = lives in cc);
-    }) in
+    let step = stepped old (record old { raw = raw; life = life.Failed }) (stream_of old).owed.place owed is writes (grind (arith, shows_now old is writes, owes_before)) in
     record {
       kept = step.kept;
       was = step.was;
