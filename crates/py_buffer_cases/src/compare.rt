@@ -31,16 +31,20 @@ fn compare_segments(
     left.is_empty()
 }
 
-/// Compares the calls of both calling forms with the segments, and the first call with a stop.
+/// Compares what the calls with a closure go over with the segments: their bytes together, and the first one alone where the closure says
+/// to stop there.
 fn compare_calls(descriptor: &BufferDescriptor, joined: bool) -> bool
     requires { IsValid descriptor.now }
 {
-    let mut segments = descriptor.segments(joined);
-    let differs = descriptor.for_each_segment(joined, |segment| match segments.next() {
-        Some(own) => own.start != segment.start || own.end != segment.end,
-        None => true,
+    let mut bytes = 0isize;
+    for segment in descriptor.segments(joined) {
+        bytes = bytes.saturating_add(segment.end.saturating_sub(segment.start));
+    }
+    let mut called = 0isize;
+    let told = descriptor.for_each_segment(joined, |segment| {
+        called = called.saturating_add(segment.end.saturating_sub(segment.start));
+        false
     });
-    let all = segments.next().is_none();
     let apart = descriptor.zip_eq(descriptor, joined, |one, other| {
         one.start != other.start || one.end != other.end
     });
@@ -50,7 +54,7 @@ fn compare_calls(descriptor: &BufferDescriptor, joined: bool) -> bool
         true
     });
     let has_some = descriptor.segments(joined).next().is_some();
-    !differs && all && !apart && stopped == has_some && calls == usize::from(has_some)
+    !told && called == bytes && !apart && stopped == has_some && calls == usize::from(has_some)
 }
 
 /// Compares the position of each item, its last index counted from the front and from the end, and of one past the end.
