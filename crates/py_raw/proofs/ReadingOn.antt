@@ -1,12 +1,14 @@
 -- Reading on: a part, then the next bytes after it, is a longer part.
-use Rattle.std.proofs.Common.{◌≡◌, ◌≢◌, ℕ, ◌+◌, ◌-◌, ◌<◌, ◌≤◌, List, [], ◌∷◌, ◌++◌, length, take, drop, refl, sym, ap, ◌∙◌, arith, append_assoc, length-append, inl, inr}
+use Rattle.std.proofs.Common.{◌≡◌, ◌≢◌, ℕ, ◌+◌, ◌-◌, ◌<◌, ◌≤◌, List, [], ◌∷◌, ◌++◌, length, take, drop, suc, zero, refl, sym, ap, ◌∙◌, arith, append_assoc, length-append, inl, inr}
 use Rattle.std.specs.Prelude.{IsTrue, Bool, true, false, nat_lt, Option, Ok}
 use Rattle.std.specs.Bool.{then_some}
 use Rattle.std.proofs.lemmas.List.{nil_from_length, append-nil, length-take-le, take-take, take_at, drop_at, drop-drop, take-append-le}
 use Rattle.std.proofs.Math.Seq.{take-add}
 use Rattle.py_flat.specs.Bytes.{left_at}
 use Rattle.py_flat.specs.Causes.{counted}
-use Rattle.py_raw.specs.RawStream.{Raw, Keeps, KeepsBytes, WherePlace, NoFault, NoWait, WaitsOnce, LeavesCounts, AnswersFor, AsksToWait, ReadBytes}
+use Rattle.py_raw.specs.declared.reads.Reads.{Reads}
+use Rattle.py_raw.specs.Reads.{after_read, BringInAll}
+use Rattle.py_raw.specs.RawStream.{Raw, Keeps, KeepsBytes, WherePlace, NoFault, NoWait, WaitsOnce, LeavesCounts, AnswersFor, AsksToWait, ReadBytes, ReadsBring, ReadsInAll}
 use Rattle.py_raw.proofs.Telling.{tells_its_bytes, tells_its_place, tells_still}
 use Rattle.py_raw.specs.ReadAll.{ReadOn, ReadSoFar, CameBy, ReadsAll, ReadAllOutcome}
 
@@ -55,6 +57,19 @@ waits_then old mid new keeps first second exact = second (keeps.counts_exactly �
 
 unwritten_then : (old mid new : Raw) → Keeps old mid → AnswersFor 0 old mid → AnswersFor 0 mid new → AnswersFor 0 old new
 unwritten_then old mid new keeps first second tells = second (keeps.tells_transfers ∙ tells) ∙ first tells
+
+-- one read more that brought some bytes
+brings_some : (old mid : Reads) (total count : ℕ) → BringInAll total 0 old mid → 1 ≤ count → BringInAll (total + count) 0 old (after_read mid count)
+brings_some old mid total zero is some = elim some [ ]
+brings_some old mid total (suc count) is some = record { brought = omega (arith, is.brought); empty = is.empty }
+
+-- one read more that brought none
+brings_none : (old mid : Reads) (total : ℕ) → BringInAll total 0 old mid → BringInAll total 1 old (after_read mid 0)
+brings_none old mid total is = record { brought = omega (arith, is.brought); empty = omega (arith, is.empty) }
+
+-- no read more is as many bytes, and no more that brought none than one
+brings_as_many : (old mid : Reads) (total : ℕ) → BringInAll total 0 old mid → BringInAll total 1 old mid
+brings_as_many old mid total is = record { brought = is.brought; empty = omega (arith, is.empty) }
 
 pub uncounted_then : (old mid new : Raw) → Keeps old mid → LeavesCounts old mid → LeavesCounts mid new → LeavesCounts old new
 uncounted_then old mid new keeps first second = record {
@@ -120,6 +135,7 @@ so_far_more old mid new start held before after count keeps was is some within =
       untouched = λ none. absurd (let whole = length-append was.part (take count after) in let none_is = ap length none in omega arith);
       counts = uncounted_then old mid new keeps was.counts is.counts;
       written = unwritten_then old mid new keeps was.written is.written;
+      reads = λ tells. rw (length-append was.part (take count after), size, is.reads (keeps.tells_transfers ∙ tells)) (brings_some old.reads mid.reads (length was.part) count (was.reads tells) some);
       on = read_on old mid new was.part before after count keeps was.on is within;
       transfers = λ tells _. let whole = length-append was.part (take count after) in came_by_more old mid new start held (length (was.part ++ take count after)) tells was (is.transfers (keeps.tells_transfers ∙ tells)) (omega arith);
     }
@@ -134,6 +150,7 @@ reads_to_end old mid new start held before after none count keeps was is is_none
       counts = omega arith;
       no_fault = no_fault_then old mid new keeps was.counts.no_fault is.counts.no_fault;
       written = unwritten_then old mid new keeps was.written is.written;
+      reads = λ tells. rw (is.reads (keeps.tells_transfers ∙ tells), is_none) (brings_none old.reads mid.reads (length was.part) (was.reads tells));
       on = stands_on old mid new was.part keeps was.on is.bytes (λ tells. omega (arith, is.place tells));
       stops = inl (
         no_wait_then old mid new keeps was.counts.no_wait is.counts.no_wait,
@@ -156,6 +173,7 @@ reads_to_wait old mid new start held count keeps was is some counts =
       counts = omega arith;
       no_fault = no_fault_then old mid new keeps was.counts.no_fault is.no_fault;
       written = unwritten_then old mid new keeps was.written is.written;
+      reads = λ tells. rw (is.reads (keeps.tells_transfers ∙ tells)) (brings_as_many old.reads mid.reads (length was.part) (was.reads tells));
       on = stands_on old mid new was.part keeps was.on is.still.bytes is.still.place;
       stops = inr (omega arith, omega (arith, is.cause, keeps.waits), waits_then old mid new keeps was.counts.no_wait is.once);
       transfers = λ tells. came_by_more old mid new start held (count + 1) tells was (is.still.transfers (keeps.tells_transfers ∙ tells)) (omega arith);

@@ -1,4 +1,5 @@
 pub mod Flags
+pub mod Reads
 pub mod RawStream
 pub mod ReadAll
 pub mod RawMode

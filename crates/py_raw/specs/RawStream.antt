@@ -5,10 +5,12 @@ use Rattle.py_flat.specs.Bytes.{left_at, lay, resized}
 use Rattle.py_flat.specs.Causes.{Rose, counted}
 use Rattle.py_raw.specs.declared.raw_error.RawError.{RawError}
 use Rattle.py_raw.specs.declared.raw_error.RawError.TheVariants.{Fault, Memory}
+use Rattle.py_raw.specs.declared.reads.Reads.{Reads}
+use Rattle.py_raw.specs.Reads.{no_reads, after_read, BringInAll}
 
 -- what a raw stream shows. It may tell three things: its bytes, its place, and its number of transfers, with the number of bytes
--- that its writes answered for; each means something only where it tells it. It counts exactly where its counts of faults and of
--- waits rise in the calls alone that answer a fault, or would block
+-- that its writes answered for and with what its reads brought; each means something only where it tells it. It counts exactly
+-- where its counts of faults and of waits rise in the calls alone that answer a fault, or would block
 pub record Raw : Type 0 where
   pub tells_bytes : Bool
   pub tells_place : Bool
@@ -17,6 +19,7 @@ pub record Raw : Type 0 where
   pub place : ℕ
   pub transfers : ℕ
   pub written : ℕ
+  pub reads : Reads
   pub faults : ℕ
   pub waits : ℕ
   pub closed : Bool
@@ -41,6 +44,7 @@ untold faults waits closed readable writable seekable = record {
   place = 0;
   transfers = 0;
   written = 0;
+  reads = no_reads;
   faults = faults;
   waits = waits;
   closed = closed;
@@ -127,6 +131,18 @@ TransfersAtMost most old new = WhereTransfers old ((old.transfers ≤ new.transf
 abbrev pub AnswersFor : ℕ → Raw → Raw → Type 0
 AnswersFor more old new = WhereTransfers old (counted new.written 0 ≡ counted old.written more)
 
+-- where the stream tells its transfers, one read more brought n bytes
+abbrev pub ReadsBring : ℕ → Raw → Raw → Type 0
+ReadsBring count old new = WhereTransfers old (new.reads ≡ after_read old.reads count)
+
+-- where the stream tells its transfers, no read more brought anything
+abbrev pub KeepsReads : Raw → Raw → Type 0
+KeepsReads old new = WhereTransfers old (new.reads ≡ old.reads)
+
+-- where the stream tells its transfers, n bytes came by its reads, at most so many of which brought none
+abbrev pub ReadsInAll : (total empties : ℕ) → Raw → Raw → Type 0
+ReadsInAll total empties old new = WhereTransfers old (BringInAll total empties old.reads new.reads)
+
 -- the stream stands still: bytes and place are as before, after n transfers
 pub record StandsStill (more : ℕ) (old new : Raw) : Type 0 where
   pub bytes : KeepsBytes old new
@@ -144,6 +160,7 @@ pub record AsksToWait (old new : Raw) : Type 0 where
   pub once : WaitsOnce old new
   pub no_fault : NoFault old new
   pub written : AnswersFor 0 old new
+  pub reads : KeepsReads old new
   pub still : StandsStill 1 old new
 
 -- a fault that leaves the bytes as they were; at most n transfers more are counted
@@ -151,6 +168,7 @@ pub record FailsWithout (most : ℕ) (old new : Raw) : Type 0 where
   pub cause : Rose old.faults new.faults
   pub no_wait : NoWait old new
   pub written : AnswersFor 0 old new
+  pub reads : KeepsReads old new
   pub bytes : KeepsBytes old new
   pub transfers : TransfersAtMost most old new
 
@@ -166,6 +184,7 @@ pub record ReadBytes (old : Raw) (before : List ℕ) (count : ℕ) (after : List
   pub fits : count ≤ length before
   pub counts : LeavesCounts old new
   pub written : AnswersFor 0 old new
+  pub reads : ReadsBring count old new
   pub told : WhereTold old (ReadTold old before count after)
   pub bytes : KeepsBytes old new
   pub place : WherePlace old (new.place ≡ old.place + count)
@@ -195,6 +214,7 @@ pub record WritesBytes (old : Raw) (piece : List ℕ) (count : ℕ) (new : Raw) 
   pub no_fault : (count ≡ 0 → piece ≡ []) → NoFault old new
   pub no_wait : NoWait old new
   pub written : AnswersFor count old new
+  pub reads : KeepsReads old new
   pub told : WhereTold old (LaysFront old piece count new)
   pub place : WherePlace old (new.place ≡ old.place + count)
   pub transfers : Transfers 1 old new
@@ -204,6 +224,7 @@ pub record FailsWriting (old : Raw) (piece : List ℕ) (new : Raw) : Type 0 wher
   pub cause : Rose old.faults new.faults
   pub no_wait : NoWait old new
   pub written : AnswersFor 0 old new
+  pub reads : KeepsReads old new
   pub told : WhereTold old ((count : ℕ) × (count ≤ length piece) × LaysFront old piece count new)
   pub transfers : TransfersAtMost 1 old new
 
@@ -219,6 +240,7 @@ WriteOutcome old piece (Err Memory) new = LacksMemory old new
 pub record Seeks (old : Raw) (place : ℕ) (new : Raw) : Type 0 where
   pub counts : LeavesCounts old new
   pub written : AnswersFor 0 old new
+  pub reads : KeepsReads old new
   pub bytes : KeepsBytes old new
   pub place_is : WherePlace old (new.place ≡ place)
   pub transfers : KeepsTransfers old new
@@ -233,6 +255,7 @@ pub record Answers (tells : Bool) (old : Raw) (told answer : ℕ) (new : Raw) : 
   pub within : answer ≤ greatest_place
   pub counts : LeavesCounts old new
   pub written : AnswersFor 0 old new
+  pub reads : KeepsReads old new
   pub value : IsTrue tells → answer ≡ told
   pub still : StandsStill 0 old new
 
@@ -254,6 +277,7 @@ pub record FailsResizing (old : Raw) (size : ℕ) (new : Raw) : Type 0 where
   pub cause : Rose old.faults new.faults
   pub no_wait : NoWait old new
   pub written : AnswersFor 0 old new
+  pub reads : KeepsReads old new
   pub bytes : WhereBytes old ((new.bytes ≡ old.bytes) ⊎ (new.bytes ≡ resized old.bytes size))
   pub transfers : KeepsTransfers old new
 
@@ -261,6 +285,7 @@ pub record FailsResizing (old : Raw) (size : ℕ) (new : Raw) : Type 0 where
 pub record Truncates (old : Raw) (size : ℕ) (new : Raw) : Type 0 where
   pub counts : LeavesCounts old new
   pub written : AnswersFor 0 old new
+  pub reads : KeepsReads old new
   pub bytes : WhereBytes old (new.bytes ≡ resized old.bytes size)
   pub place : WherePlace old (new.place ≡ old.place)
   pub transfers : KeepsTransfers old new
@@ -277,6 +302,7 @@ pub record Closes (old new : Raw) : Type 0 where
   pub closed : new.closed ≡ true
   pub no_wait : NoWait old new
   pub written : AnswersFor 0 old new
+  pub reads : KeepsReads old new
   pub bytes : KeepsBytes old new
   pub transfers : KeepsTransfers old new
 

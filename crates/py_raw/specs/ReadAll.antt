@@ -5,7 +5,7 @@ use Rattle.py_flat.specs.Bytes.{left_at}
 use Rattle.py_flat.specs.Causes.{Rose, counted}
 use Rattle.py_raw.specs.declared.raw_error.RawError.{RawError}
 use Rattle.py_raw.specs.declared.raw_error.RawError.TheVariants.{Fault, Memory}
-use Rattle.py_raw.specs.RawStream.{Raw, Keeps, WhereTold, WherePlace, WhereTransfers, KeepsBytes, Transfers, NoFault, NoWait, WaitsOnce, LeavesCounts, AnswersFor, AsksToWait, FailsWithout}
+use Rattle.py_raw.specs.RawStream.{Raw, Keeps, WhereTold, WherePlace, WhereTransfers, KeepsBytes, Transfers, NoFault, NoWait, WaitsOnce, LeavesCounts, AnswersFor, ReadsBring, ReadsInAll, AsksToWait, FailsWithout}
 
 -- told: a part is the next bytes of the stream
 abbrev pub IsNext : Raw → List ℕ → Type 0
@@ -24,6 +24,7 @@ pub record ReadsOnce (old : Raw) (size : ℕ) (bytes : List ℕ) (new : Raw) : T
   pub fits : length bytes ≤ size
   pub counts : LeavesCounts old new
   pub written : AnswersFor 0 old new
+  pub reads : ReadsBring (length bytes) old new
   pub on : ReadOn old bytes new
   pub end : WhereTold old (length bytes ≡ 0 → size ≢ 0 → length old.bytes ≤ old.place)
   pub transfers : Transfers 1 old new
@@ -51,6 +52,7 @@ pub record ReadSoFar (old : Raw) (before after : List ℕ) (new : Raw) : Type 0 
   pub untouched : part ≡ [] → new ≡ old
   pub counts : LeavesCounts old new
   pub written : AnswersFor 0 old new
+  pub reads : ReadsInAll (length part) 0 old new
   pub on : ReadOn old part new
   pub transfers : WhereTransfers old (part ≢ [] → CameBy (length part) old.transfers new.transfers)
 
@@ -58,13 +60,14 @@ pub record ReadSoFar (old : Raw) (before after : List ℕ) (new : Raw) : Type 0 
 abbrev pub Stops : Raw → ℕ → Raw → Type 0
 Stops old count new = (NoWait old new × WhereTold old (length old.bytes ≤ new.place)) ⊎ ((1 ≤ count) × Rose old.waits new.waits × WaitsOnce old new)
 
--- n bytes were read and appended; one transfer more found that no more come
+-- n bytes were read and appended; one transfer more found that no more come, and no other brought none
 pub record ReadsAll (old : Raw) (before : List ℕ) (count : ℕ) (after : List ℕ) (new : Raw) : Type 0 where
   pub part : List ℕ
   pub appended : after ≡ before ++ part
   pub counts : count ≡ length part
   pub no_fault : NoFault old new
   pub written : AnswersFor 0 old new
+  pub reads : ReadsInAll (length part) 1 old new
   pub on : ReadOn old part new
   pub stops : Stops old count new
   pub transfers : WhereTransfers old (CameBy (count + 1) old.transfers new.transfers)

@@ -15,6 +15,7 @@ mod raw_error;
 mod raw_flags;
 mod raw_mode;
 mod raw_stream;
+mod reads;
 mod zeros;
 
 pub use laying::{fill_front, lay_on};
@@ -26,4 +27,5 @@ pub use raw_error::RawError;
 pub use raw_flags::RawFlags;
 pub use raw_mode::{file_letter, is_raw_mode, misses, mode_flags, mode_reads, mode_writes};
 pub use raw_stream::{GREATEST_PLACE, RawStream};
+pub use reads::Reads;
 pub use zeros::lengthen;
