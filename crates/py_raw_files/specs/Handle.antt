@@ -8,16 +8,18 @@ use Rattle.std.specs.IoError.{error_kind}
 use Rattle.py_flat.specs.Causes.{counted}
 use Rattle.py_raw.specs.declared.raw_error.RawError.{RawError}
 use Rattle.py_raw.specs.declared.raw_error.RawError.TheVariants.{Fault}
+use Rattle.py_raw.specs.Reads.{after_read as one_read}
 use Rattle.py_raw.specs.RawStream.{Raw, untold}
 use Rattle.py_raw_files.specs.declared.handle.Handle.{Handle}
 
--- what a handle shows: what it can do, and its counts, of transfers and of bytes written too; no content, and no
--- memory taken
+-- what a handle shows: what it can do, and its counts, of transfers, of bytes written and of what its reads brought too; no
+-- content, and no memory taken
 abbrev pub shown_handle : {T : Type 0} → Handle T → Raw
 shown_handle handle = record (untold handle.counts.faults handle.counts.waits (is_none handle.inner) handle.readable handle.writable handle.seekable) {
   tells_transfers = true;
   transfers = handle.counts.transfers;
   written = handle.counts.written;
+  reads = handle.counts.reads;
 }
 
 -- a stream over a handle at its opening: nothing is counted
@@ -61,11 +63,16 @@ abbrev pub after_call : {A : Type 0} → Raw → Result A RawError → Raw
 after_call raw (Ok answer) = raw
 after_call raw (Err error) = one_fault raw
 
--- a stream after a transfer, but for the bytes that it wrote
+-- a stream after a transfer, but for the bytes that it moved
 abbrev pub after_transfer : Raw → Result (Option ℕ) RawError → Raw
 after_transfer raw (Ok (Some count)) = one_transfer raw
 after_transfer raw (Ok None) = one_wait (one_transfer raw)
 after_transfer raw (Err error) = one_fault (one_transfer raw)
+
+-- a stream after a read: it tells what that brought
+abbrev pub after_read : Raw → Result (Option ℕ) RawError → Raw
+after_read raw (Ok (Some count)) = record (one_transfer raw) { reads = one_read raw.reads count }
+after_read raw reply = after_transfer raw reply
 
 -- a stream after a write of a piece of a size: it answers for the bytes that it took; to take none of some is a fault
 -- too

@@ -1,3 +1,5 @@
+use py_raw::Reads;
+
 /// What a raw stream of the system counted. Each count stops at 18446744073709551615.
 #[derive(Clone, Copy, Debug, Default, PartialEq, Eq)]
 pub struct Counts {
@@ -5,6 +7,8 @@ pub struct Counts {
     pub transfers: u64,
     /// How many bytes its writes answered for.
     pub written: u64,
+    /// What its reads brought.
+    pub reads: Reads,
     /// How many faults there were.
     pub faults: u64,
     /// How many times it would have blocked.

@@ -1,6 +1,6 @@
 ghost use Rattle.std.proofs.Common.{rules};
 ghost use Rattle.std.specs.Prelude.{◌≡◌, ◌≤◌, false, true, length, Some, IsSome, IfSome, IfOk, OnOk};
-ghost use Rattle.py_raw_files.specs.Handle.{opened, one_fault, after_call, after_transfer, after_write, shut, ForInner, TakesFrom, PutsIn};
+ghost use Rattle.py_raw_files.specs.Handle.{opened, one_fault, after_call, after_read, after_write, shut, ForInner, TakesFrom, PutsIn};
 ghost use Rattle.py_raw_files.specs.FileRaw.{shown};
 ghost use Rattle.py_raw.specs.RawStream.{Keeps, KeepsPlace, StaysOpen, FailsWithout, WriteFits, ReadOutcome, WriteOutcome, SeekOutcome, TellOutcome, EndOutcome, TruncateOutcome, CloseOutcome};
 ghost use Rattle.py_flat.specs.Limits.{greatest_place};
@@ -93,7 +93,7 @@ impl<F: Read + Write + Seek + OpenFile + Drop> RawStream for FileRaw<F> {
         ensures open { StaysOpen (shown self.old) (shown self.new) }
         ensures outcome { ReadOutcome (shown self.old) buf.old result buf.new (shown self.new) }
         ensures file { ForInner self.old.handle.inner self.new.handle.inner (λ old new. TakesFrom (F.remaining old) (F.remaining new) result buf.new) }
-        ensures counts { shown self.new ≡ after_transfer (shown self.old) result }
+        ensures counts { shown self.new ≡ after_read (shown self.old) result }
     {
         self.handle.readinto(buf)
     }

@@ -1,7 +1,7 @@
 ghost use Rattle.std.specs.Prelude.{◌≡◌, true, false, Some, is_none};
 ghost use Rattle.std.proofs.Common.{rules};
 ghost use Rattle.py_raw.specs.RawStream.{Keeps, KeepsPlace, StaysOpen, FailsWithout, ReadOutcome, CloseOutcome};
-ghost use Rattle.py_raw_files.specs.Handle.{opened, one_fault, after_call, after_transfer, shut, ForInner, TakesFrom};
+ghost use Rattle.py_raw_files.specs.Handle.{opened, one_fault, after_call, after_read, shut, ForInner, TakesFrom};
 ghost use Rattle.py_raw_files.specs.ReadRaw.{shown_read_raw};
 
 use crate::Counts;
@@ -73,7 +73,7 @@ impl<R: Read + Drop> RawStream for ReadRaw<R> {
         ensures open { StaysOpen (shown_read_raw self.old) (shown_read_raw self.new) }
         ensures outcome { ReadOutcome (shown_read_raw self.old) buf.old result buf.new (shown_read_raw self.new) }
         ensures reader { ForInner self.old.handle.inner self.new.handle.inner (λ old new. TakesFrom (R.remaining old) (R.remaining new) result buf.new) }
-        ensures counts { shown_read_raw self.new ≡ after_transfer (shown_read_raw self.old) result }
+        ensures counts { shown_read_raw self.new ≡ after_read (shown_read_raw self.old) result }
     {
         self.handle.readinto(buf)
     }

@@ -1,6 +1,7 @@
 -- What an opener in memory shows, and what it makes of an opening.
 use Rattle.std.specs.Prelude.{◌≡◌, ◌≢◌, ℕ, true, false, List, Option, Some, option_map, Vec}
 use Rattle.std.specs.declared.alloc.Global.{Global}
+use Rattle.py_raw.specs.Reads.{no_reads}
 use Rattle.py_raw.specs.RawStream.{Raw}
 use Rattle.py_raw_memory.specs.MemRaw.{MemRawView}
 use Rattle.py_raw.specs.RawMode.{mode_reads, mode_writes}
@@ -52,6 +53,7 @@ opened_raw mode bytes = record {
   place = 0;
   transfers = 0;
   written = 0;
+  reads = no_reads;
   faults = 0;
   waits = 0;
   closed = false;

@@ -11,6 +11,7 @@ use Rattle.py_raw.specs.declared.raw_error.RawError.{RawError}
 use Rattle.py_raw.specs.declared.raw_error.RawError.TheVariants.{Fault, Memory}
 use Rattle.py_raw_memory.specs.Cuts.{read_by, write_by}
 use Rattle.py_raw.specs.Flags.{can_read, can_write, can_seek}
+use Rattle.py_raw.specs.Reads.{after_read as one_read}
 use Rattle.py_raw.specs.RawStream.{Raw}
 
 -- what a stream in memory shows: it tells everything, and takes memory where it can be written
@@ -23,6 +24,7 @@ shown raw = record {
   place = raw.place;
   transfers = raw.transfers;
   written = raw.written;
+  reads = raw.reads;
   faults = raw.faults;
   waits = raw.waits;
   closed = raw.closed;
@@ -75,9 +77,13 @@ broken raw = called raw (record raw.shows { transfers = counted raw.shows.transf
 abbrev pub waited : MemRawView → MemRawView
 waited raw = called raw (record raw.shows { transfers = counted raw.shows.transfers 1; waits = counted raw.shows.waits 1 })
 
--- a stream after a read that moved the place
+-- a stream after a transfer that moved the place
+abbrev pub advanced : MemRawView → ℕ → MemRawView
+advanced raw count = called raw (record raw.shows { transfers = counted raw.shows.transfers 1; place = raw.shows.place + count })
+
+-- a stream after a read that brought n bytes: the place moved after them
 abbrev pub moved : MemRawView → ℕ → MemRawView
-moved raw count = called raw (record raw.shows { transfers = counted raw.shows.transfers 1; place = raw.shows.place + count })
+moved raw count = called raw (record raw.shows { transfers = counted raw.shows.transfers 1; reads = one_read raw.shows.reads count; place = raw.shows.place + count })
 
 -- a stream after a write that answered for n bytes: the place moved after them
 abbrev pub wrote : MemRawView → ℕ → MemRawView

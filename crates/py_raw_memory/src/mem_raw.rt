@@ -6,7 +6,7 @@ mod counts;
 mod state;
 
 use crate::Cut;
-use py_raw::RawFlags;
+use py_raw::{RawFlags, Reads};
 
 /// A raw stream in memory, which moves, waits and fails by a plan.
 ///
@@ -24,6 +24,7 @@ pub struct MemRaw {
     calls: u64,
     transfers: u64,
     written: u64,
+    reads: Reads,
     faults: u64,
     waits: u64,
     closed: bool,

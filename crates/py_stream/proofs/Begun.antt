@@ -1,5 +1,5 @@
 -- What a call answers doesn't hang on whether the answer before was short.
-use Rattle.std.proofs.Common.{◌≡◌, ℕ, ℤ, pos, suc, zero, Bool, true, false, IsTrue, List, arith}
+use Rattle.std.proofs.Common.{◌≡◌, ℕ, ℤ, pos, suc, zero, Bool, true, false, IsTrue, List, refl, arith}
 use Rattle.py_flat.specs.declared.fault.IoFault.TheVariants as fault
 use Rattle.py_flat.specs.Calls.{FileCall, Seek, FileReply, Done, Refused}
 use Rattle.py_flat.specs.BinaryStep.{payload}
@@ -7,6 +7,7 @@ use Rattle.py_raw.specs.RawStream.{WhereTold}
 use Rattle.py_stream.specs.Stream.{Stream}
 use Rattle.py_stream.specs.Kinds.{is_writing, has_room}
 use Rattle.py_stream.specs.Writing.{OwesUpTo, Takes, PassesFront, LaysInOrder, OwesBoth, PassesOn, OwesNoneOfIts, Writes}
+use Rattle.py_stream.proofs.Coming.{came_seen, each_seen}
 use Rattle.py_stream.specs.Answers.{Answers, AnswersWith, Leaves, SeeksFromEnd, EndMoves, SeeksByEnd, Unmoved, closes_again}
 
 -- a stream whose last answer was short, or wasn't
@@ -92,7 +93,8 @@ module _ (short : Bool) where
     idle = λ keeps. let still = answers.idle keeps in record { raw = still.raw; fault = still.fault; memory = still.memory };
     single = answers.single;
     in_hand = λ has. let none = answers.in_hand (record { lives = has.lives; buffered = has.buffered; of = has.of }) in record { raw = none.raw; fault = none.fault };
-    needs = λ reads none. let asks = answers.needs reads none in record { enough = λ whole within buffered. let idle = asks.enough whole within buffered in record { raw = idle.raw; fault = idle.fault }; whole = asks.whole; last = asks.last };
+    brings = λ reads none. came_seen (seen short before) before after after 1 refl refl refl refl (answers.brings reads none);
+    needs = λ reads none. let asks = answers.needs reads none in record { enough = λ whole within buffered. let idle = asks.enough whole within buffered in record { raw = idle.raw; fault = idle.fault }; whole = λ whole. each_seen (seen short before) before after after 0 0 refl refl refl refl (asks.whole whole); needed = asks.needed; last = each_seen (seen short before) before after after 1 1 refl refl refl refl asks.last };
     spares = λ reads none. let spared = answers.spares reads none in record { bytes = spared.bytes; written = spared.written; owed = spared.owed };
     writes = λ can. writes_seen before after call reply (answers.writes can);
     answer = answers.answer;

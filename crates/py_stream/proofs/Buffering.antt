@@ -1,5 +1,5 @@
 -- A stream over a raw one is a buffered stream for the layer above it.
-use Rattle.std.proofs.Common.{◌≡◌, ℕ, ℤ, pos, suc, zero, inl, Bool, true, false, IsTrue, List, [], Option, Some, None, IsSome, unwrap_or, refl, sym, ap, ◌∙◌, subst}
+use Rattle.std.proofs.Common.{◌≡◌, ℕ, ℤ, pos, suc, zero, inl, Bool, true, false, IsTrue, List, [], Option, Some, None, IsSome, unwrap_or, refl, sym, ap, ◌∙◌, subst, arith}
 use Rattle.py_flat.specs.declared.fault.IoFault.{IoFault}
 use Rattle.py_flat.specs.declared.fault.IoFault.TheVariants as fault
 use Rattle.py_flat.specs.Bytes.{lay}
@@ -10,9 +10,10 @@ use Rattle.py_flat.specs.BinaryStep.{payload}
 use Rattle.py_raw.specs.RawStream.{WhereTold}
 use Rattle.py_raw.proofs.Telling.{tells_still, tells_its_bytes}
 use Rattle.py_stream.specs.Stream.{Stream, buffering_of, nothing_owed}
-use Rattle.py_stream.specs.Writing.{OwesRest, PassesFront, PassedOn, PassesOn, LaysInOrder, Writes}
+use Rattle.py_stream.specs.Kinds.{is_writing}
+use Rattle.py_stream.specs.Writing.{OwesRest, PassesFront, PassedOn, OwesBoth, PassesOn, LaysInOrder, BlocksFull, Writes}
 use Rattle.py_stream.specs.Answers.{Answers, Leaves, IsCounted, GivesWithin, LifeMoves, PlaceMoves, IsReplyTo, SeeksTo, SeeksFromEnd, EndMoves, SeeksByEnd, closes_again}
-use Rattle.py_stream.specs.Buffer.{Buffer, buffer_of, taken_by, size_shown, LeavesBuffer, closes_twice, GivesAsked, GoesFromEnd, BufferSeeksFromEnd, BufferEndMoves, BufferSeeksByEnd, BufferOwes, BufferPassedOn, BufferPasses, BufferLays, OwesAsItCan, is_made, AnswersAsBuffer}
+use Rattle.py_stream.specs.Buffer.{Buffer, buffer_of, taken_by, size_shown, LeavesBuffer, closes_twice, GivesAsked, GoesFromEnd, BufferSeeksFromEnd, BufferEndMoves, BufferSeeksByEnd, BufferOwes, BufferPassedOn, BufferPasses, BufferLays, BufferBlocksFull, BufferTakes, OwesAsItCan, is_made, AnswersAsBuffer}
 
 -- the size that is shown is the stream's own
 size_is : (buffer : Option ℕ) → IsSome buffer → size_shown (buffering_of buffer) ≡ buffer
@@ -99,28 +100,47 @@ passes_none_so before after Close Done passed = λ live. passed
 passes_none_so before after call reply passed = tt
 
 lays_so : (was taken : ℕ) (before : Stream) (call : FileCall) (bytes : List ℕ) → IsTrue (is_made call) → LaysInOrder before call bytes → BufferLays (buffer_of before was) (payload call) bytes
-lays_so was taken before (Write own) bytes made lays = record { count = lays.count; bytes = lays.bytes }
-lays_so was taken before (Read1 size) bytes made lays = record { count = lays.count; bytes = lays.bytes }
-lays_so was taken before (Seek offset whence) bytes made lays = record { count = lays.count; bytes = lays.bytes }
-lays_so was taken before Flush bytes made lays = record { count = lays.count; bytes = lays.bytes }
-lays_so was taken before Close bytes made lays = record { count = lays.count; bytes = lays.bytes }
+lays_so was taken before (Write own) bytes made lays = lays
+lays_so was taken before (Read1 size) bytes made lays = lays
+lays_so was taken before (Seek offset whence) bytes made lays = lays
+lays_so was taken before Flush bytes made lays = lays
+lays_so was taken before Close bytes made lays = lays
 lays_so was taken before call bytes made lays = absurd (cc)
+
+-- a wait has filled the buffer, whose size is shown
+full_so : (taken : ℕ) (call : FileCall) (reply : FileReply) (after : Stream) → IsSome after.buffer → BlocksFull call reply after → BufferBlocksFull call reply (buffer_of after taken)
+full_so taken call reply after buffered full = grind arith
+
+takes_so : (before after : Stream) (call : FileCall) → (IsTrue (is_writing call) → OwesBoth before (payload call) after) → BufferTakes call before.place after.place
+takes_so before after (Write bytes) owes = let both = owes refl in (omega (arith, both.place), omega (arith, both.place, both.within))
+takes_so before after call owes = tt
+
+-- a stream that doesn't write refuses a write, and not as one that had to wait
+unwritten_full : (taken : ℕ) (before : Stream) (call : FileCall) (reply : FileReply) (after : Stream) → before.can.writable ≡ false → IsTrue (is_made call) → Answers before call reply after → BufferBlocksFull call reply (buffer_of after taken)
+unwritten_full taken before call reply after can made answers = grind arith
+
+unwritten_takes : (before : Stream) (call : FileCall) (reply : FileReply) (after : Stream) → before.can.writable ≡ false → IsTrue (is_made call) → Answers before call reply after → BufferTakes call before.place after.place
+unwritten_takes before call reply after can made answers = grind arith
 
 -- what a call does with what is owed
 record Passing (before : Buffer) (call : FileCall) (reply : FileReply) (after : Buffer) : Type 0 where
   owes : BufferOwes before call after
   lays : IsTrue before.tells → BufferLays before (payload call) after.raw_bytes
   passes : BufferPasses before call reply after
+  full : BufferBlocksFull call reply after
+  takes : BufferTakes call before.place after.place
 
-passing_of : (was taken : ℕ) (writes : Bool) (before after : Stream) (call : FileCall) (reply : FileReply) → before.can.writable ≡ writes → IsTrue (is_made call) → OwesAsItCan (buffer_of before was) → Answers before call reply after → Passing (buffer_of before was) call reply (buffer_of after taken)
-passing_of was taken true before after call reply can made owes answers =
+passing_of : (was taken : ℕ) (writes : Bool) (before after : Stream) (call : FileCall) (reply : FileReply) → before.can.writable ≡ writes → IsTrue (is_made call) → IsSome before.buffer → OwesAsItCan (buffer_of before was) → Answers before call reply after → Passing (buffer_of before was) call reply (buffer_of after taken)
+passing_of was taken true before after call reply can made buffered owes answers =
     let writes = answers.writes can in
     record {
       owes = owes_so was taken before after call reply made writes;
       lays = λ told. lays_so was taken before call after.raw.bytes made (writes.lays told);
       passes = passes_so was taken before after call reply writes.passes;
+      full = full_so taken call reply after (subst (λ (size : Option ℕ). IsSome size) (sym answers.keeps.buffer) buffered) writes.full;
+      takes = takes_so before after call writes.owes;
     }
-passing_of was taken false before after call reply can made owes answers =
+passing_of was taken false before after call reply can made buffered owes answers =
     let none : before.owed ≡ nothing_owed before.place = owes can in
     let spares = answers.spares can none in
     let nothing : before.owed.bytes ≡ [] = ap (λ (owed : Owed). owed.bytes) none in
@@ -128,11 +148,13 @@ passing_of was taken false before after call reply can made owes answers =
     let same : WhereTold before.raw (after.raw.bytes ≡ before.raw.bytes) = λ told. spares.bytes (tells_its_bytes before.raw told) in
     record {
       owes = owes_none_so (buffer_of before was) (buffer_of after taken) call nothing left;
-      lays = λ told. record { count = 0; bytes = same told };
+      lays = λ told. record { passed = 0; more = 0; order = λ some. absurd (some refl); laid = same told };
       passes = passes_none_so (buffer_of before was) (buffer_of after taken) call reply (record {
         none = left;
         holds = λ told. same told ∙ sym (ap (λ (owed : Owed). lay before.raw.bytes owed.place owed.bytes) none);
       });
+      full = unwritten_full taken before call reply after can made answers;
+      takes = unwritten_takes before call reply after can made answers;
     }
 
 -- an answer of a stream with a buffer is one of a buffered stream
@@ -140,7 +162,7 @@ pub answers_as_buffer : (before : Stream) (was : ℕ) (call : FileCall) (reply :
 answers_as_buffer before was call reply after taken answers counts made buffered owes =
     let same : size_shown (buffering_of before.buffer) ≡ before.buffer = size_is before.buffer buffered in
     let own : Option ℕ = size_shown (buffering_of before.buffer) in
-    let passing = passing_of was taken before.can.writable before after call reply refl made owes answers in
+    let passing = passing_of was taken before.can.writable before after call reply refl made buffered owes answers in
     record {
       keeps = record {
         tells = tells_still before.raw after.raw answers.keeps.raw;
@@ -176,4 +198,6 @@ answers_as_buffer before was call reply after taken answers counts made buffered
       owes = passing.owes;
       lays = passing.lays;
       passes = passing.passes;
+      full = passing.full;
+      takes = passing.takes;
     }

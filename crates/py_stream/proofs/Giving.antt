@@ -22,7 +22,6 @@ use Rattle.py_stream.specs.Taking.{Calm, WaitsAsOne}
 use Rattle.py_stream.proofs.Completing.{completes}
 use Rattle.py_stream.proofs.Alone.{Begins}
 use Rattle.py_stream.proofs.Stopping.{GivesNone, gives_none}
-use Rattle.py_stream.proofs.Fronts.{LaidInOrder, lays_front}
 use Rattle.py_stream.proofs.Owing.{owes_both}
 use Rattle.py_stream.proofs.Refusing.{IsPlaced, refused_alone, refused_with}
 
@@ -118,7 +117,7 @@ pub record Comes (old : Stream) (call : FileCall) (reply : FileReply) (short : B
   pub wants : IsTrue (says_no_memory reply) → IsTrue old.raw.takes_memory
   pub one : IsTrue (makes_one old.buffer call) → WhereTransfers old.raw (new.raw.transfers ≤ old.raw.transfers + 1)
   pub takes : Takes old (payload call) (record new { short = short })
-  pub lays : WhereTold old.raw (LaidInOrder old (payload call) new.raw.bytes)
+  pub lays : WhereTold old.raw (LaysFront old (payload call) new.raw.bytes)
   pub full : BlocksFull call reply (record new { short = short })
   pub straight : OwesNoneOfIts old call reply (record new { short = short })
   pub starves : IsTrue (says_no_memory reply) → new.life ≡ life.Failed → TookOwn old (record new { short = short })
@@ -127,7 +126,7 @@ pub record Comes (old : Stream) (call : FileCall) (reply : FileReply) (short : B
 
 -- what a call that gives bytes did with them
 coming_writes : (old new : Stream) (call : FileCall) (reply : FileReply) (short : Bool) → MayWrite old call → Comes old call reply short new → Writes old call reply (record new { short = short })
-coming_writes old new call reply short may comes = grind (arith, is_giving, owes_both, lays_front)
+coming_writes old new call reply short may comes = grind (arith, is_giving, owes_both)
 
 -- what a call that gives bytes left answers it
 pub answers_coming : (old new : Stream) (call : FileCall) (reply : FileReply) (short : Bool) → MayWrite old call → Comes old call reply short new → Answers old call reply (record new { short = short })
@@ -154,6 +153,7 @@ answers_coming old new call reply short may comes =
       idle = λ keeps. absurd (cc (giving.calls old.buffer old.can.writable));
       single = λ single none. comes.one single;
       in_hand = λ has. absurd (giving.unheld old has.of);
+      brings = λ reads. absurd (cc (giving.reads));
       needs = λ reads. absurd (cc (gives.several old.buffer));
       spares = λ reads. absurd (cc (may.can));
       writes = λ can. coming_writes old new call reply short may comes;

@@ -23,6 +23,7 @@ use Rattle.py_stream.specs.Answers.{Answers, Leaves, SeeksTo, SeeksFromEnd, InHa
 use Rattle.py_stream.specs.Keeping.{KeepsOn, OwesBehind}
 use Rattle.py_stream.specs.Taking.{Took, PassAllOutcome}
 use Rattle.py_stream.specs.Moving.{StandsAsBefore, AsksEnd, TargetFromEnd, TargetOutcome, IsHeld, GoesTo, GoOutcome}
+use Rattle.py_stream.proofs.Refused.{lays_nothing}
 use Rattle.py_stream.proofs.Begun.{answers_whole}
 use Rattle.py_stream.proofs.Alone.{Begins}
 use Rattle.py_stream.proofs.Taking.{keeps_then, waits_once_then, waited_then, faulted_then, answers_still, took_on, fails_on, lacks_on, calm_of}
@@ -102,7 +103,7 @@ target_refuses : (old new : Stream) (offset whence : ℤ) (why : IoFault) → Ma
 target_refuses old new offset (pos zero) why may found = argument_refuses old new offset (pos zero) why may refl found.0 (bad_place_is_own why (target_why (moved_by 0 offset) why found.0)) found.1
 target_refuses old new offset (pos (suc zero)) why may found = argument_refuses old new offset (pos (suc zero)) why may refl found.0 (bad_place_is_own why (target_why (moved_by old.place offset) why found.0)) found.1
 target_refuses old new offset (pos (suc (suc zero))) why may found = from_end_refuses old new offset why may found
-target_refuses old new offset whence why may found = grind arith
+target_refuses old new offset whence why may found = grind (arith, lays_nothing)
 
 -- a seek that found no target
 pub seek_finds_nothing : (old started new : Stream) (offset whence : ℤ) (why : IoFault) → MaySeek (begun old) → Begins old (Ok tt) started → TargetOutcome started offset whence (Err why) new → Answers old (Seek offset whence) (Refused why) new
@@ -204,8 +205,8 @@ gone old mid new offset whence target may to beside passes empty no_fault no_wai
 
 -- the raw failed to move, or wanted memory
 going_refused : (old found new : Stream) (offset whence : ℤ) (target : ℕ) (why : IoFault) → MaySeek old → Finds old offset whence target found → GoOutcome found target (Err why) new → Answers old (Seek offset whence) (Refused why) new
-going_refused old found new offset whence target fault.RawFault may finds fails = grind arith
-going_refused old found new offset whence target fault.NoMemory may finds wants = grind arith
+going_refused old found new offset whence target fault.RawFault may finds fails = grind (arith, lays_nothing)
+going_refused old found new offset whence target fault.NoMemory may finds wants = grind (arith, lays_nothing)
 going_refused old found new offset whence target why may finds never = absurd never
 
 -- a stream that owes nothing fails to move

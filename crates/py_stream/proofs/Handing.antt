@@ -21,6 +21,7 @@ use Rattle.py_stream.specs.Answers.{Answers}
 use Rattle.py_stream.specs.Handing.{place_handed, handed_over, left_behind, owed_then, HandsOver}
 use Rattle.py_stream.specs.Taking.{Took, PassAllOutcome}
 use Rattle.py_stream.specs.Ending.{BeginDetachIn}
+use Rattle.py_stream.proofs.Refused.{lays_nothing}
 use Rattle.py_stream.proofs.Begun.{answers_whole}
 use Rattle.py_stream.proofs.Showing.{Asked, shows_answers, passing_writes, detach_moves_none, IsWriting, detach_asked}
 use Rattle.py_stream.proofs.PassingOn.{begun, none_owed_at, PassesSome, FaultLeaves, took_passes, passed_all, pass_all_refuses}
@@ -37,7 +38,7 @@ detach_refuses old new life.Live why is writing far stops =
     let may : IsWriting (begun old) = writing refl in
     answers_whole old new Detach (Refused why) (pass_all_refuses (begun old) new Detach may.size why (detach_asked (begun old) may) may.buffered may.writes (λ has. has.of) fault_fails_detach stops)
 detach_refuses old new life.Failed why is writing far stops = absurd (let wrong : Err why ≡ Ok tt = stops.0 in cc)
-detach_refuses old new life.Closed why is writing far stops = grind arith
+detach_refuses old new life.Closed why is writing far stops = grind (arith, lays_nothing)
 detach_refuses old new life.Detached why is writing far never = absurd never
 
 -- The raw is handed back as it is.

@@ -1,7 +1,7 @@
 pub mod Owing
 pub mod Taking
 pub mod Flat
-pub mod Fronts
+pub mod Coming
 pub mod Refused
 pub mod Refusing
 pub mod Alone

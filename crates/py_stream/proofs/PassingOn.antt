@@ -20,7 +20,6 @@ use Rattle.py_stream.specs.Writing.{OwesUpTo, NoneAtPlace, PassesFront, LaysFron
 use Rattle.py_stream.specs.Answers.{Answers, KeepsStream, ClosedWith, InHand, IsShort, LifeMoves, PlaceMoves, IsReplyTo}
 use Rattle.py_stream.specs.Keeping.{KeepsOn}
 use Rattle.py_stream.specs.Taking.{Took, FailsTaking, Lacks, PassAllOutcome}
-use Rattle.py_stream.proofs.Fronts.{lays_front}
 use Rattle.py_stream.proofs.Refused.{nothing_passed, nothing_blocked}
 use Rattle.py_stream.proofs.Stopping.{says_short, needs_no_end, waits_alive, waits_there, waits_with_none, waits_answer, fails_there, fault_answers, starves_alive, starves_there, starve_answers}
 use Rattle.py_stream.proofs.Flat.{flat_of, file_now}
@@ -53,8 +52,8 @@ passes_nothing old new stands = grind arith
 pub none_owed_at : (new : Stream) → new.owed.place + length new.owed.bytes ≡ new.place → NoneAtPlace new
 none_owed_at new ends none = omega (arith, ends, ap length none)
 
-lays_some : (old new : Stream) → OwesUpTo old.owed old.place → WhereTold old.raw ((laid : ℕ) × (new.raw.bytes ≡ lay old.raw.bytes old.owed.place (take laid old.owed.bytes))) → WhereTold old.raw (LaysFront old [] new.raw.bytes)
-lays_some old new up_to laid tells = lays_front old [] new.raw.bytes up_to (record { owed = (laid tells).0; more = 0; order = λ some. absurd (some refl); bytes = (laid tells).1 })
+lays_some : (old new : Stream) → WhereTold old.raw ((laid : ℕ) × (new.raw.bytes ≡ lay old.raw.bytes old.owed.place (take laid old.owed.bytes))) → WhereTold old.raw (LaysFront old [] new.raw.bytes)
+lays_some old new laid tells = record { passed = (laid tells).0; more = 0; order = λ some. absurd (some refl); laid = (laid tells).1 }
 
 -- a step that took nothing passed on a front
 pub took_passes : (old new : Stream) → Took old [] new → PassesSome old new
@@ -178,7 +177,8 @@ pub record FaultLeaves (call : FileCall) (left : Life) : Type 0 where
 
 -- the raw failed
 pub failing_answers : (old failed : Stream) (call : FileCall) (left : Life) → Asked old call → Beside old call (Refused fault.RawFault) (record failed { life = left }) → FaultLeaves call left → PassesSome old failed → Rose old.raw.faults failed.raw.faults → NoWait old.raw failed.raw → (failed.owed.bytes ≡ [] → is_closed left ≡ false) → Answers old call (Refused fault.RawFault) (record failed { life = left })
-failing_answers old failed call left asked beside leaves passes cause no_wait alive = grind (arith, shows_answers, passing_keeps, stays_open, says_short, fails_there, needs_no_end, passing_writes, passing_front, nothing_passed, nothing_blocked, fault_answers, passing_keeps_bytes)
+failing_answers old failed call left asked beside leaves passes cause no_wait alive =
+    shows_answers old call (Refused fault.RawFault) (record failed { life = left }) asked.none (grind (arith, passing_keeps, stays_open, says_short, fails_there, needs_no_end, passing_writes, passing_front, nothing_passed, nothing_blocked, fault_answers, passing_keeps_bytes))
 
 -- What stops a passing on of all stops the call.
 

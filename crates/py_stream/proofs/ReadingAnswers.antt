@@ -10,13 +10,14 @@ use Rattle.py_raw.specs.RawStream.{WhereTold}
 use Rattle.py_stream.specs.Stream.{Stream, size_of, buffering_of, file_of, nothing_owed}
 use Rattle.py_stream.specs.Kinds.{is_reading, reads_on, makes_one, has_room, asks_none, says_fault, says_no_memory, by_several}
 use Rattle.py_stream.specs.Writing.{Writes}
-use Rattle.py_stream.specs.Answers.{Answers, IsReplyTo, IsShort, LifeMoves, PlaceMoves, GivesWithin, WantsMemory, Starves, HasCauses, IsCounted, StarvesFirst, InHandOf, AsksNoMore, refused_by}
+use Rattle.py_stream.specs.Answers.{Answers, CameByReads, IsReplyTo, IsShort, LifeMoves, PlaceMoves, GivesWithin, WantsMemory, Starves, HasCauses, IsCounted, StarvesFirst, InHandOf, AsksNoMore, refused_by}
 use Rattle.py_stream.specs.Reading.{KeepsReading, OneTransfer, Reaches}
 use Rattle.py_stream.proofs.Begun.{answers_whole}
 use Rattle.py_stream.proofs.Completing.{completes}
 use Rattle.py_stream.proofs.Refusing.{IsPlaced, refused_alone}
 use Rattle.py_stream.proofs.Alone.{Begins, begins_in_vain}
 use Rattle.py_stream.proofs.ReadingCalls.{IsReadingCall, reading_call}
+use Rattle.py_stream.proofs.Coming.{came_seen}
 use Rattle.py_stream.proofs.ReadingSteps.{near_seen}
 
 -- How a reading begins.
@@ -76,6 +77,7 @@ pub record Comes (before : Stream) (call : FileCall) (reply : FileReply) (short 
   pub one : IsTrue (makes_one before.buffer call) → OneTransfer before mid
   pub ready : IsSome before.buffer → InHandOf before call → says_fault reply ≡ false
   pub in_hand : IsSome before.buffer → InHandOf before call → mid.raw ≡ before.raw
+  pub brings : CameByReads 1 before mid
   pub needs : IsTrue (by_several before.buffer call) → AsksNoMore before call reply (record mid { short = short })
   pub answers : IsReplyTo before.buffer before.can.writable call reply
   pub told : WhereTold before.raw (BinaryStep (file_of before) call reply short (says_fault reply) (file_of mid))
@@ -89,4 +91,4 @@ answers_coming before mid call reply short reads has begun comes =
     let unrefused : refused_by before call ≡ None = refused_alone before call (is.unended (file_of before)) ∙ accepted before call reads has begun.live in
     let after : Stream = record mid { short = short } in
     let kept : KeepsReading before mid = comes.kept in
-    search (rules, passes_nothing, completes, near_seen)
+    search (rules, passes_nothing, completes, near_seen, came_seen)

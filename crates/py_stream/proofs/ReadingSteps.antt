@@ -11,7 +11,7 @@ use Rattle.py_raw.specs.RawStream.{Raw, tells, WhereTold, NoWait, WaitsOnce, Lea
 use Rattle.py_raw.proofs.ReadingOn.{no_fault_then}
 use Rattle.py_stream.specs.Stream.{Stream, file_of, nothing_owed}
 use Rattle.py_stream.specs.Answers.{IsNear}
-use Rattle.py_stream.specs.Reading.{KeepsReading, EachBrings, ComesNext, Reaches, Gives}
+use Rattle.py_stream.specs.Reading.{KeepsReading, ComesNext, Reaches, Gives}
 use Rattle.py_stream.proofs.Refusing.{IsPlaced}
 
 -- Bytes that come next.
@@ -57,10 +57,6 @@ keeps_failed stream bare is = grind arith
 -- a wait after steps that counted none is the only one
 pub waits_once_then : (before mid after : Stream) → KeepsReading before mid → NoWait before.raw mid.raw → WaitsOnce mid.raw after.raw → WaitsOnce before.raw after.raw
 waits_once_then before mid after kept first second exact = second (kept.raw.counts_exactly ∙ exact) ∙ ap (λ (waits : ℕ). counted waits 1) (first exact)
-
--- transfers in two steps
-pub each_then : (before mid after : Stream) (others : ℕ) → KeepsReading before mid → EachBrings 0 before mid → EachBrings others mid after → EachBrings others before after
-each_then before mid after others kept first second tells = omega (arith, first tells, second (kept.raw.tells_transfers ∙ tells))
 
 -- a raw that told its bytes and its place before a step tells both after it
 pub still_tells : (before after : Stream) → KeepsReading before after → WhereTold before.raw (IsTrue (tells after.raw))

@@ -20,8 +20,9 @@ use Rattle.py_raw.specs.RawStream.{WhereTold, NoWait, WaitsOnce}
 use Rattle.py_raw.proofs.Telling.{keeps_same}
 use Rattle.py_stream.specs.Stream.{Stream, size_of, buffering_of, file_of}
 use Rattle.py_stream.specs.Kinds.{is_reading, reads_on, goes_on, makes_one, has_room, takes_space_first, asks_none, by_several}
-use Rattle.py_stream.specs.Answers.{Answers, IsShort, PlaceMoves, PlaceStarves, MovesForth, moves_most, StarvesTo, GivesWithin, InHandOf, IsWhole, AsksNoMore, OnlyAsked, Unmoved}
-use Rattle.py_stream.specs.Reading.{KeepsReading, EachBrings, OneTransfer, IsNeeded, Gives, FailsReading, FailsMoved, wanted_by, reply_by, GathersEnough, GathersFront, IsOpen, WantsHeld}
+use Rattle.py_stream.proofs.Coming.{came_still, came_more, each_still, each_seen, each_more}
+use Rattle.py_stream.specs.Answers.{Answers, CameByReads, EachBrings, IsShort, PlaceMoves, PlaceStarves, MovesForth, moves_most, StarvesTo, GivesWithin, InHandOf, IsWhole, AsksNoMore, OnlyAsked, Unmoved}
+use Rattle.py_stream.specs.Reading.{KeepsReading, OneTransfer, IsNeeded, Gives, FailsReading, FailsMoved, wanted_by, reply_by, GathersEnough, GathersFront, IsOpen, WantsHeld}
 use Rattle.py_stream.proofs.Accepting.{work_reaches}
 use Rattle.py_stream.proofs.ReadingCalls.{IsReadingCall, reading_call, refused_within, starved_by_failing, reading_on, on_suits, nothing_held, in_hand_held, is_several}
 use Rattle.py_stream.proofs.ReadingSteps.{uncounted, file_after, file_fails, next_reaches}
@@ -81,34 +82,35 @@ whole_wanted call part on whole = grind (arith, joined_lines)
 -- what was asked for the bytes that were given, by whether more of whatever comes after them is wanted
 pub record Needs (wanted : List ℕ → List ℕ) (before : Stream) (part : List ℕ) (after : Stream) : Type 0 where
   pub enough : ((more : List ℕ) → wanted (part ++ more) ≡ part) → IsNeeded before after
-  pub whole : ((more : List ℕ) → wanted (part ++ more) ≡ part) → EachBrings 0 before after
-  pub last : EachBrings 1 before after
+  pub whole : ((more : List ℕ) → wanted (part ++ more) ≡ part) → EachBrings 0 0 before after
+  pub last : EachBrings 1 1 before after
 
 -- a reading that had enough: no transfer brought nothing
-pub needs_enough : (wanted : List ℕ → List ℕ) (before : Stream) (part : List ℕ) (after : Stream) → EachBrings 0 before after → IsNeeded before after → Needs wanted before part after
-needs_enough wanted before part after each needed = record { enough = λ whole. needed; whole = λ whole. each; last = λ tells. omega (arith, each tells) }
+pub needs_enough : (wanted : List ℕ → List ℕ) (before : Stream) (part : List ℕ) (after : Stream) → EachBrings 0 0 before after → IsNeeded before after → Needs wanted before part after
+needs_enough wanted before part after each needed = record { enough = λ whole. needed; whole = λ whole. each; last = each_more before after 0 1 0 1 (omega arith) (omega arith) each }
 
 -- a reading that wants more: one transfer may have brought nothing
-pub needs_open : (wanted : List ℕ → List ℕ) (before : Stream) (part : List ℕ) (after : Stream) → EachBrings 1 before after → IsOpen wanted part → Needs wanted before part after
+pub needs_open : (wanted : List ℕ → List ℕ) (before : Stream) (part : List ℕ) (after : Stream) → EachBrings 1 1 before after → IsOpen wanted part → Needs wanted before part after
 needs_open wanted before part after each goes_on = record { enough = λ whole. absurd (goes_on whole); whole = λ whole. absurd (goes_on whole); last = each }
 
 -- what a call that gave bytes asked of its raw
 asks_given : (before mid : Stream) (call : FileCall) (part : List ℕ) (short : Bool) → reads_on call ≡ true → Needs (wanted_by call) before part mid → AsksNoMore before call (reply_by call part) (record mid { short = short })
-asks_given before mid call part short on needs = grind (arith, whole_wanted, reading_call, reading_on)
+asks_given before mid call part short on needs = grind (arith, whole_wanted, reading_call, reading_on, each_seen)
 
 -- what a call that gave none asked of its raw
-asks_ungiven : (before mid : Stream) (call : FileCall) (reply : FileReply) (short : Bool) → (IsWhole call reply → ⊥) → EachBrings 1 before mid → AsksNoMore before call reply (record mid { short = short })
-asks_ungiven before mid call reply short never each = grind arith
+asks_ungiven : (before mid : Stream) (call : FileCall) (reply : FileReply) (short : Bool) → (IsWhole call reply → ⊥) → EachBrings 1 1 before mid → AsksNoMore before call reply (record mid { short = short })
+asks_ungiven before mid call reply short never each = record { enough = λ whole. absurd (never whole); whole = λ whole. absurd (never whole); needed = λ whole. absurd (never whole); last = each_seen before before mid (record mid { short = short }) 1 1 refl refl refl refl each }
 
 -- what a reading asked of its raw, whether it goes on or makes one transfer
 pub record AsksRaw (before : Stream) (call : FileCall) (mid : Stream) : Type 0 where
   pub nothing : IsTrue (asks_none before.buffer call) → mid.raw ≡ before.raw
   pub one : IsTrue (makes_one before.buffer call) → OneTransfer before mid
   pub in_hand : IsSome before.buffer → InHandOf before call → mid.raw ≡ before.raw
-  pub each : IsTrue (by_several before.buffer call) → EachBrings 1 before mid
+  pub each : IsTrue (by_several before.buffer call) → EachBrings 1 1 before mid
+  pub brings : CameByReads 1 before mid
 
 -- what a reading that goes on asked of its raw, which isn't called where no more is wanted than is held
-pub several_asks : (before mid : Stream) (call : FileCall) → by_several before.buffer call ≡ true → (WantsHeld (wanted_by call) before → mid.raw ≡ before.raw) → EachBrings 1 before mid → AsksRaw before call mid
+pub several_asks : (before mid : Stream) (call : FileCall) → by_several before.buffer call ≡ true → (WantsHeld (wanted_by call) before → mid.raw ≡ before.raw) → EachBrings 1 1 before mid → AsksRaw before call mid
 several_asks before mid call several idle each = grind (arith, nothing_held, is_several, in_hand_held)
 
 -- Answers.
@@ -149,6 +151,7 @@ answers_given before mid call part short several begun given =
       one = asks.one;
       ready = λ _ _. is.said part;
       in_hand = asks.in_hand;
+      brings = given.needs.last.came;
       needs = λ _. asks_given before mid call part short on given.needs;
       answers = is.part_answers before.buffer before.can.writable part;
       told = λ tells. subst (λ (faulted : Bool). BinaryStep (file_of before) call (reply_by call part) short faulted (file_of mid)) (sym (is.said part)) (given.told tells);
@@ -218,6 +221,8 @@ starves_where most current before after same forth = grind arith
 pub answers_faulted : (before after : Stream) (call : FileCall) → is_reading call ≡ true → lacks (file_of before) call ≡ false → Reads before → FailsReading before after → ((bound : ℕ) → moves_most call ≡ Some bound → after.place ≤ before.place + bound) → (goes_on before.buffer call ≡ false → after.place ≡ before.place) → asks_none before.buffer call ≡ false → (IsTrue (makes_one before.buffer call) → OneTransfer before after) → (IsSome before.buffer → InHandOf before call → ⊥) → Answers before call (Refused fault.RawFault) after
 answers_faulted before after call reads has begun fails within stays asks_some one apart =
     let is : IsReadingCall call = reading_call call reads in
+    let each : EachBrings 1 1 before (record after { short = false }) = each_seen before before after (record after { short = false }) 1 1 refl refl refl refl (each_more before after 1 1 0 1 (omega arith) (omega arith) fails.each) in
+    let brings : CameByReads 1 before after = came_more before after 0 1 (omega arith) fails.each.came in
     unshortened before after call (Refused fault.RawFault) begun fails.kept (answers_coming before after call (Refused fault.RawFault) false reads has begun (grind arith))
 
 -- a stream that is as it was, and not even asked where its raw ends
@@ -229,6 +234,7 @@ asked_none stream whole = record {
   stays = refl;
   counts = uncounted stream.raw stream.raw refl;
   written = λ tells. refl;
+  reads = λ tells. refl;
   bytes = λ tells. refl;
   place = λ tells. refl;
   transfers = λ tells. inl refl;
@@ -253,7 +259,7 @@ answers_failing before after call several begun fails within room space idle som
     let reads : is_reading call ≡ true = reading_on call on in
     let has : lacks (file_of before) call ≡ false = on_suits (file_of before) call on begun.readable in
     let is : IsReadingCall call = reading_call call reads in
-    let each : EachBrings 1 before after = λ tells. omega (arith, fails.each tells) in
+    let each : EachBrings 1 1 before after = each_more before after 0 1 0 1 (omega arith) (omega arith) fails.each in
     let asks : AsksRaw before call after = several_asks before after call several idle each in
     let dead : after.life ≢ life.Live = λ living. absurd (let both : life.Failed ≡ life.Live = sym fails.failed ∙ living in cc) in
     unshortened before after call (Refused fault.NoMemory) begun fails.kept (answers_coming before after call (Refused fault.NoMemory) false reads has begun (record {
@@ -266,13 +272,14 @@ answers_failing before after call several begun fails within room space idle som
       place = is.want_moves before.buffer after.life before.place after.place (starves_where (moves_most call) after.life before.place after.place (λ living. absurd (dead living)) (forth_by (moves_most call) before.place after.place fails.forth within));
       within = refused_within (size_of before) call fault.NoMemory;
       wants = λ wanting has_room. room has_room;
-      starves = λ wanting goes. record { unmoved = λ living. absurd (dead living); moved = λ failed. fails.further; stands = λ failed. fails.stands };
+      starves = λ wanting goes. record { unmoved = λ living. absurd (dead living); moved = λ failed none. fails.further; stands = λ failed none. fails.stands };
       first = λ wanting takes none. absurd (let takes_some : before.raw.takes_memory ≡ true = space takes in cc);
       sound = λ _. refl;
       nothing = asks.nothing;
       one = asks.one;
       ready = λ _ _. refl;
       in_hand = asks.in_hand;
+      brings = each.came;
       needs = λ _. asks_ungiven before after call (Refused fault.NoMemory) false (is.refused_whole fault.NoMemory) each;
       answers = is.want_answers before.buffer before.can.writable;
       told = λ tells. out_of_memory refl (work_reaches (file_of before) call (works before call reads has begun.live), starved_by_failing (file_of before) call (file_of after) on (some tells) (file_fails before after begun.bare fails.kept fails.failed tells));

@@ -1,5 +1,5 @@
 -- A stream whose raw was handed back, and what a call leaves that is refused.
-use Rattle.std.proofs.Common.{◌≡◌, ℕ, inl, Bool, true, false, Option, refl, arith}
+use Rattle.std.proofs.Common.{◌≡◌, ℕ, inl, Bool, true, false, List, Option, refl, arith}
 use Rattle.std.proofs.lemmas.List.{append-nil}
 use Rattle.py_flat.specs.declared.fault.IoFault.{IoFault}
 use Rattle.py_flat.specs.declared.fault.IoFault.TheVariants as fault
@@ -9,7 +9,7 @@ use Rattle.py_flat.specs.Refusals.{is_getter, is_other_getter}
 use Rattle.py_stream.proofs.Owing.{owes_as_before}
 use Rattle.py_stream.specs.Stream.{Stream, detached_stream}
 use Rattle.py_stream.specs.Kinds.{says_would_block, says_no_memory}
-use Rattle.py_stream.specs.Writing.{LaysInOrder, PassesOn, BlocksFull, OwesNoneOfIts, Writes}
+use Rattle.py_stream.specs.Writing.{LaysFront, LaysInOrder, PassesOn, BlocksFull, OwesNoneOfIts, Writes}
 use Rattle.py_stream.specs.Answers.{Answers}
 
 -- A call that is refused, and leaves all.
@@ -21,9 +21,13 @@ is_own fault.NoMemory = false
 is_own (fault.WouldBlock taken) = false
 is_own why = true
 
+-- nothing was laid on bytes that stayed as they were
+pub lays_nothing : (before : Stream) (own after : List ℕ) → after ≡ before.raw.bytes → LaysFront before own after
+lays_nothing before own after same = record { passed = 0; more = 0; order = λ some. absurd (some refl); laid = same }
+
 nothing_laid : (before : Stream) (call : FileCall) → LaysInOrder before call before.raw.bytes
-nothing_laid before (Truncate size) = record { between = before.raw.bytes; lays = record { count = 0; bytes = refl }; cuts = inl refl }
-nothing_laid before call = record { count = 0; bytes = refl }
+nothing_laid before (Truncate size) = record { between = before.raw.bytes; lays = record { passed = 0; more = 0; order = λ some. absurd (some refl); laid = refl }; cuts = inl refl }
+nothing_laid before call = record { passed = 0; more = 0; order = λ some. absurd (some refl); laid = refl }
 
 -- a refused call need not have passed anything on
 pub nothing_passed : (before after : Stream) (call : FileCall) (why : IoFault) → PassesOn before call (Refused why) after

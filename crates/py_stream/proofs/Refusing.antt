@@ -1,5 +1,5 @@
 -- What a stream refuses by itself, whatever the call: nothing but the reply tells that the call came.
-use Rattle.std.proofs.Common.{◌≡◌, ℕ, ◌≤◌, Bool, true, false, Option, Some, None, if◌then◌else◌, refl, sym, ap, ◌∙◌, subst, arith, rules}
+use Rattle.std.proofs.Common.{◌≡◌, inl, ℕ, ◌≤◌, Bool, true, false, Option, Some, None, if◌then◌else◌, refl, sym, ap, ◌∙◌, subst, arith, rules}
 use Rattle.py_flat.specs.declared.fault.IoFault.{IoFault}
 use Rattle.py_flat.specs.declared.fault.IoFault.TheVariants as fault
 use Rattle.py_flat.specs.declared.life.Life.{Life}
@@ -16,6 +16,7 @@ use Rattle.py_stream.specs.Writing.{Writes}
 use Rattle.py_stream.specs.Answers.{Answers, LifeMoves, PlaceMoves, IsShort, IsNear, SeeksByEnd, GivesWithin, closes_again, refused_by}
 use Rattle.py_raw.proofs.Telling.{keeps_same}
 use Rattle.py_stream.proofs.Refused.{is_own, leaves_all}
+use Rattle.py_stream.proofs.Coming.{came_still, each_still}
 use Rattle.py_stream.proofs.Begun.{writes_whole}
 
 life_stays : (buffer : Option ℕ) (call : FileCall) (why : IoFault) (current : Life) → is_own why ≡ true → LifeMoves buffer call (Refused why) current current
@@ -76,7 +77,8 @@ refused_with before after call why is refuses alone own first same =
       idle = λ keeps. record { raw = refl; fault = no_fault why own; memory = no_want why own };
       single = λ single none tells. omega arith;
       in_hand = λ _. record { raw = refl; fault = no_fault why own };
-      needs = λ _ _. record { enough = λ _ _ _. record { raw = refl; fault = no_fault why own }; whole = λ _ tells. omega arith; last = λ tells. omega arith };
+      brings = λ _ _. came_still before left 1 refl refl;
+      needs = λ _ _. record { enough = λ _ _ _. record { raw = refl; fault = no_fault why own }; whole = λ _. each_still before left 0 0 refl refl; needed = λ _. inl refl; last = each_still before left 1 1 refl refl };
       spares = λ reads none. record { bytes = λ tells. refl; written = λ tells. refl; owed = none };
       writes = λ can. writes_whole before left call (Refused why) writes;
       answer = λ accepted. absurd (let wrong : Some why ≡ None = sym by ∙ accepted in cc);

@@ -20,6 +20,7 @@ use Rattle.py_stream.specs.Answers.{Answers, IsReplyTo, IsShort, LifeMoves, Plac
 use Rattle.py_stream.specs.Reading.{KeepsReading, OneTransfer, Gives, FailsReading}
 use Rattle.py_stream.proofs.ReadingSteps.{file_after}
 use Rattle.py_stream.proofs.ReadingAnswers.{accepted, Reads, answers_coming}
+use Rattle.py_stream.proofs.ReadingStops.{answers_faulted}
 
 -- The calls.
 
@@ -67,12 +68,12 @@ readable_lacks readable reads = ap (λ (can : Bool). not can || false) reads
 
 -- what holds of every reading by one transfer holds of each
 pub single_call : (buffer : Option ℕ) (call : FileCall) → reads_once buffer call ≡ true → IsSingleCall buffer call
-single_call (Some size) (Read1 None) once = record { reads = refl; stops = refl; stays = refl; suits = λ file reads. readable_lacks file.can.readable reads; some = λ some. refl; ahead_is = λ before buffered has. has; short = λ part. refl; lives = λ part before after same. same; moves = λ part current before after is. is; within = λ part most. most; answers = λ writes part. tt }
-single_call (Some size) (Read1 (Some zero)) once = record { reads = refl; stops = refl; stays = refl; suits = λ file reads. readable_lacks file.can.readable reads; some = λ some. absurd (some refl); ahead_is = λ before buffered has. has; short = λ part. refl; lives = λ part before after same. same; moves = λ part current before after is. is; within = λ part most. most; answers = λ writes part. tt }
-single_call (Some size) (Read1 (Some (suc bytes))) once = record { reads = refl; stops = refl; stays = refl; suits = λ file reads. readable_lacks file.can.readable reads; some = λ some. refl; ahead_is = λ before buffered has. has; short = λ part. refl; lives = λ part before after same. same; moves = λ part current before after is. is; within = λ part most. most; answers = λ writes part. tt }
-single_call (Some size) (ReadInto1 zero) once = record { reads = refl; stops = refl; stays = refl; suits = λ file reads. readable_lacks file.can.readable reads; some = λ some. absurd (some refl); ahead_is = λ before buffered has. has; short = λ part. refl; lives = λ part before after same. same; moves = λ part current before after is. is; within = λ part most. most; answers = λ writes part. tt }
-single_call (Some size) (ReadInto1 (suc bytes)) once = record { reads = refl; stops = refl; stays = refl; suits = λ file reads. readable_lacks file.can.readable reads; some = λ some. refl; ahead_is = λ before buffered has. has; short = λ part. refl; lives = λ part before after same. same; moves = λ part current before after is. is; within = λ part most. most; answers = λ writes part. tt }
-single_call (Some size) Peek once = record { reads = refl; stops = refl; stays = refl; suits = λ file reads. readable_lacks file.can.readable reads; some = λ some. refl; ahead_is = λ before buffered has. has; short = λ part. refl; lives = λ part before after same. same; moves = λ part current before after is. omega (arith, is); within = λ part most. most; answers = λ writes part. tt }
+single_call (Some size) (Read1 None) once = record { reads = refl; stops = refl; stays = refl; suits = λ file reads. readable_lacks file.can.readable reads; some = λ some. refl; ahead_is = λ before buffered has. has.0; short = λ part. refl; lives = λ part before after same. same; moves = λ part current before after is. is; within = λ part most. most; answers = λ writes part. tt }
+single_call (Some size) (Read1 (Some zero)) once = record { reads = refl; stops = refl; stays = refl; suits = λ file reads. readable_lacks file.can.readable reads; some = λ some. absurd (some refl); ahead_is = λ before buffered has. has.0; short = λ part. refl; lives = λ part before after same. same; moves = λ part current before after is. is; within = λ part most. most; answers = λ writes part. tt }
+single_call (Some size) (Read1 (Some (suc bytes))) once = record { reads = refl; stops = refl; stays = refl; suits = λ file reads. readable_lacks file.can.readable reads; some = λ some. refl; ahead_is = λ before buffered has. has.0; short = λ part. refl; lives = λ part before after same. same; moves = λ part current before after is. is; within = λ part most. most; answers = λ writes part. tt }
+single_call (Some size) (ReadInto1 zero) once = record { reads = refl; stops = refl; stays = refl; suits = λ file reads. readable_lacks file.can.readable reads; some = λ some. absurd (some refl); ahead_is = λ before buffered has. has.0; short = λ part. refl; lives = λ part before after same. same; moves = λ part current before after is. is; within = λ part most. most; answers = λ writes part. tt }
+single_call (Some size) (ReadInto1 (suc bytes)) once = record { reads = refl; stops = refl; stays = refl; suits = λ file reads. readable_lacks file.can.readable reads; some = λ some. refl; ahead_is = λ before buffered has. has.0; short = λ part. refl; lives = λ part before after same. same; moves = λ part current before after is. is; within = λ part most. most; answers = λ writes part. tt }
+single_call (Some size) Peek once = record { reads = refl; stops = refl; stays = refl; suits = λ file reads. readable_lacks file.can.readable reads; some = λ some. refl; ahead_is = λ before buffered has. has.0; short = λ part. refl; lives = λ part before after same. same; moves = λ part current before after is. omega (arith, is); within = λ part most. most; answers = λ writes part. tt }
 single_call None (Read (Some bytes)) once = record { reads = refl; stops = refl; stays = refl; suits = λ file reads. ap not reads; some = λ some. refl; ahead_is = λ before buffered has. absurd (cc); short = λ part short. absurd (cc); lives = λ part before after same. same; moves = λ part current before after is. is; within = λ part most. most; answers = λ writes part. tt }
 single_call None (ReadInto bytes) once = record { reads = refl; stops = refl; stays = refl; suits = λ file reads. ap not reads; some = λ some. refl; ahead_is = λ before buffered has. absurd (cc); short = λ part short. absurd (cc); lives = λ part before after same. same; moves = λ part current before after is. is; within = λ part most. most; answers = λ writes part. tt }
 single_call buffer call once = absurd (cc)
@@ -145,6 +146,7 @@ answers_once before mid call part once begun gives =
       one = λ _. gives.one;
       ready = λ _ _. refl;
       in_hand = λ buffered in_hand. gives.still buffered (is.ahead_is before buffered in_hand);
+      brings = gives.one.came;
       needs = λ several. absurd (let never = is.stops in cc);
       answers = is.answers before.can.writable part;
       told = λ tells. settled (subst (λ (refused : Option IoFault). SettledBy file call refused (Bytes part) (file_of mid)) (sym (accepted before call is.reads has begun.live))
@@ -161,7 +163,9 @@ unready_once before mid call once asks begun given waits hides alone one none = 
 
 -- a reading whose transfer failed
 pub faulted_once : (before after : Stream) (call : FileCall) → reads_once before.buffer call ≡ true → asks_none before.buffer call ≡ false → Reads before → FailsReading before after → after.place ≡ before.place → OneTransfer before after → (IsSome before.buffer → 0 < ahead before → ⊥) → Answers before call (Refused fault.RawFault) after
-faulted_once before after call once asks begun fails stays one none = grind arith
+faulted_once before after call once asks begun fails stays one none =
+    let is : IsSingleCall before.buffer call = single_call before.buffer call once in
+    answers_faulted before after call is.reads (is.suits (file_of before) begun.readable) begun fails (λ bound most. omega (arith, stays)) (λ goes. stays) asks (λ _. one) (λ buffered has. none buffered (is.ahead_is before buffered has))
 
 -- a reading that wanted memory before anything moved
 pub unmoved_once : (before : Stream) (call : FileCall) → reads_once before.buffer call ≡ true → Reads before → IsTrue before.raw.takes_memory → Answers before call (Refused fault.NoMemory) before

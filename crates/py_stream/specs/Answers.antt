@@ -12,7 +12,7 @@ use Rattle.py_flat.specs.Calls.{FileCall, Read, Read1, ReadLine, ReadLines, Peek
 use Rattle.py_flat.specs.Refusals.{is_getter, is_other_getter, lets_through, lacks, refusal, moved_by, target_refusal}
 use Rattle.py_flat.specs.ExactStep.{is_closed}
 use Rattle.py_flat.specs.BinaryStep.{asks_end, BinaryStep}
-use Rattle.py_raw.specs.RawStream.{Raw, Keeps, WhereTold, WhereBytes, WherePlace, WhereTransfers, KeepsBytes, AnswersFor, StaysOpen, LeavesCounts, KeepsPlace}
+use Rattle.py_raw.specs.RawStream.{Raw, Keeps, WhereTold, WhereBytes, WherePlace, WhereTransfers, KeepsBytes, AnswersFor, KeepsReads, ReadsInAll, StaysOpen, LeavesCounts, KeepsPlace}
 use Rattle.py_stream.specs.Stream.{Span, Stream, size_of, buffering_of, file_of, nothing_owed}
 use Rattle.py_stream.specs.Kinds.{profile, is_reading, reads_on, by_several, has_room, takes_space_first, calls_none, says_wait, says_fault, says_no_memory}
 use Rattle.py_stream.specs.Writing.{Writes}
@@ -251,6 +251,7 @@ pub record OnlyAsked (before after : Stream) : Type 0 where
   pub stays : StaysOpen before.raw after.raw
   pub counts : LeavesCounts before.raw after.raw
   pub written : AnswersFor 0 before.raw after.raw
+  pub reads : KeepsReads before.raw after.raw
   pub bytes : KeepsBytes before.raw after.raw
   pub place : KeepsPlace before.raw after.raw
   pub transfers : NoTransfer before.raw after.raw
@@ -260,12 +261,12 @@ abbrev pub Unmoved : FileCall → Stream → Stream → Type 0
 Unmoved (Read None) before after = OnlyAsked before after
 Unmoved call before after = after ≡ record before { short = false }
 
--- running out of memory leaves a reading that goes on as it was, its raw too where nothing was owed, or fails it; that only where
--- bytes left the raw in this call
+-- running out of memory leaves a reading that goes on as it was, or fails it; where nothing was owed it leaves the raw too, and fails the
+-- stream only where bytes left the raw in this call
 pub record Starves (call : FileCall) (before after : Stream) : Type 0 where
   pub unmoved : after.life ≡ life.Live → before.owed.bytes ≡ [] → Unmoved call before after
-  pub moved : after.life ≡ life.Failed → before.raw_place < after.raw_place
-  pub stands : after.life ≡ life.Failed → WherePlace before.raw (before.raw.place < after.raw.place)
+  pub moved : after.life ≡ life.Failed → before.owed.bytes ≡ [] → before.raw_place < after.raw_place
+  pub stands : after.life ≡ life.Failed → before.owed.bytes ≡ [] → WherePlace before.raw (before.raw.place < after.raw.place)
 
 -- where the space is taken first, the call's own running out of memory leaves all as it was
 abbrev pub StarvesFirst : Stream → FileCall → FileReply → Stream → Type 0
@@ -298,14 +299,14 @@ Covers held (Some target) = (held.from ≤ target) × (target ≤ held.to)
 Covers held None = ⊥
 
 -- the bytes held answer a call by themselves: one of n bytes, or of at most n of a line, where n are held from the place on; one of a
--- single transfer where some are; and a seek of a stream that reads, from the start or from the place, to a target among them
+-- single transfer where some are and nothing is owed, which it may pass on first; and a seek of a stream that reads, from the start or from the place, to a target among them
 abbrev pub InHandOf : Stream → FileCall → Type 0
 InHandOf stream (Read (Some size)) = size ≤ ahead stream
 InHandOf stream (ReadInto size) = size ≤ ahead stream
 InHandOf stream (ReadLine (Some limit)) = limit ≤ ahead stream
-InHandOf stream (Read1 size) = 0 < ahead stream
-InHandOf stream (ReadInto1 size) = 0 < ahead stream
-InHandOf stream Peek = 0 < ahead stream
+InHandOf stream (Read1 size) = (0 < ahead stream) × (stream.owed.bytes ≡ [])
+InHandOf stream (ReadInto1 size) = (0 < ahead stream) × (stream.owed.bytes ≡ [])
+InHandOf stream Peek = (0 < ahead stream) × (stream.owed.bytes ≡ [])
 InHandOf stream (Seek offset (pos zero)) = (stream.can.readable ≡ true) × Covers stream.held (moved_by 0 offset)
 InHandOf stream (Seek offset (pos (suc zero))) = (stream.can.readable ≡ true) × Covers stream.held (moved_by stream.place offset)
 InHandOf stream call = ⊥
@@ -329,13 +330,29 @@ IsWhole call reply = ⊥
 abbrev pub came : Stream → Stream → ℕ
 came before after = after.raw_place - before.raw_place
 
--- A reading that goes on, of a stream that owed nothing, asks its raw for no more than it answers with: an answer that is whole
--- asked for nothing where it lay among the bytes held; over a raw that tells its transfers each brought some byte, but for one that
--- met the end, a wait or a fault; and no such one was made for an answer that is whole
+-- the raw came as far as its reads brought bytes, of which at most so many brought none: it stands where the stream counts
+pub record CameByReads (empties : ℕ) (before after : Stream) : Type 0 where
+  pub forth : before.raw_place ≤ after.raw_place
+  pub reads : ReadsInAll (came before after) empties before.raw after.raw
+
+-- each transfer brought a byte, but for at most n of them; at most so many of these were reads that brought none, the others waits or
+-- faults
+pub record EachBrings (others empties : ℕ) (before after : Stream) : Type 0 where
+  pub transfers : WhereTransfers before.raw (after.raw.transfers + before.raw_place ≤ before.raw.transfers + after.raw_place + others)
+  pub came : CameByReads empties before after
+
+-- the last transfer was made for the answer, which ends among the bytes that it brought; or none was
+abbrev pub LastIsNeeded : Stream → Stream → Type 0
+LastIsNeeded before after = (after.raw ≡ before.raw) ⊎ WhereTransfers before.raw (after.raw_place < after.place + after.raw.reads.last)
+
+-- A reading that goes on, of a stream that owed nothing, asks its raw for no more than it answers with: an answer that is whole asked for
+-- nothing where it lay among the bytes held. Over a raw that tells its transfers each of them brought some byte, but for one that met the
+-- end, a wait or a fault; no such one was made for an answer that is whole, and the last one was made for that
 pub record AsksNoMore (before : Stream) (call : FileCall) (reply : FileReply) (after : Stream) : Type 0 where
   pub enough : IsWhole call reply → after.place ≤ before.held.to → IsSome before.buffer → AsksNothing before reply after
-  pub whole : IsWhole call reply → WhereTransfers before.raw (after.raw.transfers ≤ before.raw.transfers + came before after)
-  pub last : WhereTransfers before.raw (after.raw.transfers ≤ before.raw.transfers + came before after + 1)
+  pub whole : IsWhole call reply → EachBrings 0 0 before after
+  pub needed : IsWhole call reply → LastIsNeeded before after
+  pub last : EachBrings 1 1 before after
 
 -- The raw's place and bytes, where the raw tells them.
 
@@ -388,6 +405,8 @@ pub record AnswersWith (room : FileCall → Bool) (before : Stream) (call : File
   pub idle : IsTrue (calls_none before.buffer before.can.writable call) → IsIdle before reply after
   -- calls that make at most one transfer, where nothing was owed
   pub single : IsTrue (profile before.buffer call).one → before.owed.bytes ≡ [] → AtMostOne before after
+  -- a reading, where nothing was owed, moves the raw by as many bytes as its reads bring, and meets the end once at most
+  pub brings : IsTrue (is_reading call) → before.owed.bytes ≡ [] → CameByReads 1 before after
   -- what the bytes held answer by themselves asks the raw for nothing
   pub in_hand : InHand before call → AsksNothing before reply after
   -- a reading that goes on asks for no more than it answers with

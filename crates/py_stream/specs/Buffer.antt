@@ -1,12 +1,12 @@
 -- The one contract of buffered streams for the layer above them: what such a stream shows, over a raw stream or in memory, and what a
 -- call of it may answer and leave.
-use Rattle.std.specs.Prelude.{◌≡◌, ℕ, ◌-◌, ◌≤◌, ℤ, pos, suc, zero, Bool, true, false, ◌&&◌, IsTrue, List, [], length, take, max, Option, Some, None, Result, Ok, Err, unwrap_or, if◌then◌else◌}
+use Rattle.std.specs.Prelude.{◌≡◌, ℕ, ◌+◌, ◌-◌, ◌≤◌, ℤ, pos, suc, zero, Bool, true, false, ◌&&◌, IsTrue, List, [], length, take, max, Option, Some, None, Result, Ok, Err, unwrap_or, if◌then◌else◌}
 use Rattle.py_flat.specs.declared.fault.IoFault.{IoFault}
 use Rattle.py_flat.specs.declared.fault.IoFault.TheVariants as fault
 use Rattle.py_flat.specs.declared.life.Life.{Life}
 use Rattle.py_flat.specs.declared.life.Life.TheVariants as life
 use Rattle.py_flat.specs.Limits.{greatest_place}
-use Rattle.py_flat.specs.Bytes.{left_at, lay}
+use Rattle.py_flat.specs.Bytes.{lay}
 use Rattle.py_flat.specs.Owed.{Owed}
 use Rattle.py_flat.specs.Causes.{Rose, rose, counted}
 use Rattle.py_flat.specs.FlatFile.{Abilities, Buffering, Buffered, FlatFile}
@@ -17,7 +17,7 @@ use Rattle.py_flat.specs.BinaryStep.{asks_end, payload, BinaryStep}
 use Rattle.py_raw.specs.RawStream.{tells}
 use Rattle.py_stream.specs.Stream.{Stream, buffering_of, nothing_owed}
 use Rattle.py_stream.specs.Kinds.{is_reading, has_room, outlasts, says_fault, says_no_memory}
-use Rattle.py_stream.specs.Writing.{OwesUpTo, OwesRest, first_place}
+use Rattle.py_stream.specs.Writing.{OwesUpTo, OwesRest, LaysFrontOf}
 use Rattle.py_stream.specs.Answers.{IsAnswerTo, IsReplyTo, IsShort, LifeMoves, PlaceMoves, Within}
 
 -- What a buffered stream shows: whether it tells its content; told, the raw's bytes; where the raw stands, as the stream counts; its
@@ -216,11 +216,19 @@ BufferPasses before Flush Done after = BufferPassedOn before after
 BufferPasses before Close Done after = before.life ≡ life.Live → BufferPassedOn before after
 BufferPasses before call reply after = Unit {0}
 
--- told, the raw's bytes are those before the call, with a front laid on of what was owed and what the call gives, in their order in
--- the flat file
-pub record BufferLays (before : Buffer) (own after : List ℕ) : Type 0 where
-  pub count : ℕ
-  pub bytes : after ≡ lay before.raw_bytes (first_place before.owed before.place) (take count (left_at (lay (flat_of before).bytes before.place own) (first_place before.owed before.place)))
+-- the raw's bytes after a call: those before it, with a front laid on of what was owed and what the call gives
+abbrev pub BufferLays : (before : Buffer) → (own after : List ℕ) → Type 0
+BufferLays before own after = LaysFrontOf before.raw_bytes before.owed before.place own after
+
+-- a write that the raw's waiting cut short has filled the buffer
+abbrev pub BufferBlocksFull : FileCall → FileReply → Buffer → Type 0
+BufferBlocksFull (Write bytes) (Refused (fault.WouldBlock taken)) after = Some (length after.owed.bytes) ≡ size_shown after.buffering
+BufferBlocksFull call reply after = Unit {0}
+
+-- a write takes a front of its bytes, whatever it answers
+abbrev pub BufferTakes : FileCall → (from to : ℕ) → Type 0
+BufferTakes (Write bytes) from to = (from ≤ to) × (to ≤ from + length bytes)
+BufferTakes call from to = Unit {0}
 
 -- a stream that doesn't write owes nothing
 abbrev pub OwesAsItCan : Buffer → Type 0
@@ -269,6 +277,10 @@ pub record AnswersAsBuffer (before : Buffer) (call : FileCall) (reply : FileRepl
   pub owes : BufferOwes before call after
   -- what the raw's bytes are after a call
   pub lays : WhereShown before (BufferLays before (payload call) after.raw_bytes)
+  -- a write that had to wait leaves as many bytes owed as the buffer holds
+  pub full : BufferBlocksFull call reply after
+  -- a write takes a front of its bytes
+  pub takes : BufferTakes call before.place after.place
   -- how many bytes of the last write were taken
   pub taken : after.taken ≡ taken_by call before.place after.place before.taken
   -- what a call passes on

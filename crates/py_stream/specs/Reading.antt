@@ -14,7 +14,7 @@ use Rattle.py_raw.specs.RawStream.{Keeps, StaysOpen, WhereTold, WherePlace, Wher
 use Rattle.py_stream.specs.declared.stop.Stop.{Stop}
 use Rattle.py_stream.specs.declared.stop.Stop.TheVariants as stop
 use Rattle.py_stream.specs.Stream.{Stream, file_of, nothing_owed}
-use Rattle.py_stream.specs.Answers.{ahead, IsNear, OnlyAsked}
+use Rattle.py_stream.specs.Answers.{ahead, IsNear, OnlyAsked, CameByReads, EachBrings, LastIsNeeded}
 
 -- What a reading keeps.
 
@@ -34,17 +34,15 @@ pub record KeepsReading (before after : Stream) : Type 0 where
 
 -- What a reading asks of its raw.
 
--- where the raw tells its transfers: each brought a byte, but for at most n of them
-abbrev pub EachBrings : ℕ → Stream → Stream → Type 0
-EachBrings others before after = WhereTransfers before.raw (after.raw.transfers + before.raw_place ≤ before.raw.transfers + after.raw_place + others)
-
 -- at most one transfer was made
-abbrev pub OneTransfer : Stream → Stream → Type 0
-OneTransfer before after = WhereTransfers before.raw (after.raw.transfers ≤ before.raw.transfers + 1)
+pub record OneTransfer (before after : Stream) : Type 0 where
+  pub transfers : WhereTransfers before.raw (after.raw.transfers ≤ before.raw.transfers + 1)
+  pub came : CameByReads 1 before after
 
--- the raw of a stream with a buffer isn't called for what lies among the bytes that were held
-abbrev pub IsNeeded : Stream → Stream → Type 0
-IsNeeded before after = IsSome before.buffer → after.place ≤ before.held.to → after.raw ≡ before.raw
+-- the raw of a stream with a buffer isn't called for what lies among the bytes that were held, and was last called for what was given
+pub record IsNeeded (before after : Stream) : Type 0 where
+  pub held : IsSome before.buffer → after.place ≤ before.held.to → after.raw ≡ before.raw
+  pub last : LastIsNeeded before after
 
 -- What a reading gives.
 
@@ -74,7 +72,7 @@ pub record FailsReading (before after : Stream) : Type 0 where
   pub failed : after.life ≡ life.Failed
   pub forth : before.place ≤ after.place
   pub reach : Reaches before after
-  pub each : EachBrings 1 before after
+  pub each : EachBrings 1 0 before after
 
 -- memory ran out once bytes had left the raw, so some were left
 pub record FailsMoved (before after : Stream) : Type 0 where
@@ -86,7 +84,7 @@ pub record FailsMoved (before after : Stream) : Type 0 where
   pub further : before.raw_place < after.raw_place
   pub stands : WherePlace before.raw (before.raw.place < after.raw.place)
   pub some : WhereTold before.raw (rest (file_of before) ≢ [])
-  pub each : EachBrings 0 before after
+  pub each : EachBrings 0 0 before after
 
 -- memory ran out: nothing changed, or bytes had left the raw
 abbrev pub StarvesReading : Stream → Stream → Type 0
@@ -96,9 +94,9 @@ StarvesReading before after = (after ≡ before) ⊎ FailsMoved before after
 
 -- what came before a reading stopped: enough; all that is left; what came before the raw would have blocked, and nothing is held back
 abbrev pub StopOutcome : Stream → List ℕ → Result Stop IoFault → Stream → Type 0
-StopOutcome before part (Ok stop.Enough) after = Gives before part after × NoWait before.raw after.raw × EachBrings 0 before after × IsNeeded before after
-StopOutcome before part (Ok stop.End) after = Gives before part after × NoWait before.raw after.raw × WhereTold before.raw (length (file_of before).bytes ≤ after.place) × EachBrings 1 before after
-StopOutcome before part (Ok stop.Waits) after = Gives before part after × Rose before.raw.waits after.raw.waits × (after.raw_place ≡ after.place) × WaitsOnce before.raw after.raw × EachBrings 1 before after
+StopOutcome before part (Ok stop.Enough) after = Gives before part after × NoWait before.raw after.raw × EachBrings 0 0 before after × IsNeeded before after
+StopOutcome before part (Ok stop.End) after = Gives before part after × NoWait before.raw after.raw × WhereTold before.raw (length (file_of before).bytes ≤ after.place) × EachBrings 1 1 before after
+StopOutcome before part (Ok stop.Waits) after = Gives before part after × Rose before.raw.waits after.raw.waits × (after.raw_place ≡ after.place) × WaitsOnce before.raw after.raw × EachBrings 1 0 before after
 StopOutcome before part (Err fault.RawFault) after = FailsReading before after
 StopOutcome before part (Err fault.NoMemory) after = StarvesReading before after
 StopOutcome before part (Err other) after = ⊥

@@ -84,11 +84,21 @@ pub record OwesBoth (before : Stream) (bytes : List ℕ) (after : Stream) : Type
   pub old : after.owed.bytes ≢ [] → HasAt after.owed.bytes after.owed.place (take (before.place - before.owed.place) before.owed.bytes) before.owed.place
   pub behind : after.owed.bytes ≢ [] → HasAt after.owed.bytes after.owed.place (drop (before.place + taken - before.owed.place) before.owed.bytes) (max before.owed.place (before.place + taken))
 
--- the raw's bytes after a call: those before it, with a front laid on of what is owed and what the call gives, in their order in the
--- flat file: from the first of them on, the flat bytes with the call's own laid on
-pub record LaysFront (before : Stream) (own after : List ℕ) : Type 0 where
-  pub count : ℕ
-  pub bytes : after ≡ lay before.raw.bytes (first_place before.owed before.place) (take count (left_at (lay (file_of before).bytes before.place own) (first_place before.owed before.place)))
+-- how many of the bytes that are owed lie before a place
+unfoldable pub owed_before : Owed → ℕ → ℕ
+owed_before owed place = min (length owed.bytes) (place - owed.place)
+
+-- what a call may lay on the raw's bytes: a front of what was owed at its place, and then a front of what it gives at the stream's; none of
+-- the latter before all that was owed before that place
+pub record LaysFrontOf (bytes : List ℕ) (owed : Owed) (place : ℕ) (own after : List ℕ) : Type 0 where
+  pub passed : ℕ
+  pub more : ℕ
+  pub laid : after ≡ lay (lay bytes owed.place (take passed owed.bytes)) place (take more own)
+  pub order : more ≢ 0 → owed_before owed place ≤ passed
+
+-- the raw's bytes after a call: those before it, with a front laid on of what was owed and what the call gives
+abbrev pub LaysFront : (before : Stream) → (own after : List ℕ) → Type 0
+LaysFront before own after = LaysFrontOf before.raw.bytes before.owed before.place own after
 
 -- the size that a truncation asks for: without one the place
 abbrev pub size_asked : Stream → Option ℕ → ℕ

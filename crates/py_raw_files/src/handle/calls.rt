@@ -1,7 +1,7 @@
 ghost use Rattle.std.specs.Prelude.{◌≡◌, ◌≤◌, true, false, length, Some};
 ghost use Rattle.py_flat.specs.Limits.{greatest_count};
 ghost use Rattle.py_raw.specs.RawStream.{Keeps, StaysOpen, FailsWithout, ReadOutcome, WriteOutcome, WriteFits, CloseOutcome};
-ghost use Rattle.py_raw_files.specs.Handle.{shown_handle, opened, asks_to_wait, transfer_reply, call_reply, one_fault, after_call, after_transfer, after_write, shut, ForInner, TakesFrom, PutsIn};
+ghost use Rattle.py_raw_files.specs.Handle.{shown_handle, opened, asks_to_wait, transfer_reply, call_reply, one_fault, after_call, after_transfer, after_read, after_write, shut, ForInner, TakesFrom, PutsIn};
 
 use super::Handle;
 use crate::Counts;
@@ -172,13 +172,17 @@ impl<T: Read> Handle<T> {
         ensures open { StaysOpen (shown_handle self.old) (shown_handle self.new) }
         ensures outcome { ReadOutcome (shown_handle self.old) buf.old result buf.new (shown_handle self.new) }
         ensures inner { ForInner self.old.inner self.new.inner (λ old new. TakesFrom (T.remaining old) (T.remaining new) result buf.new) }
-        ensures counts { shown_handle self.new ≡ after_transfer (shown_handle self.old) result }
+        ensures counts { shown_handle self.new ≡ after_read (shown_handle self.old) result }
     {
         let Some(inner) = &mut self.inner else {
             unreachable!()
         };
         let answer = inner.read(buf);
-        self.take_transfer(answer)
+        let reply = self.take_transfer(answer)?;
+        if let Some(count) = reply {
+            self.counts.reads.count(count);
+        }
+        Ok(reply)
     }
 }
 

@@ -36,7 +36,7 @@ impl RawStream for MemRaw {
         match self.read_turn(asked) {
             Turn::Moves(count) => {
                 fill_front(buf, &self.left()[..count]);
-                self.advance(count);
+                self.count_read(count);
                 Ok(Some(count))
             }
             Turn::Waits => {

@@ -2,12 +2,13 @@ ghost use Rattle.std.specs.Prelude.{◌≡◌, ◌+◌, ◌≤◌, true, false, 
 ghost use Rattle.py_flat.specs.Bytes.{left_at};
 ghost use Rattle.py_flat.specs.Limits.{greatest_place};
 ghost use Rattle.py_raw.specs.Flags.{can_read, can_write, can_seek};
-ghost use Rattle.py_raw_memory.specs.MemRaw.{shown, view_of, is_refused, refuses, next_cut, read_turn, write_turn, called, refused_once, broken, waited, moved, wrote, laid, cut_to};
+ghost use Rattle.py_raw.specs.Reads.{no_reads};
+ghost use Rattle.py_raw_memory.specs.MemRaw.{shown, view_of, is_refused, refuses, next_cut, read_turn, write_turn, called, refused_once, broken, waited, advanced, moved, wrote, laid, cut_to};
 
 use super::MemRaw;
 use crate::Cut;
 use crate::cut::{Turn, read_by, write_by};
-use py_raw::{RawError, RawFlags, lay_on};
+use py_raw::{RawError, RawFlags, Reads, lay_on};
 
 impl MemRaw {
     /// An open stream of these bytes, at place 0, with the plan of its transfers and the numbers of the calls that fail.
@@ -22,6 +23,7 @@ impl MemRaw {
             place = 0;
             transfers = 0;
             written = 0;
+            reads = no_reads;
             faults = 0;
             waits = 0;
             closed = false;
@@ -45,6 +47,7 @@ impl MemRaw {
             calls: 0,
             transfers: 0,
             written: 0,
+            reads: Reads::default(),
             faults: 0,
             waits: 0,
             closed: false,
@@ -152,14 +155,23 @@ impl MemRaw {
         self.faults = self.faults.saturating_add(1);
     }
 
-    /// Counts a read of n bytes, and moves the place after them.
-    pub(super) fn advance(&mut self, count: usize)
+    /// Counts a transfer of n bytes, and moves the place after them.
+    fn advance(&mut self, count: usize)
         requires { self.old.place + count ≤ greatest_place }
-        ensures { view_of self.new ≡ moved (view_of self.old) count }
+        ensures { view_of self.new ≡ advanced (view_of self.old) count }
     {
         self.calls = self.calls.saturating_add(1);
         self.transfers = self.transfers.saturating_add(1);
         self.place += count as u64;
+    }
+
+    /// Counts a read that brought n bytes, and moves the place after them.
+    pub(super) fn count_read(&mut self, count: usize)
+        requires { self.old.place + count ≤ greatest_place }
+        ensures { view_of self.new ≡ moved (view_of self.old) count }
+    {
+        self.advance(count);
+        self.reads.count(count);
     }
 
     /// Counts a write that answers for n bytes, and moves the place after them.

@@ -1,10 +1,12 @@
-use Rattle.std.proofs.Common.{◌≡◌, ℕ, ◌+◌, ◌≤◌, true, List, length, None, arith}
+use Rattle.std.proofs.Common.{◌≡◌, ℕ, ◌+◌, ◌≤◌, true, false, List, length, None, arith}
 use Rattle.py_flat.specs.Limits.{greatest_place}
 use Rattle.py_flat.specs.Lines.{joined}
 use Rattle.py_flat.specs.Calls.{Write, WriteLines, FileReply, Count, Done}
 use Rattle.py_flat.specs.Refusals.{refusal}
+use Rattle.py_flat.specs.BinaryStep.{BinaryStep}
 use Rattle.py_stream.specs.Stream.{Stream, file_of}
-use Rattle.py_stream.specs.Answers.{Answers}
+use Rattle.py_stream.specs.Answers.{Answers, IsAnswerTo}
+use Rattle.py_stream.specs.Kinds.{says_fault}
 use Rattle.py_stream.specs.Laws.{GoesSmoothly, TakesJust}
 use Rattle.py_stream.proofs.laws.a_smooth_write_takes_all.Goals as goal
 
@@ -12,8 +14,14 @@ use Rattle.py_stream.proofs.laws.a_smooth_write_takes_all.Goals as goal
 write_passes : (before : Stream) (bytes : List ℕ) (reply : FileReply) (after : Stream) → before.can.writable ≡ true → before.place + length bytes ≤ greatest_place → GoesSmoothly before reply after → refusal (file_of before) (Write bytes) ≡ None
 write_passes before bytes reply after can fits goes = grind arith
 
+-- what a write that nothing stood in the way of comes to, by what the clause of a call says of its reply and its step
+steps_all : (before : Stream) (bytes : List ℕ) (reply : FileReply) (after : Stream) → refusal (file_of before) (Write bytes) ≡ None → IsAnswerTo (Write bytes) reply × (after.short ≡ false) → BinaryStep (file_of before) (Write bytes) reply after.short (says_fault reply) (file_of after) → GoesSmoothly before reply after → TakesJust before (Count (length bytes)) bytes reply after
+steps_all before bytes reply after passes complete told goes = grind arith
+
 writes_all : (before : Stream) (bytes : List ℕ) (reply : FileReply) (after : Stream) → Answers before (Write bytes) reply after → before.can.writable ≡ true → before.place + length bytes ≤ greatest_place → GoesSmoothly before reply after → TakesJust before (Count (length bytes)) bytes reply after
-writes_all before bytes reply after answers can fits goes = grind (arith, write_passes before bytes reply after can fits goes)
+writes_all before bytes reply after answers can fits goes =
+    let passes : refusal (file_of before) (Write bytes) ≡ None = write_passes before bytes reply after can fits goes in
+    steps_all before bytes reply after passes (answers.complete passes goes.no_wait goes.no_fault) (answers.told goes.told) goes
 
 pub returns-clause-write : goal.returns-clause-write
 returns-clause-write c = writes_all

@@ -14,14 +14,15 @@ returns-in-Moves-clause-outcome c =
     let within : c.in-Moves.count ≤ length left = omega arith in
     record {
       fits = omega arith;
-      counts = record { no_fault = λ _. ap (λ (view : MemRawView). view.shows.faults) c.advance.ensures; no_wait = λ _. ap (λ (view : MemRawView). view.shows.waits) c.advance.ensures };
-      written = λ _. ap (λ (view : MemRawView). counted view.shows.written 0) c.advance.ensures;
+      counts = record { no_fault = λ _. ap (λ (view : MemRawView). view.shows.faults) c.count_read.ensures; no_wait = λ _. ap (λ (view : MemRawView). view.shows.waits) c.count_read.ensures };
+      written = λ _. ap (λ (view : MemRawView). counted view.shows.written 0) c.count_read.ensures;
+      reads = λ _. ap (λ (view : MemRawView). view.shows.reads) c.count_read.ensures;
       told = λ _. record {
         left = within;
         given = front_given left c.args.buf.now c.fill_front.new.buf c.in-Moves.count within cc;
         end = λ none some. end_reached c.args.buf.now raw.bytes.items raw.place (sym asked ∙ moves.none none) some;
       };
-      bytes = λ _. ap (λ (view : MemRawView). view.shows.bytes) c.advance.ensures;
-      place = λ _. ap (λ (view : MemRawView). view.shows.place) c.advance.ensures;
-      transfers = λ _. ap (λ (view : MemRawView). view.shows.transfers) c.advance.ensures;
+      bytes = λ _. ap (λ (view : MemRawView). view.shows.bytes) c.count_read.ensures;
+      place = λ _. ap (λ (view : MemRawView). view.shows.place) c.count_read.ensures;
+      transfers = λ _. ap (λ (view : MemRawView). view.shows.transfers) c.count_read.ensures;
     }

@@ -1,0 +1,59 @@
+-- How far a raw came by what its reads brought, over any raw.
+use Rattle.std.proofs.Common.{◌≡◌, ℕ, ◌+◌, ◌-◌, ◌≤◌, refl, ap, sym, ◌∙◌, arith}
+use Rattle.py_flat.specs.Causes.{counted}
+use Rattle.py_raw.specs.declared.reads.Reads.{Reads}
+use Rattle.py_raw.specs.Reads.{BringInAll}
+use Rattle.py_raw.specs.RawStream.{Raw, Keeps, WhereTransfers, ReadsInAll}
+use Rattle.py_stream.specs.Stream.{Stream}
+use Rattle.py_stream.specs.Answers.{CameByReads, EachBrings}
+
+-- reads that brought nothing, and none of which brought none, are none
+pub none_brought : (reads : Reads) (empties : ℕ) → BringInAll 0 empties reads reads
+none_brought reads empties = record { brought = refl; empty = omega arith }
+
+-- reads in two steps, of which none of the first brought none
+pub brought_then : (old mid new : Reads) (one two empties : ℕ) → BringInAll one 0 old mid → BringInAll two empties mid new → BringInAll (one + two) empties old new
+brought_then old mid new one two empties before behind = record { brought = omega (arith, before.brought, behind.brought); empty = omega (arith, before.empty, behind.empty) }
+
+-- reads of which more might have brought none
+pub brought_more : (old new : Reads) (count less more : ℕ) → less ≤ more → BringInAll count less old new → BringInAll count more old new
+brought_more old new count less more within is = record { brought = is.brought; empty = omega (arith, is.empty) }
+
+-- a raw that was moved neither by reads nor otherwise
+pub came_still : (before after : Stream) (empties : ℕ) → after.raw.reads ≡ before.raw.reads → after.raw_place ≡ before.raw_place → CameByReads empties before after
+came_still before after empties same place = record { forth = omega (arith, place); reads = λ tells. rw (same, let none : after.raw_place - before.raw_place ≡ 0 = omega (arith, place) in none) (none_brought before.raw.reads empties) }
+
+-- in two steps
+pub came_then : (before mid after : Stream) (empties : ℕ) → Keeps before.raw mid.raw → CameByReads 0 before mid → CameByReads empties mid after → CameByReads empties before after
+came_then before mid after empties kept one two = record {
+  forth = omega (arith, one.forth, two.forth);
+  reads = λ tells. rw (let whole : after.raw_place - before.raw_place ≡ (mid.raw_place - before.raw_place) + (after.raw_place - mid.raw_place) = omega (arith, one.forth, two.forth) in whole) (brought_then before.raw.reads mid.raw.reads after.raw.reads (mid.raw_place - before.raw_place) (after.raw_place - mid.raw_place) empties (one.reads tells) (two.reads (kept.tells_transfers ∙ tells)));
+}
+
+-- streams that differ in nothing that says how far their raws came
+pub came_seen : (was before now after : Stream) (empties : ℕ) → was.raw ≡ before.raw → was.raw_place ≡ before.raw_place → now.raw ≡ after.raw → now.raw_place ≡ after.raw_place → CameByReads empties was now → CameByReads empties before after
+came_seen was before now after empties raw place raw_now place_now came = grind (arith)
+
+pub came_more : (before after : Stream) (less more : ℕ) → less ≤ more → CameByReads less before after → CameByReads more before after
+came_more before after less more within came = record { forth = came.forth; reads = λ tells. brought_more before.raw.reads after.raw.reads (after.raw_place - before.raw_place) less more within (came.reads tells) }
+
+-- Transfers that each brought a byte.
+
+pub each_still : (before after : Stream) (others empties : ℕ) → after.raw ≡ before.raw → after.raw_place ≡ before.raw_place → EachBrings others empties before after
+each_still before after others empties same place = record {
+  transfers = λ tells. omega (arith, place, ap (λ (raw : Raw). raw.transfers) same);
+  came = came_still before after empties (ap (λ (raw : Raw). raw.reads) same) place;
+}
+
+pub each_seen : (was before now after : Stream) (others empties : ℕ) → was.raw ≡ before.raw → was.raw_place ≡ before.raw_place → now.raw ≡ after.raw → now.raw_place ≡ after.raw_place → EachBrings others empties was now → EachBrings others empties before after
+each_seen was before now after others empties raw place raw_now place_now each = grind (arith, came_seen)
+
+pub each_more : (before after : Stream) (others most empties more : ℕ) → others ≤ most → empties ≤ more → EachBrings others empties before after → EachBrings most more before after
+each_more before after others most empties more within as_many each = record { transfers = λ tells. omega (arith, each.transfers tells); came = came_more before after empties more as_many each.came }
+
+-- transfers in two steps
+pub each_then : (before mid after : Stream) (others empties : ℕ) → Keeps before.raw mid.raw → EachBrings 0 0 before mid → EachBrings others empties mid after → EachBrings others empties before after
+each_then before mid after others empties kept first second = record {
+  transfers = λ tells. omega (arith, first.transfers tells, second.transfers (kept.tells_transfers ∙ tells));
+  came = came_then before mid after empties kept first.came second.came;
+}
