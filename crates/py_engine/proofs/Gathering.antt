@@ -7,10 +7,11 @@ use Rattle.py_flat.specs.declared.life.Life.TheVariants as life
 use Rattle.py_flat.specs.Bytes.{left_at}
 use Rattle.py_flat.specs.Causes.{Rose}
 use Rattle.py_flat.specs.BinaryStep.{IsFrontOf}
-use Rattle.py_raw.specs.RawStream.{WhereTold, WherePlace, NoFault, NoWait, WaitsOnce, LeavesCounts}
+use Rattle.py_raw.specs.RawStream.{WhereTold, WherePlace, WhereTransfers, NoFault, NoWait, WaitsOnce, LeavesCounts}
 use Rattle.py_stream.specs.declared.stop.Stop.TheVariants as stop
-use Rattle.py_stream.specs.Answers.{ahead}
-use Rattle.py_stream.specs.Reading.{EachBrings, ComesNext, Gives, GathersEnough, WantsHeld, GatherOutcome}
+use Rattle.py_stream.proofs.Coming.{each_seen}
+use Rattle.py_stream.specs.Answers.{ahead, EachBrings, LastIsNeeded}
+use Rattle.py_stream.specs.Reading.{IsNeeded, ComesNext, Gives, GathersEnough, WantsHeld, GatherOutcome}
 use Rattle.py_stream.proofs.ReadingSteps.{next_behind, next_parts, next_reaches, waits_once_then}
 use Rattle.py_stream.proofs.ReadingOn.{WantsOn, gathers_at_end, gathers_waiting, open_asking, gathers_ok, wants_past}
 use Rattle.py_engine.specs.Window.{place_of, end_of, ahead_of, advanced}
@@ -29,7 +30,8 @@ pub record GatheredTo (old : EngineView) (part : List ℕ) (moved : Bool) (now :
   pub place : place_of now.window ≡ place_of old.window + length part
   pub told : WhereTold old.raw (ComesNext (reading_of old) part)
   pub no_wait : NoWait old.raw now.raw
-  pub each : EachBrings 0 (reading_of old) (reading_of now)
+  pub each : EachBrings 0 0 (reading_of old) (reading_of now)
+  pub last : moved ≡ true → WhereTransfers old.raw (now.raw.reads.last ≡ length (ahead_of now.window))
   pub unmoved : moved ≡ false → now ≡ old
   pub further : moved ≡ true → end_of old.window ≤ place_of now.window
   pub ahead : moved ≡ true → 0 < length (ahead_of now.window)
@@ -74,7 +76,7 @@ record Took (old : EngineView) (part : List ℕ) (moved : Bool) (now : EngineVie
   end : end_of now.window ≡ place_of old.window + length part
   unmoved : moved ≡ false → now ≡ old
   told : WhereTold old.raw (ComesNext (reading_of old) part)
-  each : EachBrings 0 (reading_of old) (reading_of now)
+  each : EachBrings 0 0 (reading_of old) (reading_of now)
   forth : moved ≡ true → end_of old.window < end_of now.window
   raw_forth : moved ≡ true → WherePlace old.raw (old.raw.place < now.raw.place)
 
@@ -109,14 +111,23 @@ module _ (old now : EngineView) (part : List ℕ) (moved : Bool) (gathered : Gat
             ∙ enough.exact behind);
       }
 
-  -- a collector has enough without a call of the raw where all of it was held
-  needed_enough : (is : Bool) → moved ≡ is → (wanted first : List ℕ → List ℕ) (used : ℕ) (after : List ℕ) → ((rest : List ℕ) → wanted rest ≡ first rest) → MovedSome first old part moved → HasEnough wanted part (ahead_of now.window) used after → place_of now.window + used ≤ end_of old.window → now.raw ≡ old.raw
-  needed_enough false e wanted first used after same some enough within = ap (λ (engine : EngineView). engine.raw) (gathered.unmoved e)
-  needed_enough true e wanted first used after same some enough within =
+  -- where bytes were moved, some of the last of them are taken
+  uses_some : moved ≡ true → (wanted first : List ℕ → List ℕ) (used : ℕ) (after : List ℕ) → ((rest : List ℕ) → wanted rest ≡ first rest) → MovedSome first old part moved → HasEnough wanted part (ahead_of now.window) used after → 0 < used
+  uses_some e wanted first used after same some enough =
       let rest : List ℕ = ahead_of now.window ++ [] in
       let asked : length part < length (first (part ++ rest)) = some.asks e rest (λ none. absurd (omega (arith, gathered.ahead e, ap length none, length-append (ahead_of now.window) []))) in
       let size : length after ≡ length part + used = ap length enough.takes ∙ (length-append part (take used (ahead_of now.window)) ∙ ap (λ (n : ℕ). length part + n) (length-take-le used (ahead_of now.window) enough.fits)) in
-      absurd (omega (arith, gathered.further e, ap length (sym (same (part ++ rest)) ∙ enough.exact [])))
+      omega (arith, ap length (sym (same (part ++ rest)) ∙ enough.exact []))
+
+  -- a collector has enough without a call of the raw where all of it was held
+  needed_enough : (is : Bool) → moved ≡ is → (wanted first : List ℕ → List ℕ) (used : ℕ) (after : List ℕ) → ((rest : List ℕ) → wanted rest ≡ first rest) → MovedSome first old part moved → HasEnough wanted part (ahead_of now.window) used after → place_of now.window + used ≤ end_of old.window → now.raw ≡ old.raw
+  needed_enough false e wanted first used after same some enough within = ap (λ (engine : EngineView). engine.raw) (gathered.unmoved e)
+  needed_enough true e wanted first used after same some enough within = absurd (omega (arith, gathered.further e, uses_some e wanted first used after same some enough))
+
+  -- the last transfer was made for what the collector has
+  last_needed : (is : Bool) → moved ≡ is → (wanted first : List ℕ → List ℕ) (used : ℕ) (after : List ℕ) → ((rest : List ℕ) → wanted rest ≡ first rest) → MovedSome first old part moved → HasEnough wanted part (ahead_of now.window) used after → LastIsNeeded (reading_of old) (reading_of (record now { window = advanced used now.window }))
+  last_needed false e wanted first used after same some enough = inl (ap (λ (engine : EngineView). engine.raw) (gathered.unmoved e))
+  last_needed true e wanted first used after same some enough = inr (λ tells. omega (arith, gathered.last e tells, gathered.kept.is.window_is.cursor, length-drop now.window.cursor now.window.held, uses_some e wanted first used after same some enough))
 
   -- a gathering that has enough gives what was asked for
   pub stops_enough : (new : EngineView) (wanted first : List ℕ → List ℕ) (used : ℕ) (after : List ℕ) → ((rest : List ℕ) → wanted rest ≡ first rest) → MovedSome first old part moved → record now { window = advanced used now.window } ≡ new → HasEnough wanted part (ahead_of now.window) used after → GatherOutcome first (reading_of old) (Ok stop.Enough) after (reading_of new)
@@ -125,8 +136,11 @@ module _ (old now : EngineView) (part : List ℕ) (moved : Bool) (gathered : Gat
       gathers_ok first (reading_of old) stop.Enough after (reading_of new) (
         subst (λ (engine : EngineView). Gives (reading_of old) after (reading_of engine)) is (gives_some used after enough.fits enough.takes),
         subst (λ (engine : EngineView). NoWait old.raw engine.raw) is gathered.no_wait,
-        subst (λ (engine : EngineView). EachBrings 0 (reading_of old) (reading_of engine)) is gathered.each,
-        λ _ within. raw ∙ needed_enough moved refl wanted first used after same some enough (omega (arith, within, ap (λ (engine : EngineView). place_of engine.window) is)),
+        subst (λ (engine : EngineView). EachBrings 0 0 (reading_of old) (reading_of engine)) is (each_seen (reading_of old) (reading_of old) (reading_of now) (reading_of (record now { window = advanced used now.window })) 0 0 refl refl refl refl gathered.each),
+        record {
+          held = λ _ within. raw ∙ needed_enough moved refl wanted first used after same some enough (omega (arith, within, ap (λ (engine : EngineView). place_of engine.window) is));
+          last = subst (λ (engine : EngineView). LastIsNeeded (reading_of old) (reading_of engine)) is (last_needed moved refl wanted first used after same some enough);
+        },
       ) (gathers_enough wanted first used after same enough) (λ held. raw ∙ ap (λ (engine : EngineView). engine.raw) (unmoved_for_held old now part moved first gathered some held))
 
   -- the collector took all that is held
@@ -166,29 +180,29 @@ module _ (old now : EngineView) (part : List ℕ) (moved : Bool) (took : Took ol
   some_behind new count fills = grind (arith, keeps_told, still_tells, length-take)
 
   -- nothing more comes, or not yet: all that was collected is given
-  gives_all : (new : EngineView) → UsesUp now new → Gives (reading_of old) part (reading_of new)
-  gives_all new used = grind (arith, keeps_reading, keeps_then, no_fault_then)
+  gives_all : (new : EngineView) (empties : ℕ) → UsesUp empties now new → Gives (reading_of old) part (reading_of new)
+  gives_all new empties used = grind (arith, keeps_reading, keeps_then, no_fault_then)
 
-  last_of : (new : EngineView) → UsesUp now new → IsLast now → WhereTold old.raw (length old.raw.bytes ≤ place_of new.window)
+  last_of : (new : EngineView) → UsesUp 1 now new → IsLast now → WhereTold old.raw (length old.raw.bytes ≤ place_of new.window)
   last_of new used last = grind (arith, keeps_told, still_tells)
 
-  ends_at_last : (new : EngineView) (first : List ℕ → List ℕ) → first part ≡ part → WantsOn first part → UsesUp now new → IsLast now → NoWait now.raw new.raw → GatherOutcome first (reading_of old) (Ok stop.End) part (reading_of new)
+  ends_at_last : (new : EngineView) (first : List ℕ → List ℕ) → first part ≡ part → WantsOn first part → UsesUp 1 now new → IsLast now → NoWait now.raw new.raw → GatherOutcome first (reading_of old) (Ok stop.End) part (reading_of new)
   ends_at_last new first alone asks used last no_wait =
       gathers_ok first (reading_of old) stop.End part (reading_of new) (
-        gives_all new used,
+        gives_all new 1 used,
         no_wait_then old.raw now.raw new.raw took.kept.raw took.counts.no_wait no_wait,
         last_of new used last,
-        each_then old now new 1 took.kept took.each (each_but_last now new used),
+        each_then old now new 1 1 took.kept took.each (each_but_last now new 1 used),
       ) (gathers_at_end first (reading_of old) part alone took.told (λ tells. omega (arith, took.end, used.place, last_of new used last tells)), open_asking first part asks) (λ held. absurd (wants_past first (reading_of old) part asks all_held held))
 
-  waits_at : (new : EngineView) (first : List ℕ → List ℕ) → first part ≡ part → ((more : List ℕ) → IsFrontOf part (first (part ++ more))) → WantsOn first part → UsesUp now new → Rose now.raw.waits new.raw.waits → WaitsOnce now.raw new.raw → GatherOutcome first (reading_of old) (Ok stop.Waits) part (reading_of new)
+  waits_at : (new : EngineView) (first : List ℕ → List ℕ) → first part ≡ part → ((more : List ℕ) → IsFrontOf part (first (part ++ more))) → WantsOn first part → UsesUp 0 now new → Rose now.raw.waits new.raw.waits → WaitsOnce now.raw new.raw → GatherOutcome first (reading_of old) (Ok stop.Waits) part (reading_of new)
   waits_at new first alone goes_on asks used waits once =
       gathers_ok first (reading_of old) stop.Waits part (reading_of new) (
-        gives_all new used,
+        gives_all new 0 used,
         omega (arith, took.kept.raw.waits, waits),
         used.end ∙ sym used.place,
         waits_once_then (reading_of old) (reading_of now) (reading_of new) (keeps_reading old now took.kept) took.counts.no_wait once,
-        each_then old now new 1 took.kept took.each (each_but_last now new used),
+        each_then old now new 1 0 took.kept took.each (each_but_last now new 0 used),
       ) (gathers_waiting first (reading_of old) part alone goes_on took.told, open_asking first part asks) (λ held. absurd (wants_past first (reading_of old) part asks all_held held))
 
 -- A piece of which all was taken.
@@ -217,11 +231,11 @@ module _ (old now : EngineView) (part after piece : List ℕ) (moved : Bool) (ga
       }
 
   -- a gathering that comes to the end gives all that was collected
-  pub stops_at_end : (first : List ℕ → List ℕ) → ((rest : List ℕ) → wanted rest ≡ first rest) → UsesUp now new → IsLast now → NoWait now.raw new.raw → GatherOutcome first (reading_of old) (Ok stop.End) after (reading_of new)
+  pub stops_at_end : (first : List ℕ → List ℕ) → ((rest : List ℕ) → wanted rest ≡ first rest) → UsesUp 1 now new → IsLast now → NoWait now.raw new.raw → GatherOutcome first (reading_of old) (Ok stop.End) after (reading_of new)
   stops_at_end first same used last no_wait = ends_at_last old now after moved took_piece new first (sym (same after) ∙ more.alone) (asks_first wanted first part piece after same more) used last no_wait
 
   -- a gathering that a wait stops gives all that was collected
-  pub stops_waiting : (first : List ℕ → List ℕ) → ((rest : List ℕ) → wanted rest ≡ first rest) → UsesUp now new → Rose now.raw.waits new.raw.waits → WaitsOnce now.raw new.raw → GatherOutcome first (reading_of old) (Ok stop.Waits) after (reading_of new)
+  pub stops_waiting : (first : List ℕ → List ℕ) → ((rest : List ℕ) → wanted rest ≡ first rest) → UsesUp 0 now new → Rose now.raw.waits new.raw.waits → WaitsOnce now.raw new.raw → GatherOutcome first (reading_of old) (Ok stop.Waits) after (reading_of new)
   stops_waiting first same used waits once = waits_at old now after moved took_piece new first (sym (same after) ∙ more.alone)
       (λ rest. subst (IsFrontOf after) (same (after ++ rest)) (more.goes_on rest)) (asks_first wanted first part piece after same more) used waits once
 
@@ -249,7 +263,7 @@ starves_so_far old now new part after true first gathered some starves =
         further = gathered.forth refl;
         stands = gathered.raw_forth refl;
         some = some.left refl;
-        each = gathered.each;
+        each = each_seen (reading_of old) (reading_of old) (reading_of now) (reading_of (record now { life = life.Failed })) 0 0 refl refl refl refl gathered.each;
       });
       gathers = tt;
       starves = λ failed. some.asked refl;
@@ -270,7 +284,7 @@ fails_so_far old now new part after moved wanted first piece fault.RawFault gath
         failed = fails.failed;
         forth = omega (arith, place);
         reach = next_reaches (reading_of old) (reading_of new) after place took.told;
-        each = each_then old now new 1 gathered.kept gathered.each (each_but_failed now new fails);
+        each = each_then old now new 1 0 gathered.kept gathered.each (each_but_failed now new fails);
       };
       gathers = tt;
       starves = tt;

@@ -6,6 +6,7 @@ pub mod PassingOn
 pub mod Putting
 pub mod Seen
 pub mod Transfers
+pub mod Filling
 pub mod ReadingSteps
 pub mod Gathering
 pub mod Reading

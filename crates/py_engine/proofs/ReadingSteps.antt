@@ -7,14 +7,15 @@ use Rattle.py_flat.specs.declared.fault.IoFault.{IoFault}
 use Rattle.py_flat.specs.declared.fault.IoFault.TheVariants as fault
 use Rattle.py_flat.specs.declared.life.Life.TheVariants as life
 use Rattle.py_flat.specs.Bytes.{left_at}
-use Rattle.py_raw.specs.RawStream.{WhereTold, WherePlace, NoFault, NoWait, LeavesCounts}
+use Rattle.py_raw.specs.RawStream.{WhereTold, WherePlace, WhereTransfers, NoFault, NoWait, LeavesCounts}
 use Rattle.py_raw.proofs.ReadingOn.{no_fault_then, no_wait_then, uncounted_then}
 use Rattle.py_stream.specs.declared.stop.Stop.{Stop}
 use Rattle.py_stream.specs.declared.stop.Stop.TheVariants as stop
 use Rattle.py_stream.specs.Stream.{Stream, file_of, nothing_owed}
-use Rattle.py_stream.specs.Answers.{IsNear, OnlyAsked}
-use Rattle.py_stream.specs.Reading.{KeepsReading, EachBrings, Reaches, Gives, FailsReading, FailsMoved, RestOutcome}
-use Rattle.py_stream.proofs.ReadingSteps.{uncounted, more_taken, next_behind, within_end, next_reaches, same_bytes, gives_then, waits_once_then, still_tells as stream_still_tells, keeps_then as stream_keeps_then, keeps_failed as stream_keeps_failed, each_then as stream_each_then}
+use Rattle.py_stream.specs.Answers.{IsNear, OnlyAsked, EachBrings}
+use Rattle.py_stream.proofs.Coming.{each_still, each_seen, each_then as stream_each_then}
+use Rattle.py_stream.specs.Reading.{KeepsReading, Reaches, Gives, FailsReading, FailsMoved, RestOutcome}
+use Rattle.py_stream.proofs.ReadingSteps.{uncounted, more_taken, next_behind, within_end, next_reaches, same_bytes, gives_then, waits_once_then, still_tells as stream_still_tells, keeps_then as stream_keeps_then, keeps_failed as stream_keeps_failed}
 use Rattle.py_stream.proofs.ReadingAnswers.{Reads as StreamReads}
 use Rattle.py_stream.proofs.ReadingOn.{asked_gives, asked_each}
 use Rattle.py_engine.specs.declared.data.reading.Step.TheVariants as step
@@ -63,8 +64,8 @@ held_enough old count buffer is live all fits front = record {
   stops = (
     gives_front old (record old { window = advanced count old.window }) count buffer (omega arith) (keeps_advanced old count is fits) (λ exact. refl) live (omega arith) (λ tells. held_next old.raw old.window count is.window_is.cursor fits (is.told tells live) ∙ sym front),
     λ exact. refl,
-    λ tells. omega arith,
-    λ _ within. refl,
+    each_still (reading_of old) (reading_of (record old { window = advanced count old.window })) 0 0 refl (omega arith),
+    record { held = λ _ within. refl; last = inl refl },
   );
 }
 
@@ -78,7 +79,7 @@ pub record Reads (old : EngineView) (was : Bool) (count : ℕ) (buffer : List �
   pub end : end_of now.window ≡ place_of old.window + count
   pub told : WhereTold old.raw (take count (left_at old.raw.bytes (place_of old.window)) ≡ take count buffer)
   pub ahead : length (ahead_of old.window) ≤ count
-  pub each : EachBrings 0 (reading_of old) (reading_of now)
+  pub each : EachBrings 0 0 (reading_of old) (reading_of now)
   pub stepped : ((moved ≡ was) × (now ≡ old)) ⊎ ((moved ≡ true) × (0 < count) × (end_of old.window < end_of now.window) × WherePlace old.raw (old.raw.place < now.raw.place))
 
 -- how far a reading is before its first transfer
@@ -105,11 +106,11 @@ behind_told old was count buffer moved now more rest new reads steps tells = gri
 pub reads_on : (old : EngineView) (was : Bool) (count : ℕ) (buffer : List ℕ) (moved : Bool) (now : EngineView) (more : ℕ) (rest : List ℕ) (new : EngineView) → Reads old was count buffer moved now → StepOutcome now moved (Ok (step.On more)) rest new → Reads old was (count + more) (take count buffer ++ rest) true new
 reads_on old was count buffer moved now more rest new reads outcome =
     let steps : StepsOn now more rest new = outcome.0 in
-    grind (arith, keeps_then old now new reads.kept steps.kept, uncounted_then old.raw now.raw new.raw reads.kept.raw reads.counts steps.counts, outcome.1, length-append (take count buffer) rest, length-take-le count buffer (omega (arith, reads.less)), reads.end, steps.place, outcome.2, behind_told old was count buffer moved now more rest new reads steps, reads.ahead, each_then old now new 0 reads.kept reads.each steps.each, end_not_back, not_back)
+    grind (arith, keeps_then old now new reads.kept steps.kept, uncounted_then old.raw now.raw new.raw reads.kept.raw reads.counts steps.counts, outcome.1, length-append (take count buffer) rest, length-take-le count buffer (omega (arith, reads.less)), reads.end, steps.place, outcome.2, behind_told old was count buffer moved now more rest new reads steps, reads.ahead, each_then old now new 0 0 reads.kept reads.each steps.each, end_not_back, not_back)
 
 -- the last transfer filled the buffer
-pub reads_enough : (old : EngineView) (was : Bool) (count : ℕ) (buffer : List ℕ) (moved : Bool) (now : EngineView) (more : ℕ) (rest : List ℕ) (new : EngineView) → Reads old was count buffer moved now → StepsOn now more rest new → more ≡ length rest → place_of new.window ≡ end_of now.window + more → ReadsInto old (record { count = count + more; stop = stop.Enough }) (take count buffer ++ rest) new
-reads_enough old was count buffer moved now more rest new reads steps all place =
+pub reads_enough : (old : EngineView) (was : Bool) (count : ℕ) (buffer : List ℕ) (moved : Bool) (now : EngineView) (more : ℕ) (rest : List ℕ) (new : EngineView) → Reads old was count buffer moved now → StepsOn now more rest new → more ≡ length rest → place_of new.window ≡ end_of now.window + more → WhereTransfers now.raw (end_of new.window < place_of new.window + new.raw.reads.last) → ReadsInto old (record { count = count + more; stop = stop.Enough }) (take count buffer ++ rest) new
+reads_enough old was count buffer moved now more rest new reads steps all place last =
     let long : length (take count buffer ++ rest) ≡ count + more = length-append (take count buffer) rest ∙ omega (arith, length-take-le count buffer (omega (arith, reads.less))) in
     record {
       fits = omega arith;
@@ -119,14 +120,17 @@ reads_enough old was count buffer moved now more rest new reads steps all place 
       stops = (
         gives_front old new (count + more) (take count buffer ++ rest) (omega arith) (keeps_then old now new reads.kept steps.kept) (no_fault_then old.raw now.raw new.raw reads.kept.raw reads.counts.no_fault steps.counts.no_fault) steps.live (omega (arith, reads.end)) (behind_told old was count buffer moved now more rest new reads steps),
         no_wait_then old.raw now.raw new.raw reads.kept.raw reads.counts.no_wait steps.counts.no_wait,
-        each_then old now new 0 reads.kept reads.each steps.each,
-        λ _ within. absurd (omega (arith, within, place, end_not_back old was count buffer moved now reads, steps.some)),
+        each_then old now new 0 0 reads.kept reads.each steps.each,
+        record {
+          held = λ _ within. absurd (omega (arith, within, place, end_not_back old was count buffer moved now reads, steps.some));
+          last = inr (λ tells. last (reads.kept.raw.tells_transfers ∙ tells));
+        },
       );
     }
 
 -- no more came: what came is given
-pub reads_given : (old : EngineView) (was : Bool) (count : ℕ) (buffer : List ℕ) (moved : Bool) (now : EngineView) (rest : List ℕ) (new : EngineView) → Reads old was count buffer moved now → UsesUp now new → Gives (reading_of old) (take count (take count buffer ++ rest)) (reading_of new)
-reads_given old was count buffer moved now rest new reads uses = grind (arith, length-take-le, gives_front, length-append, keeps_then, no_fault_then, take_at)
+pub reads_given : (old : EngineView) (was : Bool) (count : ℕ) (buffer : List ℕ) (moved : Bool) (now : EngineView) (rest : List ℕ) (new : EngineView) (empties : ℕ) → Reads old was count buffer moved now → UsesUp empties now new → Gives (reading_of old) (take count (take count buffer ++ rest)) (reading_of new)
+reads_given old was count buffer moved now rest new empties reads uses = grind (arith, length-take-le, gives_front, length-append, keeps_then, no_fault_then, take_at)
 
 -- a reading into a buffer whose last transfer brought nothing comes to what came before
 pub reads_none : (old : EngineView) (was : Bool) (count : ℕ) (buffer : List ℕ) (moved : Bool) (now : EngineView) (rest : List ℕ) (new : EngineView) (why : Stop) → why ≢ stop.Enough → 0 < length rest → Reads old was count buffer moved now → StepOutcome now moved (Ok (step.Stopped 0 why)) rest new → ReadsInto old (record { count = count; stop = why }) (take count buffer ++ rest) new
@@ -137,10 +141,10 @@ reads_none old was count buffer moved now rest new stop.End other some reads out
   less = λ before. omega (arith, some, length-append (take count buffer) rest, length-take-le count buffer (omega (arith, reads.less)));
   idle = λ held. absurd (omega (arith, held, some, reads.ahead, length-append (take count buffer) rest, length-take-le count buffer (omega (arith, reads.less))));
   stops = (
-    reads_given old was count buffer moved now rest new reads outcome.1,
+    reads_given old was count buffer moved now rest new 1 reads outcome.1,
     no_wait_then old.raw now.raw new.raw reads.kept.raw reads.counts.no_wait outcome.3,
     λ tells. subst (λ (bytes : List ℕ). length bytes ≤ place_of new.window) (keeps_told old now reads.kept tells) (subst (λ (place : ℕ). length now.raw.bytes ≤ place) (sym outcome.1.place) (outcome.2 (still_tells old now reads.kept tells))),
-    each_then old now new 1 reads.kept reads.each (each_but_last now new outcome.1),
+    each_then old now new 1 1 reads.kept reads.each (each_but_last now new 1 outcome.1),
   );
 }
 reads_none old was count buffer moved now rest new stop.Waits other some reads outcome = record {
@@ -149,17 +153,17 @@ reads_none old was count buffer moved now rest new stop.Waits other some reads o
   less = λ before. omega (arith, some, length-append (take count buffer) rest, length-take-le count buffer (omega (arith, reads.less)));
   idle = λ held. absurd (omega (arith, held, some, reads.ahead, length-append (take count buffer) rest, length-take-le count buffer (omega (arith, reads.less))));
   stops = (
-    reads_given old was count buffer moved now rest new reads outcome.1,
+    reads_given old was count buffer moved now rest new 0 reads outcome.1,
     omega (arith, reads.kept.raw.waits, outcome.2),
     outcome.1.end ∙ sym outcome.1.place,
     waits_once_then (reading_of old) (reading_of now) (reading_of new) (keeps_reading old now reads.kept) reads.counts.no_wait outcome.3,
-    each_then old now new 1 reads.kept reads.each (each_but_last now new outcome.1),
+    each_then old now new 1 0 reads.kept reads.each (each_but_last now new 0 outcome.1),
   );
 }
 
 -- the reading stops
 pub reads_stopped : (old : EngineView) (was : Bool) (count : ℕ) (buffer : List ℕ) (moved : Bool) (now : EngineView) (more : ℕ) (why : Stop) (rest : List ℕ) (new : EngineView) → 0 < length rest → Reads old was count buffer moved now → StepOutcome now moved (Ok (step.Stopped more why)) rest new → ReadsInto old (record { count = count + more; stop = why }) (take count buffer ++ rest) new
-reads_stopped old was count buffer moved now more stop.Enough rest new some reads outcome = reads_enough old was count buffer moved now more rest new reads outcome.0 outcome.1 outcome.2
+reads_stopped old was count buffer moved now more stop.Enough rest new some reads outcome = reads_enough old was count buffer moved now more rest new reads outcome.0 outcome.1 outcome.2 outcome.3
 reads_stopped old was count buffer moved now more stop.End rest new some reads outcome =
     let same : count ≡ count + more = omega (arith, outcome.0) in
     subst (λ (n : ℕ). ReadsInto old (record { count = n; stop = stop.End }) (take count buffer ++ rest) new) same (reads_none old was count buffer moved now rest new stop.End (λ (e : stop.End ≡ stop.Enough). cc) some reads (refl, outcome.1, outcome.2, outcome.3))
@@ -173,7 +177,7 @@ reaches_come old was count buffer moved now new reads within tells = omega (arit
 
 -- the transfer failed
 reads_failed : (old : EngineView) (was : Bool) (count : ℕ) (buffer : List ℕ) (moved : Bool) (now new : EngineView) → Reads old was count buffer moved now → FailsByRaw now new → FailsReading (reading_of old) (reading_of new)
-reads_failed old was count buffer moved now new reads fails = grind (arith, keeps_reading old new (keeps_then old now new reads.kept fails.kept), reads.kept.raw.faults, fails.cause, no_wait_then old.raw now.raw new.raw reads.kept.raw reads.counts.no_wait fails.no_wait, fails.place, reads.end, reaches_come old was count buffer moved now new reads (omega (arith, fails.place, reads.end)), each_then old now new 1 reads.kept reads.each (each_but_failed now new fails))
+reads_failed old was count buffer moved now new reads fails = grind (arith, keeps_reading old new (keeps_then old now new reads.kept fails.kept), reads.kept.raw.faults, fails.cause, no_wait_then old.raw now.raw new.raw reads.kept.raw reads.counts.no_wait fails.no_wait, fails.place, reads.end, reaches_come old was count buffer moved now new reads (omega (arith, fails.place, reads.end)), each_then old now new 1 0 reads.kept reads.each (each_but_failed now new fails))
 
 -- memory ran out once bytes had moved
 reads_starved : (old : EngineView) (was : Bool) (count : ℕ) (buffer : List ℕ) (now : EngineView) → Reads old was count buffer true now → FailsStarved was (reading_of old) (reading_of (record now { life = life.Failed }))
@@ -190,7 +194,7 @@ reads_starved old was count buffer now reads =
       stands = not_back old was count buffer true now reads;
       stands_further = λ none. (left none).2;
       some = λ none tells nothing. absurd (omega (arith, (left none).0, ap length (reads.told tells), ap (λ (bytes : List ℕ). length (take count bytes)) nothing, length-take {A = ℕ} count [], length-take-le count buffer (omega (arith, reads.less))));
-      each = reads.each;
+      each = each_seen (reading_of old) (reading_of old) (reading_of now) (reading_of (record now { life = life.Failed })) 0 0 refl refl refl refl reads.each;
     }
 
 reads_wanting : (old : EngineView) (was : Bool) (count : ℕ) (buffer : List ℕ) (moved : Bool) (now new : EngineView) → Reads old was count buffer moved now → StarvesWith moved now new → ((was ≡ false) × (new ≡ old)) ⊎ FailsStarved was (reading_of old) (reading_of new)
@@ -220,7 +224,7 @@ reads_refused old was count buffer moved now why rest new some reads never = abs
 pub record ReadsAll (before : Stream) (bytes : List ℕ) (more : ℕ) (moved : Bool) (now : Stream) : Type 0 where
   pub gives : Gives before bytes now
   pub no_wait : NoWait before.raw now.raw
-  pub each : EachBrings 0 before now
+  pub each : EachBrings 0 0 before now
   pub stands : WherePlace before.raw (before.raw.place ≡ before.raw_place)
   pub bare : before.owed ≡ nothing_owed before.place
   pub some : 0 < more
@@ -260,7 +264,7 @@ module _ (before : Stream) (bytes : List ℕ) (more : ℕ) (moved : Bool) (now n
       record {
         gives = subst (λ (xs : List ℕ). Gives before xs (reading_of new)) (sym brings.behind) (gives_then before (reading_of now) (reading_of new) bytes brings.part reads.bare reads.gives brings.stops.0);
         no_wait = no_wait_then before.raw now.raw new.raw reads.gives.kept.raw reads.no_wait brings.stops.1;
-        each = stream_each_then before (reading_of now) (reading_of new) 0 reads.gives.kept reads.each brings.stops.2;
+        each = stream_each_then before (reading_of now) (reading_of new) 0 0 reads.gives.kept.raw reads.each brings.stops.2;
         stands = reads.stands;
         bare = reads.bare;
         some = omega (arith, reads.some);
@@ -276,14 +280,14 @@ module _ (before : Stream) (bytes : List ℕ) (more : ℕ) (moved : Bool) (now n
     subst (λ (xs : List ℕ). Gives before xs (reading_of new)) (sym brings.behind) (gives_then before (reading_of now) (reading_of new) bytes brings.part reads.bare reads.gives brings.stops.0),
     no_wait_then before.raw now.raw new.raw reads.gives.kept.raw reads.no_wait brings.stops.1,
     λ tells. subst (λ (xs : List ℕ). length xs ≤ place_of new.window) (same_bytes before (reading_of now) reads.bare reads.gives.kept tells) (brings.stops.2 (stream_still_tells before (reading_of now) reads.gives.kept tells)),
-    stream_each_then before (reading_of now) (reading_of new) 1 reads.gives.kept reads.each brings.stops.3,
+    stream_each_then before (reading_of now) (reading_of new) 1 1 reads.gives.kept.raw reads.each brings.stops.3,
   )
   all_read stop.Waits after other brings = (
     subst (λ (xs : List ℕ). Gives before xs (reading_of new)) (sym brings.behind) (gives_then before (reading_of now) (reading_of new) bytes brings.part reads.bare reads.gives brings.stops.0),
     omega (arith, reads.gives.kept.raw.waits, brings.stops.1),
     brings.stops.2,
     waits_once_then before (reading_of now) (reading_of new) reads.gives.kept reads.no_wait brings.stops.3,
-    stream_each_then before (reading_of now) (reading_of new) 1 reads.gives.kept reads.each brings.stops.4,
+    stream_each_then before (reading_of now) (reading_of new) 1 0 reads.gives.kept.raw reads.each brings.stops.4,
   )
 
   -- a turn found no memory once bytes had moved
@@ -306,7 +310,7 @@ module _ (before : Stream) (bytes : List ℕ) (more : ℕ) (moved : Bool) (now n
         further = omega (arith, raw_place, fails.further refl);
         stands = λ tells. omega (arith, asked.place tells, fails.stands_further refl (here.raw.tells_place ∙ tells));
         some = λ tells none. fails.some refl (stream_still_tells before (reading_of now) here tells) (ap (λ (bytes : List ℕ). left_at bytes (place_of now.window)) (same_bytes before (reading_of now) reads.bare here tells) ∙ (ap (left_at (file_of before).bytes) place ∙ none));
-        each = stream_each_then before (reading_of now) (reading_of new) 0 here reads.each fails.each;
+        each = stream_each_then before (reading_of now) (reading_of new) 0 0 here.raw reads.each fails.each;
       }
 
 -- a stream that memory failed between two turns
@@ -323,6 +327,6 @@ all_wanting before bytes more true now new reads (inr fails) = inl (inr (all_mov
 
 -- a turn was refused
 pub all_refused : (before : Stream) (bytes : List ℕ) (more : ℕ) (moved : Bool) (now new : EngineView) (why : IoFault) (after : List ℕ) → ReadsAll before bytes more moved (reading_of now) → ReadMoreOutcome now moved bytes more (Err why) after new → RestOutcome before (Err why) after (reading_of new)
-all_refused before bytes more moved now new fault.RawFault after reads fails = grind (arith, stream_keeps_then before (reading_of now) (reading_of new) reads.gives.kept fails.kept, reads.gives.kept.raw.faults, fails.cause, no_wait_then before.raw now.raw new.raw reads.gives.kept.raw reads.no_wait fails.no_wait, reads.gives.place, fails.forth, reaches_on before bytes more moved now new reads fails.reach, stream_each_then before (reading_of now) (reading_of new) 1 reads.gives.kept reads.each fails.each)
+all_refused before bytes more moved now new fault.RawFault after reads fails = grind (arith, stream_keeps_then before (reading_of now) (reading_of new) reads.gives.kept fails.kept, reads.gives.kept.raw.faults, fails.cause, no_wait_then before.raw now.raw new.raw reads.gives.kept.raw reads.no_wait fails.no_wait, reads.gives.place, fails.forth, reaches_on before bytes more moved now new reads fails.reach, stream_each_then before (reading_of now) (reading_of new) 1 0 reads.gives.kept.raw reads.each fails.each)
 all_refused before bytes more moved now new fault.NoMemory after reads wants = all_wanting before bytes more moved now new reads wants
 all_refused before bytes more moved now new why after reads never = absurd never

@@ -12,8 +12,9 @@ use Rattle.py_engine.specs.Window.{WindowView, IsWindow, place_of, ahead_of, is_
 use Rattle.py_engine.specs.Engine.{EngineView, HoldsBytes}
 use Rattle.py_engine.specs.Reading.{reading_of, IsReading, KeepsEngine, FailsByRaw, UsesUp}
 use Rattle.py_stream.specs.declared.access.Access.{Access}
-use Rattle.py_stream.specs.Reading.{KeepsReading, EachBrings}
-use Rattle.py_stream.proofs.ReadingSteps.{each_then as stream_each_then}
+use Rattle.py_stream.specs.Answers.{EachBrings}
+use Rattle.py_stream.specs.Reading.{KeepsReading}
+use Rattle.py_stream.proofs.Coming.{came_unread, each_then as stream_each_then}
 use Rattle.py_engine.proofs.Seen.{near}
 
 -- Engines.
@@ -58,16 +59,16 @@ keeps_reading old new kept = grind (arith, near)
 -- How many transfers were made, by the bytes that they brought.
 
 -- each transfer of two steps brought a byte, but for those of the second that brought none
-pub each_then : (old mid new : EngineView) (others : ℕ) → KeepsEngine old mid → EachBrings 0 (reading_of old) (reading_of mid) → EachBrings others (reading_of mid) (reading_of new) → EachBrings others (reading_of old) (reading_of new)
-each_then old mid new others kept first second = stream_each_then (reading_of old) (reading_of mid) (reading_of new) others (keeps_reading old mid kept) first second
+pub each_then : (old mid new : EngineView) (others empties : ℕ) → KeepsEngine old mid → EachBrings 0 0 (reading_of old) (reading_of mid) → EachBrings others empties (reading_of mid) (reading_of new) → EachBrings others empties (reading_of old) (reading_of new)
+each_then old mid new others empties kept first second = stream_each_then (reading_of old) (reading_of mid) (reading_of new) others empties kept.raw first second
 
 -- each transfer brought a byte, but for one that brought nothing
-pub each_but_last : (old new : EngineView) → UsesUp old new → EachBrings 1 (reading_of old) (reading_of new)
-each_but_last old new uses tells = omega (arith, uses.transferred.transfers tells, uses.end)
+pub each_but_last : (old new : EngineView) (empties : ℕ) → UsesUp empties old new → EachBrings 1 empties (reading_of old) (reading_of new)
+each_but_last old new empties uses = record { transfers = λ tells. omega (arith, uses.transferred.transfers tells, uses.end); came = uses.came }
 
 -- each transfer brought a byte, but for one that failed
-pub each_but_failed : (old new : EngineView) → FailsByRaw old new → EachBrings 1 (reading_of old) (reading_of new)
-each_but_failed old new fails tells = omega (arith, fails.transfers tells, fails.place, fails.kept.is.window_is.cursor)
+pub each_but_failed : (old new : EngineView) → FailsByRaw old new → EachBrings 1 0 (reading_of old) (reading_of new)
+each_but_failed old new fails = record { transfers = λ tells. omega (arith, fails.transfers tells, fails.end); came = came_unread (reading_of old) (reading_of new) fails.end fails.reads }
 
 -- the cursor moved on, of a window that owes nothing
 pub settled_advanced : (window : WindowView) (count : ℕ) → window.from ≡ window.to → (advanced count window).from ≡ (advanced count window).to

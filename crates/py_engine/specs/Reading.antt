@@ -7,11 +7,11 @@ use Rattle.py_flat.specs.declared.life.Life.TheVariants as life
 use Rattle.py_flat.specs.Bytes.{left_at}
 use Rattle.py_flat.specs.Causes.{Rose}
 use Rattle.py_flat.specs.ExactStep.{rest}
-use Rattle.py_raw.specs.RawStream.{Keeps, StaysOpen, WhereTold, WherePlace, WhereTransfers, KeepsBytes, NoFault, NoWait, WaitsOnce, LeavesCounts, AnswersFor}
+use Rattle.py_raw.specs.RawStream.{Keeps, StaysOpen, WhereTold, WherePlace, WhereTransfers, KeepsBytes, NoFault, NoWait, WaitsOnce, LeavesCounts, AnswersFor, KeepsReads}
 use Rattle.py_stream.specs.Access.{can_of, is_read}
 use Rattle.py_stream.specs.Stream.{Stream, file_of, nothing_owed}
-use Rattle.py_stream.specs.Answers.{OnlyAsked}
-use Rattle.py_stream.specs.Reading.{KeepsReading, EachBrings, Reaches, FailsReading, StopOutcome, is_wait}
+use Rattle.py_stream.specs.Answers.{OnlyAsked, CameByReads, EachBrings}
+use Rattle.py_stream.specs.Reading.{KeepsReading, Reaches, FailsReading, StopOutcome, is_wait}
 use Rattle.py_stream.specs.declared.stop.Stop.{Stop}
 use Rattle.py_stream.specs.declared.stop.Stop.TheVariants as stop
 use Rattle.py_engine.specs.declared.window.Filled.{Filled}
@@ -66,6 +66,8 @@ pub record FailsByRaw (old new : EngineView) : Type 0 where
   pub no_wait : NoWait old.raw new.raw
   pub failed : new.life ≡ life.Failed
   pub place : place_of new.window ≡ end_of old.window
+  pub end : end_of new.window ≡ end_of old.window
+  pub reads : KeepsReads old.raw new.raw
   pub transfers : WhereTransfers old.raw (new.raw.transfers ≤ old.raw.transfers + 1)
 
 -- What one transfer leaves.
@@ -76,10 +78,12 @@ pub record Transferred (old new : EngineView) : Type 0 where
   pub no_fault : NoFault old.raw new.raw
   pub live : new.life ≡ life.Live
   pub transfers : WhereTransfers old.raw (new.raw.transfers ≤ old.raw.transfers + 1)
+  pub came : CameByReads 1 (reading_of old) (reading_of new)
 
--- the raw would have blocked, or said that nothing comes: the window is used up
-pub record UsesUp (old new : EngineView) : Type 0 where
+-- the raw would have blocked, or a read of it brought none, as nothing comes: the window is used up
+pub record UsesUp (empties : ℕ) (old new : EngineView) : Type 0 where
   pub transferred : Transferred old new
+  pub came : CameByReads empties (reading_of old) (reading_of new)
   pub place : place_of new.window ≡ end_of old.window
   pub end : end_of new.window ≡ end_of old.window
   pub none : ahead_of new.window ≡ []
@@ -105,14 +109,15 @@ pub record Fills (old : EngineView) (count : ℕ) (new : EngineView) : Type 0 wh
   pub holds : HoldsNew old.window count new.window
   pub some : 0 < count
   pub told : WhereTold old.raw (take count (left_at old.raw.bytes (end_of old.window)) ≡ new.window.held)
-  pub each : EachBrings 0 (reading_of old) (reading_of new)
+  pub each : EachBrings 0 0 (reading_of old) (reading_of new)
+  pub last : WhereTransfers old.raw (new.raw.reads.last ≡ count)
   pub forth : WherePlace old.raw (old.raw.place < new.raw.place)
 
 -- one transfer into the window: it brought bytes, nothing comes, the raw waits or failed, or memory ran out
 abbrev pub FillsOutcome : EngineView → Bool → Result Filled IoFault → EngineView → Type 0
 FillsOutcome old moved (Ok (filled.More count)) new = Fills old count new
-FillsOutcome old moved (Ok filled.End) new = UsesUp old new × IsLast old × NoWait old.raw new.raw
-FillsOutcome old moved (Ok filled.Waits) new = UsesUp old new × Rose old.raw.waits new.raw.waits × WaitsOnce old.raw new.raw
+FillsOutcome old moved (Ok filled.End) new = UsesUp 1 old new × IsLast old × NoWait old.raw new.raw
+FillsOutcome old moved (Ok filled.Waits) new = UsesUp 0 old new × Rose old.raw.waits new.raw.waits × WaitsOnce old.raw new.raw
 FillsOutcome old moved (Err fault.RawFault) new = FailsByRaw old new
 FillsOutcome old moved (Err fault.NoMemory) new = RawStarves moved old new
 FillsOutcome old moved (Err other) new = ⊥
@@ -125,14 +130,15 @@ pub record Passes (old : EngineView) (count : ℕ) (buffer : List ℕ) (new : En
   pub some : 0 < count
   pub window_is : new.window ≡ emptied_at (end_of old.window + count) old.window
   pub told : WhereTold old.raw (take count (left_at old.raw.bytes (end_of old.window)) ≡ take count buffer)
-  pub each : EachBrings 0 (reading_of old) (reading_of new)
+  pub each : EachBrings 0 0 (reading_of old) (reading_of new)
+  pub last : WhereTransfers old.raw (new.raw.reads.last ≡ count)
   pub forth : WherePlace old.raw (old.raw.place < new.raw.place)
 
 -- one transfer past the window into a caller's buffer: it brought bytes, nothing comes, the raw waits or failed, or memory ran out
 abbrev pub PassesOutcome : EngineView → Bool → Result Filled IoFault → List ℕ → EngineView → Type 0
 PassesOutcome old moved (Ok (filled.More count)) buffer new = Passes old count buffer new
-PassesOutcome old moved (Ok filled.End) buffer new = UsesUp old new × IsLast old × NoWait old.raw new.raw
-PassesOutcome old moved (Ok filled.Waits) buffer new = UsesUp old new × Rose old.raw.waits new.raw.waits × WaitsOnce old.raw new.raw
+PassesOutcome old moved (Ok filled.End) buffer new = UsesUp 1 old new × IsLast old × NoWait old.raw new.raw
+PassesOutcome old moved (Ok filled.Waits) buffer new = UsesUp 0 old new × Rose old.raw.waits new.raw.waits × WaitsOnce old.raw new.raw
 PassesOutcome old moved (Err fault.RawFault) buffer new = FailsByRaw old new
 PassesOutcome old moved (Err fault.NoMemory) buffer new = RawStarves moved old new
 PassesOutcome old moved (Err other) buffer new = ⊥
@@ -153,16 +159,16 @@ pub record StepsOn (old : EngineView) (count : ℕ) (rest : List ℕ) (new : Eng
   pub some : 0 < count
   pub place : end_of old.window ≤ place_of new.window
   pub told : WhereTold old.raw (take count (left_at old.raw.bytes (end_of old.window)) ≡ take count rest)
-  pub each : EachBrings 0 (reading_of old) (reading_of new)
+  pub each : EachBrings 0 0 (reading_of old) (reading_of new)
   pub forth : WherePlace old.raw (old.raw.place < new.raw.place)
 
 -- one transfer: it brought less than what is left of the buffer, and the window's end lies after it; or as much, and the
--- place does; or none
+-- place does, among what it brought; or none
 abbrev pub StepOutcome : EngineView → Bool → Result Step IoFault → List ℕ → EngineView → Type 0
 StepOutcome old moved (Ok (step.On count)) rest new = StepsOn old count rest new × (count < length rest) × (end_of new.window ≡ end_of old.window + count)
-StepOutcome old moved (Ok (step.Stopped count stop.Enough)) rest new = StepsOn old count rest new × (count ≡ length rest) × (place_of new.window ≡ end_of old.window + count)
-StepOutcome old moved (Ok (step.Stopped count stop.End)) rest new = (count ≡ 0) × UsesUp old new × IsLast old × NoWait old.raw new.raw
-StepOutcome old moved (Ok (step.Stopped count stop.Waits)) rest new = (count ≡ 0) × UsesUp old new × Rose old.raw.waits new.raw.waits × WaitsOnce old.raw new.raw
+StepOutcome old moved (Ok (step.Stopped count stop.Enough)) rest new = StepsOn old count rest new × (count ≡ length rest) × (place_of new.window ≡ end_of old.window + count) × WhereTransfers old.raw (end_of new.window < place_of new.window + new.raw.reads.last)
+StepOutcome old moved (Ok (step.Stopped count stop.End)) rest new = (count ≡ 0) × UsesUp 1 old new × IsLast old × NoWait old.raw new.raw
+StepOutcome old moved (Ok (step.Stopped count stop.Waits)) rest new = (count ≡ 0) × UsesUp 0 old new × Rose old.raw.waits new.raw.waits × WaitsOnce old.raw new.raw
 StepOutcome old moved (Err fault.RawFault) rest new = FailsByRaw old new
 StepOutcome old moved (Err fault.NoMemory) rest new = RawStarves moved old new
 StepOutcome old moved (Err other) rest new = ⊥
@@ -179,7 +185,7 @@ pub record FailsStarved (moved : Bool) (before after : Stream) : Type 0 where
   pub stands : WherePlace before.raw (before.raw.place ≤ after.raw.place)
   pub stands_further : moved ≡ false → WherePlace before.raw (before.raw.place < after.raw.place)
   pub some : moved ≡ false → WhereTold before.raw (rest (file_of before) ≢ [])
-  pub each : EachBrings 0 before after
+  pub each : EachBrings 0 0 before after
 
 -- the raw's running out of memory: all is as it was where no byte had moved in this call; else the stream fails
 abbrev pub StarvesIn : EngineView → Bool → EngineView → Type 0

@@ -5,7 +5,7 @@ use Rattle.py_flat.specs.Bytes.{left_at}
 use Rattle.py_flat.specs.Owed.{Owed}
 use Rattle.py_raw.specs.declared.raw_error.RawError.{RawError}
 use Rattle.py_raw.specs.declared.raw_error.RawError.TheVariants as raw_error
-use Rattle.py_raw.specs.RawStream.{Raw, WhereTold, WherePlace, KeepsBytes, Transfers, LeavesCounts, AnswersFor, AsksToWait, FailsWithout, LacksMemory}
+use Rattle.py_raw.specs.RawStream.{Raw, WhereTold, WherePlace, KeepsBytes, Transfers, LeavesCounts, AnswersFor, ReadsBring, AsksToWait, FailsWithout, LacksMemory}
 use Rattle.py_engine.specs.declared.window.Filled.{Filled}
 use Rattle.py_engine.specs.declared.window.Filled.TheVariants as filled
 
@@ -154,6 +154,7 @@ pub record Brings (old : Raw) (place : ℕ) (part : List ℕ) (new : Raw) : Type
   pub within : place + length part ≤ greatest_place
   pub counts : LeavesCounts old new
   pub written : AnswersFor 0 old new
+  pub reads : ReadsBring (length part) old new
   pub next : WhereTold old (old.place ≡ place → take (length part) (left_at old.bytes place) ≡ part)
   pub stands : WherePlace old (old.place ≡ place → new.place ≡ place + length part)
   pub bytes : KeepsBytes old new
@@ -163,6 +164,7 @@ pub record Brings (old : Raw) (place : ℕ) (part : List ℕ) (new : Raw) : Type
 pub record BringsNone (old : Raw) (place : ℕ) (new : Raw) : Type 0 where
   pub counts : LeavesCounts old new
   pub written : AnswersFor 0 old new
+  pub reads : ReadsBring 0 old new
   pub last : WhereTold old (old.place ≡ place → length old.bytes ≤ place)
   pub stands : WherePlace old (new.place ≡ old.place)
   pub bytes : KeepsBytes old new

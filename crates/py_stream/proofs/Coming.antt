@@ -1,9 +1,9 @@
 -- How far a raw came by what its reads brought, over any raw.
-use Rattle.std.proofs.Common.{◌≡◌, ℕ, ◌+◌, ◌-◌, ◌≤◌, refl, ap, sym, ◌∙◌, arith}
+use Rattle.std.proofs.Common.{◌≡◌, ℕ, zero, suc, ◌+◌, ◌-◌, ◌<◌, ◌≤◌, refl, ap, sym, ◌∙◌, arith}
 use Rattle.py_flat.specs.Causes.{counted}
 use Rattle.py_raw.specs.declared.reads.Reads.{Reads}
 use Rattle.py_raw.specs.Reads.{BringInAll}
-use Rattle.py_raw.specs.RawStream.{Raw, Keeps, WhereTransfers, ReadsInAll}
+use Rattle.py_raw.specs.RawStream.{Raw, Keeps, WhereTransfers, Transfers, ReadsBring, KeepsReads, ReadsInAll}
 use Rattle.py_stream.specs.Stream.{Stream}
 use Rattle.py_stream.specs.Answers.{CameByReads, EachBrings}
 
@@ -22,6 +22,10 @@ brought_more old new count less more within is = record { brought = is.brought; 
 -- a raw that was moved neither by reads nor otherwise
 pub came_still : (before after : Stream) (empties : ℕ) → after.raw.reads ≡ before.raw.reads → after.raw_place ≡ before.raw_place → CameByReads empties before after
 came_still before after empties same place = record { forth = omega (arith, place); reads = λ tells. rw (same, let none : after.raw_place - before.raw_place ≡ 0 = omega (arith, place) in none) (none_brought before.raw.reads empties) }
+
+-- a raw that was asked for no read, or whose read would have blocked or failed
+pub came_unread : (before after : Stream) → after.raw_place ≡ before.raw_place → KeepsReads before.raw after.raw → CameByReads 0 before after
+came_unread before after place same = record { forth = omega (arith, place); reads = λ tells. rw (same tells, let none : after.raw_place - before.raw_place ≡ 0 = omega (arith, place) in none) (none_brought before.raw.reads 0) }
 
 -- in two steps
 pub came_then : (before mid after : Stream) (empties : ℕ) → Keeps before.raw mid.raw → CameByReads 0 before mid → CameByReads empties mid after → CameByReads empties before after
@@ -57,3 +61,22 @@ each_then before mid after others empties kept first second = record {
   transfers = λ tells. omega (arith, first.transfers tells, second.transfers (kept.tells_transfers ∙ tells));
   came = came_then before mid after empties kept first.came second.came;
 }
+
+-- one transfer that brought some bytes
+pub each_brought : (before after : Stream) (count : ℕ) → 0 < count → after.raw_place ≡ before.raw_place + count → Transfers 1 before.raw after.raw → ReadsBring count before.raw after.raw → EachBrings 0 0 before after
+each_brought before after (suc count) some place transfers brings = record {
+  transfers = λ tells. omega (arith, place, transfers tells);
+  came = record {
+    forth = omega (arith, place);
+    reads = λ tells. rw (brings tells, let more : after.raw_place - before.raw_place ≡ suc count = omega (arith, place) in more) (record { brought = omega arith; empty = omega arith });
+  };
+}
+each_brought before after zero some place transfers brings = absurd (omega (arith, some))
+
+-- one transfer that brought none
+pub came_none : (before after : Stream) → after.raw_place ≡ before.raw_place → ReadsBring 0 before.raw after.raw → CameByReads 1 before after
+came_none before after place brings = record { forth = omega (arith, place); reads = λ tells. rw (brings tells, let none : after.raw_place - before.raw_place ≡ 0 = omega (arith, place) in none) (record { brought = omega arith; empty = omega arith }) }
+
+-- how many bytes the last read brought
+pub last_brought : (old new : Raw) (count : ℕ) → ReadsBring count old new → WhereTransfers old (new.reads.last ≡ count)
+last_brought old new count brings tells = ap (λ (reads : Reads). reads.last) (brings tells)

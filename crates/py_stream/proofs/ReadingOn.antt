@@ -1,5 +1,5 @@
 -- What a reading that goes on answers, by where it stopped: of all that is left, of a size, of a line, of lines.
-use Rattle.std.proofs.Common.{◌≡◌, ◌≢◌, ℕ, zero, suc, ◌+◌, ◌-◌, ◌<◌, ◌≤◌, ◌⊎◌, inl, inr, Bool, true, false, ◌||◌, IsTrue, List, [], ◌∷◌, ◌++◌, length, take, drop, replicate, Option, Some, None, Result, Ok, Err, refl, sym, ap, ◌∙◌, subst, arith, rules}
+use Rattle.std.proofs.Common.{◌≡◌, ◌≢◌, ℕ, zero, suc, ◌+◌, ◌<◌, ◌≤◌, ◌⊎◌, inl, inr, Bool, true, false, ◌||◌, IsTrue, List, [], ◌∷◌, ◌++◌, length, take, drop, replicate, Option, Some, None, Result, Ok, Err, refl, sym, ap, ◌∙◌, subst, arith, rules}
 use Rattle.std.proofs.lemmas.List.{append-nil, nil_from_length, length-append, length-replicate, take_all, take-take, take-append-drop}
 use Rattle.std.proofs.Math.ListN.{drop_of_length-le}
 use Rattle.std.proofs.Math.Seq.{take-append_seam}
@@ -17,13 +17,13 @@ use Rattle.py_flat.specs.ExactStep.{is_closed, rest}
 use Rattle.py_flat.specs.AllowedStep.{out_of_memory}
 use Rattle.py_flat.specs.BinaryStep.{IsFrontOf}
 use Rattle.py_lines.specs.Collecting.{LineView, LinesView, line_wanted, lines_wanted}
-use Rattle.py_raw.specs.RawStream.{Raw, WhereTold, KeepsReads}
+use Rattle.py_raw.specs.RawStream.{Raw, WhereTold}
 use Rattle.py_raw.proofs.Telling.{tells_its_bytes}
 use Rattle.py_stream.specs.declared.stop.Stop.{Stop}
 use Rattle.py_stream.specs.declared.stop.Stop.TheVariants as stops
 use Rattle.py_stream.specs.Stream.{Stream, file_of}
 use Rattle.py_stream.specs.Kinds.{goes_on, makes_one, has_room, takes_space_first, asks_none, by_several}
-use Rattle.py_stream.proofs.Coming.{none_brought, came_more, each_more}
+use Rattle.py_stream.proofs.Coming.{came_unread, came_more, each_more}
 use Rattle.py_stream.specs.Answers.{Answers, IsNear, OnlyAsked, CameByReads, EachBrings, ahead}
 use Rattle.py_stream.specs.Reading.{KeepsReading, ComesNext, Gives, StarvesReading, StopOutcome, RestOutcome, has_answer, answered_at, wanted_by, reply_by, GathersEnough, GathersFront, Gathers, IsOpen, WantsHeld, StarvesWanting, GatherOutcome}
 use Rattle.py_stream.proofs.Accepting.{work_reaches}
@@ -203,15 +203,11 @@ asked_gives before after begun is =
       told = λ tells. refl;
     })
 
--- the raw didn't come any further by it, where it tells its transfers
-asked_came : (before after : Stream) → after.raw_place ≡ before.raw_place → KeepsReads before.raw after.raw → CameByReads 0 before after
-asked_came before after place same = record { forth = omega (arith, place); reads = λ tells. rw (same tells, let none : after.raw_place - before.raw_place ≡ 0 = omega (arith, place) in none) (none_brought before.raw.reads 0) }
-
 -- no transfer was made for it
 pub asked_each : (before after : Stream) → OnlyAsked before after → EachBrings 0 0 before after
 asked_each before after is =
     let place : after.raw_place ≡ before.raw_place = ap (λ (stream : Stream). stream.raw_place) is.same in
-    record { transfers = λ tells. omega (arith, place, asked_transfers before.raw.transfers after.raw.transfers (is.transfers tells)); came = asked_came before after place is.reads }
+    record { transfers = λ tells. omega (arith, place, asked_transfers before.raw.transfers after.raw.transfers (is.transfers tells)); came = came_unread before after place is.reads }
 
 -- where memory ran out before any byte came, of a stream whose raw was asked where it ends
 starved_asked : (before : Stream) (raw : Raw) → Reads before → OnlyAsked before (record before { raw = raw; short = false }) → Answers before (Read None) (Refused fault.NoMemory) (record before { raw = raw; short = false })
@@ -238,7 +234,7 @@ starved_asked before raw begun is =
       one = λ single. absurd (never_single before.buffer single);
       ready = λ _ held. absurd held;
       in_hand = λ _ held. absurd held;
-      brings = came_more before mid 0 1 (omega arith) (asked_came before mid refl is.reads);
+      brings = came_more before mid 0 1 (omega arith) (came_unread before mid refl is.reads);
       needs = λ _. record { enough = λ whole. absurd whole; whole = λ whole. absurd whole; needed = λ whole. absurd whole; last = each_more before (record mid { short = false }) 0 1 0 1 (omega arith) (omega arith) (asked_each before (record mid { short = false }) is) };
       answers = tt;
       told = λ tells. out_of_memory refl (work_reaches (file_of before) (Read None) (works before (Read None) refl (on_suits (file_of before) (Read None) refl begun.readable) begun.live), inl (asked_file before raw begun is tells));
