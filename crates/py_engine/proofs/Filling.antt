@@ -27,7 +27,7 @@ fills_so old moved (filled.More count) raw window is live keeps stays came =
     let brings = came.2 in
     let many : length window.held ≡ count = sym holds.as_many in
     let some : 0 < count = omega (arith, some_length window.held brings.some) in
-    let each : EachBrings 0 0 (reading_of old) (reading_of new) = each_brought (reading_of old) (reading_of new) count some (omega (arith, holds.begin)) brings.transfers (rw (sym many) brings.reads) in
+    let each : EachBrings 0 0 (reading_of old) (reading_of new) = each_brought (reading_of old) (reading_of new) count some (omega (arith, holds.begin)) (λ tells. omega (arith, brings.transfers tells)) (rw (sym many) brings.reads) in
     let by : CameByReads 1 (reading_of old) (reading_of new) = came_more (reading_of old) (reading_of new) 0 1 (omega arith) each.came in
     let last = last_brought old.raw raw count (rw (sym many) brings.reads) in
     grind arith

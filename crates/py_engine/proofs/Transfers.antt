@@ -14,7 +14,7 @@ use Rattle.py_engine.specs.Reading.{reading_of, IsReading, KeepsEngine, FailsByR
 use Rattle.py_stream.specs.declared.access.Access.{Access}
 use Rattle.py_stream.specs.Answers.{EachBrings}
 use Rattle.py_stream.specs.Reading.{KeepsReading}
-use Rattle.py_stream.proofs.Coming.{came_unread, each_then as stream_each_then}
+use Rattle.py_stream.proofs.Coming.{came_unread, each_but_one, each_then as stream_each_then}
 use Rattle.py_engine.proofs.Seen.{near}
 
 -- Engines.
@@ -64,11 +64,11 @@ each_then old mid new others empties kept first second = stream_each_then (readi
 
 -- each transfer brought a byte, but for one that brought nothing
 pub each_but_last : (old new : EngineView) (empties : ℕ) → UsesUp empties old new → EachBrings 1 empties (reading_of old) (reading_of new)
-each_but_last old new empties uses = record { transfers = λ tells. omega (arith, uses.transferred.transfers tells, uses.end); came = uses.came }
+each_but_last old new empties uses = each_but_one (reading_of old) (reading_of new) empties uses.end uses.transferred.transfers uses.came
 
 -- each transfer brought a byte, but for one that failed
 pub each_but_failed : (old new : EngineView) → FailsByRaw old new → EachBrings 1 0 (reading_of old) (reading_of new)
-each_but_failed old new fails = record { transfers = λ tells. omega (arith, fails.transfers tells, fails.end); came = came_unread (reading_of old) (reading_of new) fails.end fails.reads }
+each_but_failed old new fails = each_but_one (reading_of old) (reading_of new) 0 fails.end fails.transfers (came_unread (reading_of old) (reading_of new) fails.end fails.reads)
 
 -- the cursor moved on, of a window that owes nothing
 pub settled_advanced : (window : WindowView) (count : ℕ) → window.from ≡ window.to → (advanced count window).from ≡ (advanced count window).to

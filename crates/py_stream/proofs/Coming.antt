@@ -3,9 +3,10 @@ use Rattle.std.proofs.Common.{◌≡◌, ℕ, zero, suc, ◌+◌, ◌-◌, ◌<�
 use Rattle.py_flat.specs.Causes.{counted}
 use Rattle.py_raw.specs.declared.reads.Reads.{Reads}
 use Rattle.py_raw.specs.Reads.{BringInAll}
-use Rattle.py_raw.specs.RawStream.{Raw, Keeps, WhereTransfers, Transfers, ReadsBring, KeepsReads, ReadsInAll}
+use Rattle.py_raw.specs.RawStream.{Raw, Keeps, WhereTransfers, ReadsBring, KeepsReads, ReadsInAll}
 use Rattle.py_stream.specs.Stream.{Stream}
 use Rattle.py_stream.specs.Answers.{CameByReads, EachBrings}
+use Rattle.py_stream.specs.Reading.{OneTransfer}
 
 -- reads that brought nothing, and none of which brought none, are none
 pub none_brought : (reads : Reads) (empties : ℕ) → BringInAll 0 empties reads reads
@@ -63,7 +64,7 @@ each_then before mid after others empties kept first second = record {
 }
 
 -- one transfer that brought some bytes
-pub each_brought : (before after : Stream) (count : ℕ) → 0 < count → after.raw_place ≡ before.raw_place + count → Transfers 1 before.raw after.raw → ReadsBring count before.raw after.raw → EachBrings 0 0 before after
+pub each_brought : (before after : Stream) (count : ℕ) → 0 < count → after.raw_place ≡ before.raw_place + count → WhereTransfers before.raw (after.raw.transfers ≤ before.raw.transfers + 1) → ReadsBring count before.raw after.raw → EachBrings 0 0 before after
 each_brought before after (suc count) some place transfers brings = record {
   transfers = λ tells. omega (arith, place, transfers tells);
   came = record {
@@ -73,9 +74,22 @@ each_brought before after (suc count) some place transfers brings = record {
 }
 each_brought before after zero some place transfers brings = absurd (omega (arith, some))
 
--- one transfer that brought none
+-- one read, whatever it brought
+pub came_once : (before after : Stream) (count : ℕ) → after.raw_place ≡ before.raw_place + count → ReadsBring count before.raw after.raw → CameByReads 1 before after
+came_once before after zero place brings = record { forth = omega (arith, place); reads = λ tells. rw (brings tells, let none : after.raw_place - before.raw_place ≡ 0 = omega (arith, place) in none) (record { brought = omega arith; empty = omega arith }) }
+came_once before after (suc count) place brings = record { forth = omega (arith, place); reads = λ tells. rw (brings tells, let more : after.raw_place - before.raw_place ≡ suc count = omega (arith, place) in more) (record { brought = omega arith; empty = omega arith }) }
+
+-- one read that brought none
 pub came_none : (before after : Stream) → after.raw_place ≡ before.raw_place → ReadsBring 0 before.raw after.raw → CameByReads 1 before after
-came_none before after place brings = record { forth = omega (arith, place); reads = λ tells. rw (brings tells, let none : after.raw_place - before.raw_place ≡ 0 = omega (arith, place) in none) (record { brought = omega arith; empty = omega arith }) }
+came_none before after place brings = came_once before after 0 (omega (arith, place)) brings
+
+-- one transfer that was no read, or whose read would have blocked or failed
+pub one_unread : (before after : Stream) → after.raw_place ≡ before.raw_place → WhereTransfers before.raw (after.raw.transfers ≤ before.raw.transfers + 1) → KeepsReads before.raw after.raw → OneTransfer before after
+one_unread before after place transfers same = record { transfers = transfers; came = came_more before after 0 1 (omega arith) (came_unread before after place same) }
+
+-- a transfer more, which brought none or was no read
+pub each_but_one : (before after : Stream) (empties : ℕ) → after.raw_place ≡ before.raw_place → WhereTransfers before.raw (after.raw.transfers ≤ before.raw.transfers + 1) → CameByReads empties before after → EachBrings 1 empties before after
+each_but_one before after empties place transfers came = record { transfers = λ tells. omega (arith, transfers tells, place); came = came }
 
 -- how many bytes the last read brought
 pub last_brought : (old new : Raw) (count : ℕ) → ReadsBring count old new → WhereTransfers old (new.reads.last ≡ count)

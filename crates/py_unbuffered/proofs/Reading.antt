@@ -14,6 +14,7 @@ use Rattle.py_lines.proofs.Asking.{lines_ask}
 use Rattle.py_stream.specs.Kinds.{asks_none}
 use Rattle.py_stream.specs.Answers.{Answers}
 use Rattle.py_stream.specs.Replies.{into_reply}
+use Rattle.py_stream.proofs.Coming.{came_once, came_unread, one_unread, each_but_one}
 use Rattle.py_stream.proofs.ReadingAnswers.{Reads, ReadingBegins}
 use Rattle.py_stream.proofs.ReadingOn.{comes_front}
 use Rattle.py_stream.proofs.SingleReading.{reads_once, asks_for, moves_by, answers_once, unready_once, faulted_once, unmoved_once}
@@ -64,17 +65,17 @@ module _ (old mid : EngineView) (call : FileCall) (before after : List ℕ) (onc
         live = came.live;
         place = omega (arith, came.place, size, moves_all call (length part) once);
         most = omega (arith, size, came.fits, same_long);
-        one = came.transfers;
+        one = record { transfers = came.transfers; came = came_once (stream_of old) (stream_of mid) count came.place came.reads };
         is = λ tells. record {
           front = comes_front (take (asks_for 0 call) left) part (take-take (length part) (asks_for 0 call) left (omega (arith, size, came.fits, same_long)) ∙ (ap (λ (n : ℕ). take n left) size ∙ came.told tells));
           some = λ none. none_left before old.raw.bytes (asks_for 0 call) old.place long (λ some. came.end (sym size ∙ ap length none) some tells);
         };
       })
-  once_came None long same_long came = grind (arith, unready_once, asks_always, keeps_reading, bufferless)
+  once_came None long same_long came = grind (arith, unready_once, asks_always, keeps_reading, bufferless, one_unread)
 
   -- the transfer of a reading was refused
   pub once_refused : (why : IoFault) → TransferOutcome old false before (Err why) after mid → Answers (stream_of old) call (Refused why) (stream_of mid)
-  once_refused fault.RawFault fails = grind (arith, faulted_once, asks_always, keeps_reading, bufferless)
+  once_refused fault.RawFault fails = grind (arith, faulted_once, asks_always, keeps_reading, bufferless, one_unread, each_but_one, came_unread)
   once_refused fault.NoMemory wants = subst (λ (engine : EngineView). Answers (stream_of old) call (Refused fault.NoMemory) (stream_of engine)) (sym wants.1) (unmoved_once (stream_of old) call once begun wants.0)
   once_refused why never = absurd never
 

@@ -7,16 +7,18 @@ use Rattle.py_flat.specs.declared.fault.IoFault.TheVariants as fault
 use Rattle.py_flat.specs.declared.life.Life.TheVariants as life
 use Rattle.py_flat.specs.Bytes.{left_at}
 use Rattle.py_lines.proofs.Asking.{some_length}
-use Rattle.py_raw.specs.RawStream.{LeavesCounts, AnswersFor, WhereTold, WherePlace, WhereTransfers, KeepsBytes, tells}
+use Rattle.py_raw.specs.RawStream.{LeavesCounts, AnswersFor, WhereTold, WherePlace, WhereTransfers, KeepsBytes, KeepsReads, tells}
 use Rattle.py_raw.proofs.Telling.{tells_its_bytes, tells_still}
 use Rattle.py_stream.specs.declared.stop.Stop.TheVariants as stop
+use Rattle.py_stream.specs.Answers.{EachBrings, LastIsNeeded}
+use Rattle.py_stream.proofs.Coming.{came_unread, came_none, each_still, each_seen, each_then, each_brought, each_but_one, last_brought}
 use Rattle.py_stream.specs.Reading.{KeepsReading, ComesNext, FailsReading, FailsMoved, StarvesReading, StopOutcome, RestOutcome}
 use Rattle.py_stream.proofs.ReadingSteps.{next_behind, next_reaches, keeps_then as keeps_then_reading}
 use Rattle.py_unbuffered.specs.Engine.{EngineView, stream_of, IsEngine, KeepsEngine, Waits, Fails, StarvesWith, Brings, TransferOutcome, FillsWith, FillOutcome}
 use Rattle.py_unbuffered.proofs.Begun.{bufferless}
 use Rattle.py_unbuffered.proofs.Steps.{keeps_self, keeps_then, keeps_failed, keeps_reading, no_fault_then, no_wait_then, uncounted, uncounted_then, answers_none, answers_none_then}
 
--- a reading has taken a part, at least one byte by each transfer: told, the next ones; it began live, where its raw stood
+-- a reading has taken a part, at least one byte by each transfer, the last too: told, the next ones; it began live, where its raw stood
 pub record Took (old : EngineView) (part : List ℕ) (now : EngineView) : Type 0 where
   pub began : old.life ≡ life.Live
   pub stands : WherePlace old.raw (old.raw.place ≡ old.place)
@@ -28,11 +30,12 @@ pub record Took (old : EngineView) (part : List ℕ) (now : EngineView) : Type 0
   pub none : part ≡ [] → now ≡ old
   pub bytes : KeepsBytes old.raw now.raw
   pub told : WhereTold old.raw (ComesNext (stream_of old) part)
-  pub transfers : WhereTransfers old.raw (now.raw.transfers ≤ old.raw.transfers + length part)
+  pub each : EachBrings 0 0 (stream_of old) (stream_of now)
+  pub last : part ≢ [] → WhereTransfers old.raw (0 < now.raw.reads.last)
 
 -- a reading has taken nothing before the first transfer
 pub took_none : (old : EngineView) → IsEngine old.raw old.place old.access old.life → old.life ≡ life.Live → Took old [] old
-took_none old is live = grind (arith, keeps_self, uncounted, answers_none)
+took_none old is live = grind (arith, keeps_self, uncounted, answers_none, each_still)
 
 module _ (old now : EngineView) (part : List ℕ) (took : Took old part now) where
   -- a raw that told its bytes and its place tells both still
@@ -62,12 +65,20 @@ module _ (old now : EngineView) (part : List ℕ) (took : Took old part now) whe
         none = λ nothing. absurd (omega (arith, ap length nothing, long, some));
         bytes = bytes_then new brings.bytes;
         told = brings_next before count after new brings;
-        transfers = λ tells. omega (arith, took.transfers tells, brings.transfers (took.kept.raw.tells_transfers ∙ tells), long, some);
+        each = each_then (stream_of old) (stream_of now) (stream_of new) 0 0 took.kept.raw took.each (each_brought (stream_of now) (stream_of new) count some brings.place brings.transfers brings.reads);
+        last = λ _ tells. omega (arith, last_brought now.raw new.raw count brings.reads (took.kept.raw.tells_transfers ∙ tells), some);
       }
+
+  -- the last transfer was made for what was taken
+  last_needed : (came : List ℕ) → part ≡ came → LastIsNeeded (stream_of old) (stream_of now)
+  last_needed [] is = inl (ap (λ (engine : EngineView). engine.raw) (took.none is))
+  last_needed (byte ∷ more) is = inr (λ tells. omega (arith, took.last (λ none. absurd (let both : byte ∷ more ≡ [] = sym is ∙ none in cc)) tells))
 
   -- what was taken is given
   pub gives_taken : StopOutcome (stream_of old) part (Ok stop.Enough) (stream_of now)
-  gives_taken = grind (arith, keeps_reading, bufferless)
+  gives_taken =
+      let needed : LastIsNeeded (stream_of old) (stream_of now) = last_needed part refl in
+      grind (arith, keeps_reading, bufferless)
 
   -- what a step after what was taken keeps of the engine
   keeps_on : (new : EngineView) → KeepsEngine now new → KeepsBytes now.raw new.raw → AnswersFor 0 now.raw new.raw → KeepsReading (stream_of old) (stream_of new)
@@ -75,11 +86,20 @@ module _ (old now : EngineView) (part : List ℕ) (took : Took old part now) whe
 
   -- nothing came any more
   pub stops_at_end : (before : List ℕ) (after : List ℕ) (new : EngineView) → Brings now before 0 after new → before ≢ [] → StopOutcome (stream_of old) part (Ok stop.End) (stream_of new)
-  stops_at_end before after new brings asked = grind (arith, keeps_on, no_fault_then, no_wait_then, still_tells, tells_its_bytes)
+  stops_at_end before after new brings asked =
+      let place : new.place ≡ now.place = omega (arith, brings.place) in
+      let each : EachBrings 1 1 (stream_of old) (stream_of new) = each_then (stream_of old) (stream_of now) (stream_of new) 1 1 took.kept.raw took.each (each_but_one (stream_of now) (stream_of new) 1 place brings.transfers (came_none (stream_of now) (stream_of new) place brings.reads)) in
+      grind (arith, keeps_on, no_fault_then, no_wait_then, still_tells, tells_its_bytes)
+
+  -- a transfer more, which would have blocked or failed
+  each_unread : (new : EngineView) → new.place ≡ now.place → WhereTransfers now.raw (new.raw.transfers ≤ now.raw.transfers + 1) → KeepsReads now.raw new.raw → EachBrings 1 0 (stream_of old) (stream_of new)
+  each_unread new place transfers reads = each_then (stream_of old) (stream_of now) (stream_of new) 1 0 took.kept.raw took.each (each_but_one (stream_of now) (stream_of new) 0 place transfers (came_unread (stream_of now) (stream_of new) place reads))
 
   -- the raw would have blocked
   pub stops_waiting : (new : EngineView) → Waits now new → StopOutcome (stream_of old) part (Ok stop.Waits) (stream_of new)
-  stops_waiting new waits = grind (arith, keeps_on, no_fault_then)
+  stops_waiting new waits =
+      let each : EachBrings 1 0 (stream_of old) (stream_of new) = each_unread new waits.place waits.transfers waits.reads in
+      grind (arith, keeps_on, no_fault_then)
 
   -- the raw failed
   pub fails_after : (new : EngineView) → Fails now new → FailsReading (stream_of old) (stream_of new)
@@ -90,7 +110,7 @@ module _ (old now : EngineView) (part : List ℕ) (took : Took old part now) whe
     failed = fails.failed;
     forth = omega (arith, fails.place, took.place);
     reach = next_reaches (stream_of old) (stream_of new) part (fails.place ∙ took.place) took.told;
-    each = λ tells. omega (arith, took.transfers tells, took.place, fails.place, fails.transfers (took.kept.raw.tells_transfers ∙ tells));
+    each = each_unread new fails.place fails.transfers fails.reads;
   }
 
   -- memory ran out once bytes had moved
@@ -104,7 +124,7 @@ module _ (old now : EngineView) (part : List ℕ) (took : Took old part now) whe
     further = omega (arith, took.place, some_length part some);
     stands = λ tells. omega (arith, took.place, some_length part some, took.stands tells, took.kept.is.stands (took.kept.raw.tells_place ∙ tells) took.live);
     some = λ tells none. absurd (omega (arith, some_length part some, ap length (took.told tells), ap (λ (left : List ℕ). length (take (length part) left)) none, length-take {A = ℕ} (length part) []));
-    each = λ tells. omega (arith, took.transfers tells, took.place);
+    each = each_seen (stream_of old) (stream_of old) (stream_of now) (stream_of (record now { life = life.Failed })) 0 0 refl refl refl refl took.each;
   }
 
   -- memory ran out, which fails the stream where bytes had moved

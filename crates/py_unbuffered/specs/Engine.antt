@@ -8,7 +8,7 @@ use Rattle.py_flat.specs.Limits.{greatest_place}
 use Rattle.py_flat.specs.Bytes.{left_at, lay}
 use Rattle.py_flat.specs.Causes.{Rose}
 use Rattle.py_flat.specs.Refusals.{life_fault}
-use Rattle.py_raw.specs.RawStream.{Raw, Keeps, StaysOpen, WhereTold, WherePlace, WhereTransfers, KeepsBytes, NoFault, NoWait, WaitsOnce, LeavesCounts, AnswersFor}
+use Rattle.py_raw.specs.RawStream.{Raw, Keeps, StaysOpen, WhereTold, WherePlace, WhereTransfers, KeepsBytes, NoFault, NoWait, WaitsOnce, LeavesCounts, AnswersFor, ReadsBring, KeepsReads}
 use Rattle.py_stream.specs.Stream.{Stream, nothing_owed, nothing_held}
 use Rattle.py_stream.specs.Reading.{is_wait}
 use Rattle.py_stream.specs.declared.stop.Stop.{Stop}
@@ -67,6 +67,7 @@ pub record Waits (old new : EngineView) : Type 0 where
   pub once : WaitsOnce old.raw new.raw
   pub no_fault : NoFault old.raw new.raw
   pub answered : AnswersFor 0 old.raw new.raw
+  pub reads : KeepsReads old.raw new.raw
   pub live : new.life ≡ life.Live
   pub place : new.place ≡ old.place
   pub bytes : KeepsBytes old.raw new.raw
@@ -78,6 +79,7 @@ pub record Fails (old new : EngineView) : Type 0 where
   pub cause : Rose old.raw.faults new.raw.faults
   pub no_wait : NoWait old.raw new.raw
   pub answered : AnswersFor 0 old.raw new.raw
+  pub reads : KeepsReads old.raw new.raw
   pub failed : new.life ≡ life.Failed
   pub place : new.place ≡ old.place
   pub bytes : KeepsBytes old.raw new.raw
@@ -95,6 +97,7 @@ pub record Brings (old : EngineView) (before : List ℕ) (count : ℕ) (after : 
   pub kept : KeepsEngine old new
   pub counts : LeavesCounts old.raw new.raw
   pub answered : AnswersFor 0 old.raw new.raw
+  pub reads : ReadsBring count old.raw new.raw
   pub live : new.life ≡ life.Live
   pub fits : count ≤ length after
   pub place : new.place ≡ old.place + count

@@ -1,6 +1,8 @@
-use Rattle.std.proofs.Common.{refl, subst, arith}
+use Rattle.std.proofs.Common.{None, refl, subst, arith}
 use Rattle.std.proofs.lemmas.Result.{err_from_is_err_and}
 use Rattle.py_flat.specs.Calls.{Read}
+use Rattle.py_stream.specs.Replies.{bytes_reply}
+use Rattle.py_unbuffered.specs.Engine.{stream_of}
 use Rattle.py_unbuffered.proofs.Begun.{Stands, answers_from, begins_in_vain}
 use Rattle.py_unbuffered.proofs.data.UnbufferedData.read.Goals as goal
 
@@ -14,4 +16,4 @@ pub returns-in-Some : goal.returns-in-Some
 returns-in-Some g c = grind (arith, answers_from)
 
 pub returns-in-None : goal.returns-in-None
-returns-in-None g c = grind (arith, answers_from)
+returns-in-None g c = rw c.in-None.is (answers_from c.args.self.now c.begin.new.self (Read None) (bytes_reply c.read_rest.result) (stream_of c.read_rest.new.self) c.in_ok-begin.ensures.1 c.read_rest.ensures)
