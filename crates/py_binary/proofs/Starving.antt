@@ -1,5 +1,5 @@
 -- A session that has no memory for the bytes of a reply calls no stream.
-use Rattle.std.proofs.Common.{◌≡◌, ℕ, Bool, true, false, IsTrue, Option, Some, None, inl, refl, sym, ◌∙◌, arith}
+use Rattle.std.proofs.Common.{◌≡◌, ℕ, Bool, true, false, IsTrue, [], Option, Some, None, inl, refl, sym, ◌∙◌, arith}
 use Rattle.py_flat.specs.declared.fault.IoFault.TheVariants as fault
 use Rattle.py_flat.specs.declared.life.Life.TheVariants as life
 use Rattle.py_flat.specs.Calls.{ReadInto, Refused}
@@ -9,6 +9,8 @@ use Rattle.py_stream.specs.Stream.{Stream, file_of}
 use Rattle.py_stream.specs.Kinds.{calls_none}
 use Rattle.py_stream.specs.Writing.{Writes}
 use Rattle.py_stream.specs.Answers.{AnswersWith, IsNear, refused_by}
+use Rattle.py_stream.proofs.Coming.{came_still, each_still}
+use Rattle.py_stream.proofs.Refused.{lays_nothing}
 use Rattle.py_stream.proofs.Stopping.{starves_alive, starves_there}
 use Rattle.py_raw.proofs.Telling.{keeps_same}
 use Rattle.py_binary.specs.Binary.{has_reply_room}
@@ -29,7 +31,7 @@ writes_none stream size live = record {
   owes = λ writing. absurd (cc);
   takes = λ writing. absurd (cc);
   leaves = λ _. record { passed = 0; most = omega arith; answered = λ tells. refl; bytes = refl; place = λ _. omega arith };
-  lays = λ tells. record { count = 0; bytes = refl };
+  lays = λ tells. lays_nothing stream [] stream.raw.bytes refl;
   passes = tt;
   full = tt;
   starves = λ wants writing. absurd (cc);
@@ -54,15 +56,21 @@ starved_into stream size is live reads = record {
   wants = λ wanting room. absurd (cc);
   starves = λ wanting reading. record {
     unmoved = λ lives none. refl;
-    moved = λ failed. let wrong : life.Live ≡ life.Failed = sym live ∙ failed in absurd (cc);
-    stands = λ failed. let wrong : life.Live ≡ life.Failed = sym live ∙ failed in absurd (cc);
+    moved = λ failed none. let wrong : life.Live ≡ life.Failed = sym live ∙ failed in absurd (cc);
+    stands = λ failed none. let wrong : life.Live ≡ life.Failed = sym live ∙ failed in absurd (cc);
   };
   first = λ wanting takes. absurd (cc);
   nothing = λ asks. record { raw = refl; fault = refl };
   idle = λ keeps. absurd (let never = never_idle stream.buffer stream.can.writable size in cc);
   single = λ one none tells. omega arith;
   in_hand = λ has. record { raw = refl; fault = refl };
-  needs = λ reading none. record { enough = λ whole within buffered. record { raw = refl; fault = refl }; whole = λ whole tells. omega arith; last = λ tells. omega arith };
+  brings = λ reading none. came_still stream (record stream { short = false }) 1 refl refl;
+  needs = λ reading none. record {
+    enough = λ whole within buffered. record { raw = refl; fault = refl };
+    whole = λ whole. each_still stream (record stream { short = false }) 0 0 refl refl;
+    needed = λ whole. inl refl;
+    last = each_still stream (record stream { short = false }) 1 1 refl refl;
+  };
   spares = λ reading none. record { bytes = λ tells. refl; written = λ tells. refl; owed = none };
   writes = λ writing. writes_none stream size live;
   answer = λ accepted. tt;
