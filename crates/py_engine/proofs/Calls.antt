@@ -8,7 +8,7 @@ use Rattle.py_flat.specs.Calls.{FileCall, Flush, Close, Seek, Place, Refused}
 use Rattle.py_flat.specs.BinaryStep.{payload}
 use Rattle.py_stream.specs.declared.access.Access.{Access}
 use Rattle.py_stream.specs.declared.access.Access.TheVariants as access
-use Rattle.py_stream.specs.Access.{can_of, is_read, is_appended}
+use Rattle.py_stream.specs.Access.{can_of, is_read}
 use Rattle.py_stream.specs.Stream.{Stream}
 use Rattle.py_stream.specs.Kinds.{is_writing}
 use Rattle.py_stream.specs.Replies.{done_reply}
@@ -16,8 +16,7 @@ use Rattle.py_stream.specs.Answers.{Answers}
 use Rattle.py_stream.specs.Moving.{TargetOutcome, GoOutcome, GoesTo}
 use Rattle.py_stream.specs.Ending.{CloseRawOutcome}
 use Rattle.py_stream.proofs.Alone.{Begins}
-use Rattle.py_stream.proofs.Refusing.{refused_by_ability}
-use Rattle.py_stream.proofs.Seeking.{or_true, MaySeek}
+use Rattle.py_stream.proofs.Seeking.{MaySeek}
 use Rattle.py_stream.proofs.Giving.{of_both}
 use Rattle.py_stream.proofs.Given.{Begun}
 use Rattle.py_stream.proofs.Showing.{IsWriting}
@@ -84,24 +83,6 @@ closes other old started mid new result opened is began passed shut =
 
 -- Moving.
 
--- a stream that can't be moved: its raw can't, or the stream appends
-not_moved : (opened : Access) (seekable : Bool) → seekable ≡ false → not (can_of opened seekable).seekable || (can_of opened seekable).appending ≡ true
-not_moved opened seekable none = grind arith
-
-never_moved : (opened : Access) (seekable : Bool) → is_appended opened ≡ true → not (can_of opened seekable).seekable || (can_of opened seekable).appending ≡ true
-never_moved opened seekable appends = grind (arith, or_true)
-
-cannot_move : (old started : EngineView) → BeginOutcome old (Ok tt) started → (started.raw.seekable ≡ false) ⊎ (is_appended started.access ≡ true) → not (can_of old.access old.raw.seekable).seekable || (can_of old.access old.raw.seekable).appending ≡ true
-cannot_move old started began cannot = grind (arith, not_moved, never_moved)
-
--- a seek of a stream that can't be moved is refused as unsupported
-pub seek_unsupported : (old started : EngineView) (offset whence : ℤ) → Stands old → BeginOutcome old (Ok tt) started → (started.raw.seekable ≡ false) ⊎ (is_appended started.access ≡ true) → Answers (stream_of old) (Seek offset whence) (Refused fault.Unsupported) (stream_of started)
-seek_unsupported old started offset whence is began cannot = refused_by_ability (stream_of old) (stream_of started) (Seek offset whence) (is_placed old is) refl refl began.0 (cannot_move old started began cannot) (ap stream_of began.1)
-
--- a seek of a live stream that may be moved
-pub may_seek : (old started : EngineView) → Stands old → BeginOutcome old (Ok tt) started → started.raw.seekable ≡ true → is_appended started.access ≡ false → MaySeek (begun (stream_of old))
-may_seek old started is began can free = grind (arith, is_sound, stands_whole, can_seek)
-
 seeks_writing : (old started : EngineView) → Stands old → MaySeek (begun (stream_of old)) → is_read old.access ≡ false → SeeksWriting (begun (stream_of old))
 seeks_writing old started is may writes = record {
   may = may;
@@ -120,10 +101,8 @@ pub record SeekFinds (old : EngineView) (offset whence : ℤ) (target : ℕ) (fo
   pub same : found.access ≡ old.access
 
 -- a seek of a stream that may be moved found its target
-pub seek_found : (old started found : EngineView) (offset whence : ℤ) (target : ℕ) → Stands old → BeginOutcome old (Ok tt) started → started.raw.seekable ≡ true → is_appended started.access ≡ false → TargetOutcome (stream_of started) offset whence (Ok target) (stream_of found) → found.access ≡ started.access → SeekFinds old offset whence target found
-seek_found old started found offset whence target is began can free found_is same =
-    let may : MaySeek (begun (stream_of old)) = may_seek old started is began can free in
-    grind (arith, seek_finds (stream_of old) (stream_of started) (stream_of found) offset whence target may (begins old started (Ok tt) began) found_is)
+pub seek_found : (old started found : EngineView) (offset whence : ℤ) (target : ℕ) → Stands old → BeginOutcome old (Ok tt) started → MaySeek (begun (stream_of old)) → TargetOutcome (stream_of started) offset whence (Ok target) (stream_of found) → found.access ≡ started.access → SeekFinds old offset whence target found
+seek_found old started found offset whence target is began may found_is same = grind (arith, seek_finds (stream_of old) (stream_of started) (stream_of found) offset whence target may (begins old started (Ok tt) began) found_is)
 
 -- a seek that passing all on refused answers that refusal
 pub seeking_stops : (opened : Access) (old found new : EngineView) (offset whence : ℤ) (target : ℕ) (why : IoFault) → old.access ≡ opened → SeekFinds old offset whence target found → PassesAll opened (stream_of found) (Err why) (stream_of new) → Answers (stream_of old) (Seek offset whence) (Refused why) (stream_of new)

@@ -13,12 +13,12 @@ use Rattle.py_stream.specs.Stream.{Stream}
 use Rattle.py_stream.specs.Kinds.{is_single, asks_nothing}
 use Rattle.py_stream.specs.Answers.{Answers}
 use Rattle.py_stream.specs.Replies.{look_reply}
-use Rattle.py_stream.specs.Reading.{has_answer}
+use Rattle.py_stream.specs.Reading.{has_answer, is_wait}
 use Rattle.py_stream.proofs.ReadingAnswers.{answers_begun, reading_refused}
 use Rattle.py_stream.proofs.SingleReading.{asks_for, moves_by, moves_within, single_call, GivesOnce, answers_once, unready_once, faulted_once, unmoved_once}
 use Rattle.py_engine.specs.Window.{WindowView, IsWindow, place_of, end_of, ahead_of, advanced}
 use Rattle.py_engine.specs.Engine.{EngineView, BeginOutcome}
-use Rattle.py_engine.specs.Reading.{reading_of, IsReading, KeepsEngine, Transferred, answered_at}
+use Rattle.py_engine.specs.Reading.{reading_of, IsReading, KeepsEngine, Transferred}
 use Rattle.py_engine.specs.Reading.{ReadyOutcome}
 use Rattle.py_engine.proofs.Seen.{placed}
 use Rattle.py_engine.proofs.Transfers.{ahead_told, keeps_self, keeps_then, keeps_reading, still_tells, keeps_told, keeps_advanced, each_but_failed, advanced_none, reading_whole}
@@ -91,7 +91,7 @@ ready_still old mid stops.Waits ready some = absurd (omega (arith, some, ready.5
 nothing_left : (old mid : EngineView) (asked : ℕ) (stop : Stop) → ReadyOutcome old (Ok stop) mid → has_answer stop true ≡ true → WhereTold old.raw (take asked (ahead_of mid.window) ≡ [] → take asked (left_at old.raw.bytes (place_of old.window)) ≡ [])
 nothing_left old mid asked stop ready answered tells none = grind (arith, length-take, drop_all, take_all)
 
-whole_answer : (stop : Stop) (mid : EngineView) → has_answer stop true ≡ true → answered_at stop mid ≡ record mid { short = false }
+whole_answer : (stop : Stop) (mid : EngineView) → has_answer stop true ≡ true → record mid { short = is_wait stop } ≡ record mid { short = false }
 whole_answer stop mid answered = grind arith
 
 -- what is given of the bytes held
@@ -111,7 +111,7 @@ pub once_nothing : (first begun : EngineView) (call : FileCall) → is_single ca
 once_nothing first begun call single is began none = grind (arith, reading_begins, answers_once, keeps_reading, keeps_self, asks_for, from_begun)
 
 -- a call that gives of the bytes held
-pub once_held : (first begun mid answered new : EngineView) (call : FileCall) (stop : Stop) (part : List ℕ) → is_single call ≡ true → asks_nothing call ≡ false → IsReading first → BeginOutcome first (Ok tt) begun → ReadyOutcome begun (Ok stop) mid → has_answer stop true ≡ true → answered ≡ answered_at stop mid → part ≡ take (asks_for begun.window.size call) (ahead_of answered.window) → new ≡ record answered { window = advanced (moves_by call (length part)) answered.window } → Answers (reading_of first) call (Bytes part) (reading_of new)
+pub once_held : (first begun mid answered new : EngineView) (call : FileCall) (stop : Stop) (part : List ℕ) → is_single call ≡ true → asks_nothing call ≡ false → IsReading first → BeginOutcome first (Ok tt) begun → ReadyOutcome begun (Ok stop) mid → has_answer stop true ≡ true → answered ≡ record mid { short = is_wait stop } → part ≡ take (asks_for begun.window.size call) (ahead_of answered.window) → new ≡ record answered { window = advanced (moves_by call (length part)) answered.window } → Answers (reading_of first) call (Bytes part) (reading_of new)
 once_held first begun mid answered new call stop part single asks is began ready answers answered_is part_is new_is =
     let same : answered ≡ record mid { short = false } = answered_is ∙ whole_answer stop mid answers in
     let asked : ℕ = asks_for begun.window.size call in
@@ -125,7 +125,7 @@ once_held first begun mid answered new call stop part single asks is began ready
     (subst (λ (engine : EngineView). Answers (reading_of begun) call (Bytes gave) (reading_of engine)) (sym left_is) all))
 
 -- a call that shows all bytes held, and moves nothing
-pub once_looked : (first begun mid new : EngineView) (stop : Stop) → IsReading first → BeginOutcome first (Ok tt) begun → ReadyOutcome begun (Ok stop) mid → has_answer stop true ≡ true → new ≡ answered_at stop mid → Answers (reading_of first) Peek (Bytes (ahead_of new.window)) (reading_of new)
+pub once_looked : (first begun mid new : EngineView) (stop : Stop) → IsReading first → BeginOutcome first (Ok tt) begun → ReadyOutcome begun (Ok stop) mid → has_answer stop true ≡ true → new ≡ record mid { short = is_wait stop } → Answers (reading_of first) Peek (Bytes (ahead_of new.window)) (reading_of new)
 once_looked first begun mid new stop is began ready answers new_is =
     let moved : Transferred begun mid × (place_of mid.window ≡ place_of begun.window) = moved_to_ready begun mid stop ready in
     let same : new ≡ record mid { short = false } = new_is ∙ whole_answer stop mid answers in
@@ -136,7 +136,7 @@ once_looked first begun mid new stop is began ready answers new_is =
     (ap (λ (view : WindowView). let left : EngineView = record new { window = view } in left) (subst (λ (view : WindowView). view ≡ advanced 0 view) (sym window) (advanced_none mid.window moved.0.kept.is.ahead.settled moved.0.kept.is.window_is)))
 
 -- a call that the raw made wait
-pub once_unready : (first begun mid new : EngineView) (call : FileCall) (stop : Stop) → is_single call ≡ true → asks_nothing call ≡ false → IsReading first → BeginOutcome first (Ok tt) begun → ReadyOutcome begun (Ok stop) mid → has_answer stop true ≡ false → new ≡ answered_at stop mid → Answers (reading_of first) call NotReady (reading_of new)
+pub once_unready : (first begun mid new : EngineView) (call : FileCall) (stop : Stop) → is_single call ≡ true → asks_nothing call ≡ false → IsReading first → BeginOutcome first (Ok tt) begun → ReadyOutcome begun (Ok stop) mid → has_answer stop true ≡ false → new ≡ record mid { short = is_wait stop } → Answers (reading_of first) call NotReady (reading_of new)
 once_unready first begun mid new call stop single asks is began ready unready new_is = grind (arith, from_begun, unready_once, reading_begins, keeps_reading, used_up_stands)
 
 -- a call whose one transfer failed, or wanted memory
@@ -144,7 +144,7 @@ pub once_failed : (first begun new : EngineView) (call : FileCall) (why : IoFaul
 once_failed first begun new call why single asks is began wants = grind (arith, from_begun, faulted_once, reading_begins, keeps_reading, each_but_failed, unmoved_once)
 
 -- the bytes held are shown, or the raw made the call wait
-pub once_look : (first begun mid new : EngineView) (stop : Stop) (shown : Bool) → IsReading first → BeginOutcome first (Ok tt) begun → ReadyOutcome begun (Ok stop) mid → shown ≡ has_answer stop true → new ≡ answered_at stop mid → Answers (reading_of first) Peek (look_reply (Ok shown) (ahead_of new.window)) (reading_of new)
+pub once_look : (first begun mid new : EngineView) (stop : Stop) (shown : Bool) → IsReading first → BeginOutcome first (Ok tt) begun → ReadyOutcome begun (Ok stop) mid → shown ≡ has_answer stop true → new ≡ record mid { short = is_wait stop } → Answers (reading_of first) Peek (look_reply (Ok shown) (ahead_of new.window)) (reading_of new)
 once_look first begun mid new stop true is began ready shows new_is = once_looked first begun mid new stop is began ready (sym shows) new_is
 once_look first begun mid new stop false is began ready shows new_is = once_unready first begun mid new Peek stop refl refl is began ready (sym shows) new_is
 

@@ -1,12 +1,13 @@
 -- What a step of a stream that is written leaves: by its raw, where that stands, its window and its life.
-use Rattle.std.proofs.Common.{◌≡◌, ◌≢◌, ℕ, ◌+◌, ◌-◌, ◌<◌, ◌≤◌, ◌⊎◌, false, IsTrue, List, [], ◌++◌, length, take, drop, Option, Some, Result, Ok, Err, refl, sym, ap, ◌∙◌, subst, arith, add-zero, length-append}
-use Rattle.std.proofs.lemmas.List.{append-nil, length-take-le, take_all, drop_all}
+use Rattle.std.proofs.Common.{◌≡◌, ◌≢◌, ℕ, ◌+◌, ◌-◌, ◌<◌, ◌≤◌, ◌⊎◌, false, IsTrue, List, [], ◌++◌, length, take, drop, Option, None, Some, Result, Ok, Err, refl, sym, ap, ◌∙◌, subst, arith, add-zero, length-append}
+use Rattle.std.proofs.lemmas.List.{append-nil, length-drop, length-take-le, take_all, drop_all}
+use Rattle.py_flat.specs.declared.fault.IoFault.{IoFault}
+use Rattle.py_flat.specs.declared.fault.IoFault.TheVariants as fault
 use Rattle.py_flat.specs.declared.life.Life.TheVariants as life
-use Rattle.py_flat.specs.Causes.{Rose}
 use Rattle.py_flat.specs.Bytes.{lay}
-use Rattle.py_raw.specs.declared.raw_error.RawError.{RawError}
-use Rattle.py_raw.specs.declared.raw_error.RawError.TheVariants as raw_error
-use Rattle.py_raw.specs.RawStream.{Raw, Keeps, StaysOpen, WhereTold, NoWait, AnswersFor, AsksToWait, WritesBytes, WriteOutcome}
+use Rattle.py_raw.specs.RawStream.{Raw, Keeps, StaysOpen, AsksToWait, WritesBytes}
+use Rattle.py_stream.specs.LiveRaw.{LiveView, Calls, FailsGiven, GiveOutcome}
+use Rattle.py_stream.proofs.Pieces.{some_taken}
 use Rattle.py_raw.proofs.Telling.{keeps_same, tells_its_place, tells_its_bytes}
 use Rattle.py_stream.specs.Access.{is_read}
 use Rattle.py_stream.specs.Keeping.{KeepsOn, OwesBehind}
@@ -15,7 +16,8 @@ use Rattle.py_stream.proofs.Taking.{calm_of}
 use Rattle.py_engine.specs.Window.{WindowView, place_of, pending_of, pushed, passed_on, emptied_at, cut_at, room_of}
 use Rattle.py_engine.specs.Engine.{EngineView, stream_of, Stands}
 use Rattle.py_engine.proofs.Collecting.{Shows, shows_itself, passed_shows, pushed_shows, cut_shows, room_left}
-use Rattle.py_engine.specs.Passing.{room_behind}
+use Rattle.py_engine.specs.declared.data.passing_on.Passed.TheVariants as passing
+use Rattle.py_engine.specs.Passing.{room_behind, DrainOutcome, HandOnOutcome}
 use Rattle.py_engine.proofs.Standing.{owes_before, owes_behind, is_sound}
 
 -- By what the stream is opened for.
@@ -105,19 +107,8 @@ waited old raw is writes live keeps stays waits =
 
 -- The raw failed while it was given what it was owed and some bytes more, or took none of them.
 
--- the raw failed while it was given a piece, of which it answered for none; told, it laid on a front of the piece
-pub record FaultsWriting (old : Raw) (piece : List ℕ) (new : Raw) : Type 0 where
-  pub cause : Rose old.faults new.faults
-  pub no_wait : NoWait old new
-  pub written : AnswersFor 0 old new
-  pub told : WhereTold old ((count : ℕ) × (count ≤ length piece) × (new.bytes ≡ lay old.bytes old.place (take count piece)))
-
--- a raw that takes nothing of a piece that isn't empty failed, as one did that answers a fault
-pub faults_writing : (old new : Raw) (piece : List ℕ) (result : Result (Option ℕ) RawError) → 0 < length piece → (result ≡ Ok (Some 0)) ⊎ (result ≡ Err raw_error.Fault) → WriteOutcome old piece result new → FaultsWriting old piece new
-faults_writing old new piece result some takes_none outcome = grind arith
-
 -- a stream whose raw fails while it is given bytes fails too, and owes what it owed
-pub fails_giving : (old : EngineView) (raw : Raw) (bytes : List ℕ) → Stands old → is_read old.access ≡ false → old.life ≡ life.Live → (0 < length (pending_of old.window) → bytes ≡ []) → Keeps old.raw raw → StaysOpen old.raw raw → FaultsWriting old.raw (pending_of old.window ++ bytes) raw → FailsTaking (stream_of old) bytes (stream_of (record old { raw = raw; life = life.Failed }))
+pub fails_giving : (old : EngineView) (raw : Raw) (bytes : List ℕ) → Stands old → is_read old.access ≡ false → old.life ≡ life.Live → (0 < length (pending_of old.window) → bytes ≡ []) → Keeps old.raw raw → StaysOpen old.raw raw → FailsGiven old.raw (pending_of old.window ++ bytes) raw → FailsTaking (stream_of old) bytes (stream_of (record old { raw = raw; life = life.Failed }))
 fails_giving old raw bytes is writes live alone keeps stays faults =
     let owed : List ℕ = pending_of old.window in
     let step = stepped old (record old { raw = raw; life = life.Failed }) (stream_of old).owed.place owed is writes (grind (arith, shows_now old is writes, owes_before)) in
@@ -147,14 +138,14 @@ fails_giving old raw bytes is writes live alone keeps stays faults =
     }
 
 -- the raw failed while it was given only what it was owed
-pub fails_draining : (old : EngineView) (raw : Raw) (piece : List ℕ) → Stands old → is_read old.access ≡ false → old.life ≡ life.Live → piece ≡ pending_of old.window → Keeps old.raw raw → StaysOpen old.raw raw → FaultsWriting old.raw piece raw → FailsTaking (stream_of old) [] (stream_of (record old { raw = raw; life = life.Failed }))
+pub fails_draining : (old : EngineView) (raw : Raw) (piece : List ℕ) → Stands old → is_read old.access ≡ false → old.life ≡ life.Live → piece ≡ pending_of old.window → Keeps old.raw raw → StaysOpen old.raw raw → FailsGiven old.raw piece raw → FailsTaking (stream_of old) [] (stream_of (record old { raw = raw; life = life.Failed }))
 fails_draining old raw piece is writes live same keeps stays faults =
-    fails_giving old raw [] is writes live (λ some. refl) keeps stays (subst (λ (all : List ℕ). FaultsWriting old.raw all raw) (same ∙ sym (append-nil (pending_of old.window))) faults)
+    fails_giving old raw [] is writes live (λ some. refl) keeps stays (subst (λ (all : List ℕ). FailsGiven old.raw all raw) (same ∙ sym (append-nil (pending_of old.window))) faults)
 
 -- of a caller's bytes, while nothing is owed
-pub fails_passing : (old : EngineView) (raw : Raw) (bytes : List ℕ) → Stands old → is_read old.access ≡ false → old.life ≡ life.Live → pending_of old.window ≡ [] → Keeps old.raw raw → StaysOpen old.raw raw → FaultsWriting old.raw bytes raw → FailsTaking (stream_of old) bytes (stream_of (record old { raw = raw; life = life.Failed }))
+pub fails_passing : (old : EngineView) (raw : Raw) (bytes : List ℕ) → Stands old → is_read old.access ≡ false → old.life ≡ life.Live → pending_of old.window ≡ [] → Keeps old.raw raw → StaysOpen old.raw raw → FailsGiven old.raw bytes raw → FailsTaking (stream_of old) bytes (stream_of (record old { raw = raw; life = life.Failed }))
 fails_passing old raw bytes is writes live none keeps stays faults =
-    fails_giving old raw bytes is writes live (λ some. absurd (omega (arith, some, ap length none))) keeps stays (subst (λ (owed : List ℕ). FaultsWriting old.raw (owed ++ bytes) raw) (sym none) faults)
+    fails_giving old raw bytes is writes live (λ some. absurd (omega (arith, some, ap length none))) keeps stays (subst (λ (owed : List ℕ). FailsGiven old.raw (owed ++ bytes) raw) (sym none) faults)
 
 -- Bytes are kept behind what is owed.
 
@@ -193,3 +184,54 @@ cut_back old start is writes behind within =
 -- the room behind what is owed is the window's
 pub room_there : (engine : EngineView) (bytes : List ℕ) → Stands engine → is_read engine.access ≡ false → length bytes ≤ room_behind (stream_of engine) → length bytes ≤ room_of engine.window
 room_there engine bytes is writes room = omega (arith, room, room_left engine.window (owes_before engine.access engine.raw_place engine.window writes is.shape).collects)
+
+-- What giving the raw some bytes makes of an engine.
+
+-- an engine by its raw, with what became of its stream, by where that raw stands, and by its window
+abbrev pub engine_of : LiveView → ℕ → WindowView → EngineView
+engine_of live at window = record { raw = live.raw; raw_place = at; window = window; access = live.access; life = live.life; short = live.short }
+
+-- one transfer of a piece to the raw of an engine that is written
+abbrev pub Gives : LiveView → List ℕ → Result (Option ℕ) IoFault → LiveView → Type 0
+Gives live piece result new = Calls (GiveOutcome live.raw piece) live.life life.Failed live.life live result new
+
+module _ (live : LiveView) (at : ℕ) (window : WindowView) (new : LiveView) (is : Stands (engine_of live at window)) (writes : is_read live.access ≡ false) (lives : live.life ≡ life.Live) (keeps : Keeps live.raw new.raw) (stays : StaysOpen live.raw new.raw) where
+  -- some of what is owed went
+  pub drains_some : (piece : List ℕ) (count : ℕ) → 0 < length (pending_of window) → piece ≡ pending_of window → Gives live piece (Ok (Some count)) new → DrainOutcome (stream_of (engine_of live at window)) (Ok passing.All) (stream_of (engine_of new (at + count) (passed_on count window)))
+  drains_some piece count some same gives =
+      let old : EngineView = engine_of live at window in
+      let gave : Gives live (pending_of window) (Ok (Some count)) new = subst (λ (all : List ℕ). Gives live all (Ok (Some count)) new) same gives in
+      let more : 0 < count = some_taken (pending_of window) count some gave.0.1 in
+      let left = drained old new.raw count is writes lives keeps stays more gave.0.0 in
+      subst (λ (seen : LiveView). DrainOutcome (stream_of old) (Ok passing.All) (stream_of (engine_of seen (at + count) (passed_on count window)))) (sym gave.1)
+      (took_drained old new.raw count is writes lives keeps stays more gave.0.0, gave.0.0.no_wait, omega (arith, ap length left.bytes_are, length-drop count (pending_of window), more, gave.0.0.fits))
+
+  -- the raw refused what is owed
+  pub drains_not : (piece : List ℕ) (why : IoFault) → 0 < length (pending_of window) → piece ≡ pending_of window → Gives live piece (Err why) new → DrainOutcome (stream_of (engine_of live at window)) (Err why) (stream_of (engine_of new at window))
+  drains_not piece fault.RawFault some same gives =
+      subst (λ (seen : LiveView). DrainOutcome (stream_of (engine_of live at window)) (Err fault.RawFault) (stream_of (engine_of seen at window))) (sym gives.1)
+      (fails_draining (engine_of live at window) new.raw piece is writes lives same keeps stays gives.0, gives.0.no_wait, some)
+  drains_not piece fault.NoMemory some same gives = (gives.0.takes, ap (λ (seen : LiveView). stream_of (engine_of seen at window)) gives.1)
+  drains_not piece why some same gives = absurd gives
+
+  -- some of a caller's bytes went
+  pub hands_some : (bytes : List ℕ) (count : ℕ) → 0 < length bytes → pending_of window ≡ [] → place_of window + length bytes ≤ 9223372036854775807 → Gives live bytes (Ok (Some count)) new → HandOnOutcome (stream_of (engine_of live at window)) bytes (Ok (Some count)) (stream_of (engine_of new (place_of window + count) (emptied_at (place_of window + count) window)))
+  hands_some bytes count some none far gives =
+      let old : EngineView = engine_of live at window in
+      let more : 0 < count = some_taken bytes count some gives.0.1 in
+      subst (λ (seen : LiveView). HandOnOutcome (stream_of old) bytes (Ok (Some count)) (stream_of (engine_of seen (place_of window + count) (emptied_at (place_of window + count) window)))) (sym gives.1)
+      (took_given old new.raw bytes count is writes lives none keeps stays far more gives.0.0, more, gives.0.0.fits, refl)
+
+  -- the raw would have blocked
+  pub hands_none : (bytes : List ℕ) → Gives live bytes (Ok None) new → HandOnOutcome (stream_of (engine_of live at window)) bytes (Ok None) (stream_of (engine_of new at window))
+  hands_none bytes gives =
+      subst (λ (seen : LiveView). HandOnOutcome (stream_of (engine_of live at window)) bytes (Ok None) (stream_of (engine_of seen at window))) (sym gives.1)
+      (waited (engine_of live at window) new.raw is writes lives keeps stays gives.0, gives.0.cause)
+
+  -- the raw refused a caller's bytes
+  pub hands_not : (bytes : List ℕ) (why : IoFault) → pending_of window ≡ [] → Gives live bytes (Err why) new → HandOnOutcome (stream_of (engine_of live at window)) bytes (Err why) (stream_of (engine_of new at window))
+  hands_not bytes fault.RawFault none gives =
+      subst (λ (seen : LiveView). HandOnOutcome (stream_of (engine_of live at window)) bytes (Err fault.RawFault) (stream_of (engine_of seen at window))) (sym gives.1)
+      (fails_passing (engine_of live at window) new.raw bytes is writes lives none keeps stays gives.0, none)
+  hands_not bytes fault.NoMemory none gives = (gives.0.takes, ap (λ (seen : LiveView). stream_of (engine_of seen at window)) gives.1)
+  hands_not bytes why none gives = absurd gives

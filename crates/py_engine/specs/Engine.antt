@@ -5,12 +5,12 @@ use Rattle.py_flat.specs.declared.fault.IoFault.TheVariants as fault
 use Rattle.py_flat.specs.declared.life.Life.{Life}
 use Rattle.py_flat.specs.declared.life.Life.TheVariants as life
 use Rattle.py_flat.specs.Bytes.{left_at}
-use Rattle.py_flat.specs.Refusals.{life_fault}
 use Rattle.py_raw.specs.RawStream.{Raw, Keeps, StaysOpen, FailsWithout, Answers, WhereTold, WherePlace}
 use Rattle.py_stream.specs.declared.access.Access.{Access}
 use Rattle.py_stream.specs.declared.access.Access.TheVariants as access
 use Rattle.py_stream.specs.Access.{can_of}
 use Rattle.py_stream.specs.Stream.{Stream}
+use Rattle.py_stream.specs.LiveRaw.{LetsBegin}
 use Rattle.py_engine.specs.Window.{WindowView, IsWindow, Collects, place_of, end_of, owed_of}
 
 -- an engine: its raw, where the raw stands by the stream's own count, the window on the raw's bytes, what its stream is opened for, what
@@ -98,5 +98,4 @@ RawEndOutcome old (Err other) new = ⊥
 
 -- a call begins: it is refused by the life, and nothing is short yet
 abbrev pub BeginOutcome : EngineView → Result (Unit {0}) IoFault → EngineView → Type 0
-BeginOutcome old (Ok done) new = (old.life ≡ life.Live) × (new ≡ record old { short = false })
-BeginOutcome old (Err why) new = (life_fault old.life ≡ Some why) × (new ≡ record old { short = false })
+BeginOutcome old result new = LetsBegin old.life result × (new ≡ record old { short = false })

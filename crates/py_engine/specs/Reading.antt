@@ -1,5 +1,5 @@
 -- Reading from an engine that reads ahead: nothing is pending, and its raw stands after the bytes held.
-use Rattle.std.specs.Prelude.{◌≡◌, ◌≢◌, ℕ, ◌+◌, ◌^◌, ◌<◌, ◌≤◌, ◌⊎◌, Bool, true, false, IsTrue, List, [], ◌++◌, length, take, Some, Result, Ok, Err, Vec}
+use Rattle.std.specs.Prelude.{◌≡◌, ◌≢◌, ℕ, ◌+◌, ◌^◌, ◌<◌, ◌≤◌, ◌⊎◌, Bool, true, false, if◌then◌else◌, nat_lt, IsTrue, List, [], ◌++◌, length, take, Some, Result, Ok, Err, Vec}
 use Rattle.std.specs.declared.alloc.Global.{Global}
 use Rattle.py_flat.specs.declared.fault.IoFault.{IoFault}
 use Rattle.py_flat.specs.declared.fault.IoFault.TheVariants as fault
@@ -11,7 +11,8 @@ use Rattle.py_raw.specs.RawStream.{Keeps, StaysOpen, WhereTold, WherePlace, Wher
 use Rattle.py_stream.specs.Access.{can_of, is_read}
 use Rattle.py_stream.specs.Stream.{Stream, file_of, nothing_owed}
 use Rattle.py_stream.specs.Answers.{OnlyAsked, CameByReads, EachBrings}
-use Rattle.py_stream.specs.Reading.{KeepsReading, Reaches, FailsReading, StopOutcome, is_wait}
+use Rattle.py_stream.specs.Reading.{KeepsReading, Reaches, FailsReading, StopOutcome}
+use Rattle.py_stream.specs.LiveRaw.{starved}
 use Rattle.py_stream.specs.declared.stop.Stop.{Stop}
 use Rattle.py_stream.specs.declared.stop.Stop.TheVariants as stop
 use Rattle.py_engine.specs.declared.window.Filled.{Filled}
@@ -95,8 +96,7 @@ IsLast old = WhereTold old.raw (length old.raw.bytes ≤ end_of old.window)
 
 -- memory ran out: the stream fails where bytes had moved in this call
 abbrev pub StarvesWith : Bool → EngineView → EngineView → Type 0
-StarvesWith true old new = new ≡ record old { life = life.Failed }
-StarvesWith false old new = new ≡ old
+StarvesWith moved old new = new ≡ record old { life = starved moved old.life }
 
 -- the raw wanted memory that it takes: nothing changed
 abbrev pub RawStarves : Bool → EngineView → EngineView → Type 0
@@ -143,12 +143,6 @@ PassesOutcome old moved (Err fault.RawFault) buffer new = FailsByRaw old new
 PassesOutcome old moved (Err fault.NoMemory) buffer new = RawStarves moved old new
 PassesOutcome old moved (Err other) buffer new = ⊥
 
--- Answering.
-
--- the engine once the answer is known: a wait cut it short
-abbrev pub answered_at : Stop → EngineView → EngineView
-answered_at where_stopped engine = record engine { short = is_wait where_stopped }
-
 -- Into a caller's buffer.
 
 -- bytes came after those held, which were all taken, into the front of what is left of a caller's buffer
@@ -161,6 +155,12 @@ pub record StepsOn (old : EngineView) (count : ℕ) (rest : List ℕ) (new : Eng
   pub told : WhereTold old.raw (take count (left_at old.raw.bytes (end_of old.window)) ≡ take count rest)
   pub each : EachBrings 0 0 (reading_of old) (reading_of new)
   pub forth : WherePlace old.raw (old.raw.place < new.raw.place)
+
+-- the step that a transfer makes which brought n bytes of as many as were wanted
+abbrev pub stepped : Filled → ℕ → ℕ → Step
+stepped (filled.More any) count wanted = if nat_lt count wanted then step.On count else step.Stopped count stop.Enough
+stepped filled.End count wanted = step.Stopped 0 stop.End
+stepped filled.Waits count wanted = step.Stopped 0 stop.Waits
 
 -- one transfer: it brought less than what is left of the buffer, and the window's end lies after it; or as much, and the
 -- place does, among what it brought; or none

@@ -1,11 +1,13 @@
 -- The bytes of a stream that its buffer holds, with a cursor among them, and those among them that its raw is owed.
-use Rattle.std.specs.Prelude.{◌≡◌, ◌≢◌, ℕ, ◌+◌, ◌-◌, ◌<◌, ◌≤◌, List, [], ◌++◌, length, take, drop, min, max, Result, Ok, Err, Bool, ◌&&◌, nat_le, nat_eq, if◌then◌else◌}
+use Rattle.std.specs.Prelude.{◌≡◌, ◌≢◌, ℕ, ◌+◌, ◌-◌, ◌<◌, ◌≤◌, List, [], ◌++◌, length, take, drop, min, max, Result, Ok, Err, Bool, IsTrue, ◌&&◌, nat_le, nat_eq, if◌then◌else◌}
+use Rattle.py_flat.specs.declared.fault.IoFault.{IoFault}
+use Rattle.py_flat.specs.declared.fault.IoFault.TheVariants as fault
+use Rattle.py_flat.specs.declared.life.Life.TheVariants as life
 use Rattle.py_flat.specs.Limits.{greatest_place}
 use Rattle.py_flat.specs.Bytes.{left_at}
 use Rattle.py_flat.specs.Owed.{Owed}
-use Rattle.py_raw.specs.declared.raw_error.RawError.{RawError}
-use Rattle.py_raw.specs.declared.raw_error.RawError.TheVariants as raw_error
-use Rattle.py_raw.specs.RawStream.{Raw, WhereTold, WherePlace, KeepsBytes, Transfers, LeavesCounts, AnswersFor, ReadsBring, AsksToWait, FailsWithout, LacksMemory}
+use Rattle.py_raw.specs.RawStream.{Raw, WhereTold, WherePlace, KeepsBytes, Transfers, LeavesCounts, AnswersFor, ReadsBring, AsksToWait, FailsWithout}
+use Rattle.py_stream.specs.LiveRaw.{LiveView, starved}
 use Rattle.py_engine.specs.declared.window.Filled.{Filled}
 use Rattle.py_engine.specs.declared.window.Filled.TheVariants as filled
 
@@ -170,13 +172,28 @@ pub record BringsNone (old : Raw) (place : ℕ) (new : Raw) : Type 0 where
   pub bytes : KeepsBytes old new
   pub transfers : Transfers 1 old new
 
+-- what a transfer leaves of the raw's stream: it lives on
+abbrev pub GoesOn : LiveView → LiveView → Type 0
+GoesOn old new = new ≡ record old { raw = new.raw }
+
+-- or it failed with its raw
+pub record FailsWithRaw (old new : LiveView) : Type 0 where
+  pub fails : FailsWithout 1 old.raw new.raw
+  pub same : new ≡ record old { raw = new.raw; life = life.Failed }
+
+-- or the raw wanted memory, which fails it where bytes had moved in the call
+pub record RawLacks (old : LiveView) (moved : Bool) (new : LiveView) : Type 0 where
+  pub takes : IsTrue old.raw.takes_memory
+  pub same : new ≡ record old { life = starved moved old.life }
+
 -- into the front of a buffer
-abbrev pub TransferOutcome : Raw → ℕ → List ℕ → Result Filled RawError → List ℕ → Raw → Type 0
-TransferOutcome old place before (Ok (filled.More count)) after new = (count ≤ length after) × Brings old place (take count after) new
-TransferOutcome old place before (Ok filled.End) after new = BringsNone old place new
-TransferOutcome old place before (Ok filled.Waits) after new = AsksToWait old new
-TransferOutcome old place before (Err raw_error.Fault) after new = FailsWithout 1 old new
-TransferOutcome old place before (Err raw_error.Memory) after new = LacksMemory old new × (after ≡ before)
+abbrev pub TransferOutcome : LiveView → Bool → ℕ → List ℕ → Result Filled IoFault → List ℕ → LiveView → Type 0
+TransferOutcome old moved place before (Ok (filled.More count)) after new = (count ≤ length after) × Brings old.raw place (take count after) new.raw × GoesOn old new
+TransferOutcome old moved place before (Ok filled.End) after new = BringsNone old.raw place new.raw × GoesOn old new
+TransferOutcome old moved place before (Ok filled.Waits) after new = AsksToWait old.raw new.raw × GoesOn old new
+TransferOutcome old moved place before (Err fault.RawFault) after new = FailsWithRaw old new
+TransferOutcome old moved place before (Err fault.NoMemory) after new = RawLacks old moved new × (after ≡ before)
+TransferOutcome old moved place before (Err other) after new = ⊥
 
 -- a window that was filled anew: it holds what came, with the cursor before it
 pub record HoldsNew (before : WindowView) (count : ℕ) (after : WindowView) : Type 0 where
@@ -188,17 +205,19 @@ pub record HoldsNew (before : WindowView) (count : ℕ) (after : WindowView) : T
   pub as_many : count ≡ length after.held
 
 -- a transfer into the window
-abbrev pub FillOutcome : Raw → WindowView → Result Filled RawError → Raw → WindowView → Type 0
-FillOutcome old before (Ok (filled.More count)) new after = HoldsNew before count after × IsWindow after × Brings old (end_of before) after.held new
-FillOutcome old before (Ok filled.End) new after = (after ≡ used_up before) × BringsNone old (end_of before) new
-FillOutcome old before (Ok filled.Waits) new after = (after ≡ used_up before) × AsksToWait old new
-FillOutcome old before (Err raw_error.Fault) new after = (after ≡ used_up before) × FailsWithout 1 old new
-FillOutcome old before (Err raw_error.Memory) new after = (after ≡ before) × LacksMemory old new
+abbrev pub FillOutcome : LiveView → Bool → WindowView → Result Filled IoFault → LiveView → WindowView → Type 0
+FillOutcome old moved before (Ok (filled.More count)) new after = HoldsNew before count after × IsWindow after × Brings old.raw (end_of before) after.held new.raw × GoesOn old new
+FillOutcome old moved before (Ok filled.End) new after = (after ≡ used_up before) × BringsNone old.raw (end_of before) new.raw × GoesOn old new
+FillOutcome old moved before (Ok filled.Waits) new after = (after ≡ used_up before) × AsksToWait old.raw new.raw × GoesOn old new
+FillOutcome old moved before (Err fault.RawFault) new after = (after ≡ used_up before) × FailsWithRaw old new
+FillOutcome old moved before (Err fault.NoMemory) new after = (after ≡ before) × RawLacks old moved new
+FillOutcome old moved before (Err other) new after = ⊥
 
 -- a transfer past the window, straight into the front of a caller's buffer
-abbrev pub PassOutcome : Raw → WindowView → Result Filled RawError → List ℕ → Raw → WindowView → Type 0
-PassOutcome old before (Ok (filled.More count)) buffer new after = (count ≤ length buffer) × (after ≡ emptied_at (end_of before + count) before) × Brings old (end_of before) (take count buffer) new
-PassOutcome old before (Ok filled.End) buffer new after = (after ≡ used_up before) × BringsNone old (end_of before) new
-PassOutcome old before (Ok filled.Waits) buffer new after = (after ≡ used_up before) × AsksToWait old new
-PassOutcome old before (Err raw_error.Fault) buffer new after = (after ≡ used_up before) × FailsWithout 1 old new
-PassOutcome old before (Err raw_error.Memory) buffer new after = (after ≡ before) × LacksMemory old new
+abbrev pub PassOutcome : LiveView → Bool → WindowView → Result Filled IoFault → List ℕ → LiveView → WindowView → Type 0
+PassOutcome old moved before (Ok (filled.More count)) buffer new after = (count ≤ length buffer) × (after ≡ emptied_at (end_of before + count) before) × Brings old.raw (end_of before) (take count buffer) new.raw × GoesOn old new
+PassOutcome old moved before (Ok filled.End) buffer new after = (after ≡ used_up before) × BringsNone old.raw (end_of before) new.raw × GoesOn old new
+PassOutcome old moved before (Ok filled.Waits) buffer new after = (after ≡ used_up before) × AsksToWait old.raw new.raw × GoesOn old new
+PassOutcome old moved before (Err fault.RawFault) buffer new after = (after ≡ used_up before) × FailsWithRaw old new
+PassOutcome old moved before (Err fault.NoMemory) buffer new after = (after ≡ before) × RawLacks old moved new
+PassOutcome old moved before (Err other) buffer new after = ⊥

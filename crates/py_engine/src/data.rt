@@ -3,10 +3,9 @@ ghost use Rattle.std.specs.Prelude.{◌≡◌, ◌≢◌, ◌<◌, ◌≤◌, tr
 ghost use Rattle.py_flat.specs.Limits.{greatest_place};
 ghost use Rattle.py_raw.specs.RawStream.{WherePlace};
 ghost use Rattle.py_stream.specs.Access.{is_read};
-ghost use Rattle.py_stream.specs.Reading.{has_answer};
 ghost use Rattle.py_engine.specs.Window.{ahead_of, place_of};
 ghost use Rattle.py_engine.specs.Engine.{stream_of, Stands, BeginOutcome, RawEndOutcome};
-ghost use Rattle.py_engine.specs.Reading.{StarvesWith, FillsOutcome, PassesOutcome, answered_at};
+ghost use Rattle.py_engine.specs.Reading.{StarvesWith, FillsOutcome, PassesOutcome};
 
 mod ending;
 mod gathering;
@@ -17,31 +16,28 @@ mod single;
 mod writing;
 
 use crate::window::{Filled, Window};
-use py_raw::{IoFault, Life, RawError, RawStream};
-use py_stream::{Access, Stop, life_fault};
+use py_raw::{IoFault, Life, RawStream};
+use py_stream::{Access, LiveRaw};
 use std::marker::Model;
 
 /// While the stream lives, `raw_place` is where its raw stands: of a stream that is read after all that the window holds, of one
 /// that is written where the pending bytes belong.
 #[derive(Debug, Drop)]
 pub struct BufferedData<R: RawStream> {
-    raw: R,
+    live: LiveRaw<R>,
     raw_place: u64,
     window: Window,
-    access: Access,
-    life: Life,
-    short: bool,
 }
 
-// A function's proof knows the invariant where the function uses a field: so some begin with `let _ = &self.raw;`.
+// A function's proof knows the invariant where the function uses a field: so some begin with `let _ = &self.live;`.
 impl<R: RawStream> Model for BufferedData<R> {
     ghost use Rattle.py_engine.specs.Engine.{EngineView, IsEngine};
 
     ghost Value = { EngineView };
 
-    ghost view = { λ d. record { raw = R.shows d.raw; raw_place = d.raw_place; window = d.window; access = d.access; life = d.life; short = d.short } };
+    ghost view = { λ d. record { raw = d.live.raw; raw_place = d.raw_place; window = d.window; access = d.live.access; life = d.live.life; short = d.live.short } };
 
-    ghost invariant = { λ d. IsEngine (R.shows d.raw) d.raw_place d.window d.access d.life };
+    ghost invariant = { λ d. IsEngine d.live.raw d.raw_place d.window d.live.access d.live.life };
 }
 
 impl<R: RawStream> BufferedData<R> {
@@ -54,12 +50,9 @@ impl<R: RawStream> BufferedData<R> {
         ensures { result ≡ record { raw = R.shows raw; raw_place = place; window = record { size = vec_len buffer; begin = place; held = []; cursor = 0; from = 0; to = 0 }; access = access; life = Life.Live; short = false } }
     {
         BufferedData {
-            raw,
+            live: LiveRaw::new(raw, access),
             raw_place: place,
             window: Window::new(buffer, place),
-            access,
-            life: Life::Live,
-            short: false,
         }
     }
 
@@ -67,21 +60,21 @@ impl<R: RawStream> BufferedData<R> {
     pub fn life(&self) -> Life
         ensures { result ≡ self.now.life }
     {
-        self.life
+        self.live.life()
     }
 
     /// Whether a wait cut the last answer short.
     pub fn short(&self) -> bool
         ensures { result ≡ self.now.short }
     {
-        self.short
+        self.live.short()
     }
 
     /// Forgets that a wait cut the last answer short.
     pub fn forget_wait(&mut self)
         ensures { self.new ≡ record self.old { short = false } }
     {
-        self.short = false;
+        self.live.note_wait(false);
     }
 
     /// The raw, lent.
@@ -89,7 +82,7 @@ impl<R: RawStream> BufferedData<R> {
         ensures raw { R.shows result.now ≡ self.now.raw }
         ensures attached { self.now.life ≢ Life.Detached }
     {
-        &self.raw
+        self.live.raw()
     }
 
     /// The bytes that are held from the place on, lent.
@@ -110,11 +103,7 @@ impl<R: RawStream> BufferedData<R> {
     fn begin(&mut self) -> Result<(), IoFault>
         ensures { BeginOutcome self.old result self.new }
     {
-        self.short = false;
-        match life_fault(self.life) {
-            None => Ok(()),
-            Some(fault) => Err(fault),
-        }
+        self.live.begin()
     }
 
     /// Memory was wanting: the stream fails where bytes had moved in this call.
@@ -122,10 +111,7 @@ impl<R: RawStream> BufferedData<R> {
         ensures fault { result ≡ IoFault.NoMemory }
         ensures stream { StarvesWith moved self.old self.new }
     {
-        if moved {
-            self.life = Life::Failed;
-        }
-        IoFault::NoMemory
+        self.live.starve(moved)
     }
 
     /// Asks the raw where it ends.
@@ -133,14 +119,7 @@ impl<R: RawStream> BufferedData<R> {
         requires live { self.old.life ≡ Life.Live }
         ensures { RawEndOutcome self.old result self.new }
     {
-        match self.raw.end() {
-            Ok(end) => Ok(end),
-            Err(RawError::Fault) => {
-                self.life = Life::Failed;
-                Err(IoFault::RawFault)
-            }
-            Err(RawError::Memory) => Err(IoFault::NoMemory),
-        }
+        self.live.end()
     }
 
     /// Fills the window anew, by one transfer. `moved` tells whether bytes had moved in this call.
@@ -149,17 +128,9 @@ impl<R: RawStream> BufferedData<R> {
         requires reads { is_read self.old.access ≡ true }
         ensures { FillsOutcome self.old moved result self.new }
     {
-        match self.window.fill(&mut self.raw) {
-            Ok(filled) => {
-                self.raw_place = self.window.end_place();
-                Ok(filled)
-            }
-            Err(RawError::Fault) => {
-                self.life = Life::Failed;
-                Err(IoFault::RawFault)
-            }
-            Err(RawError::Memory) => Err(self.starve(moved)),
-        }
+        let filled = self.window.fill(&mut self.live, moved);
+        self.raw_place = self.window.end_place();
+        filled
     }
 
     /// Passes bytes straight into a caller's buffer, by one transfer. `moved` tells whether bytes had moved in this call.
@@ -170,34 +141,16 @@ impl<R: RawStream> BufferedData<R> {
         ensures outcome { PassesOutcome self.old moved result buffer.new self.new }
         ensures length { length buffer.new ≡ length buffer.old }
     {
-        match self.window.pass(&mut self.raw, buffer) {
-            Ok(filled) => {
-                self.raw_place = self.window.end_place();
-                Ok(filled)
-            }
-            Err(RawError::Fault) => {
-                self.life = Life::Failed;
-                Err(IoFault::RawFault)
-            }
-            Err(RawError::Memory) => Err(self.starve(moved)),
-        }
-    }
-
-    /// Whether a reading has an answer: none where the raw would have blocked before anything came. A wait is remembered.
-    fn answers(&mut self, stop: Stop, empty: bool) -> bool
-        ensures answer { result ≡ has_answer stop empty }
-        ensures stream { self.new ≡ answered_at stop self.old }
-    {
-        let waits = matches!(stop, Stop::Waits);
-        self.short = waits;
-        !(waits && empty)
+        let filled = self.window.pass(&mut self.live, buffer, moved);
+        self.raw_place = self.window.end_place();
+        filled
     }
 
     /// Does nothing: what calls it is known to hold an engine that stands as each does.
     pub fn assured(&self)
         ensures { Stands self.now }
     {
-        let _ = &self.raw;
+        let _ = &self.live;
     }
 
     /// The raw, what it is owed in the buffer that held it, and the place of that, in every life.
@@ -208,14 +161,11 @@ impl<R: RawStream> BufferedData<R> {
         ensures attached { self.life ≢ Life.Detached }
     {
         let BufferedData {
-            raw,
+            live,
             raw_place: _,
             window,
-            access: _,
-            life: _,
-            short: _,
         } = self;
         let place = window.pending_place();
-        (raw, window.into_pending(), place)
+        (live.into_raw(), window.into_pending(), place)
     }
 }

@@ -28,3 +28,6 @@ pub mod ReadingAnswers
 pub mod ReadingStops
 pub mod ReadingOn
 pub mod SingleReading
+pub mod LineReadings
+pub mod Movable
+pub mod Pieces

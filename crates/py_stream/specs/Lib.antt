@@ -7,6 +7,8 @@ pub mod Keeping
 pub mod Taking
 pub mod Taken
 pub mod Reading
+pub mod LiveRaw
+pub mod ReadingOn
 pub mod Replies
 pub mod Opening
 pub mod Handing

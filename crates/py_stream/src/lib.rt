@@ -6,9 +6,11 @@ mod access;
 mod buffered_stream;
 mod detached;
 mod laws;
+mod live_raw;
 mod moving;
 mod new_refused;
 mod opening;
+mod reading_on;
 mod stop;
 
 pub use access::Access;
@@ -19,8 +21,10 @@ pub use laws::{
     a_smooth_read_gives_what_comes_next, a_smooth_single_transfer_gives_a_front,
     a_smooth_write_takes_all, a_stream_answers_as_a_buffered_one,
 };
+pub use live_raw::LiveRaw;
 pub use moving::{end_of_lines, life_fault, moved_by};
 pub use new_refused::NewRefused;
 pub use opening::{first_place, refused_at_first};
 pub use py_flat::Whence;
+pub use reading_on::{ReadsOn, read_line, read_lines, read_rest};
 pub use stop::Stop;

@@ -11,7 +11,7 @@ use Rattle.py_stream.specs.Stream.{Stream, file_of}
 use Rattle.py_stream.specs.Answers.{Answers, IsNear}
 use Rattle.py_stream.proofs.Begun.{answers_whole}
 use Rattle.py_stream.proofs.Alone.{detaches, Begins, begins_in_vain as stream_begins_in_vain}
-use Rattle.py_stream.proofs.Refusing.{IsPlaced, refused_by_life as life_refuses, refused_by_ability as ability_refuses}
+use Rattle.py_stream.proofs.Refusing.{IsPlaced, refused_by_life as life_refuses}
 use Rattle.py_stream.specs.Keeping.{IsSound, KeepsOn, OwesBehind}
 use Rattle.py_unbuffered.specs.Engine.{EngineView, stream_of, IsEngine, KeepsEngine, BeginOutcome}
 
@@ -74,10 +74,6 @@ unclosed_by_life life.Detached why unclosed by = refl
 -- a close that `begin` refuses
 pub closes_in_vain : (old new : EngineView) (why : IoFault) → Stands old → (old.life ≡ life.Closed → ⊥) → BeginOutcome old (Err why) new → Answers (stream_of old) Close (Refused why) (stream_of new)
 closes_in_vain old new why stands unclosed began = refused_by_life old new Close why stands refl refl (unclosed_by_life old.life why unclosed began.0) began
-
--- A call of a live stream that lacks what the call needs.
-pub refused_by_ability : (old new : EngineView) (call : FileCall) → Stands old → is_getter call ≡ false → is_other_getter call ≡ false → old.life ≡ life.Live → lacks (file_of (stream_of old)) call ≡ true → new ≡ begun old → Answers (stream_of old) call (Refused fault.Unsupported) (stream_of new)
-refused_by_ability old new call stands works own live wants same = ability_refuses (stream_of old) (stream_of new) call (is_placed old stands) works own live wants (ap stream_of same)
 
 -- a stream without a buffer has none
 pub bufferless : (buffer : Option ℕ) → buffer ≡ None → IsSome buffer → ⊥

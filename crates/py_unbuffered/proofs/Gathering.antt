@@ -66,15 +66,16 @@ module _ (wanted : List ℕ → List ℕ) (old now : EngineView) (part : List �
   starves_wanting true new some starves failed = some_wanted (some refl)
   starves_wanting false new some starves failed = absurd (let both : life.Failed ≡ life.Live = sym failed ∙ ap (λ (e : EngineView). e.life) starves ∙ gathered.took.live in cc)
 
-  -- running out of memory leaves the place
-  starved_place : (flag : Bool) (new : EngineView) → StarvesWith flag now new → new.place ≡ now.place
-  starved_place true new starves = ap (λ (e : EngineView). e.place) starves
-  starved_place false new starves = ap (λ (e : EngineView). e.place) starves
-
   -- the raw failed, or ran out of memory
   pub gather_refused : (before : List ℕ) (why : IoFault) (after any : List ℕ) (new : EngineView) → TransferOutcome now moved before (Err why) after new → GatherOutcome wanted (stream_of old) (Err why) any (stream_of new)
   gather_refused before fault.RawFault after any new outcome = grind (arith, fails_after, past_held, within_collected)
-  gather_refused before fault.NoMemory after any new outcome = grind (arith, starves_after, starves_wanting, past_held, within_collected, starved_place)
+  gather_refused before fault.NoMemory after any new outcome = record {
+    stops = starves_after old now part gathered.took moved new gathered.some gathered.none outcome.1;
+    gathers = tt;
+    starves = starves_wanting moved new gathered.some outcome.1;
+    idle = λ held. absurd (past_held held);
+    within = within_collected new.place (ap (λ (e : EngineView). e.place) outcome.1 ∙ gathered.took.place);
+  }
   gather_refused before why after any new outcome = absurd outcome
 
   module _ (before : List ℕ) (count : ℕ) (piece : List ℕ) (new : EngineView) (brings : Brings now before count piece new) (some : 0 < count) (single : length piece ≡ 1) where

@@ -5,5 +5,4 @@ pub mod Reading
 pub mod Gathering
 pub mod Putting
 pub mod Refused
-pub mod Seeking
 pub mod WriteAnswers

@@ -24,16 +24,6 @@ use Rattle.py_unbuffered.specs.Engine.{EngineView, stream_of, BeginOutcome, Tran
 use Rattle.py_unbuffered.proofs.Begun.{bufferless, Stands, is_placed, begun_live}
 use Rattle.py_unbuffered.proofs.Steps.{keeps_reading}
 
--- How readings begin.
-
--- a live engine that is opened for reading
-pub reads_live : (engine : EngineView) → engine.life ≡ life.Live → engine.access ≡ access.Read → engine.short ≡ false → Stands engine → Reads (stream_of engine)
-reads_live engine live reader whole stands = grind (arith, is_placed)
-
--- a call that its life lets through, of a stream that reads
-pub reading_begins : (first now : EngineView) → Stands first → BeginOutcome first (Ok tt) now → (can_of now.access now.raw.seekable).readable ≡ true → ReadingBegins (stream_of first) (stream_of now)
-reading_begins first now stands began reads = grind (arith, begun_live, is_placed)
-
 -- Readings by one transfer.
 
 -- no byte came into a buffer: the buffer is empty, or nothing is left
@@ -91,29 +81,3 @@ pub once_counted : (old mid new : EngineView) (call : FileCall) (before after : 
 once_counted old mid new call before after count none once long same_long begun came found is =
     let same : record mid { short = is_none count } ≡ new = ap (λ (cut : Bool). let cut_engine : EngineView = record mid { short = cut } in cut_engine) (sym (none_is count none found)) ∙ is in
     subst (λ (engine : EngineView). Answers (stream_of old) call (into_reply (Ok count) after) (stream_of engine)) same (once_came old mid call before after once begun count long same_long came)
-
--- Of lines.
-
--- how much a hint leaves before the first line
-abbrev left_of : Option ℕ → Option ℕ
-left_of None = None
-left_of (Some zero) = None
-left_of (Some (suc hint)) = Some (suc hint - 0)
-
--- what lines are gathered by at first
-abbrev no_lines : Option ℕ → LinesView
-no_lines hint = record { lines = []; part = []; hint = hint; left = left_of hint }
-
--- a hint allows some lines at first
-no_lines_open : (hint : Option ℕ) → LinesAreOpen (no_lines hint)
-no_lines_open None = refl
-no_lines_open (Some zero) = refl
-no_lines_open (Some (suc hint)) = (omega arith, refl)
-
--- some line is wanted of whatever comes
-pub lines_hold_some : (hint : Option ℕ) (more : List ℕ) → more ≢ [] → joined (lines_within hint more) ≢ []
-lines_hold_some hint more some none = absurd (omega (arith, lines_ask (no_lines hint) more (record { ended = λ behind. refl; unended = refl }) (no_lines_open hint) some, ap length none))
-
--- a limit that was tested for leaving nothing
-pub not_nothing : (limit : Option ℕ) (test : Bool) → test ≡ option_eq (λ (n m : ℕ). n == m) limit (Some 0) → test ≡ false → limit ≢ Some 0
-not_nothing limit test is none same = absurd (let tested : test ≡ true = is ∙ ap (λ (some : Option ℕ). option_eq (λ (n m : ℕ). n == m) some (Some 0)) same in cc)

@@ -7,11 +7,9 @@ use Rattle.py_flat.specs.declared.life.Life.TheVariants as life
 use Rattle.py_flat.specs.Limits.{greatest_place}
 use Rattle.py_flat.specs.Bytes.{left_at, lay}
 use Rattle.py_flat.specs.Causes.{Rose}
-use Rattle.py_flat.specs.Refusals.{life_fault}
 use Rattle.py_raw.specs.RawStream.{Raw, Keeps, StaysOpen, WhereTold, WherePlace, WhereTransfers, KeepsBytes, NoFault, NoWait, WaitsOnce, LeavesCounts, AnswersFor, ReadsBring, KeepsReads}
 use Rattle.py_stream.specs.Stream.{Stream, nothing_owed, nothing_held}
-use Rattle.py_stream.specs.Reading.{is_wait}
-use Rattle.py_stream.specs.declared.stop.Stop.{Stop}
+use Rattle.py_stream.specs.LiveRaw.{LiveView, LetsBegin, starved}
 use Rattle.py_stream.specs.declared.access.Access.{Access}
 use Rattle.py_stream.specs.Access.{can_of, is_able}
 
@@ -22,6 +20,10 @@ pub record EngineView : Type 0 where
   pub access : Access
   pub life : Life
   pub short : Bool
+
+-- the raw of an engine, and what became of its stream
+abbrev pub live_of : EngineView → LiveView
+live_of engine = record { raw = engine.raw; access = engine.access; life = engine.life; short = engine.short }
 
 -- the stream that an engine is: the raw stands at its place, and is owed nothing
 abbrev pub stream_of : EngineView → Stream
@@ -55,8 +57,7 @@ pub record KeepsEngine (old new : EngineView) : Type 0 where
 
 -- a call begins: it is refused by the life, and nothing is short yet
 abbrev pub BeginOutcome : EngineView → Result (Unit {0}) IoFault → EngineView → Type 0
-BeginOutcome old (Ok done) new = (old.life ≡ life.Live) × (new ≡ record old { short = false })
-BeginOutcome old (Err why) new = (life_fault old.life ≡ Some why) × (new ≡ record old { short = false })
+BeginOutcome old result new = LetsBegin old.life result × (new ≡ record old { short = false })
 
 -- What the steps over the raw come to.
 
@@ -87,8 +88,7 @@ pub record Fails (old new : EngineView) : Type 0 where
 
 -- memory ran out: the stream fails where bytes had moved in this call
 abbrev pub StarvesWith : Bool → EngineView → EngineView → Type 0
-StarvesWith true old new = new ≡ record old { life = life.Failed }
-StarvesWith false old new = new ≡ old
+StarvesWith moved old new = new ≡ record old { life = starved moved old.life }
 
 -- Reading.
 
@@ -129,10 +129,6 @@ FillOutcome old held (Ok None) bytes new = Waits old new × (bytes ≡ held)
 FillOutcome old held (Err fault.RawFault) bytes new = Fails old new
 FillOutcome old held (Err fault.NoMemory) bytes new = StarvesWith (nat_lt 0 (length held)) old new
 FillOutcome old held (Err other) bytes new = ⊥
-
--- the engine once the answer is known: a wait cut it short
-abbrev pub answered_at : Stop → EngineView → EngineView
-answered_at where_stopped engine = record engine { short = is_wait where_stopped }
 
 -- Writing.
 

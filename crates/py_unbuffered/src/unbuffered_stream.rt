@@ -199,7 +199,7 @@ impl<R: RawStream> UnbufferedStream<R> {
         ensures none { result.unwritten.items ≡ [] }
     {
         let UnbufferedStream { data } = self;
-        let seekable = data.seekable();
+        let seekable = data.live().seekable();
         let (raw, place) = data.into_parts();
         Detached {
             raw,
@@ -212,21 +212,21 @@ impl<R: RawStream> UnbufferedStream<R> {
     pub fn readable(&self) -> bool
         ensures { result ≡ self.now.can.readable }
     {
-        self.data.reads()
+        self.data.live().reads()
     }
 
     /// Whether the stream writes: where it was opened for it.
     pub fn writable(&self) -> bool
         ensures { result ≡ self.now.can.writable }
     {
-        !self.data.reads()
+        !self.data.live().reads()
     }
 
     /// Whether the stream's raw can be moved. A stream that appends isn't moved, whatever its raw can.
     pub fn seekable(&self) -> bool
         ensures { result ≡ self.now.can.seekable }
     {
-        self.data.seekable()
+        self.data.live().seekable()
     }
 
     /// Whether the stream was closed.
@@ -240,27 +240,27 @@ impl<R: RawStream> UnbufferedStream<R> {
     pub fn life(&self) -> Life
         ensures { result ≡ self.now.life }
     {
-        self.data.life()
+        self.data.live().life()
     }
 
     /// Whether a wait of the raw cut the last call short: its answer is what came by then, or none.
     pub fn short(&self) -> bool
         ensures { result ≡ self.now.short }
     {
-        self.data.short()
+        self.data.live().short()
     }
 
     /// Forgets that a wait cut the last call short. It is for those who answer a call by themselves, which then is the last one.
     pub fn forget_wait(&mut self)
         ensures { self.new ≡ record self.old { short = false } }
     {
-        self.data.forget_wait();
+        self.data.note_wait(false);
     }
 
     /// The raw, lent.
     pub fn raw(&self) -> &R
         ensures { R.shows result.now ≡ self.now.raw }
     {
-        self.data.raw()
+        self.data.live().raw()
     }
 }

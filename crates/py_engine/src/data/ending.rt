@@ -9,16 +9,16 @@ ghost use Rattle.py_engine.specs.Engine.{stream_of, Stands};
 ghost use Rattle.py_engine.specs.Passing.{PassesToClose, BeginsDetachIn};
 
 use super::BufferedData;
-use py_raw::{IoFault, Life, RawError, RawStream};
+use py_raw::{IoFault, Life, RawStream};
 
 impl<R: RawStream> BufferedData<R> {
     /// Passes on all that is owed, and closes the raw. A closed stream stays so.
     pub fn close(&mut self) -> Result<(), IoFault>
         ensures { Answers (stream_of self.old) Close (done_reply result) (stream_of self.new) }
     {
-        let _ = &self.raw;
-        if matches!(self.life, Life::Closed) {
-            self.short = false;
+        let _ = &self.live;
+        if matches!(self.live.life(), Life::Closed) {
+            self.live.note_wait(false);
             return Ok(());
         }
         self.begin()?;
@@ -34,7 +34,7 @@ impl<R: RawStream> BufferedData<R> {
     {
         match self.pass_all() {
             Err(IoFault::RawFault) => {
-                self.life = Life::Closed;
+                self.live.shut();
                 Err(IoFault::RawFault)
             }
             result => result,
@@ -46,17 +46,7 @@ impl<R: RawStream> BufferedData<R> {
         requires live { self.old.life ≡ Life.Live }
         ensures { CloseRawOutcome (stream_of self.old) result (stream_of self.new) }
     {
-        match self.raw.close() {
-            Ok(()) => {
-                self.life = Life::Closed;
-                Ok(())
-            }
-            Err(RawError::Fault) => {
-                self.life = Life::Closed;
-                Err(IoFault::RawFault)
-            }
-            Err(RawError::Memory) => Err(IoFault::NoMemory),
-        }
+        self.live.close()
     }
 
     /// Whether the raw may be handed back: of a live stream once nothing is owed, and of a failed one.
@@ -64,8 +54,8 @@ impl<R: RawStream> BufferedData<R> {
         ensures begins { BeginsDetachIn self.old.access self.old.life (stream_of (record self.old { short = false })) result (stream_of self.new) }
         ensures stands { Stands self.old }
     {
-        self.short = false;
-        match self.life {
+        self.live.note_wait(false);
+        match self.live.life() {
             Life::Live => self.pass_all(),
             Life::Closed => Err(IoFault::Closed),
             Life::Failed | Life::Detached => Ok(()),

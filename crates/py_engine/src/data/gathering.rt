@@ -1,71 +1,28 @@
-//! Readings of lines, which go on until a collector has enough.
-ghost use Rattle.std.specs.Prelude.{◌≡◌, [], false, true};
-ghost use Rattle.py_flat.specs.declared.life.Life.TheVariants.{Live};
-ghost use Rattle.py_flat.specs.Calls.{ReadLine, ReadLines};
+//! Readings that go on until a collector has enough, or all that is left has come.
+ghost use Rattle.std.specs.Prelude.{◌≡◌, true};
 ghost use Rattle.py_stream.specs.Access.{is_read};
-ghost use Rattle.py_stream.specs.Answers.{Answers};
+ghost use Rattle.py_stream.specs.Reading.{answered_at, has_answer, is_wait};
 ghost use Rattle.py_engine.specs.Reading.{reading_of};
-ghost use Rattle.py_stream.specs.Reading.{GatherOutcome};
-ghost use Rattle.py_stream.specs.Replies.{bytes_reply, lines_reply};
 
 use super::BufferedData;
 use crate::window::Filled;
-use py_lines::{Collected, Collector, LineCollector, LinesCollector};
-use py_raw::{IoFault, Lines, RawStream};
-use py_stream::Stop;
-use std::alloc::Global;
+use py_lines::{Collected, Collector};
+use py_raw::{IoFault, RawStream};
+use py_stream::{ReadsOn, Stop};
 
-impl<R: RawStream> BufferedData<R> {
-    /// Reads a line with its end, at most n bytes of it.
-    pub fn readline(
-        &mut self,
-        alloc: Global,
-        limit: Option<usize>,
-    ) -> Result<Option<Vec<u8>>, IoFault>
-        requires reads { is_read self.old.access ≡ true }
-        ensures { Answers (reading_of self.old) (ReadLine limit) (bytes_reply result) (reading_of self.new) }
-    {
-        let _ = &self.raw;
-        self.begin()?;
-        let mut collector = LineCollector::new(alloc, limit);
-        let stop = self.gather(&mut collector)?;
-        let line = collector.into_line();
-        if self.answers(stop, line.is_empty()) {
-            Ok(Some(line))
-        } else {
-            Ok(None)
-        }
+impl<R: RawStream> ReadsOn for BufferedData<R> {
+    ghost shows = { reading_of };
+
+    ghost reads = { λ engine. is_read engine.access };
+
+    ghost may_begin = { λ engine. is_read engine.access ≡ true };
+
+    fn begin_reading(&mut self) -> Result<(), IoFault> {
+        let _ = &self.live;
+        self.begin()
     }
 
-    /// Reads lines until their total is above the hint, or all.
-    pub fn readlines(
-        &mut self,
-        alloc: Global,
-        hint: Option<usize>,
-    ) -> Result<Option<Lines>, IoFault>
-        requires reads { is_read self.old.access ≡ true }
-        ensures { Answers (reading_of self.old) (ReadLines hint) (lines_reply result) (reading_of self.new) }
-    {
-        let _ = &self.raw;
-        self.begin()?;
-        let mut collector = LinesCollector::new(alloc, hint);
-        let stop = self.gather(&mut collector)?;
-        let lines = collector.into_lines();
-        if self.answers(stop, lines.len() == 0) {
-            Ok(Some(lines))
-        } else {
-            Ok(None)
-        }
-    }
-
-    /// Reads on until the collector has enough.
-    fn gather<C: Collector>(&mut self, collector: &mut C) -> Result<Stop, IoFault>
-        requires live { self.old.life ≡ Live }
-        requires reads { is_read self.old.access ≡ true }
-        requires none { C.collected collector.old ≡ [] }
-        requires open { C.is_open collector.old }
-        ensures { GatherOutcome (C.wanted collector.old) (reading_of self.old) result (C.collected collector.new) (reading_of self.new) }
-    {
+    fn gather<C: Collector>(&mut self, collector: &mut C) -> Result<Stop, IoFault> {
         // What holds of every engine is known from here on.
         let _ = &self.window;
         let mut moved = false;
@@ -84,5 +41,30 @@ impl<R: RawStream> BufferedData<R> {
                 Filled::Waits => return Ok(Stop::Waits),
             }
         }
+    }
+
+    /// What `read_more` is asked for at first is what `first_more` answers, and then as much as came, until the end is met: where
+    /// the raw said that it ends was a guess.
+    fn read_all(&mut self, bytes: &mut Vec<u8>) -> Result<Stop, IoFault> {
+        let _ = &self.live;
+        let mut moved = false;
+        let mut more = self.first_more()?;
+        loop {
+            match self.read_more(bytes, more, moved)? {
+                Stop::Enough => {
+                    moved = true;
+                    more = bytes.len();
+                }
+                stop => return Ok(stop),
+            }
+        }
+    }
+
+    fn answers(&mut self, stop: Stop, empty: bool) -> bool
+        ensures answer { result ≡ has_answer stop empty }
+        ensures stream { reading_of self.new ≡ answered_at stop (reading_of self.old) }
+        ensures engine { self.new ≡ record self.old { short = is_wait stop } }
+    {
+        self.live.answers(stop, empty)
     }
 }

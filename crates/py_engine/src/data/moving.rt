@@ -9,7 +9,7 @@ ghost use Rattle.py_engine.specs.Window.{pending_of};
 ghost use Rattle.py_engine.specs.Engine.{stream_of};
 
 use super::BufferedData;
-use py_raw::{IoFault, Life, RawError, RawStream};
+use py_raw::{IoFault, Life, RawStream};
 use py_stream::moved_by;
 
 impl<R: RawStream> BufferedData<R> {
@@ -17,9 +17,9 @@ impl<R: RawStream> BufferedData<R> {
     pub fn seek(&mut self, offset: i64, whence: i32) -> Result<u64, IoFault>
         ensures { Answers (stream_of self.old) (Seek offset whence) (place_reply result) (stream_of self.new) }
     {
-        let _ = &self.raw;
+        let _ = &self.live;
         self.begin()?;
-        if !self.raw.seekable() || self.access.appends() {
+        if !self.live.is_movable() {
             return Err(IoFault::Unsupported);
         }
         let target = self.target(offset, whence)?;
@@ -32,9 +32,9 @@ impl<R: RawStream> BufferedData<R> {
     pub fn tell(&mut self) -> Result<u64, IoFault>
         ensures { Answers (stream_of self.old) Tell (place_reply result) (stream_of self.new) }
     {
-        let _ = &self.raw;
+        let _ = &self.live;
         self.begin()?;
-        if !self.raw.seekable() {
+        if !self.live.seekable() {
             return Err(IoFault::Unsupported);
         }
         Ok(self.window.place())
@@ -44,7 +44,7 @@ impl<R: RawStream> BufferedData<R> {
     pub fn refuse(&mut self) -> IoFault
         ensures { (call : FileCall) → RefusesAlone (stream_of self.old) call → Answers (stream_of self.old) call (Refused result) (stream_of self.new) }
     {
-        let _ = &self.raw;
+        let _ = &self.live;
         match self.begin() {
             Ok(()) => IoFault::Unsupported,
             Err(fault) => fault,
@@ -76,7 +76,7 @@ impl<R: RawStream> BufferedData<R> {
         ensures outcome { EndOutcome (stream_of self.old) result (stream_of self.new) }
         ensures access { self.new.access ≡ self.old.access }
     {
-        let _ = &self.raw;
+        let _ = &self.live;
         let end = self.raw_end()?;
         if self.window.is_settled() {
             Ok(end)
@@ -94,21 +94,13 @@ impl<R: RawStream> BufferedData<R> {
         requires within { target ≤ greatest_place }
         ensures outcome { GoOutcome (stream_of self.old) target result (stream_of self.new) }
     {
-        if self.access.reads() && self.window.covers(target) {
+        if self.live.reads() && self.window.covers(target) {
             self.window.move_to(target);
             return Ok(());
         }
-        match self.raw.seek(target) {
-            Ok(()) => {
-                self.window.restart_at(target);
-                self.raw_place = target;
-                Ok(())
-            }
-            Err(RawError::Fault) => {
-                self.life = Life::Failed;
-                Err(IoFault::RawFault)
-            }
-            Err(RawError::Memory) => Err(IoFault::NoMemory),
-        }
+        self.live.seek(target)?;
+        self.window.restart_at(target);
+        self.raw_place = target;
+        Ok(())
     }
 }

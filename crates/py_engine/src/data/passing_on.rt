@@ -9,7 +9,7 @@ ghost use Rattle.py_engine.specs.Engine.{stream_of};
 ghost use Rattle.py_engine.specs.Passing.{DrainOutcome, FlushOutcome, PassesAll};
 
 use super::BufferedData;
-use py_raw::{IoFault, Life, RawError, RawStream};
+use py_raw::{IoFault, Life, RawStream};
 
 /// How far a passing on came.
 #[derive(Clone, Copy)]
@@ -25,7 +25,7 @@ impl<R: RawStream> BufferedData<R> {
     pub fn flush(&mut self) -> Result<(), IoFault>
         ensures { Answers (stream_of self.old) Flush (done_reply result) (stream_of self.new) }
     {
-        let _ = &self.raw;
+        let _ = &self.live;
         self.begin()?;
         self.pass_all()
     }
@@ -38,18 +38,13 @@ impl<R: RawStream> BufferedData<R> {
         ensures outcome { DrainOutcome (stream_of self.old) result (stream_of self.new) }
         ensures access { self.new.access ≡ self.old.access }
     {
-        match self.raw.write(self.window.pending()) {
-            Ok(Some(0)) | Err(RawError::Fault) => {
-                self.life = Life::Failed;
-                Err(IoFault::RawFault)
-            }
-            Ok(Some(count)) => {
+        match self.live.write(self.window.pending(), false)? {
+            Some(count) => {
                 self.window.pass_on(count);
                 self.raw_place += count as u64;
                 Ok(Passed::All)
             }
-            Ok(None) => Ok(Passed::Waits),
-            Err(RawError::Memory) => Err(IoFault::NoMemory),
+            None => Ok(Passed::Waits),
         }
     }
 
@@ -60,7 +55,7 @@ impl<R: RawStream> BufferedData<R> {
         ensures outcome { FlushOutcome (stream_of self.old) result (stream_of self.new) }
         ensures access { self.new.access ≡ self.old.access }
     {
-        let _ = &self.raw;
+        let _ = &self.live;
         while !self.window.is_settled() {
             match self.drain()? {
                 Passed::All => {}
@@ -77,13 +72,13 @@ impl<R: RawStream> BufferedData<R> {
         ensures outcome { PassesAll self.old.access (stream_of self.old) result (stream_of self.new) }
         ensures access { self.new.access ≡ self.old.access }
     {
-        if self.access.reads() {
+        if self.live.reads() {
             return Ok(());
         }
         match self.flush_pending()? {
             Passed::All => Ok(()),
             Passed::Waits => {
-                self.short = true;
+                self.live.note_wait(true);
                 Err(IoFault::WouldBlock { taken: 0 })
             }
         }

@@ -1,20 +1,18 @@
 //! Readings that go on until they have all that is asked for, or all that is left.
 ghost use Rattle.std.specs.Prelude.{◌≡◌, ◌+◌, ◌^◌, ◌<◌, ◌≤◌, [], false, length, take, drop, min, vec_len, true};
 ghost use Rattle.py_flat.specs.declared.life.Life.TheVariants.{Live};
-ghost use Rattle.py_flat.specs.Calls.{Read, ReadInto};
+ghost use Rattle.py_flat.specs.Calls.{Read, ReadInto, ReadLine, ReadLines};
 ghost use Rattle.py_stream.specs.Access.{is_read};
 ghost use Rattle.py_stream.specs.Answers.{Answers};
-ghost use Rattle.py_stream.specs.Reading.{RestOutcome};
 ghost use Rattle.py_engine.specs.Window.{ahead_of};
 ghost use Rattle.py_engine.specs.Engine.{Stands};
-ghost use Rattle.py_engine.specs.Reading.{reading_of};
-ghost use Rattle.py_engine.specs.Reading.{FirstOutcome, ReadIntoOutcome, ReadMoreOutcome, StepOutcome};
-ghost use Rattle.py_stream.specs.Replies.{bytes_reply, into_reply, CountFits, KeepsBuffer};
+ghost use Rattle.py_engine.specs.Reading.{reading_of, stepped, FirstOutcome, ReadIntoOutcome, ReadMoreOutcome, StepOutcome};
+ghost use Rattle.py_stream.specs.Replies.{bytes_reply, into_reply, lines_reply, CountFits, KeepsBuffer};
 
 use super::BufferedData;
 use crate::window::Filled;
-use py_raw::{IoFault, RawStream};
-use py_stream::Stop;
+use py_raw::{IoFault, Lines, RawStream};
+use py_stream::{ReadsOn, Stop, read_line, read_lines, read_rest};
 use std::alloc::Global;
 
 /// How far a reading into a buffer came, and why it stopped there.
@@ -33,18 +31,61 @@ enum Step {
     Stopped { count: usize, stop: Stop },
 }
 
+/// The step that a transfer makes which brought n bytes of as many as were wanted.
+fn step_by(filled: Filled, count: usize, wanted: usize) -> Step
+    ensures { result ≡ stepped filled count wanted }
+{
+    match filled {
+        Filled::More(_) if count < wanted => Step::On(count),
+        Filled::More(_) => Step::Stopped {
+            count,
+            stop: Stop::Enough,
+        },
+        Filled::End => Step::Stopped {
+            count: 0,
+            stop: Stop::End,
+        },
+        Filled::Waits => Step::Stopped {
+            count: 0,
+            stop: Stop::Waits,
+        },
+    }
+}
+
 impl<R: RawStream> BufferedData<R> {
     /// Reads n bytes, or all that are left.
     pub fn read(&mut self, alloc: Global, size: Option<usize>) -> Result<Option<Vec<u8>>, IoFault>
         requires reads { is_read self.old.access ≡ true }
         ensures { Answers (reading_of self.old) (Read size) (bytes_reply result) (reading_of self.new) }
     {
-        let _ = &self.raw;
-        self.begin()?;
         match size {
             Some(size) => self.read_size(alloc, size),
-            None => self.read_rest(alloc),
+            None => read_rest(self, alloc),
         }
+    }
+
+    /// Reads a line with its end, at most n bytes of it.
+    pub fn readline(
+        &mut self,
+        alloc: Global,
+        limit: Option<usize>,
+    ) -> Result<Option<Vec<u8>>, IoFault>
+        requires reads { is_read self.old.access ≡ true }
+        ensures { Answers (reading_of self.old) (ReadLine limit) (bytes_reply result) (reading_of self.new) }
+    {
+        read_line(self, alloc, limit)
+    }
+
+    /// Reads lines until their total is above the hint, or all.
+    pub fn readlines(
+        &mut self,
+        alloc: Global,
+        hint: Option<usize>,
+    ) -> Result<Option<Lines>, IoFault>
+        requires reads { is_read self.old.access ≡ true }
+        ensures { Answers (reading_of self.old) (ReadLines hint) (lines_reply result) (reading_of self.new) }
+    {
+        read_lines(self, alloc, hint)
     }
 
     /// Reads into a buffer until it is full.
@@ -55,8 +96,8 @@ impl<R: RawStream> BufferedData<R> {
         ensures fits { CountFits result buffer.new }
         ensures refused { KeepsBuffer result buffer.old buffer.new }
     {
-        let _ = &self.raw;
-        self.begin()?;
+        let _ = &self.live;
+        self.begin_reading()?;
         let progress = self.read_into(buffer, false)?;
         if self.answers(progress.stop, progress.count == 0) {
             Ok(Some(progress.count))
@@ -67,12 +108,11 @@ impl<R: RawStream> BufferedData<R> {
 
     /// Reads n bytes into a vector, whose space is taken first.
     fn read_size(&mut self, alloc: Global, size: usize) -> Result<Option<Vec<u8>>, IoFault>
-        requires live { self.old.life ≡ Live }
         requires reads { is_read self.old.access ≡ true }
-        requires whole { self.old.short ≡ false }
         ensures { Answers (reading_of self.old) (Read (Some size)) (bytes_reply result) (reading_of self.new) }
     {
-        let _ = &self.raw;
+        let _ = &self.live;
+        self.begin_reading()?;
         let Ok(bytes) = vec![in alloc; 0u8; size] else {
             return Err(IoFault::NoMemory);
         };
@@ -86,50 +126,10 @@ impl<R: RawStream> BufferedData<R> {
         }
     }
 
-    /// Reads all that is left.
-    fn read_rest(&mut self, alloc: Global) -> Result<Option<Vec<u8>>, IoFault>
-        requires live { self.old.life ≡ Live }
-        requires reads { is_read self.old.access ≡ true }
-        requires whole { self.old.short ≡ false }
-        ensures { Answers (reading_of self.old) (Read None) (bytes_reply result) (reading_of self.new) }
-    {
-        let _ = &self.raw;
-        let mut bytes = Vec::new(alloc);
-        let stop = self.read_all(&mut bytes)?;
-        if self.answers(stop, bytes.is_empty()) {
-            Ok(Some(bytes))
-        } else {
-            Ok(None)
-        }
-    }
-
-    /// Reads all that is left after what a vector has. What `read_more` is asked for at first is what `first_more` answers,
-    /// and then as much as came, until the end is met: where the raw said that it ends was a guess.
-    fn read_all(&mut self, bytes: &mut Vec<u8>) -> Result<Stop, IoFault>
-        requires live { self.old.life ≡ Live }
-        requires reads { is_read self.old.access ≡ true }
-        requires whole { self.old.short ≡ false }
-        requires none { bytes.old.items ≡ [] }
-        ensures { RestOutcome (reading_of self.old) result bytes.new.items (reading_of self.new) }
-    {
-        let _ = &self.raw;
-        let mut moved = false;
-        let mut more = self.first_more()?;
-        loop {
-            match self.read_more(bytes, more, moved)? {
-                Stop::Enough => {
-                    moved = true;
-                    more = bytes.len();
-                }
-                stop => return Ok(stop),
-            }
-        }
-    }
-
     /// How many bytes a reading of all asks for at first: more than the window holds, so that bytes leave the raw before
     /// space is wanted again. Of a raw that can be moved, and says that it ends after the place, these are all up to that
     /// end, and one more, by which the end is met.
-    fn first_more(&mut self) -> Result<usize, IoFault>
+    pub(super) fn first_more(&mut self) -> Result<usize, IoFault>
         requires live { self.old.life ≡ Live }
         requires reads { is_read self.old.access ≡ true }
         requires whole { self.old.short ≡ false }
@@ -137,7 +137,7 @@ impl<R: RawStream> BufferedData<R> {
     {
         let ahead = self.window.ahead().len();
         let unknown = ahead + self.window.size();
-        if !self.raw.seekable() {
+        if !self.live.seekable() {
             return Ok(unknown);
         }
         let end = self.raw_end()?;
@@ -151,7 +151,12 @@ impl<R: RawStream> BufferedData<R> {
 
     /// Reads n bytes more after what a vector has, whose space is taken first. `moved` tells whether bytes had moved
     /// in this call.
-    fn read_more(&mut self, bytes: &mut Vec<u8>, more: usize, moved: bool) -> Result<Stop, IoFault>
+    pub(super) fn read_more(
+        &mut self,
+        bytes: &mut Vec<u8>,
+        more: usize,
+        moved: bool,
+    ) -> Result<Stop, IoFault>
         requires live { self.old.life ≡ Live }
         requires reads { is_read self.old.access ≡ true }
         requires fits { vec_len bytes.old + more < 2 ^ 64 }
@@ -253,28 +258,12 @@ impl<R: RawStream> BufferedData<R> {
         ensures outcome { StepOutcome self.old moved result rest.new self.new }
         ensures length { length rest.new ≡ length rest.old }
     {
-        match self.fill(moved)? {
-            Filled::More(_) => {
-                let count = self.copy_ahead(rest);
-                if count == rest.len() {
-                    self.window.advance(count);
-                    Ok(Step::Stopped {
-                        count,
-                        stop: Stop::Enough,
-                    })
-                } else {
-                    Ok(Step::On(count))
-                }
-            }
-            Filled::End => Ok(Step::Stopped {
-                count: 0,
-                stop: Stop::End,
-            }),
-            Filled::Waits => Ok(Step::Stopped {
-                count: 0,
-                stop: Stop::Waits,
-            }),
+        let filled = self.fill(moved)?;
+        let count = self.copy_ahead(rest);
+        if count == rest.len() {
+            self.window.advance(count);
         }
+        Ok(step_by(filled, count, rest.len()))
     }
 
     fn read_past_window(&mut self, rest: &mut [u8], moved: bool) -> Result<Step, IoFault>
@@ -284,25 +273,11 @@ impl<R: RawStream> BufferedData<R> {
         ensures outcome { StepOutcome self.old moved result rest.new self.new }
         ensures length { length rest.new ≡ length rest.old }
     {
-        match self.pass(rest, moved)? {
-            Filled::More(count) => {
-                if count == rest.len() {
-                    Ok(Step::Stopped {
-                        count,
-                        stop: Stop::Enough,
-                    })
-                } else {
-                    Ok(Step::On(count))
-                }
-            }
-            Filled::End => Ok(Step::Stopped {
-                count: 0,
-                stop: Stop::End,
-            }),
-            Filled::Waits => Ok(Step::Stopped {
-                count: 0,
-                stop: Stop::Waits,
-            }),
-        }
+        let filled = self.pass(rest, moved)?;
+        let count = match filled {
+            Filled::More(count) => count,
+            Filled::End | Filled::Waits => 0,
+        };
+        Ok(step_by(filled, count, rest.len()))
     }
 }

@@ -12,7 +12,7 @@ ghost use Rattle.py_stream.specs.Replies.{bytes_reply, into_reply, CountFits, Ke
 use super::BufferedData;
 use crate::window::Filled;
 use py_raw::{IoFault, RawStream};
-use py_stream::Stop;
+use py_stream::{ReadsOn, Stop};
 use std::alloc::Global;
 
 impl<R: RawStream> BufferedData<R> {
@@ -21,7 +21,7 @@ impl<R: RawStream> BufferedData<R> {
         requires reads { is_read self.old.access ≡ true }
         ensures { Answers (reading_of self.old) (Read1 size) (bytes_reply result) (reading_of self.new) }
     {
-        let _ = &self.raw;
+        let _ = &self.live;
         self.begin()?;
         let size = size.unwrap_or(self.window.size());
         if size == 0 {
@@ -43,7 +43,7 @@ impl<R: RawStream> BufferedData<R> {
         ensures fits { CountFits result buffer.new }
         ensures unread { KeepsUnread result buffer.old buffer.new }
     {
-        let _ = &self.raw;
+        let _ = &self.live;
         self.begin()?;
         if buffer.is_empty() {
             return Ok(Some(0));
@@ -62,7 +62,7 @@ impl<R: RawStream> BufferedData<R> {
         requires reads { is_read self.old.access ≡ true }
         ensures { Answers (reading_of self.old) Peek (look_reply result (ahead_of self.new.window)) (reading_of self.new) }
     {
-        let _ = &self.raw;
+        let _ = &self.live;
         self.begin()?;
         let stop = self.ready()?;
         Ok(self.answers(stop, true))

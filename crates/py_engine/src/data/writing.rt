@@ -13,7 +13,7 @@ ghost use Rattle.py_engine.specs.Passing.{room_behind, HandOnOutcome, FitOutcome
 
 use super::BufferedData;
 use super::passing_on::Passed;
-use py_raw::{GREATEST_PLACE, IoFault, Life, Lines, RawError, RawStream};
+use py_raw::{GREATEST_PLACE, IoFault, Life, Lines, RawStream};
 use py_stream::end_of_lines;
 
 impl<R: RawStream> BufferedData<R> {
@@ -22,7 +22,7 @@ impl<R: RawStream> BufferedData<R> {
         requires writes { is_read self.old.access ≡ false }
         ensures { Answers (stream_of self.old) (Write bytes.now) (count_reply result) (stream_of self.new) }
     {
-        let _ = &self.raw;
+        let _ = &self.live;
         self.begin()?;
         let start = self.window.place();
         if bytes.len() as u64 > GREATEST_PLACE - start {
@@ -40,7 +40,7 @@ impl<R: RawStream> BufferedData<R> {
         requires writes { is_read self.old.access ≡ false }
         ensures { Answers (stream_of self.old) (WriteLines lines.now) (done_reply result) (stream_of self.new) }
     {
-        let _ = &self.raw;
+        let _ = &self.live;
         self.begin()?;
         let start = self.window.place();
         if end_of_lines(start, lines).is_none() {
@@ -59,7 +59,7 @@ impl<R: RawStream> BufferedData<R> {
         ensures fault { result ≡ IoFault.WouldBlock (place_of self.old.window - start) }
         ensures stream { self.new ≡ record self.old { short = true } }
     {
-        self.short = true;
+        self.live.note_wait(true);
         IoFault::WouldBlock {
             taken: self.window.place() - start,
         }
@@ -74,7 +74,7 @@ impl<R: RawStream> BufferedData<R> {
         ensures outcome { PutsOutcome (stream_of self.old) (joined lines.now) start result (stream_of self.new) }
         ensures access { self.new.access ≡ self.old.access }
     {
-        let _ = &self.raw;
+        let _ = &self.live;
         for line in lines.as_slice() {
             if !self.put(line.as_slice(), start)? {
                 return Ok(false);
@@ -113,7 +113,7 @@ impl<R: RawStream> BufferedData<R> {
         ensures outcome { PutOutcome (stream_of self.old) bytes.now start result (stream_of self.new) }
         ensures access { self.new.access ≡ self.old.access }
     {
-        let _ = &self.raw;
+        let _ = &self.live;
         let mut taken = 0;
         while bytes.len() - taken > self.window.size() {
             match self.hand_on(&bytes[taken..]) {
@@ -136,19 +136,14 @@ impl<R: RawStream> BufferedData<R> {
         ensures outcome { HandOnOutcome (stream_of self.old) bytes.now result (stream_of self.new) }
         ensures access { self.new.access ≡ self.old.access }
     {
-        match self.raw.write(bytes) {
-            Ok(Some(0)) | Err(RawError::Fault) => {
-                self.life = Life::Failed;
-                Err(IoFault::RawFault)
-            }
-            Ok(Some(count)) => {
+        match self.live.write(bytes, false)? {
+            Some(count) => {
                 let place = self.window.place() + count as u64;
                 self.window.restart_at(place);
                 self.raw_place = place;
                 Ok(Some(count))
             }
-            Ok(None) => Ok(None),
-            Err(RawError::Memory) => Err(IoFault::NoMemory),
+            None => Ok(None),
         }
     }
 
@@ -199,7 +194,7 @@ impl<R: RawStream> BufferedData<R> {
             if self.window.pending_place() <= start {
                 self.window.cut_at(start);
             } else {
-                self.life = Life::Failed;
+                self.live.starve(true);
             }
         }
         fault

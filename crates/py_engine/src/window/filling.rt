@@ -1,100 +1,86 @@
 //! Transfers from a raw stream, into the window and past it.
-ghost use Rattle.std.specs.Prelude.{◌≡◌, ◌<◌, ◌≤◌, ◌+◌, false, length};
+ghost use Rattle.std.specs.Prelude.{◌≡◌, ◌<◌, ◌≤◌, false, length};
 ghost use Rattle.py_flat.specs.Limits.{greatest_place};
 ghost use Rattle.py_raw.specs.RawStream.{Keeps, StaysOpen};
 ghost use Rattle.py_engine.specs.Window.{TransferOutcome, FillOutcome, PassOutcome};
 
 use super::{Filled, Window};
-use py_raw::{GREATEST_PLACE, RawError, RawStream};
+use py_raw::{IoFault, RawStream};
+use py_stream::LiveRaw;
 
-/// How much of a buffer may be filled at a place, so that no place lies past the greatest.
-fn room(size: usize, place: u64) -> usize
-    requires { place ≤ greatest_place }
-    ensures within { place + result ≤ greatest_place }
-    ensures fits { result ≤ size }
-    ensures whole { place + size ≤ greatest_place → result ≡ size }
-    ensures end { result < size → place + result ≡ greatest_place }
-{
-    let left = GREATEST_PLACE - place;
-    if left < size as u64 {
-        left as usize
-    } else {
-        size
-    }
-}
-
-/// One transfer of a raw that stands at a place, into the front of a buffer.
-fn transfer<R: RawStream>(raw: &mut R, buffer: &mut [u8], place: u64) -> Result<Filled, RawError>
-    requires open { (R.shows raw.old).closed ≡ false }
+/// One transfer of a raw that stands at a place, into the front of a buffer. `moved` tells whether bytes had moved in this call.
+fn transfer<R: RawStream>(
+    live: &mut LiveRaw<R>,
+    buffer: &mut [u8],
+    place: u64,
+    moved: bool,
+) -> Result<Filled, IoFault>
+    requires open { live.old.raw.closed ≡ false }
     requires asks { 0 < length buffer.old }
     requires within { place ≤ greatest_place }
-    ensures keeps { Keeps (R.shows raw.old) (R.shows raw.new) }
-    ensures open { StaysOpen (R.shows raw.old) (R.shows raw.new) }
-    ensures outcome { TransferOutcome (R.shows raw.old) place buffer.old result buffer.new (R.shows raw.new) }
+    ensures keeps { Keeps live.old.raw live.new.raw }
+    ensures open { StaysOpen live.old.raw live.new.raw }
+    ensures outcome { TransferOutcome live.old moved place buffer.old result buffer.new live.new }
+    ensures length { length buffer.new ≡ length buffer.old }
 {
-    let room = room(buffer.len(), place);
-    match raw.readinto(&mut buffer[..room]) {
+    match live.transfer(buffer, place, moved) {
         Ok(Some(0)) => Ok(Filled::End),
         Ok(Some(count)) => Ok(Filled::More(count)),
         Ok(None) => Ok(Filled::Waits),
-        Err(error) => Err(error),
+        Err(fault) => Err(fault),
     }
 }
 
 impl Window {
     /// Lets go of what is held, and fills the buffer by one transfer of a raw that stands after it.
-    pub fn fill<R: RawStream>(&mut self, raw: &mut R) -> Result<Filled, RawError>
-        requires open { (R.shows raw.old).closed ≡ false }
-        ensures keeps { Keeps (R.shows raw.old) (R.shows raw.new) }
-        ensures open { StaysOpen (R.shows raw.old) (R.shows raw.new) }
-        ensures outcome { FillOutcome (R.shows raw.old) self.old result (R.shows raw.new) self.new }
+    pub fn fill<R: RawStream>(
+        &mut self,
+        live: &mut LiveRaw<R>,
+        moved: bool,
+    ) -> Result<Filled, IoFault>
+        requires open { live.old.raw.closed ≡ false }
+        ensures keeps { Keeps live.old.raw live.new.raw }
+        ensures open { StaysOpen live.old.raw live.new.raw }
+        ensures outcome { FillOutcome live.old moved self.old result live.new self.new }
     {
         let place = self.end_place();
-        match transfer(raw, self.buffer.as_mut_slice(), place) {
+        let filled = transfer(live, self.buffer.as_mut_slice(), place, moved);
+        match filled {
             Ok(Filled::More(count)) => {
                 self.begin = place;
                 self.end = count;
                 self.cursor = 0;
                 self.from = 0;
                 self.to = 0;
-                Ok(Filled::More(count))
             }
-            Ok(none) => {
-                self.restart_at(place);
-                Ok(none)
-            }
-            Err(RawError::Fault) => {
-                self.restart_at(place);
-                Err(RawError::Fault)
-            }
-            Err(RawError::Memory) => Err(RawError::Memory),
+            Err(IoFault::NoMemory) => {}
+            _ => self.restart_at(place),
         }
+        filled
     }
 
     /// Lets go of what is held, and passes bytes of a raw that stands after it straight into the front of a caller's
     /// buffer, by one transfer.
-    pub fn pass<R: RawStream>(&mut self, raw: &mut R, buffer: &mut [u8]) -> Result<Filled, RawError>
-        requires open { (R.shows raw.old).closed ≡ false }
+    pub fn pass<R: RawStream>(
+        &mut self,
+        live: &mut LiveRaw<R>,
+        buffer: &mut [u8],
+        moved: bool,
+    ) -> Result<Filled, IoFault>
+        requires open { live.old.raw.closed ≡ false }
         requires asks { 0 < length buffer.old }
-        ensures keeps { Keeps (R.shows raw.old) (R.shows raw.new) }
-        ensures open { StaysOpen (R.shows raw.old) (R.shows raw.new) }
-        ensures outcome { PassOutcome (R.shows raw.old) self.old result buffer.new (R.shows raw.new) self.new }
+        ensures keeps { Keeps live.old.raw live.new.raw }
+        ensures open { StaysOpen live.old.raw live.new.raw }
+        ensures outcome { PassOutcome live.old moved self.old result buffer.new live.new self.new }
+        ensures length { length buffer.new ≡ length buffer.old }
     {
         let place = self.end_place();
-        match transfer(raw, buffer, place) {
-            Ok(Filled::More(count)) => {
-                self.restart_at(place + count as u64);
-                Ok(Filled::More(count))
-            }
-            Ok(none) => {
-                self.restart_at(place);
-                Ok(none)
-            }
-            Err(RawError::Fault) => {
-                self.restart_at(place);
-                Err(RawError::Fault)
-            }
-            Err(RawError::Memory) => Err(RawError::Memory),
+        let filled = transfer(live, buffer, place, moved);
+        match filled {
+            Ok(Filled::More(count)) => self.restart_at(place + count as u64),
+            Err(IoFault::NoMemory) => {}
+            _ => self.restart_at(place),
         }
+        filled
     }
 }

@@ -1,80 +1,31 @@
-//! Readings of lines, byte by byte, as nothing may be held after them.
-ghost use Rattle.std.specs.Prelude.{◌≡◌, ◌≢◌, ℕ, List, [], false};
-ghost use Rattle.py_flat.specs.declared.life.Life.TheVariants.{Live};
-ghost use Rattle.py_flat.specs.Calls.{ReadLine, ReadLines};
-ghost use Rattle.py_stream.specs.Answers.{Answers};
-ghost use Rattle.py_stream.specs.Reading.{GatherOutcome};
-ghost use Rattle.py_stream.specs.Replies.{bytes_reply, lines_reply};
-ghost use Rattle.py_stream.specs.declared.access.Access.TheVariants as access;
+//! Readings of lines, byte by byte, as nothing may be held after them, and of all that is left.
+ghost use Rattle.py_stream.specs.Access.{is_read};
 ghost use Rattle.py_unbuffered.specs.Engine.{stream_of};
 
 use super::UnbufferedData;
-use py_lines::{Collected, Collector, LineCollector, LinesCollector};
-use py_raw::{IoFault, Lines, RawStream};
-use py_stream::Stop;
-use std::alloc::Global;
+use py_lines::{Collected, Collector};
+use py_raw::{IoFault, RawStream};
+use py_stream::{ReadsOn, Stop};
 
-impl<R: RawStream> UnbufferedData<R> {
-    /// Reads a line with its end, at most n bytes of it.
-    pub fn readline(
-        &mut self,
-        alloc: Global,
-        limit: Option<usize>,
-    ) -> Result<Option<Vec<u8>>, IoFault>
-        ensures { Answers (stream_of self.old) (ReadLine limit) (bytes_reply result) (stream_of self.new) }
-    {
-        let _ = &self.raw;
+impl<R: RawStream> ReadsOn for UnbufferedData<R> {
+    ghost shows = { stream_of };
+
+    ghost reads = { λ engine. is_read engine.access };
+
+    ghost may_begin = { λ engine. Unit {0} };
+
+    fn begin_reading(&mut self) -> Result<(), IoFault> {
+        let _ = &self.live;
         self.begin()?;
-        if !self.reads() {
-            return Err(IoFault::Unsupported);
-        }
-        if limit == Some(0) {
-            return Ok(Some(Vec::new(alloc)));
-        }
-        let mut collector = LineCollector::new(alloc, limit);
-        let stop = self.gather(&mut collector)?;
-        let line = collector.into_line();
-        if self.answers(stop, line.is_empty()) {
-            Ok(Some(line))
+        if self.reads() {
+            Ok(())
         } else {
-            Ok(None)
+            Err(IoFault::Unsupported)
         }
     }
 
-    /// Reads lines until their total is above the hint, or all.
-    pub fn readlines(
-        &mut self,
-        alloc: Global,
-        hint: Option<usize>,
-    ) -> Result<Option<Lines>, IoFault>
-        ensures { Answers (stream_of self.old) (ReadLines hint) (lines_reply result) (stream_of self.new) }
-    {
-        let _ = &self.raw;
-        self.begin()?;
-        if !self.reads() {
-            return Err(IoFault::Unsupported);
-        }
-        let mut collector = LinesCollector::new(alloc, hint);
-        let stop = self.gather(&mut collector)?;
-        let lines = collector.into_lines();
-        if self.answers(stop, lines.len() == 0) {
-            Ok(Some(lines))
-        } else {
-            Ok(None)
-        }
-    }
-
-    /// Reads on until the collector has enough: it wants some of whatever comes.
-    fn gather<C: Collector>(&mut self, collector: &mut C) -> Result<Stop, IoFault>
-        requires live { self.old.life ≡ Live }
-        requires reads { self.old.access ≡ access.Read }
-        requires none { C.collected collector.old ≡ [] }
-        requires open { C.is_open collector.old }
-        requires ends { C.wanted collector.old [] ≡ [] }
-        requires asks { (more : List ℕ) → more ≢ [] → C.wanted collector.old more ≢ [] }
-        ensures { GatherOutcome (C.wanted collector.old) (stream_of self.old) result (C.collected collector.new) (stream_of self.new) }
-    {
-        let _ = &self.raw;
+    fn gather<C: Collector>(&mut self, collector: &mut C) -> Result<Stop, IoFault> {
+        let _ = &self.live;
         let mut moved = false;
         loop {
             let mut byte = [0u8; 1];
@@ -89,5 +40,20 @@ impl<R: RawStream> UnbufferedData<R> {
                 Err(_) => return Err(self.starve(true)),
             }
         }
+    }
+
+    fn read_all(&mut self, bytes: &mut Vec<u8>) -> Result<Stop, IoFault> {
+        let _ = &self.live;
+        loop {
+            match self.fill(bytes)? {
+                Some(0) => return Ok(Stop::End),
+                Some(_) => {}
+                None => return Ok(Stop::Waits),
+            }
+        }
+    }
+
+    fn answers(&mut self, stop: Stop, empty: bool) -> bool {
+        self.live.answers(stop, empty)
     }
 }

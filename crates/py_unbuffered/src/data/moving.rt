@@ -9,7 +9,7 @@ ghost use Rattle.py_stream.specs.Moving.{TargetOutcome, EndOutcome, GoOutcome};
 ghost use Rattle.py_unbuffered.specs.Engine.{stream_of};
 
 use super::UnbufferedData;
-use py_raw::{IoFault, Life, RawError, RawStream};
+use py_raw::{IoFault, Life, RawStream};
 use py_stream::moved_by;
 
 impl<R: RawStream> UnbufferedData<R> {
@@ -17,9 +17,9 @@ impl<R: RawStream> UnbufferedData<R> {
     pub fn seek(&mut self, offset: i64, whence: i32) -> Result<u64, IoFault>
         ensures { Answers (stream_of self.old) (Seek offset whence) (place_reply result) (stream_of self.new) }
     {
-        let _ = &self.raw;
+        let _ = &self.live;
         self.begin()?;
-        if !self.raw.seekable() || self.access.appends() {
+        if !self.live.is_movable() {
             return Err(IoFault::Unsupported);
         }
         let target = self.target(offset, whence)?;
@@ -31,9 +31,9 @@ impl<R: RawStream> UnbufferedData<R> {
     pub fn tell(&mut self) -> Result<u64, IoFault>
         ensures { Answers (stream_of self.old) Tell (place_reply result) (stream_of self.new) }
     {
-        let _ = &self.raw;
+        let _ = &self.live;
         self.begin()?;
-        if !self.raw.seekable() {
+        if !self.live.seekable() {
             return Err(IoFault::Unsupported);
         }
         Ok(self.place)
@@ -43,7 +43,7 @@ impl<R: RawStream> UnbufferedData<R> {
     pub fn refuse(&mut self) -> IoFault
         ensures { (call : FileCall) → RefusesAlone (stream_of self.old) call → Answers (stream_of self.old) call (Refused result) (stream_of self.new) }
     {
-        let _ = &self.raw;
+        let _ = &self.live;
         match self.begin() {
             Ok(()) => IoFault::Unsupported,
             Err(fault) => fault,
@@ -54,7 +54,7 @@ impl<R: RawStream> UnbufferedData<R> {
     pub fn flush(&mut self) -> Result<(), IoFault>
         ensures { Answers (stream_of self.old) Flush (done_reply result) (stream_of self.new) }
     {
-        let _ = &self.raw;
+        let _ = &self.live;
         self.begin()
     }
 
@@ -62,8 +62,8 @@ impl<R: RawStream> UnbufferedData<R> {
     pub fn close(&mut self) -> Result<(), IoFault>
         ensures { Answers (stream_of self.old) Close (done_reply result) (stream_of self.new) }
     {
-        if matches!(self.life, Life::Closed) {
-            self.short = false;
+        if matches!(self.live.life(), Life::Closed) {
+            self.note_wait(false);
             return Ok(());
         }
         self.begin()?;
@@ -76,17 +76,7 @@ impl<R: RawStream> UnbufferedData<R> {
         requires whole { self.old.short ≡ false }
         ensures { Answers (stream_of self.old) Close (done_reply result) (stream_of self.new) }
     {
-        match self.raw.close() {
-            Ok(()) => {
-                self.life = Life::Closed;
-                Ok(())
-            }
-            Err(RawError::Fault) => {
-                self.life = Life::Closed;
-                Err(IoFault::RawFault)
-            }
-            Err(RawError::Memory) => Err(IoFault::NoMemory),
-        }
+        self.live.close()
     }
 
     /// Where a seek goes.
@@ -112,14 +102,7 @@ impl<R: RawStream> UnbufferedData<R> {
         requires can { self.old.raw.seekable ≡ true }
         ensures { EndOutcome (stream_of self.old) result (stream_of self.new) }
     {
-        match self.raw.end() {
-            Ok(end) => Ok(end),
-            Err(RawError::Fault) => {
-                self.life = Life::Failed;
-                Err(IoFault::RawFault)
-            }
-            Err(RawError::Memory) => Err(IoFault::NoMemory),
-        }
+        self.live.end()
     }
 
     /// Moves the raw to a place.
@@ -129,16 +112,8 @@ impl<R: RawStream> UnbufferedData<R> {
         requires within { target ≤ greatest_place }
         ensures { GoOutcome (stream_of self.old) target result (stream_of self.new) }
     {
-        match self.raw.seek(target) {
-            Ok(()) => {
-                self.place = target;
-                Ok(())
-            }
-            Err(RawError::Fault) => {
-                self.life = Life::Failed;
-                Err(IoFault::RawFault)
-            }
-            Err(RawError::Memory) => Err(IoFault::NoMemory),
-        }
+        self.live.seek(target)?;
+        self.place = target;
+        Ok(())
     }
 }

@@ -1,16 +1,14 @@
 //! Readings of one transfer, and of all that is left.
-ghost use Rattle.std.specs.Prelude.{◌≡◌, [], false, length, max};
+ghost use Rattle.std.specs.Prelude.{◌≡◌, length, max};
 ghost use Rattle.py_flat.specs.declared.life.Life.TheVariants.{Live};
-ghost use Rattle.py_flat.specs.Calls.{Read, ReadInto};
+ghost use Rattle.py_flat.specs.Calls.{Read, ReadInto, ReadLine, ReadLines};
 ghost use Rattle.py_stream.specs.Answers.{Answers};
-ghost use Rattle.py_stream.specs.Reading.{RestOutcome};
-ghost use Rattle.py_stream.specs.Replies.{bytes_reply, into_reply, CountFits, KeepsBuffer};
-ghost use Rattle.py_stream.specs.declared.access.Access.TheVariants as access;
+ghost use Rattle.py_stream.specs.Replies.{bytes_reply, into_reply, lines_reply, CountFits, KeepsBuffer};
 ghost use Rattle.py_unbuffered.specs.Engine.{stream_of, FillOutcome};
 
 use super::UnbufferedData;
-use py_raw::{IoFault, RawStream};
-use py_stream::Stop;
+use py_raw::{IoFault, Lines, RawStream};
+use py_stream::{ReadsOn, read_line, read_lines, read_rest};
 use std::alloc::Global;
 
 /// How many bytes the next transfer of a reading up to the end asks for, after n: 8192, and then as many as came,
@@ -26,15 +24,32 @@ impl<R: RawStream> UnbufferedData<R> {
     pub fn read(&mut self, alloc: Global, size: Option<usize>) -> Result<Option<Vec<u8>>, IoFault>
         ensures { Answers (stream_of self.old) (Read size) (bytes_reply result) (stream_of self.new) }
     {
-        let _ = &self.raw;
-        self.begin()?;
-        if !self.reads() {
-            return Err(IoFault::Unsupported);
-        }
         match size {
             Some(size) => self.read_once(alloc, size),
-            None => self.read_rest(alloc),
+            None => read_rest(self, alloc),
         }
+    }
+
+    /// Reads a line with its end, at most n bytes of it.
+    pub fn readline(
+        &mut self,
+        alloc: Global,
+        limit: Option<usize>,
+    ) -> Result<Option<Vec<u8>>, IoFault>
+        ensures { Answers (stream_of self.old) (ReadLine limit) (bytes_reply result) (stream_of self.new) }
+    {
+        read_line(self, alloc, limit)
+    }
+
+    /// Reads lines until their total is above the hint, or all.
+    pub fn readlines(
+        &mut self,
+        alloc: Global,
+        hint: Option<usize>,
+    ) -> Result<Option<Lines>, IoFault>
+        ensures { Answers (stream_of self.old) (ReadLines hint) (lines_reply result) (stream_of self.new) }
+    {
+        read_lines(self, alloc, hint)
     }
 
     /// Reads into a buffer, by one transfer.
@@ -44,24 +59,19 @@ impl<R: RawStream> UnbufferedData<R> {
         ensures fits { CountFits result buffer.new }
         ensures refused { KeepsBuffer result buffer.old buffer.new }
     {
-        let _ = &self.raw;
-        self.begin()?;
-        if !self.reads() {
-            return Err(IoFault::Unsupported);
-        }
+        let _ = &self.live;
+        self.begin_reading()?;
         let count = self.transfer(buffer, false)?;
-        self.short = count.is_none();
+        self.note_wait(count.is_none());
         Ok(count)
     }
 
     /// Reads into a vector by one transfer; its space is taken first.
     fn read_once(&mut self, alloc: Global, size: usize) -> Result<Option<Vec<u8>>, IoFault>
-        requires live { self.old.life ≡ Live }
-        requires reads { self.old.access ≡ access.Read }
-        requires whole { self.old.short ≡ false }
         ensures { Answers (stream_of self.old) (Read (Some size)) (bytes_reply result) (stream_of self.new) }
     {
-        let _ = &self.raw;
+        let _ = &self.live;
+        self.begin_reading()?;
         let Ok(bytes) = vec![in alloc; 0u8; size] else {
             return Err(IoFault::NoMemory);
         };
@@ -72,50 +82,15 @@ impl<R: RawStream> UnbufferedData<R> {
                 Ok(Some(bytes))
             }
             None => {
-                self.short = true;
+                self.note_wait(true);
                 Ok(None)
             }
         }
     }
 
-    /// Reads all that is left.
-    fn read_rest(&mut self, alloc: Global) -> Result<Option<Vec<u8>>, IoFault>
-        requires live { self.old.life ≡ Live }
-        requires reads { self.old.access ≡ access.Read }
-        requires whole { self.old.short ≡ false }
-        ensures { Answers (stream_of self.old) (Read None) (bytes_reply result) (stream_of self.new) }
-    {
-        let _ = &self.raw;
-        let mut bytes = Vec::new(alloc);
-        let stop = self.read_all(&mut bytes)?;
-        if self.answers(stop, bytes.is_empty()) {
-            Ok(Some(bytes))
-        } else {
-            Ok(None)
-        }
-    }
-
-    /// Reads all that is left into a vector that has nothing yet.
-    fn read_all(&mut self, bytes: &mut Vec<u8>) -> Result<Stop, IoFault>
-        requires live { self.old.life ≡ Live }
-        requires reads { self.old.access ≡ access.Read }
-        requires none { bytes.old.items ≡ [] }
-        ensures { RestOutcome (stream_of self.old) result bytes.new.items (stream_of self.new) }
-    {
-        let _ = &self.raw;
-        loop {
-            match self.fill(bytes)? {
-                Some(0) => return Ok(Stop::End),
-                Some(_) => {}
-                None => return Ok(Stop::Waits),
-            }
-        }
-    }
-
     /// One transfer behind the bytes of a vector. Its space is taken first, and the vector cut to what came.
-    fn fill(&mut self, bytes: &mut Vec<u8>) -> Result<Option<usize>, IoFault>
+    pub(super) fn fill(&mut self, bytes: &mut Vec<u8>) -> Result<Option<usize>, IoFault>
         requires live { self.old.life ≡ Live }
-        requires reads { self.old.access ≡ access.Read }
         ensures { FillOutcome self.old bytes.old.items result bytes.new.items self.new }
     {
         let held = bytes.len();

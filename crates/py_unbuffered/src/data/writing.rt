@@ -11,7 +11,7 @@ ghost use Rattle.py_unbuffered.specs.Engine.{stream_of, PutOutcome};
 ghost use Rattle.py_stream.specs.Access.{can_of};
 
 use super::UnbufferedData;
-use py_raw::{GREATEST_PLACE, IoFault, Life, Lines, RawError, RawStream};
+use py_raw::{GREATEST_PLACE, IoFault, Lines, RawStream};
 use py_stream::end_of_lines;
 
 impl<R: RawStream> UnbufferedData<R> {
@@ -19,7 +19,7 @@ impl<R: RawStream> UnbufferedData<R> {
     pub fn write(&mut self, bytes: &[u8]) -> Result<Option<usize>, IoFault>
         ensures { Answers (stream_of self.old) (Write bytes.now) (taken_reply result) (stream_of self.new) }
     {
-        let _ = &self.raw;
+        let _ = &self.live;
         self.begin()?;
         if self.reads() {
             return Err(IoFault::Unsupported);
@@ -28,7 +28,7 @@ impl<R: RawStream> UnbufferedData<R> {
             return Err(IoFault::TooFar);
         }
         let count = self.put(bytes, false)?;
-        self.short = count.is_none();
+        self.note_wait(count.is_none());
         Ok(count)
     }
 
@@ -36,7 +36,7 @@ impl<R: RawStream> UnbufferedData<R> {
     pub fn writelines(&mut self, lines: &Lines) -> Result<(), IoFault>
         ensures { Answers (stream_of self.old) (WriteLines lines.now) (done_reply result) (stream_of self.new) }
     {
-        let _ = &self.raw;
+        let _ = &self.live;
         self.begin()?;
         if self.reads() {
             return Err(IoFault::Unsupported);
@@ -48,7 +48,7 @@ impl<R: RawStream> UnbufferedData<R> {
         if self.write_lines(lines, start)? {
             return Ok(());
         }
-        self.short = true;
+        self.note_wait(true);
         Err(IoFault::WouldBlock {
             taken: self.place - start,
         })
@@ -62,7 +62,7 @@ impl<R: RawStream> UnbufferedData<R> {
         requires within { start + length (joined lines.now) ≤ greatest_place }
         ensures { PutsOutcome (stream_of self.old) (joined lines.now) start result (stream_of self.new) }
     {
-        let _ = &self.raw;
+        let _ = &self.live;
         for line in lines.as_slice() {
             if !self.write_line(line.as_slice(), start)? {
                 return Ok(false);
@@ -79,7 +79,7 @@ impl<R: RawStream> UnbufferedData<R> {
         requires within { self.old.place + length line.now ≤ greatest_place }
         ensures { PutsOutcome (stream_of self.old) line.now start result (stream_of self.new) }
     {
-        let _ = &self.raw;
+        let _ = &self.live;
         let mut taken = 0;
         while taken < line.len() {
             match self.put(&line[taken..], self.place > start)? {
@@ -97,21 +97,8 @@ impl<R: RawStream> UnbufferedData<R> {
         requires within { self.old.place + length bytes.now ≤ greatest_place }
         ensures { PutOutcome self.old moved bytes.now result self.new }
     {
-        match self.raw.write(bytes) {
-            Ok(Some(0)) if !bytes.is_empty() => {
-                self.life = Life::Failed;
-                Err(IoFault::RawFault)
-            }
-            Ok(Some(count)) => {
-                self.place += count as u64;
-                Ok(Some(count))
-            }
-            Ok(None) => Ok(None),
-            Err(RawError::Fault) => {
-                self.life = Life::Failed;
-                Err(IoFault::RawFault)
-            }
-            Err(RawError::Memory) => Err(self.starve(moved)),
-        }
+        let count = self.live.write(bytes, moved)?;
+        self.place += count.unwrap_or(0) as u64;
+        Ok(count)
     }
 }

@@ -1,32 +1,23 @@
-use Rattle.std.proofs.Common.{rules, ◌<◌, ℕ, refl}
-use Rattle.py_raw.specs.RawStream.{Raw, WritesBytes, AsksToWait}
-use Rattle.py_engine.specs.Engine.{EngineView}
-use Rattle.py_engine.proofs.Stepping.{faults_writing, fails_passing, took_given, waited}
+use Rattle.std.proofs.Common.{Err, subst}
+use Rattle.std.proofs.lemmas.Result.{err_from_is_err_and}
+use Rattle.py_engine.specs.Engine.{EngineView, stream_of}
+use Rattle.py_engine.specs.Passing.{HandOnOutcome}
+use Rattle.py_engine.proofs.Stepping.{engine_of, hands_some, hands_none, hands_not}
 use Rattle.py_engine.proofs.data.BufferedData.hand_on.Goals as goal
 
-pub returns-in-Ok-Some-clause-outcome : goal.returns-in-Ok-Some-clause-outcome
-returns-in-Ok-Some-clause-outcome g c =
-    let inside = c.self.inside in
-    let given : EngineView = record { raw = g.R.RawStream.shows inside.raw; raw_place = inside.raw_place; window = inside.window; access = inside.access; life = inside.life; short = inside.short } in
+pub returns-in_err-count-clause-outcome : goal.returns-in_err-count-clause-outcome
+returns-in_err-count-clause-outcome g c =
+    let left = err_from_is_err_and c.from_residual.result c.from_residual.ensures.1 in
     let needs = rw (← c.self.view_is) at c.requires in
-    let raw : Raw = g.R.RawStream.shows c.write.new.self in
-    let count : ℕ = c.in-Ok-Some.count in
-    let wrote : WritesBytes given.raw c.args.bytes.now count raw = search rules in
-    let some : 0 < count = search rules in
-    let took = took_given given raw c.args.bytes.now count c.self.invariant needs.writes needs.live needs.none c.write.ensures.keeps c.write.ensures.open needs.within some wrote in
-    rw (← c.self.view_is, c.restart_at.ensures, c.place.ensures.place) (took, some, wrote.fits, refl)
+    rw (left.1, left.2) (subst (λ (old : EngineView). HandOnOutcome (stream_of old) c.args.bytes.now (Err c.in_err-count.field-0.0) (stream_of (engine_of c.write.new.self c.self.inside.raw_place c.self.inside.window))) c.self.view_is
+    (hands_not c.self.inside.live c.self.inside.raw_place c.self.inside.window c.write.new.self c.self.invariant needs.writes needs.live c.write.ensures.keeps c.write.ensures.open c.args.bytes.now c.in_err-count.field-0.0 needs.none c.in_err-count.ensures.outcome))
 
-pub returns-in-Ok-None-clause-outcome : goal.returns-in-Ok-None-clause-outcome
-returns-in-Ok-None-clause-outcome g c =
-    let given : EngineView = record { raw = g.R.RawStream.shows c.self.inside.raw; raw_place = c.self.inside.raw_place; window = c.self.inside.window; access = c.self.inside.access; life = c.self.inside.life; short = c.self.inside.short } in
+pub returns-in-Some-clause-outcome : goal.returns-in-Some-clause-outcome
+returns-in-Some-clause-outcome g c =
     let needs = rw (← c.self.view_is) at c.requires in
-    let raw : Raw = g.R.RawStream.shows c.write.new.self in
-    let waits : AsksToWait given.raw raw = search rules in
-    rw (← c.self.view_is) (waited given raw c.self.invariant needs.writes needs.live c.write.ensures.keeps c.write.ensures.open waits, waits.cause)
+    rw (← c.self.view_is, c.restart_at.ensures, c.place.ensures.place) (hands_some c.self.inside.live c.self.inside.raw_place c.self.inside.window c.write.new.self c.self.invariant needs.writes needs.live c.write.ensures.keeps c.write.ensures.open c.args.bytes.now c.in-Some.count c.requires.some needs.none needs.within (rw c.in-Some.is at c.in_ok-count.ensures.outcome))
 
-pub returns-in-Ok-Some-eq0-clause-outcome : goal.returns-in-Ok-Some-eq0-clause-outcome
-returns-in-Ok-Some-eq0-clause-outcome g c =
-    let given : EngineView = record { raw = g.R.RawStream.shows c.self.inside.raw; raw_place = c.self.inside.raw_place; window = c.self.inside.window; access = c.self.inside.access; life = c.self.inside.life; short = c.self.inside.short } in
+pub returns-in-None-clause-outcome : goal.returns-in-None-clause-outcome
+returns-in-None-clause-outcome g c =
     let needs = rw (← c.self.view_is) at c.requires in
-    let raw : Raw = g.R.RawStream.shows c.write.new.self in
-    rw (← c.self.view_is) (fails_passing given raw c.args.bytes.now c.self.invariant needs.writes needs.live needs.none c.write.ensures.keeps c.write.ensures.open (faults_writing given.raw raw c.args.bytes.now c.write.result c.requires.some (search rules) c.write.ensures.outcome), needs.none)
+    rw (← c.self.view_is) (hands_none c.self.inside.live c.self.inside.raw_place c.self.inside.window c.write.new.self c.self.invariant needs.writes needs.live c.write.ensures.keeps c.write.ensures.open c.args.bytes.now (rw c.in-None.is at c.in_ok-count.ensures.outcome))

@@ -18,4 +18,4 @@ returns-in_err-stop g c =
     (once_failed c.args.self.now c.begin.new.self c.ready.new.self Peek c.in_err-stop.field-0.0 refl refl (seen_reading c.args.self.now (subst Stands c.self.view_is c.self.invariant) c.requires.reads) c.in_ok-begin.ensures c.in_err-stop.ensures)
 
 pub returns : goal.returns
-returns g c = once_look c.args.self.now c.begin.new.self c.ready.new.self c.answers.new.self c.in_ok-stop.stop c.answers.result (seen_reading c.args.self.now (subst Stands c.self.view_is c.self.invariant) c.requires.reads) c.in_ok-begin.ensures c.in_ok-stop.ensures c.answers.ensures.answer c.answers.ensures.stream
+returns g c = once_look c.args.self.now c.begin.new.self c.ready.new.self c.answers.new.self c.in_ok-stop.stop c.answers.result (seen_reading c.args.self.now (subst Stands c.self.view_is c.self.invariant) c.requires.reads) c.in_ok-begin.ensures c.in_ok-stop.ensures c.answers.ensures.answer c.answers.ensures.engine

@@ -28,7 +28,7 @@ returns-in_err-stop g c =
 pub returns-then-not-answers : goal.returns-then-not-answers
 returns-then-not-answers g c =
     let asks : asks_nothing (Read1 c.args.size) ≡ false = asks_some c.begin.new.self.window.size (Read1 c.args.size) refl (λ none. c.if-size-eq0.false ((c.unwrap_or-size.ensures ∙ ap (unwrap_or c.args.size) (c.size.ensures.size ∙ ap (λ (engine : EngineView). engine.window.size) c.self-2.view_is)) ∙ none)) in
-    once_unready c.args.self.now c.begin.new.self c.ready.new.self c.answers.new.self (Read1 c.args.size) c.in_ok-stop.stop refl asks (seen_reading c.args.self.now (subst Stands c.self.view_is c.self.invariant) c.requires.reads) c.in_ok-begin.ensures c.in_ok-stop.ensures (sym c.answers.ensures.answer ∙ c.if-not-answers.true) c.answers.ensures.stream
+    once_unready c.args.self.now c.begin.new.self c.ready.new.self c.answers.new.self (Read1 c.args.size) c.in_ok-stop.stop refl asks (seen_reading c.args.self.now (subst Stands c.self.view_is c.self.invariant) c.requires.reads) c.in_ok-begin.ensures c.in_ok-stop.ensures (sym c.answers.ensures.answer ∙ c.if-not-answers.true) c.answers.ensures.engine
 
 pub returns-in_err-bytes : goal.returns-in_err-bytes
 returns-in_err-bytes g c = grind (arith, unwrap_or, asks_some, seen_reading)
@@ -36,5 +36,5 @@ returns-in_err-bytes g c = grind (arith, unwrap_or, asks_some, seen_reading)
 pub returns : goal.returns
 returns g c =
     let sized : c.unwrap_or-size.result ≡ unwrap_or c.args.size c.begin.new.self.window.size = c.unwrap_or-size.ensures ∙ ap (unwrap_or c.args.size) (c.size.ensures.size ∙ ap (λ (engine : EngineView). engine.window.size) c.self-2.view_is) in
-    once_held c.args.self.now c.begin.new.self c.ready.new.self c.answers.new.self c.give.new.self (Read1 c.args.size) c.in_ok-stop.stop c.in_ok-bytes.bytes.items refl (asks_some c.begin.new.self.window.size (Read1 c.args.size) refl (λ none. c.if-size-eq0.false (sized ∙ none))) (seen_reading c.args.self.now (subst Stands c.self.view_is c.self.invariant) c.requires.reads) c.in_ok-begin.ensures c.in_ok-stop.ensures (sym c.answers.ensures.answer ∙ c.if-not-answers.false) c.answers.ensures.stream
+    once_held c.args.self.now c.begin.new.self c.ready.new.self c.answers.new.self c.give.new.self (Read1 c.args.size) c.in_ok-stop.stop c.in_ok-bytes.bytes.items refl (asks_some c.begin.new.self.window.size (Read1 c.args.size) refl (λ none. c.if-size-eq0.false (sized ∙ none))) (seen_reading c.args.self.now (subst Stands c.self.view_is c.self.invariant) c.requires.reads) c.in_ok-begin.ensures c.in_ok-stop.ensures (sym c.answers.ensures.answer ∙ c.if-not-answers.false) c.answers.ensures.engine
     (c.in_ok-bytes.ensures.0 ∙ ap (λ (n : ℕ). take n (ahead_of c.answers.new.self.window)) sized) c.in_ok-bytes.ensures.1

@@ -11,7 +11,7 @@ use Rattle.py_engine.proofs.data.BufferedData.read_into.Goals as goal
 pub returns-then-held-buffer-clause-outcome : goal.returns-then-held-buffer-clause-outcome
 returns-then-held-buffer-clause-outcome g c =
     subst (ReadsInto c.args.self.now (record { count = c.copy_ahead-held.result; stop = stop.Enough }) c.copy_ahead-held.new.buffer)
-    (made_advanced c.args.self.now (g.R.RawStream.shows c.self.inside.raw) c.self.inside.raw_place c.self.inside.window c.advance.new.self c.self.inside.access c.self.inside.life c.self.inside.short c.copy_ahead-held.result c.self.view_is c.advance.ensures)
+    (made_advanced c.args.self.now c.self.inside.live.raw c.self.inside.raw_place c.self.inside.window c.advance.new.self c.self.inside.live.access c.self.inside.live.life c.self.inside.live.short c.copy_ahead-held.result c.self.view_is c.advance.ensures)
     (held_enough c.args.self.now c.copy_ahead-held.result c.copy_ahead-held.new.buffer (seen_reading c.args.self.now c.copy_ahead-held.ensures.engine c.requires.reads) c.requires.live (omega arith) (omega arith) c.copy_ahead-held.ensures.front)
 
 pub loop-more-init : goal.loop-more-init

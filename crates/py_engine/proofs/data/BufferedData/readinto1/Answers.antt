@@ -26,11 +26,11 @@ returns-in_err-stop-clause-answers g c =
     (once_failed c.args.self.now c.begin.new.self c.ready.new.self call c.in_err-stop.field-0.0 refl (asks_some c.begin.new.self.window.size (ReadInto1 (length c.args.buffer.now)) refl (search rules)) (seen_reading c.args.self.now (subst Stands c.self.view_is c.self.invariant) c.requires.reads) c.in_ok-begin.ensures c.in_err-stop.ensures)
 
 pub returns-then-not-answers-clause-answers : goal.returns-then-not-answers-clause-answers
-returns-then-not-answers-clause-answers g c = once_unready c.args.self.now c.begin.new.self c.ready.new.self c.answers.new.self (ReadInto1 (length c.args.buffer.now)) c.in_ok-stop.stop refl (asks_some c.begin.new.self.window.size (ReadInto1 (length c.args.buffer.now)) refl (search rules)) (seen_reading c.args.self.now (subst Stands c.self.view_is c.self.invariant) c.requires.reads) c.in_ok-begin.ensures c.in_ok-stop.ensures (sym c.answers.ensures.answer ∙ c.if-not-answers.true) c.answers.ensures.stream
+returns-then-not-answers-clause-answers g c = once_unready c.args.self.now c.begin.new.self c.ready.new.self c.answers.new.self (ReadInto1 (length c.args.buffer.now)) c.in_ok-stop.stop refl (asks_some c.begin.new.self.window.size (ReadInto1 (length c.args.buffer.now)) refl (search rules)) (seen_reading c.args.self.now (subst Stands c.self.view_is c.self.invariant) c.requires.reads) c.in_ok-begin.ensures c.in_ok-stop.ensures (sym c.answers.ensures.answer ∙ c.if-not-answers.true) c.answers.ensures.engine
 
 pub returns-clause-answers : goal.returns-clause-answers
 returns-clause-answers g c =
-    let moved = made_advanced c.answers.new.self (g.R.RawStream.shows c.self-2.inside.raw) c.self-2.inside.raw_place c.self-2.inside.window c.advance.new.self c.self-2.inside.access c.self-2.inside.life c.self-2.inside.short c.copy_ahead-count.result c.self-2.view_is c.advance.ensures in
-    once_held c.args.self.now c.begin.new.self c.ready.new.self c.answers.new.self (made (g.R.RawStream.shows c.self-2.inside.raw) c.self-2.inside.raw_place c.advance.new.self c.self-2.inside.access c.self-2.inside.life c.self-2.inside.short) (ReadInto1 (length c.args.buffer.now)) c.in_ok-stop.stop (take c.copy_ahead-count.result c.copy_ahead-count.new.buffer) refl (asks_some c.begin.new.self.window.size (ReadInto1 (length c.args.buffer.now)) refl (search rules)) (seen_reading c.args.self.now (subst Stands c.self.view_is c.self.invariant) c.requires.reads) c.in_ok-begin.ensures c.in_ok-stop.ensures (sym c.answers.ensures.answer ∙ c.if-not-answers.false) c.answers.ensures.stream
+    let moved = made_advanced c.answers.new.self c.self-2.inside.live.raw c.self-2.inside.raw_place c.self-2.inside.window c.advance.new.self c.self-2.inside.live.access c.self-2.inside.live.life c.self-2.inside.live.short c.copy_ahead-count.result c.self-2.view_is c.advance.ensures in
+    once_held c.args.self.now c.begin.new.self c.ready.new.self c.answers.new.self (made c.self-2.inside.live.raw c.self-2.inside.raw_place c.advance.new.self c.self-2.inside.live.access c.self-2.inside.live.life c.self-2.inside.live.short) (ReadInto1 (length c.args.buffer.now)) c.in_ok-stop.stop (take c.copy_ahead-count.result c.copy_ahead-count.new.buffer) refl (asks_some c.begin.new.self.window.size (ReadInto1 (length c.args.buffer.now)) refl (search rules)) (seen_reading c.args.self.now (subst Stands c.self.view_is c.self.invariant) c.requires.reads) c.in_ok-begin.ensures c.in_ok-stop.ensures (sym c.answers.ensures.answer ∙ c.if-not-answers.false) c.answers.ensures.engine
     (copied c.copy_ahead-count.result (length c.args.buffer.now) (take c.copy_ahead-count.result c.copy_ahead-count.new.buffer) (ahead_of c.answers.new.self.window) c.copy_ahead-count.ensures.count c.copy_ahead-count.ensures.front)
     (sym moved ∙ ap (λ (n : ℕ). let left : EngineView = record c.answers.new.self { window = advanced n c.answers.new.self.window } in left) (sym (length-take-le c.copy_ahead-count.result c.copy_ahead-count.new.buffer (omega (arith, c.copy_ahead-count.ensures.count, c.copy_ahead-count.ensures.length)))))

@@ -1,15 +1,14 @@
-use Rattle.std.proofs.Common.{◌≡◌, ◌⊎◌, inl, inr, ℤ, true, false, Ok, Err, refl, sym, ap, ◌∙◌, subst, subst₂, to_z-of_z}
+use Rattle.std.proofs.Common.{ℤ, true, false, Ok, Err, refl, sym, ap, ◌∙◌, subst, subst₂, to_z-of_z}
 use Rattle.std.proofs.lemmas.Result.{err_from_is_err_and}
 use Rattle.py_flat.specs.Calls.{Seek}
 use Rattle.py_stream.specs.Moving.{TargetOutcome}
-use Rattle.py_stream.specs.Access.{is_appended}
 use Rattle.py_stream.proofs.Alone.{begins_in_vain}
 use Rattle.py_stream.proofs.Going.{seek_finds_nothing}
+use Rattle.py_stream.proofs.Movable.{seeks_on, seeks_not}
 use Rattle.py_engine.specs.Engine.{EngineView, stream_of, Stands}
-use Rattle.py_engine.proofs.Standing.{is_placed}
-use Rattle.py_engine.proofs.Calls.{SeekFinds, begins, seek_unsupported, may_seek, seek_found, seeking_stops, seeking_fails, seeking_arrives}
+use Rattle.py_engine.proofs.Standing.{is_placed, is_sound}
+use Rattle.py_engine.proofs.Calls.{SeekFinds, begins, seek_found, seeking_stops, seeking_fails, seeking_arrives}
 use Rattle.py_engine.proofs.data.BufferedData.seek.Goals as goal
-use Rattle.py_engine.proofs.data.BufferedData.seek.Goals.{then-not-seekable-via-then-not-seekable, then-not-seekable-via-else-not-seekable+then-appends}
 
 pub returns-in_err-begin : goal.returns-in_err-begin
 returns-in_err-begin g c =
@@ -21,32 +20,27 @@ returns-in_err-target g c =
     let left = err_from_is_err_and c.from_residual-in_err-target.result c.from_residual-in_err-target.ensures.1 in
     let found = subst₂ (λ (offset : ℤ) (whence : ℤ). TargetOutcome (stream_of c.begin.new.self) offset whence (Err c.in_err-target.field-0.0) (stream_of c.target.new.self)) (to_z-of_z c.ranges.offset) (to_z-of_z c.ranges.whence) c.in_err-target.ensures.outcome in
     rw (left.1, left.2) (seek_finds_nothing (stream_of c.args.self.now) (stream_of c.begin.new.self) (stream_of c.target.new.self) c.args.offset c.args.whence c.in_err-target.field-0.0
-    (may_seek c.args.self.now c.begin.new.self (subst Stands c.self.view_is c.self.invariant) c.in_ok-begin.ensures (sym (ap (λ (engine : EngineView). engine.raw.seekable) c.self-2.view_is) ∙ sym c.seekable.ensures ∙ c.if-not-seekable.false) (sym (ap (λ (engine : EngineView). is_appended engine.access) c.self-2.view_is) ∙ sym c.appends.ensures ∙ c.if-appends.false)) (begins c.args.self.now c.begin.new.self (Ok tt) c.in_ok-begin.ensures) found)
+    (seeks_on (stream_of c.args.self.now) (stream_of c.begin.new.self) _ c.is_movable.result (is_sound c.args.self.now (subst Stands c.self.view_is c.self.invariant)) (begins c.args.self.now c.begin.new.self (Ok tt) c.in_ok-begin.ensures) (ap stream_of c.self-2.view_is) c.is_movable.ensures c.if-not-is_movable.false) (begins c.args.self.now c.begin.new.self (Ok tt) c.in_ok-begin.ensures) found)
 
-pub returns-then-not-seekable : goal.returns-then-not-seekable
-returns-then-not-seekable g c =
-    let cannot : (c.begin.new.self.raw.seekable ≡ false) ⊎ (is_appended c.begin.new.self.access ≡ true) = elim c.then-not-seekable.branch [
-      | then-not-seekable-via-then-not-seekable w ↦ inl ((sym (ap (λ (engine : EngineView). engine.raw.seekable) c.self-2.view_is) ∙ sym c.seekable.ensures) ∙ w.if-not-seekable.true)
-      | then-not-seekable-via-else-not-seekable+then-appends w ↦ inr ((sym (ap (λ (engine : EngineView). is_appended engine.access) c.self-2.view_is)) ∙ sym w.appends.ensures ∙ w.if-appends.true)
-    ] in
-    seek_unsupported c.args.self.now c.begin.new.self c.args.offset c.args.whence (subst Stands c.self.view_is c.self.invariant) c.in_ok-begin.ensures cannot
+pub returns-then-not-is_movable : goal.returns-then-not-is_movable
+returns-then-not-is_movable g c = seeks_not (stream_of c.args.self.now) (stream_of c.begin.new.self) _ c.is_movable.result c.args.offset c.args.whence (is_placed c.args.self.now (subst Stands c.self.view_is c.self.invariant)) (begins c.args.self.now c.begin.new.self (Ok tt) c.in_ok-begin.ensures) (ap stream_of c.self-2.view_is) c.is_movable.ensures c.if-not-is_movable.true
 
 pub returns-in_err-pass_all : goal.returns-in_err-pass_all
 returns-in_err-pass_all g c =
     let left = err_from_is_err_and c.from_residual-in_err-pass_all.result c.from_residual-in_err-pass_all.ensures.1 in
     let found = subst₂ (λ (offset : ℤ) (whence : ℤ). TargetOutcome (stream_of c.begin.new.self) offset whence (Ok c.in_ok-target.target) (stream_of c.target.new.self)) (to_z-of_z c.ranges.offset) (to_z-of_z c.ranges.whence) c.in_ok-target.ensures.outcome in
-    let seek : SeekFinds c.args.self.now c.args.offset c.args.whence c.in_ok-target.target c.target.new.self = seek_found c.args.self.now c.begin.new.self c.target.new.self c.args.offset c.args.whence c.in_ok-target.target (subst Stands c.self.view_is c.self.invariant) c.in_ok-begin.ensures (sym (ap (λ (engine : EngineView). engine.raw.seekable) c.self-2.view_is) ∙ sym c.seekable.ensures ∙ c.if-not-seekable.false) (sym (ap (λ (engine : EngineView). is_appended engine.access) c.self-2.view_is) ∙ sym c.appends.ensures ∙ c.if-appends.false) found c.target.ensures.access in
+    let seek : SeekFinds c.args.self.now c.args.offset c.args.whence c.in_ok-target.target c.target.new.self = seek_found c.args.self.now c.begin.new.self c.target.new.self c.args.offset c.args.whence c.in_ok-target.target (subst Stands c.self.view_is c.self.invariant) c.in_ok-begin.ensures (seeks_on (stream_of c.args.self.now) (stream_of c.begin.new.self) _ c.is_movable.result (is_sound c.args.self.now (subst Stands c.self.view_is c.self.invariant)) (begins c.args.self.now c.begin.new.self (Ok tt) c.in_ok-begin.ensures) (ap stream_of c.self-2.view_is) c.is_movable.ensures c.if-not-is_movable.false) found c.target.ensures.access in
     rw (left.1, left.2) (seeking_stops c.target.new.self.access c.args.self.now c.target.new.self c.pass_all.new.self c.args.offset c.args.whence c.in_ok-target.target c.in_err-pass_all.field-0.0 (sym seek.same) seek c.in_err-pass_all.ensures.outcome)
 
 pub returns-in_err-go_to : goal.returns-in_err-go_to
 returns-in_err-go_to g c =
     let left = err_from_is_err_and c.from_residual-in_err-go_to.result c.from_residual-in_err-go_to.ensures.1 in
     let found = subst₂ (λ (offset : ℤ) (whence : ℤ). TargetOutcome (stream_of c.begin.new.self) offset whence (Ok c.in_ok-target.target) (stream_of c.target.new.self)) (to_z-of_z c.ranges.offset) (to_z-of_z c.ranges.whence) c.in_ok-target.ensures.outcome in
-    let seek : SeekFinds c.args.self.now c.args.offset c.args.whence c.in_ok-target.target c.target.new.self = seek_found c.args.self.now c.begin.new.self c.target.new.self c.args.offset c.args.whence c.in_ok-target.target (subst Stands c.self.view_is c.self.invariant) c.in_ok-begin.ensures (sym (ap (λ (engine : EngineView). engine.raw.seekable) c.self-2.view_is) ∙ sym c.seekable.ensures ∙ c.if-not-seekable.false) (sym (ap (λ (engine : EngineView). is_appended engine.access) c.self-2.view_is) ∙ sym c.appends.ensures ∙ c.if-appends.false) found c.target.ensures.access in
+    let seek : SeekFinds c.args.self.now c.args.offset c.args.whence c.in_ok-target.target c.target.new.self = seek_found c.args.self.now c.begin.new.self c.target.new.self c.args.offset c.args.whence c.in_ok-target.target (subst Stands c.self.view_is c.self.invariant) c.in_ok-begin.ensures (seeks_on (stream_of c.args.self.now) (stream_of c.begin.new.self) _ c.is_movable.result (is_sound c.args.self.now (subst Stands c.self.view_is c.self.invariant)) (begins c.args.self.now c.begin.new.self (Ok tt) c.in_ok-begin.ensures) (ap stream_of c.self-2.view_is) c.is_movable.ensures c.if-not-is_movable.false) found c.target.ensures.access in
     rw (left.1, left.2) (seeking_fails c.target.new.self.access c.args.self.now c.target.new.self c.pass_all.new.self c.go_to.new.self c.args.offset c.args.whence c.in_ok-target.target c.in_err-go_to.field-0.0 (sym seek.same) seek c.in_ok-pass_all.ensures.outcome c.in_err-go_to.ensures.outcome)
 
 pub returns : goal.returns
 returns g c =
     let found = subst₂ (λ (offset : ℤ) (whence : ℤ). TargetOutcome (stream_of c.begin.new.self) offset whence (Ok c.in_ok-target.target) (stream_of c.target.new.self)) (to_z-of_z c.ranges.offset) (to_z-of_z c.ranges.whence) c.in_ok-target.ensures.outcome in
-    let seek : SeekFinds c.args.self.now c.args.offset c.args.whence c.in_ok-target.target c.target.new.self = seek_found c.args.self.now c.begin.new.self c.target.new.self c.args.offset c.args.whence c.in_ok-target.target (subst Stands c.self.view_is c.self.invariant) c.in_ok-begin.ensures (sym (ap (λ (engine : EngineView). engine.raw.seekable) c.self-2.view_is) ∙ sym c.seekable.ensures ∙ c.if-not-seekable.false) (sym (ap (λ (engine : EngineView). is_appended engine.access) c.self-2.view_is) ∙ sym c.appends.ensures ∙ c.if-appends.false) found c.target.ensures.access in
+    let seek : SeekFinds c.args.self.now c.args.offset c.args.whence c.in_ok-target.target c.target.new.self = seek_found c.args.self.now c.begin.new.self c.target.new.self c.args.offset c.args.whence c.in_ok-target.target (subst Stands c.self.view_is c.self.invariant) c.in_ok-begin.ensures (seeks_on (stream_of c.args.self.now) (stream_of c.begin.new.self) _ c.is_movable.result (is_sound c.args.self.now (subst Stands c.self.view_is c.self.invariant)) (begins c.args.self.now c.begin.new.self (Ok tt) c.in_ok-begin.ensures) (ap stream_of c.self-2.view_is) c.is_movable.ensures c.if-not-is_movable.false) found c.target.ensures.access in
     seeking_arrives c.target.new.self.access c.args.self.now c.target.new.self c.pass_all.new.self c.go_to.new.self c.args.offset c.args.whence c.in_ok-target.target (sym seek.same) seek c.in_ok-pass_all.ensures.outcome c.in_ok-go_to.ensures.outcome

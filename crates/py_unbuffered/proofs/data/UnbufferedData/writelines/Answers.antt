@@ -20,7 +20,7 @@ returns-in_err-begin g c =
 pub returns-then-is_none : goal.returns-then-is_none
 returns-then-is_none g c =
     let lines : List (List ℕ) = c.args.lines.now in
-    let writing : Writing c.args.self.now c.begin.new.self = record { stands = subst Stands c.self.view_is c.self.invariant; begins = c.in_ok-begin.ensures; reads = sym c.reads.ensures ∙ c.if-reads.false } in
+    let writing : Writing c.args.self.now c.begin.new.self = record { stands = subst Stands c.self.view_is c.self.invariant; begins = c.in_ok-begin.ensures; reads = sym c.reads.ensures.readable ∙ c.if-reads.false } in
     let at : c.self-2.inside.place ≡ c.begin.new.self.place = ap (λ (engine : EngineView). engine.place) c.self-2.view_is in
     too_far_answers c.args.self.now c.begin.new.self (WriteLines lines) refl writing
     (subst (λ (start : ℕ). greatest_place < start + length (joined lines)) at (lines_too_far (c.self-2.inside.place + length (joined lines)) c.end_of_lines.result c.end_of_lines.ensures (is_there c.end_of_lines.result c.is_none.result true c.is_none.ensures c.if-is_none.true)))
@@ -29,7 +29,7 @@ pub returns-in_err-write_lines : goal.returns-in_err-write_lines
 returns-in_err-write_lines g c =
     let left = err_from_is_err_and c.from_residual-in_err-write_lines.result c.from_residual-in_err-write_lines.ensures.1 in
     let lines : List (List ℕ) = c.args.lines.now in
-    let writing : Writing c.args.self.now c.begin.new.self = record { stands = subst Stands c.self.view_is c.self.invariant; begins = c.in_ok-begin.ensures; reads = sym c.reads.ensures ∙ c.if-reads.false } in
+    let writing : Writing c.args.self.now c.begin.new.self = record { stands = subst Stands c.self.view_is c.self.invariant; begins = c.in_ok-begin.ensures; reads = sym c.reads.ensures.readable ∙ c.if-reads.false } in
     let at : c.self-2.inside.place ≡ c.begin.new.self.place = ap (λ (engine : EngineView). engine.place) c.self-2.view_is in
     let fits : c.begin.new.self.place + length (joined lines) ≤ greatest_place = subst (λ (start : ℕ). start + length (joined lines) ≤ greatest_place) at (lines_fit (c.self-2.inside.place + length (joined lines)) c.end_of_lines.result c.end_of_lines.ensures (is_there c.end_of_lines.result c.is_none.result false c.is_none.ensures c.if-is_none.false)) in
     let begun : Begun (stream_of c.args.self.now) (stream_of c.begin.new.self) (WriteLines lines) = lines_begun c.args.self.now c.begin.new.self (WriteLines lines) refl refl refl writing fits in
@@ -38,7 +38,7 @@ returns-in_err-write_lines g c =
 pub returns-then-branch : goal.returns-then-branch
 returns-then-branch g c =
     let lines : List (List ℕ) = c.args.lines.now in
-    let writing : Writing c.args.self.now c.begin.new.self = record { stands = subst Stands c.self.view_is c.self.invariant; begins = c.in_ok-begin.ensures; reads = sym c.reads.ensures ∙ c.if-reads.false } in
+    let writing : Writing c.args.self.now c.begin.new.self = record { stands = subst Stands c.self.view_is c.self.invariant; begins = c.in_ok-begin.ensures; reads = sym c.reads.ensures.readable ∙ c.if-reads.false } in
     let at : c.self-2.inside.place ≡ c.begin.new.self.place = ap (λ (engine : EngineView). engine.place) c.self-2.view_is in
     let fits : c.begin.new.self.place + length (joined lines) ≤ greatest_place = subst (λ (start : ℕ). start + length (joined lines) ≤ greatest_place) at (lines_fit (c.self-2.inside.place + length (joined lines)) c.end_of_lines.result c.end_of_lines.ensures (is_there c.end_of_lines.result c.is_none.result false c.is_none.ensures c.if-is_none.false)) in
     let begun : Begun (stream_of c.args.self.now) (stream_of c.begin.new.self) (WriteLines lines) = lines_begun c.args.self.now c.begin.new.self (WriteLines lines) refl refl refl writing fits in
@@ -48,11 +48,11 @@ returns-then-branch g c =
 pub returns : goal.returns
 returns g c =
     let lines : List (List ℕ) = c.args.lines.now in
-    let writing : Writing c.args.self.now c.begin.new.self = record { stands = subst Stands c.self.view_is c.self.invariant; begins = c.in_ok-begin.ensures; reads = sym c.reads.ensures ∙ c.if-reads.false } in
+    let writing : Writing c.args.self.now c.begin.new.self = record { stands = subst Stands c.self.view_is c.self.invariant; begins = c.in_ok-begin.ensures; reads = sym c.reads.ensures.readable ∙ c.if-reads.false } in
     let at : c.self-2.inside.place ≡ c.begin.new.self.place = ap (λ (engine : EngineView). engine.place) c.self-2.view_is in
     let fits : c.begin.new.self.place + length (joined lines) ≤ greatest_place = subst (λ (start : ℕ). start + length (joined lines) ≤ greatest_place) at (lines_fit (c.self-2.inside.place + length (joined lines)) c.end_of_lines.result c.end_of_lines.ensures (is_there c.end_of_lines.result c.is_none.result false c.is_none.ensures c.if-is_none.false)) in
     let begun : Begun (stream_of c.args.self.now) (stream_of c.begin.new.self) (WriteLines lines) = lines_begun c.args.self.now c.begin.new.self (WriteLines lines) refl refl refl writing fits in
     giving_blocks (stream_of c.args.self.now) (stream_of c.begin.new.self) (stream_of c.write_lines.new.self) _ (WriteLines lines) c.self-2.inside.place _ begun at
     (subst (λ (all : Bool). PutsOutcome (stream_of c.begin.new.self) (joined lines) c.self-2.inside.place (Ok all) (stream_of c.write_lines.new.self)) c.if-branch.false c.in_ok-write_lines.ensures)
-    (ap (λ (engine : EngineView). fault.WouldBlock (engine.place - c.self-2.inside.place)) c.self-3.view_is)
-    (ap (λ (engine : EngineView). stream_of (record engine { short = true })) c.self-3.view_is)
+    (ap (λ (engine : EngineView). fault.WouldBlock (engine.place - c.self-2.inside.place)) (c.self-3.view_is ∙ c.note_wait.ensures))
+    (ap stream_of c.note_wait.ensures)

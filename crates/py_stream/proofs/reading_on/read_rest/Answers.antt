@@ -1,0 +1,25 @@
+use Rattle.std.proofs.Common.{None, refl, sym, ◌∙◌, arith}
+use Rattle.std.proofs.lemmas.Result.{err_from_is_err_and}
+use Rattle.py_flat.specs.Calls.{Read}
+use Rattle.py_stream.proofs.ReadingAnswers.{answers_begun}
+use Rattle.py_stream.proofs.ReadingOn.{none_counted, some_counted, refused_rest, rest_gathers, answered_from, unready_from}
+use Rattle.py_stream.proofs.LineReadings.{begun, all_by_several}
+use Rattle.py_stream.proofs.reading_on.read_rest.Goals as goal
+
+pub returns-in_err-begin_reading : goal.returns-in_err-begin_reading
+returns-in_err-begin_reading g c =
+    let left = err_from_is_err_and c.from_residual.result c.from_residual.ensures.1 in
+    rw (left.1, left.2) (c.in_err-begin_reading.ensures.begins (Read None) refl)
+
+pub returns-in_err-stop : goal.returns-in_err-stop
+returns-in_err-stop g c = grind (arith, err_from_is_err_and, answers_begun, begun, refused_rest)
+
+pub returns-then-answers : goal.returns-then-answers
+returns-then-answers g c =
+    let part = c.read_all.new.bytes in
+    answered_from _ _ _ _ (Read None) part.items c.in_ok-stop.stop c.is_empty.result (all_by_several (g.S.ReadsOn.shows c.begin_reading.new.self).buffer)
+    (begun (g.S.ReadsOn.shows c.args.stream.now) (g.S.ReadsOn.shows c.begin_reading.new.self) c.in_ok-begin_reading.ensures.begins)
+    (rest_gathers _ _ part.items c.in_ok-stop.stop c.in_ok-stop.ensures) (some_counted part.items part.len c.is_empty.result part.ok.0 c.is_empty.ensures) (sym c.answers.ensures.answer ∙ c.if-answers.true) c.answers.ensures.stream
+
+pub returns-else-answers : goal.returns-else-answers
+returns-else-answers g c = grind (arith, unready_from, begun, rest_gathers, none_counted, all_by_several)
