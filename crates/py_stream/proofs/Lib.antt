@@ -2,6 +2,7 @@ pub mod Owing
 pub mod Taking
 pub mod Flat
 pub mod Coming
+pub mod Transferring
 pub mod Refused
 pub mod Refusing
 pub mod Alone

@@ -11,7 +11,7 @@ use Rattle.py_flat.specs.Refusals.{life_fault}
 use Rattle.py_raw.specs.declared.raw_error.RawError.{RawError}
 use Rattle.py_raw.specs.declared.raw_error.RawError.TheVariants as raw_error
 use Rattle.py_flat.specs.Causes.{Rose}
-use Rattle.py_raw.specs.RawStream.{Raw, WhereTold, WherePlace, WhereTransfers, KeepsBytes, NoWait, Transfers, LeavesCounts, AnswersFor, AsksToWait, FailsWithout, LacksMemory, LaysFront, WritesBytes}
+use Rattle.py_raw.specs.RawStream.{Raw, WhereTold, WherePlace, WhereTransfers, KeepsBytes, NoWait, Transfers, LeavesCounts, AnswersFor, ReadsBring, AsksToWait, FailsWithout, LacksMemory, LaysFront, WritesBytes}
 use Rattle.py_stream.specs.declared.access.Access.{Access}
 
 -- a raw stream, what its stream is opened for, what became of that, and whether a wait cut its last answer short
@@ -59,6 +59,7 @@ pub record Comes (old : Raw) (place : ℕ) (before : List ℕ) (count : ℕ) (af
   pub within : place + count ≤ greatest_place
   pub counts : LeavesCounts old new
   pub written : AnswersFor 0 old new
+  pub reads : ReadsBring count old new
   pub next : WhereTold old (old.place ≡ place → take count (left_at old.bytes place) ≡ take count after)
   pub last : count ≡ 0 → before ≢ [] → WhereTold old (old.place ≡ place → length old.bytes ≤ place)
   pub stands : WherePlace old (new.place ≡ old.place + count)

@@ -1,6 +1,6 @@
 use Rattle.std.proofs.Common.{None, refl, sym, ◌∙◌, arith}
 use Rattle.std.proofs.lemmas.Result.{err_from_is_err_and}
-use Rattle.py_flat.specs.Calls.{Read}
+use Rattle.py_flat.specs.Calls.{Read, Refused}
 use Rattle.py_stream.proofs.ReadingAnswers.{answers_begun}
 use Rattle.py_stream.proofs.ReadingOn.{none_counted, some_counted, refused_rest, rest_gathers, answered_from, unready_from}
 use Rattle.py_stream.proofs.LineReadings.{begun, all_by_several}
@@ -12,7 +12,10 @@ returns-in_err-begin_reading g c =
     rw (left.1, left.2) (c.in_err-begin_reading.ensures.begins (Read None) refl)
 
 pub returns-in_err-stop : goal.returns-in_err-stop
-returns-in_err-stop g c = grind (arith, err_from_is_err_and, answers_begun, begun, refused_rest)
+returns-in_err-stop g c =
+    let left = err_from_is_err_and c.from_residual-in_err-stop.result c.from_residual-in_err-stop.ensures.1 in
+    let began = begun (g.S.ReadsOn.shows c.args.stream.now) (g.S.ReadsOn.shows c.begin_reading.new.self) c.in_ok-begin_reading.ensures.begins in
+    rw (left.1, left.2) (answers_begun _ _ (Read None) (Refused c.in_err-stop.field-0.0) _ began.from (refused_rest _ _ c.read_all.new.bytes.items c.in_err-stop.field-0.0 began.reads c.in_err-stop.ensures))
 
 pub returns-then-answers : goal.returns-then-answers
 returns-then-answers g c =
@@ -22,4 +25,8 @@ returns-then-answers g c =
     (rest_gathers _ _ part.items c.in_ok-stop.stop c.in_ok-stop.ensures) (some_counted part.items part.len c.is_empty.result part.ok.0 c.is_empty.ensures) (sym c.answers.ensures.answer ∙ c.if-answers.true) c.answers.ensures.stream
 
 pub returns-else-answers : goal.returns-else-answers
-returns-else-answers g c = grind (arith, unready_from, begun, rest_gathers, none_counted, all_by_several)
+returns-else-answers g c =
+    let part = c.read_all.new.bytes in
+    unready_from _ _ _ _ (Read None) part.items c.in_ok-stop.stop c.is_empty.result (all_by_several (g.S.ReadsOn.shows c.begin_reading.new.self).buffer)
+    (begun (g.S.ReadsOn.shows c.args.stream.now) (g.S.ReadsOn.shows c.begin_reading.new.self) c.in_ok-begin_reading.ensures.begins)
+    (rest_gathers _ _ part.items c.in_ok-stop.stop c.in_ok-stop.ensures) (none_counted part.items part.len c.is_empty.result part.ok.0 c.is_empty.ensures) (sym c.answers.ensures.answer ∙ c.if-answers.false) c.answers.ensures.stream

@@ -11,7 +11,7 @@ use Rattle.py_lines.specs.Collecting.{HasEnough, WantsMore}
 use Rattle.py_engine.proofs.Transfers.{made_advanced}
 use Rattle.py_engine.proofs.Gathering.{stops_enough, goes_on, moved_some, starves_so_far, fails_so_far, stops_at_end, stops_waiting}
 use Rattle.py_stream.specs.Access.{is_read}
-use Rattle.py_engine.proofs.Filling.{stands_advanced}
+use Rattle.py_engine.proofs.Filling.{engine_of, stands_advanced}
 use Rattle.py_engine.proofs.data.gathering.BufferedDataReadsOn.gather.Goals as goal
 
 pub returns-in-Ok-Enough : goal.returns-in-Ok-Enough
@@ -58,7 +58,7 @@ returns-in_err-fill g c =
 
 pub invariant_of-self : goal.invariant_of-self
 invariant_of-self g c =
-    let inside : EngineView = record { raw = g.R.RawStream.shows c.self-in-loop-used.inside.raw; raw_place = c.self-in-loop-used.inside.raw_place; window = c.self-in-loop-used.inside.window; access = c.self-in-loop-used.inside.access; life = c.self-in-loop-used.inside.life; short = c.self-in-loop-used.inside.short } in
+    let was = c.self-in-loop-used.inside in
     let enough : HasEnough (g.C.Collector.wanted c.loop-used.collector) (g.C.Collector.collected c.loop-used.collector) c.ahead.result.now c.in-Ok-Enough.used (g.C.Collector.collected c.collect.new.self) = rw c.in-Ok-Enough.field-0-is at c.in-Ok-Enough.ensures.outcome in
     rw c.advance.ensures
-    (stands_advanced inside c.in-Ok-Enough.used c.self-in-loop-used.invariant (ap (λ (engine : EngineView). is_read engine.access) c.self-in-loop-used.view_is ∙ c.loop-used.invariant.gathered.kept.is.reads) (subst (λ (bytes : List ℕ). c.in-Ok-Enough.used ≤ length bytes) c.ahead.ensures enough.fits))
+    (stands_advanced (engine_of was.live was.raw_place was.window) c.in-Ok-Enough.used c.self-in-loop-used.invariant (ap (λ (engine : EngineView). is_read engine.access) c.self-in-loop-used.view_is ∙ c.loop-used.invariant.gathered.kept.is.reads) (subst (λ (bytes : List ℕ). c.in-Ok-Enough.used ≤ length bytes) c.ahead.ensures enough.fits))
