@@ -81,23 +81,6 @@ GivesExport None before (Err why) after = (why ≡ fault.NoMemory) × (after ≡
 abbrev pub resize_refusal : BytesView → Option IoFault
 resize_refusal view = or_else (life_fault view.file.life) (refused_if (is_lent view) fault.BufferError)
 
--- a borrowed stream is handed on as it is
-pub record HandsOn (given handed : MutBor BytesView) : Type 0 where
-  pub now : handed.now ≡ given.now
-  pub same_reference : handed.ghost_name ≡ given.ghost_name
-
--- the stream as it is, or what refuses it
-abbrev pub MayResize : Option IoFault → MutBor BytesView → Result (MutBor BytesView) IoFault → Type 0
-MayResize (Some why) given result = result ≡ Err why
-MayResize None given (Ok handed) = HandsOn given handed
-MayResize None given (Err why) = ⊥
-
--- the stream as it is, or none where something refuses it
-abbrev pub MayResizeIf : Option IoFault → MutBor BytesView → Option (MutBor BytesView) → Type 0
-MayResizeIf (Some why) given result = result ≡ None
-MayResizeIf None given (Some handed) = HandsOn given handed
-MayResizeIf None given None = ⊥
-
 -- Exports that are out.
 
 -- what refuses an export to be used: a closed stream has none, and the number has to be out
