@@ -1,6 +1,7 @@
 pub mod Collecting
 pub mod Steps
 pub mod Numbers
+pub mod Apart
 pub mod Lent
 pub mod Calm
 pub mod AsBuffer

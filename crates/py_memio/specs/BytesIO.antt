@@ -2,7 +2,7 @@
 use Rattle.std.specs.Prelude.{◌≡◌, ℕ, ◌+◌, ◌<◌, ◌≤◌, Bool, true, false, not, ⊤, IsTrue, List, [], ◌∷◌, ◌++◌, nat_eq, nat_lt, length, take, drop, if◌then◌else◌, Option, Some, None, Result, Ok, Err, Vec}
 use denote.Bor.{Bor}
 use Rattle.std.specs.Borrow.{MutBor}
-use Rattle.std.specs.List.{list_any, remove}
+use Rattle.std.specs.List.{IsDistinct, list_any, remove}
 use Rattle.std.specs.declared.alloc.Global.{Global}
 use Rattle.py_flat.specs.declared.fault.IoFault.{IoFault}
 use Rattle.py_flat.specs.declared.fault.IoFault.TheVariants as fault
@@ -51,12 +51,13 @@ abbrev pub IsNext : Option ℕ → Type 0
 IsNext None = ⊤
 IsNext (Some number) = number ≤ greatest_count
 
--- what holds of every `BytesIO`: its place is one that a stream can have, each export that is out has a number below the next, and a
--- closed one has none out
+-- what holds of every `BytesIO`: its place is one that a stream can have, each export that is out has a number below the next, no number
+-- is out twice, and a closed one has none out
 pub record IsBytesIO (place : ℕ) (closed : Bool) (out : List ℕ) (next : Option ℕ) : Type 0 where
   pub within : place ≤ greatest_place
   pub number : IsNext next
   pub given : (own : ℕ) → IsTrue (list_any (λ n. nat_eq n own) out) → own < next_number next
+  pub apart : IsDistinct nat_eq out
   pub shut : closed ≡ true → out ≡ []
 
 -- A new export.

@@ -1,7 +1,7 @@
 //! Bytes that are lent out, under numbers.
 ghost use Rattle.std.specs.Borrow.{sem};
-ghost use Rattle.std.specs.Prelude.{◌≡◌, position, nat_eq};
-ghost use Rattle.py_memio.specs.BytesIO.{export_refusal, use_refusal, GivesExport, LendsBytes, LendsBytesMut, Releases, PlaceOutcome};
+ghost use Rattle.std.specs.Prelude.{◌≡◌, false, position, nat_eq, IfOk};
+ghost use Rattle.py_memio.specs.BytesIO.{is_out, export_refusal, use_refusal, GivesExport, LendsBytes, LendsBytesMut, Releases, PlaceOutcome};
 ghost use Rattle.py_memio.specs.Lending.{WritesThrough};
 
 use super::BytesIO;
@@ -14,7 +14,8 @@ impl BytesIO {
     ///
     /// `TooFar`: all numbers are given. `NoMemory` leaves all as it was.
     pub fn getbuffer(&mut self) -> Result<Export, IoFault>
-        ensures { GivesExport (export_refusal self.old) self.old result self.new }
+        ensures answer { GivesExport (export_refusal self.old) self.old result self.new }
+        ensures fresh { IfOk result (λ export. is_out self.old.exports export.0 ≡ false) }
     {
         self.check_open()?;
         let Some(number) = self.next else {
@@ -43,7 +44,8 @@ impl BytesIO {
 
     /// Takes an export back: its number is out no more. `BadArgument`: it isn't out. It takes no memory.
     pub fn release(&mut self, export: Export) -> Result<(), IoFault>
-        ensures { Releases (use_refusal self.old export.0) self.old export.0 result self.new }
+        ensures answer { Releases (use_refusal self.old export.0) self.old export.0 result self.new }
+        ensures gone { IfOk result (λ done. is_out self.new.exports export.0 ≡ false) }
     {
         let place = self.place_of(export)?;
         self.out.remove(place);
