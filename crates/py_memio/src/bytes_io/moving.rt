@@ -6,8 +6,8 @@ ghost use Rattle.py_memio.specs.InMemory.{AnswersInMemory};
 ghost use Rattle.py_memio.specs.BytesIO.{is_lent};
 
 use super::BytesIO;
+use crate::standing::seek_target;
 use py_flat::IoFault;
-use py_stream::moved_by;
 
 impl BytesIO {
     /// Moves by an offset from the start (0), the place (1) or the end (2), and answers the new place. Past the end is allowed.
@@ -17,13 +17,7 @@ impl BytesIO {
         ensures taken { self.new.taken ≡ self.old.taken }
     {
         self.check_open()?;
-        let base = match whence {
-            0 => 0,
-            1 => self.place,
-            2 => self.bytes.len() as u64,
-            _ => return Err(IoFault::BadWhence),
-        };
-        let target = moved_by(base, offset)?;
+        let target = seek_target(self.place, self.bytes.len() as u64, offset, whence)?;
         self.place = target;
         Ok(target)
     }
