@@ -2,7 +2,7 @@ pub mod Collecting
 pub mod Steps
 pub mod Numbers
 pub mod Apart
-pub mod Seeking
+pub mod Moving
 pub mod Lent
 pub mod Calm
 pub mod AsBuffer

@@ -1,6 +1,6 @@
 pub mod InMemory
 pub mod Replies
-pub mod Seeking
+pub mod Moving
 pub mod BytesIO
 pub mod Lending
 pub mod Resizing

@@ -2,9 +2,10 @@
 ghost use Rattle.std.specs.Prelude.{◌≡◌, ◌≤◌, take, drop, MatchOption};
 ghost use Rattle.py_flat.specs.Limits.{greatest_place};
 ghost use Rattle.py_memio.specs.InMemory.{life_of, OpenOutcome};
-ghost use Rattle.py_memio.specs.Seeking.{SeekOutcome};
+ghost use Rattle.py_memio.specs.Moving.{SeekOutcome, CutOutcome};
 
 use py_flat::IoFault;
+use py_raw::GREATEST_PLACE;
 use py_stream::moved_by;
 
 /// Every call of a closed stream but `close` is refused.
@@ -25,6 +26,19 @@ pub(crate) fn seek_target(place: u64, end: u64, offset: i64, whence: i32) -> Res
         1 => moved_by(place, offset),
         2 => moved_by(end, offset),
         _ => Err(IoFault::BadWhence),
+    }
+}
+
+/// The size that a `truncate` cuts a stream to that stands at a place: the place, where none is asked for. `TooFar`: it lies past
+/// 9223372036854775807.
+pub(crate) fn cut_size(place: u64, size: Option<u64>) -> Result<u64, IoFault>
+    requires { place ≤ greatest_place }
+    ensures { CutOutcome place size result }
+{
+    match size {
+        Some(size) if size > GREATEST_PLACE => Err(IoFault::TooFar),
+        Some(size) => Ok(size),
+        None => Ok(place),
     }
 }
 

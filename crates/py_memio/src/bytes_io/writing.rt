@@ -7,6 +7,7 @@ ghost use Rattle.py_memio.specs.InMemory.{AnswersInMemory};
 ghost use Rattle.py_memio.specs.BytesIO.{is_lent};
 
 use super::BytesIO;
+use crate::standing::cut_size;
 use py_flat::{IoFault, Lines};
 use py_raw::{GREATEST_PLACE, lay_on};
 use py_stream::end_of_lines;
@@ -72,10 +73,7 @@ impl BytesIO {
     {
         self.check_open()?;
         self.check_unlent()?;
-        let size = size.unwrap_or(self.place);
-        if size > GREATEST_PLACE {
-            return Err(IoFault::TooFar);
-        }
+        let size = cut_size(self.place, size)?;
         self.bytes.truncate(size as usize);
         Ok(size)
     }

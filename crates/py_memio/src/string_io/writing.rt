@@ -6,7 +6,7 @@ ghost use Rattle.py_memio.specs.InMemory.{AnswersInMemory};
 
 use super::StringIO;
 use crate::characters::{count_of, lay_text};
-use crate::standing::check_open;
+use crate::standing::{check_open, cut_size};
 use py_flat::IoFault;
 use py_raw::GREATEST_PLACE;
 
@@ -35,10 +35,7 @@ impl StringIO {
         ensures { AnswersInMemory false self.old (Truncate size) (place_reply result) self.new }
     {
         check_open(self.closed)?;
-        let size = size.unwrap_or(self.place);
-        if size > GREATEST_PLACE {
-            return Err(IoFault::TooFar);
-        }
+        let size = cut_size(self.place, size)?;
         self.characters.truncate(size as usize);
         Ok(size)
     }

@@ -1,5 +1,5 @@
 use Rattle.std.proofs.Common.{rules}
-use Rattle.py_memio.proofs.Seeking.{seek_refused}
+use Rattle.py_memio.proofs.Moving.{seek_refused}
 use Rattle.py_memio.proofs.bytes_io.BytesIO.seek.Goals as goal
 
 pub returns-in_err-target-clause-answer : goal.returns-in_err-target-clause-answer
