@@ -388,11 +388,11 @@ answers_as_buffer lent closed items place was call reply after taken knows made 
 abbrev pub seen_as : List ℕ → (place was : ℕ) → (closed : Bool) → Exports → BytesView
 seen_as items place was closed exports = record { file = file_in_memory items place closed; exports = exports; taken = was }
 
--- a call of a `BytesIO`, by what its fields are, is one of a buffered stream
-pub meets : (before after : BytesView) (items : List ℕ) (place was : ℕ) (closed : Bool) (exports : Exports) (call : FileCall) (reply : FileReply) → seen_as items place was closed exports ≡ before → place ≤ greatest_place → length items ≤ greatest_place → (closed ≡ true → exports.out ≡ []) → after.file.place ≤ greatest_place → IsTrue (is_made call) → after.exports ≡ before.exports → after.taken ≡ taken_by call before.file.place after.file.place before.taken → AnswersInMemory (is_lent before) before.file call reply after.file → AnswersAsBuffer (as_buffer before) call reply (as_buffer after)
-meets before after items place was closed exports call reply view near small shut far made =
+-- a call of a `BytesIO`, by what its fields are before and after, is one of a buffered stream
+pub meets : {before after : BytesView} {items left : List ℕ} {place was far taken : ℕ} {exports kept : Exports} (closed ends : Bool) (call : FileCall) (reply : FileReply) → seen_as items place was closed exports ≡ before → seen_as left far taken ends kept ≡ after → place ≤ greatest_place → far ≤ greatest_place → length items ≤ greatest_place → (closed ≡ true → exports.out ≡ []) → IsTrue (is_made call) → after.exports ≡ before.exports → after.taken ≡ taken_by call before.file.place after.file.place before.taken → AnswersInMemory (is_lent before) before.file call reply after.file → AnswersAsBuffer (as_buffer before) call reply (as_buffer after)
+meets {after = after} {items = items} {place = place} {was = was} {exports = exports} closed ends call reply view new near far small shut made =
     subst (λ (seen : BytesView). after.exports ≡ seen.exports → after.taken ≡ taken_by call seen.file.place after.file.place seen.taken → AnswersInMemory (is_lent seen) seen.file call reply after.file → AnswersAsBuffer (as_buffer seen) call reply (as_buffer after)) view
     (λ same counts answers.
     let lent : Bool = has_some exports.out in
-    let knows : Knows lent closed items place was call after.file after.taken = record { near = near; small = small; shut = λ ends. ap has_some (shut ends); far = far; counts = counts } in
+    let knows : Knows lent closed items place was call after.file after.taken = record { near = near; small = small; shut = λ is. ap has_some (shut is); far = subst (λ (seen : BytesView). seen.file.place ≤ greatest_place) new far; counts = counts } in
     subst (λ (lends : Bool). AnswersAsBuffer (buffer_with (file_in_memory items place closed) lent was) call reply (buffer_with after.file lends after.taken)) (sym (ap (λ (seen : Exports). has_some seen.out) same)) (answers_as_buffer lent closed items place was call reply after.file after.taken knows made answers))

@@ -1,16 +1,10 @@
-use Rattle.std.proofs.Common.{◌≤◌, length, refl, subst, arith}
-use Rattle.py_flat.specs.Limits.{greatest_place}
+use Rattle.std.proofs.Common.{refl, arith}
 use Rattle.py_flat.specs.Calls.{Write}
 use Rattle.py_stream.specs.Replies.{count_reply}
-use Rattle.py_memio.specs.BytesIO.{Exports, BytesView, next_number}
 use Rattle.py_memio.proofs.AsBuffer.{meets}
 use Rattle.py_memio.proofs.bytes_io.as_buffer.BytesIOBufferedStream.write.Goals as goal
 
 pub returns : goal.returns
 returns c =
-    let inside = c.self.inside in
-    let exports : Exports = record { out = inside.out.items; next = next_number inside.next } in
-    let after : BytesView = c.write-written.new.self in
-    let small : length inside.bytes.items ≤ greatest_place = omega arith in
-    let far : after.file.place ≤ greatest_place = subst (λ (view : BytesView). view.file.place ≤ greatest_place) c.self-2.view_is c.self-2.invariant.within in
-    meets c.args.self.now after inside.bytes.items inside.place inside.taken inside.closed exports (Write c.args.bytes.now) (count_reply c.write-written.result) c.self.view_is c.self.invariant.within small c.self.invariant.shut far refl c.write-written.ensures.exports c.write-written.ensures.taken c.write-written.ensures.answer
+    let done = c.write-written.ensures in
+    meets c.self.inside.closed c.self-2.inside.closed (Write c.args.bytes.now) (count_reply c.write-written.result) c.self.view_is c.self-2.view_is c.self.invariant.within c.self-2.invariant.within (omega arith) c.self.invariant.shut refl done.exports done.taken done.answer
