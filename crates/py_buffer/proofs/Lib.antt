@@ -4,3 +4,4 @@ pub mod Places
 pub mod Furthest
 pub mod Rows
 pub mod Gathering
+pub mod Simple

@@ -74,11 +74,13 @@ pub struct OwnedBuffer {
 }
 
 impl Model for OwnedBuffer {
-    ghost use Rattle.py_buffer.specs.Buffers.{BufferView};
+    ghost use Rattle.py_buffer.specs.Buffers.{BufferView, IsOver};
 
     ghost Value = { BufferView };
 
     ghost view = { λ b. record { bytes = b.data.items; desc = b.desc } };
+
+    ghost invariant = { λ b. IsOver b.desc b.data.items };
 }
 
 impl OwnedBuffer {
@@ -91,7 +93,8 @@ impl OwnedBuffer {
 
     /// What the bytes hold.
     pub fn desc(&self) -> &BufferDescriptor
-        ensures { result.now ≡ self.now.desc }
+        ensures value { result.now ≡ self.now.desc }
+        ensures over { IsOver self.now.desc self.now.bytes }
     {
         &self.desc
     }
