@@ -1,5 +1,5 @@
 -- The descriptor of bytes one by one doesn't leave them.
-use Rattle.std.proofs.Common.{◌≡◌, ◌≢◌, ℕ, ◌+◌, ◌*◌, ◌^◌, ◌<◌, ℤ, pos, Bool, List, [], ◌∷◌, length, sym, subst, arith}
+use Rattle.std.proofs.Common.{◌≡◌, ◌≢◌, ℕ, ◌+◌, ◌*◌, ◌^◌, ◌<◌, pos, Bool, List, [], ◌∷◌, length, sym, subst, arith}
 use Rattle.std.proofs.lemmas.Int.{ints}
 use Rattle.py_buffer.specs.declared.descriptor.BufferDescriptor.{BufferDescriptor}
 use Rattle.py_buffer.specs.Descriptor.{Dimension, Each, IsSound, IsValid, items_in, bound_of, reach_of}

@@ -1,5 +1,6 @@
 -- Arguments that ask for bytes.
 use Rattle.std.specs.Prelude.{◌≡◌, ℕ, true, false, List, length, Result, Ok, Err}
+use Rattle.std.specs.Borrow.{MutBor}
 use Rattle.std.specs.Str.{IsAscii}
 use Rattle.py_buffer.specs.declared.arguments.ArgFault.{ArgFault}
 use Rattle.py_buffer.specs.declared.arguments.ArgFault.TheVariants as arg_fault
@@ -34,8 +35,8 @@ AsciiOutcome (Str text) (Ok taken) = (taken ≡ String text) × IsAscii text.now
 AsciiOutcome (Str text) (Err refused) = (refused ≡ arg_fault.NotAscii) × (IsAscii text.now → ⊥)
 
 -- bytes to be written: a contiguous buffer, which isn't readonly; or why not, contiguity first
-abbrev pub MemoryOutcome : List ℕ → BufferDescriptor → Result ArgMemoryBuffer ArgFault → Type 0
-MemoryOutcome bytes descriptor (Ok argument) = (argument.bytes ≡ bytes) × (argument.desc ≡ descriptor) × IsContiguous descriptor × (descriptor.readonly ≡ false)
+abbrev pub MemoryOutcome : MutBor (List ℕ) → BufferDescriptor → Result ArgMemoryBuffer ArgFault → Type 0
+MemoryOutcome bytes descriptor (Ok argument) = (argument.borrow ≡ bytes) × (argument.desc ≡ descriptor) × IsContiguous descriptor × (descriptor.readonly ≡ false)
 MemoryOutcome bytes descriptor (Err arg_fault.NotContiguous) = IsContiguous descriptor → ⊥
 MemoryOutcome bytes descriptor (Err arg_fault.ReadOnly) = IsContiguous descriptor × (descriptor.readonly ≡ true)
 MemoryOutcome bytes descriptor (Err arg_fault.NotAscii) = ⊥

@@ -1,5 +1,6 @@
 -- Buffers: bytes with a descriptor that doesn't leave them.
 use Rattle.std.specs.Prelude.{◌≡◌, ℕ, pos, Bool, List, [], ◌∷◌, ◌++◌, length, take, drop}
+use Rattle.std.specs.Borrow.{MutBor}
 use Rattle.py_buffer.specs.declared.descriptor.BufferDescriptor.{BufferDescriptor}
 use Rattle.py_buffer.specs.Descriptor.{IsValid}
 use Rattle.py_buffer.specs.Segments.{Covers, bytes_of}
@@ -26,14 +27,25 @@ pub record IsSimple (descriptor : BufferDescriptor) (n : ℕ) (readonly : Bool) 
   pub letter : descriptor.format.now ≡ 66 ∷ []
   pub dimension : descriptor.dim_desc.items ≡ (n, pos 1, pos 0) ∷ []
 
+-- A buffer that is written.
+
+-- as contracts see it: the borrow of its bytes, by which a caller tells whose they are, and what they hold
+pub record WrittenView : Type 0 where
+  pub borrow : MutBor (List ℕ)
+  pub desc : BufferDescriptor
+
+-- the buffer as one that is read
+abbrev pub as_read : WrittenView → BufferView
+as_read buffer = record { bytes = buffer.borrow.now; desc = buffer.desc }
+
 -- the buffer with these bytes
-abbrev pub with_bytes : BufferView → List ℕ → BufferView
-with_bytes buffer bytes = record buffer { bytes = bytes }
+abbrev pub with_bytes : WrittenView → List ℕ → WrittenView
+with_bytes buffer bytes = record buffer { borrow = record buffer.borrow { now = bytes } }
 
 -- the buffer with these bytes in the place of its first ones
-abbrev pub with_front : BufferView → List ℕ → BufferView
-with_front buffer front = with_bytes buffer (front ++ drop (length front) buffer.bytes)
+abbrev pub with_front : WrittenView → List ℕ → WrittenView
+with_front buffer front = with_bytes buffer (front ++ drop (length front) buffer.borrow.now)
 
 -- other bytes were left in the place of a buffer's first `len`, and of these there are as many
-abbrev pub LeavesFront : BufferView → List ℕ → BufferView → Type 0
-LeavesFront before new after = (length new ≡ length (take before.desc.len before.bytes)) × (after ≡ with_front before new)
+abbrev pub LeavesFront : WrittenView → List ℕ → WrittenView → Type 0
+LeavesFront before new after = (length new ≡ length (take before.desc.len before.borrow.now)) × (after ≡ with_front before new)

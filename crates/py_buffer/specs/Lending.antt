@@ -3,8 +3,8 @@ use Rattle.std.specs.Prelude.{ℕ, List, []}
 use Rattle.std.specs.Borrow.{Lends, Array, u8, Fml, MutBor}
 use mir.Syntax.{named}
 use Rattle.py_buffer.specs.contracts.buffer_mut.PyBufferMut.{the_row as lent}
-use Rattle.py_buffer.specs.Buffers.{BufferView, with_bytes}
+use Rattle.py_buffer.specs.Buffers.{WrittenView, with_bytes}
 
 -- lent bytes end as those that were left behind what the buffer lent
-abbrev pub WritesAll : MutBor BufferView → MutBor (List ℕ) → Fml
+abbrev pub WritesAll : MutBor WrittenView → MutBor (List ℕ) → Fml
 WritesAll buffer bytes = Lends (lent (record { mir = named 1; lft = [] })) (Array u8 0) buffer bytes (with_bytes buffer.now)

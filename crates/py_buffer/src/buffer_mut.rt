@@ -3,7 +3,7 @@ ghost use Rattle.std.specs.Prelude.{◌≡◌, ◌++◌, ℕ, List, take, false,
 ghost use Rattle.std.specs.Fn.{FnOnceReturnsAt, FnOnceReturnsAtMut};
 ghost use Rattle.py_flat.specs.declared.fault.IoFault.TheVariants as fault;
 ghost use Rattle.py_buffer.specs.Descriptor.{IsValid, IsContiguous};
-ghost use Rattle.py_buffer.specs.Buffers.{IsOver, LeavesFront, items_of};
+ghost use Rattle.py_buffer.specs.Buffers.{IsOver, LeavesFront, as_read, items_of};
 ghost use Rattle.py_buffer.specs.Lending.{WritesAll};
 ghost use Rattle.std.specs.Borrow.{sem};
 
@@ -16,7 +16,8 @@ use std::marker::Model;
 
 /// Lent bytes that may be written, with a descriptor whose segments lie within them.
 ///
-/// Bytes that are written keep their number, so the descriptor still doesn't leave them (docs/DECISIONS.md).
+/// Bytes that are written keep their number, so the descriptor still doesn't leave them (docs/DECISIONS.md). Contracts see the borrow of
+/// the bytes, by which a caller tells whose they are.
 #[derive(Drop)]
 pub struct PyBufferMut<'a> {
     bytes: &'a mut [u8],
@@ -26,11 +27,11 @@ pub struct PyBufferMut<'a> {
 impl<'a> Model for PyBufferMut<'a> {
     ghost use Rattle.std.specs.Prelude.{◌≡◌, false};
     ghost use Rattle.py_buffer.specs.Descriptor.{IsValid};
-    ghost use Rattle.py_buffer.specs.Buffers.{BufferView};
+    ghost use Rattle.py_buffer.specs.Buffers.{WrittenView};
 
-    ghost Value = { BufferView };
+    ghost Value = { WrittenView };
 
-    ghost view = { λ b. record { bytes = b.bytes.now; desc = b.desc } };
+    ghost view = { λ b. record { borrow = b.bytes; desc = b.desc } };
 
     ghost invariant = { λ b. IsValid b.desc × (b.desc.readonly ≡ false) };
 }
@@ -38,7 +39,7 @@ impl<'a> Model for PyBufferMut<'a> {
 impl<'a> PyBufferMut<'a> {
     /// A buffer of these bytes with that descriptor, or `None` where `PyBuffer::new` would give none, or the descriptor is readonly.
     pub fn new(bytes: &'a mut [u8], desc: BufferDescriptor) -> Option<Self>
-        ensures { MatchOption result (IsOver desc bytes.old → desc.readonly ≡ false → ⊥) (λ b. (b.bytes ≡ bytes.old) × (b.desc ≡ desc) × IsOver desc bytes.old × (desc.readonly ≡ false)) }
+        ensures { MatchOption result (IsOver desc bytes.old → desc.readonly ≡ false → ⊥) (λ b. (b.borrow ≡ bytes.entry) × (b.desc ≡ desc) × IsOver desc bytes.old × (desc.readonly ≡ false)) }
     {
         if !desc.readonly && desc.is_valid() && desc.covers(bytes.len()) {
             Some(PyBufferMut { bytes, desc })
@@ -51,7 +52,7 @@ impl<'a> PyBufferMut<'a> {
     pub(crate) fn over(bytes: &'a mut [u8], desc: BufferDescriptor) -> Self
         requires valid { IsValid desc }
         requires writable { desc.readonly ≡ false }
-        ensures { result ≡ record { bytes = bytes.old; desc = desc } }
+        ensures { result ≡ record { borrow = bytes.entry; desc = desc } }
     {
         PyBufferMut { bytes, desc }
     }
@@ -67,7 +68,7 @@ impl<'a> PyBufferMut<'a> {
 
     /// All bytes that were lent, whatever the descriptor says.
     pub fn obj_bytes(&self) -> &[u8]
-        ensures { result.now ≡ self.now.bytes }
+        ensures { result.now ≡ self.now.borrow.now }
     {
         &self.bytes[..]
     }
@@ -75,21 +76,21 @@ impl<'a> PyBufferMut<'a> {
     /// All bytes that were lent, to be written: the buffer ends with what is left in them.
     pub fn obj_bytes_mut(&mut self) -> &mut [u8]
         ensures* writes_back { sem 𝓛 (WritesAll self.entry result) }
-        ensures value { result.now ≡ self.old.bytes }
+        ensures value { result.now ≡ self.old.borrow.now }
     {
         &mut *self.bytes
     }
 
     /// The first `len` bytes, which are those of all items, or `None` where the descriptor isn't contiguous.
     pub fn as_contiguous(&self) -> Option<&[u8]>
-        ensures { MatchOption result (IsContiguous self.now.desc → ⊥) (λ first. (first.now ≡ take self.now.desc.len self.now.bytes) × (first.now ≡ items_of self.now) × IsContiguous self.now.desc) }
+        ensures { MatchOption result (IsContiguous self.now.desc → ⊥) (λ first. (first.now ≡ take self.now.desc.len self.now.borrow.now) × (first.now ≡ items_of (as_read self.now)) × IsContiguous self.now.desc) }
     {
         contiguous(&self.bytes[..], &self.desc)
     }
 
     /// The first `len` bytes, to be written, or `None` where the descriptor isn't contiguous.
     pub fn as_contiguous_mut(&mut self) -> Option<&mut [u8]>
-        ensures { MatchOption result (IsContiguous self.old.desc → ⊥) (λ first. (first.now ≡ take self.old.desc.len self.old.bytes) × IsContiguous self.old.desc) }
+        ensures { MatchOption result (IsContiguous self.old.desc → ⊥) (λ first. (first.now ≡ take self.old.desc.len self.old.borrow.now) × IsContiguous self.old.desc) }
     {
         if self.desc.is_contiguous() {
             let len = self.desc.len.min(self.bytes.len());
@@ -102,14 +103,14 @@ impl<'a> PyBufferMut<'a> {
     /// What `f` answers of the first `len` bytes, which it may write: the buffer ends with what it left in them.
     pub(crate) fn call_on_front<R, F: FnOnce(&mut [u8]) -> R>(&mut self, f: F) -> R
         requires { F.IsAlwaysCallable f }
-        ensures { (new : List ℕ) × FnOnceReturnsAtMut F.FnOnce f (take self.old.desc.len self.old.bytes) result new × LeavesFront self.old new self.new }
+        ensures { (new : List ℕ) × FnOnceReturnsAtMut F.FnOnce f (take self.old.desc.len self.old.borrow.now) result new × LeavesFront self.old new self.new }
     {
         called_on_front(f, &mut *self.bytes, self.desc.len)
     }
 
     /// Appends the bytes of all items, in row order; or nothing, with NoMemory.
     pub fn append_to(&self, buf: &mut Vec<u8>) -> Result<(), IoFault>
-        ensures items { buf.new.items ≡ (if is_ok result then buf.old.items ++ items_of self.now else buf.old.items) }
+        ensures items { buf.new.items ≡ (if is_ok result then buf.old.items ++ items_of (as_read self.now) else buf.old.items) }
         ensures err { OnErr result (result ≡ Err fault.NoMemory) }
     {
         if !self.desc.covers(self.bytes.len()) {
@@ -125,7 +126,7 @@ impl<'a> PyBufferMut<'a> {
         f: F,
     ) -> Result<R, IoFault>
         requires { F.IsAlwaysCallable f }
-        ensures answer { IfOk result (λ r. FnOnceReturnsAt F.FnOnce f (items_of self.now) r) }
+        ensures answer { IfOk result (λ r. FnOnceReturnsAt F.FnOnce f (items_of (as_read self.now)) r) }
         ensures err { OnErr result (result ≡ Err fault.NoMemory) }
     {
         if !self.desc.covers(self.bytes.len()) {

@@ -21,11 +21,11 @@ pub struct ArgMemoryBuffer<'a> {
 impl<'a> Model for ArgMemoryBuffer<'a> {
     ghost use Rattle.std.specs.Prelude.{◌≡◌, false};
     ghost use Rattle.py_buffer.specs.Descriptor.{IsValid, IsContiguous};
-    ghost use Rattle.py_buffer.specs.Buffers.{BufferView};
+    ghost use Rattle.py_buffer.specs.Buffers.{WrittenView};
 
-    ghost Value = { BufferView };
+    ghost Value = { WrittenView };
 
-    ghost view = { λ a. record { bytes = a.bytes.now; desc = a.desc } };
+    ghost view = { λ a. record { borrow = a.bytes; desc = a.desc } };
 
     ghost invariant = { λ a. IsValid a.desc × IsContiguous a.desc × (a.desc.readonly ≡ false) };
 }
@@ -35,7 +35,7 @@ impl<'a> ArgMemoryBuffer<'a> {
     pub fn new(bytes: &'a mut [u8], desc: BufferDescriptor) -> Result<Self, ArgFault>
         requires valid { IsValid desc }
         requires covers { Covers desc (length bytes.old) }
-        ensures { MemoryOutcome bytes.old desc result }
+        ensures { MemoryOutcome bytes.entry desc result }
     {
         if !desc.is_contiguous() {
             return Err(ArgFault::NotContiguous);
@@ -48,7 +48,7 @@ impl<'a> ArgMemoryBuffer<'a> {
 
     /// The bytes of all items, lent to be written.
     pub fn borrow_buf_mut(&mut self) -> &mut [u8]
-        ensures { result.now ≡ take self.old.desc.len self.old.bytes }
+        ensures { result.now ≡ take self.old.desc.len self.old.borrow.now }
     {
         let len = self.desc.len.min(self.bytes.len());
         &mut self.bytes[..len]
@@ -57,7 +57,7 @@ impl<'a> ArgMemoryBuffer<'a> {
     /// What `f` answers of the bytes of all items, which it may write: the argument ends with what it left in them.
     pub fn with_ref<R, F: FnOnce(&mut [u8]) -> R>(&mut self, f: F) -> R
         requires { F.IsAlwaysCallable f }
-        ensures { (new : List ℕ) × FnOnceReturnsAtMut F.FnOnce f (take self.old.desc.len self.old.bytes) result new × LeavesFront self.old new self.new }
+        ensures { (new : List ℕ) × FnOnceReturnsAtMut F.FnOnce f (take self.old.desc.len self.old.borrow.now) result new × LeavesFront self.old new self.new }
     {
         called_on_front(f, &mut *self.bytes, self.desc.len)
     }
@@ -92,7 +92,7 @@ pub fn try_rw_bytes_like<R, F: FnOnce(&mut [u8]) -> R>(
     f: F,
 ) -> Result<R, ArgFault>
     requires { F.IsAlwaysCallable f }
-    ensures { MatchResult result (λ r. (new : List ℕ) × FnOnceReturnsAtMut F.FnOnce f (take buffer.old.desc.len buffer.old.bytes) r new × LeavesFront buffer.old new buffer.new × IsContiguous buffer.old.desc)
+    ensures { MatchResult result (λ r. (new : List ℕ) × FnOnceReturnsAtMut F.FnOnce f (take buffer.old.desc.len buffer.old.borrow.now) r new × LeavesFront buffer.old new buffer.new × IsContiguous buffer.old.desc)
         (λ refused. (refused ≡ arg_fault.NotContiguous) × (IsContiguous buffer.old.desc → ⊥) × (buffer.new ≡ buffer.old)) }
 {
     if buffer.desc().is_contiguous() {

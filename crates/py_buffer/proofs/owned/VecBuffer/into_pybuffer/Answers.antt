@@ -1,4 +1,4 @@
-use Rattle.std.proofs.Common.{arith, rules, length, subst}
+use Rattle.std.proofs.Common.{arith, rules, length}
 use Rattle.py_buffer.specs.Buffers.{IsSimple}
 use Rattle.py_buffer.proofs.Simple.{simple_is_over}
 use Rattle.py_buffer.proofs.owned.VecBuffer.into_pybuffer.Goals as goal
