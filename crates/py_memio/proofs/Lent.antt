@@ -1,6 +1,6 @@
 -- Bytes that are lent out keep their number.
 use Rattle.std.proofs.Common.{◌≡◌, ℕ, Bool, true, false, List, ◌++◌, length, drop, Option, Some, None, refl, ap, ◌∙◌, arith, if◌then◌else◌}
-use Rattle.std.proofs.lemmas.List.{length-take, length-append, length-drop}
+use Rattle.std.proofs.lemmas.List.{length-take, length-append, length-drop, take_at}
 use Rattle.py_flat.specs.declared.fault.IoFault.{IoFault}
 use Rattle.py_flat.specs.declared.fault.IoFault.TheVariants as fault
 use Rattle.py_flat.specs.Calls.{FileCall, Write, WriteLines, Truncate, Close, FileReply, Refused}
@@ -39,6 +39,9 @@ by_change false before call reply after is answers = stays_kept (refusal before 
 
 pub calls_keep : (before : FlatFile) (call : FileCall) (reply : FileReply) (after : FlatFile) → AnswersInMemory true before call reply after → length after.bytes ≡ length before.bytes
 calls_keep before call reply after answers = by_change (changes_length call) before call reply after refl answers
+
+pub writes_stand : (view : BytesView) (bytes : List ℕ) → length bytes ≡ length view.file.bytes → (with_bytes view bytes).file.bytes ≡ bytes
+writes_stand view bytes as_many = take_at bytes (drop (length bytes) view.file.bytes) (length view.file.bytes) as_many
 
 pub writes_keep : (view : BytesView) (bytes : List ℕ) → length (with_bytes view bytes).file.bytes ≡ length view.file.bytes
 writes_keep view bytes =
