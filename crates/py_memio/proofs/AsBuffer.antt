@@ -1,5 +1,5 @@
 -- A stream in memory is a buffered stream.
-use Rattle.std.proofs.Common.{◌≡◌, ℕ, zero, suc, ◌+◌, ◌-◌, ◌≤◌, ℤ, pos, inl, inr, ◌⊎◌, Bool, true, false, ◌&&◌, ◌||◌, IsTrue, List, [], length, drop, Option, Some, None, is_none, nat_lt, unwrap_or, refl, sym, ap, subst, ◌∙◌, arith, if◌then◌else◌}
+use Rattle.std.proofs.Common.{◌≡◌, ℕ, zero, suc, ◌+◌, ◌-◌, ◌≤◌, max, ℤ, pos, inl, inr, ◌⊎◌, Bool, true, false, ◌&&◌, ◌||◌, IsTrue, List, [], length, drop, Option, Some, None, is_none, nat_lt, unwrap_or, refl, sym, ap, subst, ◌∙◌, arith, if◌then◌else◌}
 use Rattle.std.proofs.lemmas.List.{length-take, length-drop}
 use Rattle.py_flat.specs.declared.fault.IoFault.{IoFault}
 use Rattle.py_flat.specs.declared.fault.IoFault.TheVariants as fault
@@ -10,11 +10,12 @@ use Rattle.py_flat.specs.FlatFile.{FlatFile, InMemory}
 use Rattle.py_flat.specs.Refusals.{refusal, too_far, target_refusal, moved_by}
 use Rattle.py_flat.specs.ExactStep.{one_transfer, seek_target, carried_out}
 use Rattle.py_flat.specs.AllowedStep.{settled, out_of_memory}
-use Rattle.py_flat.specs.BinaryStep.{SettledBy}
+use Rattle.py_flat.specs.BinaryStep.{payload, SettledBy, BinaryStep}
 use Rattle.py_flat.proofs.Laying.{lay_reads_back}
 use Rattle.py_flat.proofs.Settling.{blames, may_blame, refusal_blames_nobody}
-use Rattle.py_stream.specs.Answers.{IsAnswerTo, IsReplyTo, SeekGoes, Within}
-use Rattle.py_stream.specs.Buffer.{Buffer, taken_by, refusal_lent, refused_here, asks_for, closes_twice, GoesFromEnd, BufferSeeksFromEnd, BufferEndMoves, BufferSeeksByEnd, is_made, AnswersAsBuffer}
+use Rattle.py_stream.specs.Kinds.{is_reading, says_fault}
+use Rattle.py_stream.specs.Answers.{IsAnswerTo, IsReplyTo, IsShort, SeekGoes, Within}
+use Rattle.py_stream.specs.Buffer.{Buffer, taken_by, refusal_lent, refused_here, LeavesBuffer, BufferMoves, BufferPasses, BufferLays, asks_for, closes_twice, GoesFromEnd, BufferSeeksFromEnd, BufferEndMoves, BufferSeeksByEnd, is_made, AnswersAsBuffer}
 use Rattle.py_memio.specs.InMemory.{file_in_memory, refusal_in_memory, may_lack_memory, CarriedOutInMemory, AnswersWith, AnswersInMemory}
 use Rattle.py_memio.specs.BytesIO.{Exports, BytesView, has_some, is_lent, buffer_with, as_buffer}
 use Rattle.py_memio.proofs.Calm.{Calmly, calm, refusedly}
@@ -34,151 +35,79 @@ within_size : (size : Option ℕ) (bytes : List ℕ) → Within (asks_for InMemo
 within_size None bytes = tt
 within_size (Some size) bytes = omega (arith, length-take size bytes)
 
-read_calmly : (lent : Bool) (items : List ℕ) (place was : ℕ) (size : Option ℕ) → (place + length (one_transfer InMemory size (drop place items))) ≤ greatest_place → Calmly (file_in_memory items place false) lent was (Read1 size) (Bytes (one_transfer InMemory size (drop place items))) (file_in_memory items (place + length (one_transfer InMemory size (drop place items))) false) was
-read_calmly lent items place was size far =
-    let fits = fits_rest size (drop place items) in
-    record {
-      can = refl;
-      buffering = refl;
-      counts = refl;
-      quiet = refl;
-      refused = λ why here. let none = sym (unlent lent (Some fault.BufferError) None) ∙ here in absurd (cc);
-      again = λ twice. absurd (cc);
-      shorts = refl;
-      moves = record { life_is = refl; place = refl; far = far; within = within_size size (drop place items) };
-      ends = tt;
-      answer = λ accepts. (tt, tt);
-      told = λ open_to. settled refl;
-      reach = λ reads. omega (arith, fits, length-drop place items);
-      lays = record { count = 0; bytes = refl };
-      passes = tt;
-    }
+-- a stream in memory as a buffered stream, by what its fields are
+abbrev seen : (lent closed : Bool) → List ℕ → (place was : ℕ) → Buffer
+seen lent closed items place was = buffer_with (file_in_memory items place closed) lent was
 
-write_calmly : (items : List ℕ) (place was : ℕ) (bytes : List ℕ) (taken : ℕ) → taken ≡ place + length bytes - place → place + length bytes ≤ greatest_place → too_far (place + length bytes) ≡ None → Calmly (file_in_memory items place false) false was (Write bytes) (Count (length bytes)) (file_in_memory (lay items place bytes) (place + length bytes) false) taken
-write_calmly items place was bytes taken counts far accepts = record {
+-- what is left to show of a call that isn't refused
+calmly_by : (lent closed ends : Bool) (items left : List ℕ) (place new was taken : ℕ) (call : FileCall) (reply : FileReply)
+    → taken ≡ taken_by call place new was
+    → says_fault reply ≡ false
+    → refused_here (seen lent closed items place was) call ≡ None
+    → (closes_twice (seen lent closed items place was) call ≡ true → LeavesBuffer (seen lent closed items place was) call Done reply (seen lent ends left new taken))
+    → IsShort call reply false
+    → BufferMoves (seen lent closed items place was) call reply (seen lent ends left new taken)
+    → BufferSeeksByEnd (seen lent closed items place was) call reply (seen lent ends left new taken)
+    → IsReplyTo (Some 0) true call reply × IsAnswerTo call reply
+    → BinaryStep (file_in_memory items place closed) call reply false false (file_in_memory left new ends)
+    → (IsTrue (is_reading call) → new ≤ max place (length items))
+    → BufferLays (seen lent closed items place was) (payload call) left
+    → BufferPasses (seen lent closed items place was) call reply (seen lent ends left new taken)
+    → Calmly (file_in_memory items place closed) lent was call reply (file_in_memory left new ends) taken
+calmly_by lent closed ends items left place new was taken call reply counts quiet accepts again shorts moves seeks answer told reach lays passes = record {
   can = refl;
   buffering = refl;
   counts = counts;
-  quiet = refl;
+  quiet = quiet;
   refused = λ why here. let none = sym accepts ∙ here in absurd (cc);
-  again = λ twice. absurd (cc);
-  shorts = refl;
-  moves = record { life_is = refl; place = (refl, refl); far = far; within = tt };
-  ends = tt;
-  answer = λ accepted. (tt, tt);
-  told = λ open_to. settled (subst (λ (refused : Option IoFault). SettledBy (file_in_memory items place false) (Write bytes) refused (Count (length bytes)) (file_in_memory (lay items place bytes) (place + length bytes) false)) (sym accepts) refl);
-  reach = λ reads. absurd (cc);
-  lays = record { count = length bytes; bytes = sym (ap (lay items place) (lay_reads_back items place bytes)) };
-  passes = tt;
+  again = again;
+  shorts = shorts;
+  moves = moves;
+  ends = seeks;
+  answer = λ accepted. answer;
+  told = λ open_to. told;
+  reach = reach;
+  lays = lays;
+  passes = passes;
 }
 
-seek_calmly : (lent : Bool) (items : List ℕ) (place was : ℕ) (offset whence : ℤ) (target : ℕ) → target ≤ greatest_place → refusal (file_in_memory items place false) (Seek offset whence) ≡ None → seek_target (file_in_memory items place false) offset whence ≡ target → SeekGoes place offset whence target → BufferSeeksByEnd (buffer_with (file_in_memory items place false) lent was) (Seek offset whence) (Place target) (buffer_with (file_in_memory items target false) lent was) → ((why : IoFault) → refused_here (buffer_with (file_in_memory items place false) lent was) (Seek offset whence) ≡ Some why → refusal (file_in_memory items place false) (Seek offset whence) ≡ Some why) → Calmly (file_in_memory items place false) lent was (Seek offset whence) (Place target) (file_in_memory items target false) was
-seek_calmly lent items place was offset whence target far accepts goes_to goes ends same = record {
-  can = refl;
-  buffering = refl;
-  counts = refl;
-  quiet = refl;
-  refused = λ why here. let none = sym accepts ∙ same why here in absurd (cc);
-  again = λ twice. absurd (cc);
-  shorts = refl;
-  moves = record { life_is = refl; place = (refl, goes); far = far; within = tt };
-  ends = ends;
-  answer = λ accepted. (tt, tt);
-  told = λ open_to. settled (subst (λ (refused : Option IoFault). SettledBy (file_in_memory items place false) (Seek offset whence) refused (Place target) (file_in_memory items target false)) (sym accepts) (ap (λ (at : ℕ). let step : FileReply × FlatFile = (Place at, file_in_memory items at false) in step) (sym goes_to)));
-  reach = λ reads. absurd (cc);
-  lays = record { count = 0; bytes = refl };
-  passes = tt;
-}
+read_calmly : (lent : Bool) (items : List ℕ) (place was : ℕ) (size : Option ℕ) → (place + length (one_transfer InMemory size (drop place items))) ≤ greatest_place → Calmly (file_in_memory items place false) lent was (Read1 size) (Bytes (one_transfer InMemory size (drop place items))) (file_in_memory items (place + length (one_transfer InMemory size (drop place items))) false) was
+read_calmly lent items place was size far =
+    let given = one_transfer InMemory size (drop place items) in
+    let fits = fits_rest size (drop place items) in
+    calmly_by lent false false items items place (place + length given) was was (Read1 size) (Bytes given) refl refl (unlent lent (Some fault.BufferError) None) (λ twice. absurd (cc)) refl (record { life_is = refl; place = refl; far = far; within = within_size size (drop place items) }) tt (tt, tt) (settled refl) (λ reads. omega (arith, fits, length-drop place items)) (record { count = 0; bytes = refl }) tt
+
+write_calmly : (items : List ℕ) (place was : ℕ) (bytes : List ℕ) (taken : ℕ) → taken ≡ place + length bytes - place → place + length bytes ≤ greatest_place → too_far (place + length bytes) ≡ None → Calmly (file_in_memory items place false) false was (Write bytes) (Count (length bytes)) (file_in_memory (lay items place bytes) (place + length bytes) false) taken
+write_calmly items place was bytes taken counts far accepts =
+    let laid = lay items place bytes in
+    let told = subst (λ (refused : Option IoFault). SettledBy (file_in_memory items place false) (Write bytes) refused (Count (length bytes)) (file_in_memory laid (place + length bytes) false)) (sym accepts) refl in
+    calmly_by false false false items laid place (place + length bytes) was taken (Write bytes) (Count (length bytes)) counts refl accepts (λ twice. absurd (cc)) refl (record { life_is = refl; place = (refl, refl); far = far; within = tt }) tt (tt, tt) (settled told) (λ reads. absurd (cc)) (record { count = length bytes; bytes = sym (ap (lay items place) (lay_reads_back items place bytes)) }) tt
+
+seek_calmly : (lent : Bool) (items : List ℕ) (place was : ℕ) (offset whence : ℤ) (target : ℕ) → target ≤ greatest_place → refusal (file_in_memory items place false) (Seek offset whence) ≡ None → seek_target (file_in_memory items place false) offset whence ≡ target → SeekGoes place offset whence target → BufferSeeksByEnd (buffer_with (file_in_memory items place false) lent was) (Seek offset whence) (Place target) (buffer_with (file_in_memory items target false) lent was) → refused_here (buffer_with (file_in_memory items place false) lent was) (Seek offset whence) ≡ None → Calmly (file_in_memory items place false) lent was (Seek offset whence) (Place target) (file_in_memory items target false) was
+seek_calmly lent items place was offset whence target far accepts goes_to goes seeks here =
+    let told = subst (λ (refused : Option IoFault). SettledBy (file_in_memory items place false) (Seek offset whence) refused (Place target) (file_in_memory items target false)) (sym accepts) (ap (λ (at : ℕ). let step : FileReply × FlatFile = (Place at, file_in_memory items at false) in step) (sym goes_to)) in
+    calmly_by lent false false items items place target was was (Seek offset whence) (Place target) refl refl here (λ twice. absurd (cc)) refl (record { life_is = refl; place = (refl, goes); far = far; within = tt }) seeks (tt, tt) (settled told) (λ reads. absurd (cc)) (record { count = 0; bytes = refl }) tt
 
 flush_calmly : (lent : Bool) (items : List ℕ) (place was : ℕ) → place ≤ greatest_place → Calmly (file_in_memory items place false) lent was Flush Done (file_in_memory items place false) was
-flush_calmly lent items place was far = record {
-  can = refl;
-  buffering = refl;
-  counts = refl;
-  quiet = refl;
-  refused = λ why here. let none = sym (unlent lent (Some fault.BufferError) None) ∙ here in absurd (cc);
-  again = λ twice. absurd (cc);
-  shorts = refl;
-  moves = record { life_is = refl; place = refl; far = far; within = tt };
-  ends = tt;
-  answer = λ accepts. (tt, tt);
-  told = λ open_to. settled refl;
-  reach = λ reads. absurd (cc);
-  lays = record { count = 0; bytes = refl };
-  passes = record { none = refl; holds = λ told. refl };
-}
+flush_calmly lent items place was far =
+    calmly_by lent false false items items place place was was Flush Done refl refl (unlent lent (Some fault.BufferError) None) (λ twice. absurd (cc)) refl (record { life_is = refl; place = refl; far = far; within = tt }) tt (tt, tt) (settled refl) (λ reads. absurd (cc)) (record { count = 0; bytes = refl }) (record { none = refl; holds = λ told. refl })
 
 close_calmly : (closed : Bool) (items : List ℕ) (place was : ℕ) → place ≤ greatest_place → Calmly (file_in_memory items place closed) false was Close Done (file_in_memory items place true) was
-close_calmly true items place was far = record {
-  can = refl;
-  buffering = refl;
-  counts = refl;
-  quiet = refl;
-  refused = λ why here. absurd (cc);
-  again = λ twice. record { says = refl; same = refl };
-  shorts = refl;
-  moves = record { life_is = refl; place = refl; far = far; within = tt };
-  ends = tt;
-  answer = λ accepts. (tt, tt);
-  told = λ open_to. settled refl;
-  reach = λ reads. absurd (cc);
-  lays = record { count = 0; bytes = refl };
-  passes = λ live. record { none = refl; holds = λ told. refl };
-}
-close_calmly false items place was far = record {
-  can = refl;
-  buffering = refl;
-  counts = refl;
-  quiet = refl;
-  refused = λ why here. absurd (cc);
-  again = λ twice. absurd (cc);
-  shorts = refl;
-  moves = record { life_is = refl; place = refl; far = far; within = tt };
-  ends = tt;
-  answer = λ accepts. (tt, tt);
-  told = λ open_to. settled refl;
-  reach = λ reads. absurd (cc);
-  lays = record { count = 0; bytes = refl };
-  passes = λ live. record { none = refl; holds = λ told. refl };
-}
+close_calmly true items place was far =
+    calmly_by false true true items items place place was was Close Done refl refl refl (λ twice. record { says = refl; same = refl }) refl (record { life_is = refl; place = refl; far = far; within = tt }) tt (tt, tt) (settled refl) (λ reads. absurd (cc)) (record { count = 0; bytes = refl }) (λ live. record { none = refl; holds = λ told. refl })
+close_calmly false items place was far =
+    calmly_by false false true items items place place was was Close Done refl refl refl (λ twice. absurd (cc)) refl (record { life_is = refl; place = refl; far = far; within = tt }) tt (tt, tt) (settled refl) (λ reads. absurd (cc)) (record { count = 0; bytes = refl }) (λ live. record { none = refl; holds = λ told. refl })
 
 -- Want of memory.
 
 read_starves : (lent : Bool) (items : List ℕ) (place was : ℕ) (size : Option ℕ) → place ≤ greatest_place → Calmly (file_in_memory items place false) lent was (Read1 size) (Refused fault.NoMemory) (file_in_memory items place false) was
-read_starves lent items place was size far = record {
-  can = refl;
-  buffering = refl;
-  counts = refl;
-  quiet = refl;
-  refused = λ why here. let none = sym (unlent lent (Some fault.BufferError) None) ∙ here in absurd (cc);
-  again = λ twice. absurd (cc);
-  shorts = refl;
-  moves = record { life_is = refl; place = refl; far = far; within = tt };
-  ends = tt;
-  answer = λ accepts. (tt, tt);
-  told = λ open_to. out_of_memory refl (refl, refl);
-  reach = λ reads. omega arith;
-  lays = record { count = 0; bytes = refl };
-  passes = tt;
-}
+read_starves lent items place was size far =
+    calmly_by lent false false items items place place was was (Read1 size) (Refused fault.NoMemory) refl refl (unlent lent (Some fault.BufferError) None) (λ twice. absurd (cc)) refl (record { life_is = refl; place = refl; far = far; within = tt }) tt (tt, tt) (out_of_memory refl (refl, refl)) (λ reads. omega arith) (record { count = 0; bytes = refl }) tt
 
 write_starves : (items : List ℕ) (place was : ℕ) (bytes : List ℕ) (taken : ℕ) → taken ≡ place - place → place ≤ greatest_place → too_far (place + length bytes) ≡ None → Calmly (file_in_memory items place false) false was (Write bytes) (Refused fault.NoMemory) (file_in_memory items place false) taken
-write_starves items place was bytes taken counts far accepts = record {
-  can = refl;
-  buffering = refl;
-  counts = counts;
-  quiet = refl;
-  refused = λ why here. let none = sym accepts ∙ here in absurd (cc);
-  again = λ twice. absurd (cc);
-  shorts = refl;
-  moves = record { life_is = inl refl; place = refl; far = far; within = tt };
-  ends = tt;
-  answer = λ accepted. (tt, tt);
-  told = λ open_to. out_of_memory refl (subst (λ (refused : Option IoFault). IsTrue ((is_none refused && true) || false)) (sym accepts) refl, inl refl);
-  reach = λ reads. absurd (cc);
-  lays = record { count = 0; bytes = refl };
-  passes = tt;
-}
+write_starves items place was bytes taken counts far accepts =
+    let starved = subst (λ (refused : Option IoFault). IsTrue ((is_none refused && true) || false)) (sym accepts) refl in
+    calmly_by false false false items items place place was taken (Write bytes) (Refused fault.NoMemory) counts refl accepts (λ twice. absurd (cc)) refl (record { life_is = inl refl; place = refl; far = far; within = tt }) tt (tt, tt) (out_of_memory refl (starved, inl refl)) (λ reads. absurd (cc)) (record { count = 0; bytes = refl }) tt
 
 -- Refused calls.
 
@@ -340,18 +269,18 @@ seek_came lent items place was offset (pos zero) reply after taken knows accepts
     let file : FlatFile = file_in_memory items place false in
     let target : ℕ = unwrap_or (moved_by 0 offset) 0 in
     let new : FlatFile = file_in_memory items target false in
-    known file lent was (Seek offset (pos 0)) (Place target) reply new after was taken (seek_calmly lent items place was offset (pos 0) target (far_at after new knows.far done.1) accepts refl (lands (moved_by 0 offset) accepts) tt (λ why here. sym (unlent lent (refusal_lent file (Seek offset (pos 0))) (refusal file (Seek offset (pos 0)))) ∙ here)) done.0 done.1 knows.counts
+    known file lent was (Seek offset (pos 0)) (Place target) reply new after was taken (seek_calmly lent items place was offset (pos 0) target (far_at after new knows.far done.1) accepts refl (lands (moved_by 0 offset) accepts) tt (unlent lent (refusal_lent file (Seek offset (pos 0))) (refusal file (Seek offset (pos 0))) ∙ accepts)) done.0 done.1 knows.counts
 seek_came lent items place was offset (pos (suc zero)) reply after taken knows accepts (inr done) =
     let file : FlatFile = file_in_memory items place false in
     let target : ℕ = unwrap_or (moved_by place offset) 0 in
     let new : FlatFile = file_in_memory items target false in
-    known file lent was (Seek offset (pos 1)) (Place target) reply new after was taken (seek_calmly lent items place was offset (pos 1) target (far_at after new knows.far done.1) accepts refl (lands (moved_by place offset) accepts) tt (λ why here. sym (unlent lent (refusal_lent file (Seek offset (pos 1))) (refusal file (Seek offset (pos 1)))) ∙ here)) done.0 done.1 knows.counts
+    known file lent was (Seek offset (pos 1)) (Place target) reply new after was taken (seek_calmly lent items place was offset (pos 1) target (far_at after new knows.far done.1) accepts refl (lands (moved_by place offset) accepts) tt (unlent lent (refusal_lent file (Seek offset (pos 1))) (refusal file (Seek offset (pos 1))) ∙ accepts)) done.0 done.1 knows.counts
 seek_came lent items place was offset (pos (suc (suc zero))) reply after taken knows accepts (inr done) =
     let file : FlatFile = file_in_memory items place false in
     let target : ℕ = unwrap_or (moved_by (length items) offset) 0 in
     let new : FlatFile = file_in_memory items target false in
     let goes = goes_by (buffer_with file lent was) (buffer_with new lent was) (moved_by (length items) offset) (target_refusal (moved_by (length items) offset)) target (lands (moved_by (length items) offset) accepts) accepts in
-    known file lent was (Seek offset (pos 2)) (Place target) reply new after was taken (seek_calmly lent items place was offset (pos 2) target (far_at after new knows.far done.1) accepts refl tt (λ asks. record { end = length items; within = knows.small; told = λ told. refl; target = goes }) (λ why here. absurd (cc))) done.0 done.1 knows.counts
+    known file lent was (Seek offset (pos 2)) (Place target) reply new after was taken (seek_calmly lent items place was offset (pos 2) target (far_at after new knows.far done.1) accepts refl tt (λ asks. record { end = length items; within = knows.small; told = λ told. refl; target = goes }) refl) done.0 done.1 knows.counts
 seek_came lent items place was offset whence reply after taken knows accepts (inr done) = absurd (cc)
 
 accepted : (lent closed : Bool) (items : List ℕ) (place was : ℕ) (call : FileCall) (reply : FileReply) (after : FlatFile) (taken : ℕ) → Knows lent closed items place was call after taken → IsTrue (is_made call) → refusal_in_memory lent (file_in_memory items place closed) call ≡ None → CameOut (file_in_memory items place closed) call reply after → AnswersAsBuffer (buffer_with (file_in_memory items place closed) lent was) call reply (buffer_with after lent taken)
