@@ -1,6 +1,6 @@
 -- A stream in memory is a buffered stream.
 use Rattle.std.proofs.Common.{◌≡◌, ℕ, zero, suc, ◌+◌, ◌-◌, ◌≤◌, max, ℤ, pos, inl, inr, ◌⊎◌, Bool, true, false, ◌&&◌, ◌||◌, IsTrue, List, [], length, drop, Option, Some, None, is_none, nat_lt, unwrap_or, refl, sym, ap, subst, ◌∙◌, arith, if◌then◌else◌}
-use Rattle.std.proofs.lemmas.List.{length-take, length-drop}
+use Rattle.std.proofs.lemmas.List.{length-take, length-drop, take_all}
 use Rattle.py_flat.specs.declared.fault.IoFault.{IoFault}
 use Rattle.py_flat.specs.declared.fault.IoFault.TheVariants as fault
 use Rattle.py_flat.specs.Limits.{greatest_place}
@@ -11,14 +11,15 @@ use Rattle.py_flat.specs.Refusals.{refusal, too_far, target_refusal, moved_by}
 use Rattle.py_flat.specs.ExactStep.{one_transfer, seek_target, carried_out}
 use Rattle.py_flat.specs.AllowedStep.{settled, out_of_memory}
 use Rattle.py_flat.specs.BinaryStep.{payload, SettledBy, BinaryStep}
-use Rattle.py_flat.proofs.Laying.{lay_reads_back}
 use Rattle.py_flat.proofs.Settling.{blames, may_blame, refusal_blames_nobody}
 use Rattle.py_stream.specs.Kinds.{is_reading, says_fault}
 use Rattle.py_stream.specs.Answers.{IsAnswerTo, IsReplyTo, IsShort, SeekGoes, Within}
-use Rattle.py_stream.specs.Buffer.{Buffer, taken_by, refusal_lent, refused_here, LeavesBuffer, BufferMoves, BufferPasses, BufferLays, asks_for, closes_twice, GoesFromEnd, BufferSeeksFromEnd, BufferEndMoves, BufferSeeksByEnd, is_made, AnswersAsBuffer}
+use Rattle.py_stream.specs.Buffer.{Buffer, taken_by, refusal_lent, refused_here, LeavesBuffer, BufferMoves, BufferPasses, BufferLays, BufferTakes, asks_for, closes_twice, GoesFromEnd, BufferSeeksFromEnd, BufferEndMoves, BufferSeeksByEnd, is_made, AnswersAsBuffer}
 use Rattle.py_memio.specs.InMemory.{file_in_memory, refusal_in_memory, may_lack_memory, CarriedOutInMemory, AnswersWith, AnswersInMemory}
 use Rattle.py_memio.specs.BytesIO.{Exports, BytesView, has_some, is_lent, buffer_with, as_buffer}
-use Rattle.py_memio.proofs.Calm.{Calmly, calm, refusedly}
+use Rattle.py_stream.specs.Stream.{nothing_owed}
+use Rattle.py_stream.proofs.Flat.{owed_before_all}
+use Rattle.py_memio.proofs.Calm.{Calmly, calm, refusedly, lays_none}
 
 -- a call that doesn't change the length is refused by the flat file alone
 unlent : (lent : Bool) (by_lending by_file : Option IoFault) → (if lent && false then by_lending else by_file) ≡ by_file
@@ -53,8 +54,9 @@ calmly_by : (lent closed ends : Bool) (items left : List ℕ) (place new was tak
     → (IsTrue (is_reading call) → new ≤ max place (length items))
     → BufferLays (seen lent closed items place was) (payload call) left
     → BufferPasses (seen lent closed items place was) call reply (seen lent ends left new taken)
+    → BufferTakes call place new
     → Calmly (file_in_memory items place closed) lent was call reply (file_in_memory left new ends) taken
-calmly_by lent closed ends items left place new was taken call reply counts quiet accepts again shorts moves seeks answer told reach lays passes = record {
+calmly_by lent closed ends items left place new was taken call reply counts quiet accepts again shorts moves seeks answer told reach lays passes takes = record {
   can = refl;
   buffering = refl;
   counts = counts;
@@ -69,45 +71,46 @@ calmly_by lent closed ends items left place new was taken call reply counts quie
   reach = reach;
   lays = lays;
   passes = passes;
+  takes = takes;
 }
 
 read_calmly : (lent : Bool) (items : List ℕ) (place was : ℕ) (size : Option ℕ) → (place + length (one_transfer InMemory size (drop place items))) ≤ greatest_place → Calmly (file_in_memory items place false) lent was (Read1 size) (Bytes (one_transfer InMemory size (drop place items))) (file_in_memory items (place + length (one_transfer InMemory size (drop place items))) false) was
 read_calmly lent items place was size far =
     let given = one_transfer InMemory size (drop place items) in
     let fits = fits_rest size (drop place items) in
-    calmly_by lent false false items items place (place + length given) was was (Read1 size) (Bytes given) refl refl (unlent lent (Some fault.BufferError) None) (λ twice. absurd (cc)) refl (record { life_is = refl; place = refl; far = far; within = within_size size (drop place items) }) tt (tt, tt) (settled refl) (λ reads. omega (arith, fits, length-drop place items)) (record { count = 0; bytes = refl }) tt
+    calmly_by lent false false items items place (place + length given) was was (Read1 size) (Bytes given) refl refl (unlent lent (Some fault.BufferError) None) (λ twice. absurd (cc)) refl (record { life_is = refl; place = refl; far = far; within = within_size size (drop place items) }) tt (tt, tt) (settled refl) (λ reads. omega (arith, fits, length-drop place items)) (lays_none _ _ _ _) tt tt
 
 write_calmly : (items : List ℕ) (place was : ℕ) (bytes : List ℕ) (taken : ℕ) → taken ≡ place + length bytes - place → place + length bytes ≤ greatest_place → too_far (place + length bytes) ≡ None → Calmly (file_in_memory items place false) false was (Write bytes) (Count (length bytes)) (file_in_memory (lay items place bytes) (place + length bytes) false) taken
 write_calmly items place was bytes taken counts far accepts =
     let laid = lay items place bytes in
     let told = subst (λ (refused : Option IoFault). SettledBy (file_in_memory items place false) (Write bytes) refused (Count (length bytes)) (file_in_memory laid (place + length bytes) false)) (sym accepts) refl in
-    calmly_by false false false items laid place (place + length bytes) was taken (Write bytes) (Count (length bytes)) counts refl accepts (λ twice. absurd (cc)) refl (record { life_is = refl; place = (refl, refl); far = far; within = tt }) tt (tt, tt) (settled told) (λ reads. absurd (cc)) (record { count = length bytes; bytes = sym (ap (lay items place) (lay_reads_back items place bytes)) }) tt
+    calmly_by false false false items laid place (place + length bytes) was taken (Write bytes) (Count (length bytes)) counts refl accepts (λ twice. absurd (cc)) refl (record { life_is = refl; place = (refl, refl); far = far; within = tt }) tt (tt, tt) (settled told) (λ reads. absurd (cc)) (record { passed = 0; more = length bytes; laid = ap (lay items place) (sym (take_all (length bytes) bytes (omega arith))); order = λ _. owed_before_all (nothing_owed place) place 0 (omega arith) }) tt (omega arith, omega arith)
 
 seek_calmly : (lent : Bool) (items : List ℕ) (place was : ℕ) (offset whence : ℤ) (target : ℕ) → target ≤ greatest_place → refusal (file_in_memory items place false) (Seek offset whence) ≡ None → seek_target (file_in_memory items place false) offset whence ≡ target → SeekGoes place offset whence target → BufferSeeksByEnd (buffer_with (file_in_memory items place false) lent was) (Seek offset whence) (Place target) (buffer_with (file_in_memory items target false) lent was) → refused_here (buffer_with (file_in_memory items place false) lent was) (Seek offset whence) ≡ None → Calmly (file_in_memory items place false) lent was (Seek offset whence) (Place target) (file_in_memory items target false) was
 seek_calmly lent items place was offset whence target far accepts goes_to goes seeks here =
     let told = subst (λ (refused : Option IoFault). SettledBy (file_in_memory items place false) (Seek offset whence) refused (Place target) (file_in_memory items target false)) (sym accepts) (ap (λ (at : ℕ). let step : FileReply × FlatFile = (Place at, file_in_memory items at false) in step) (sym goes_to)) in
-    calmly_by lent false false items items place target was was (Seek offset whence) (Place target) refl refl here (λ twice. absurd (cc)) refl (record { life_is = refl; place = (refl, goes); far = far; within = tt }) seeks (tt, tt) (settled told) (λ reads. absurd (cc)) (record { count = 0; bytes = refl }) tt
+    calmly_by lent false false items items place target was was (Seek offset whence) (Place target) refl refl here (λ twice. absurd (cc)) refl (record { life_is = refl; place = (refl, goes); far = far; within = tt }) seeks (tt, tt) (settled told) (λ reads. absurd (cc)) (lays_none _ _ _ _) tt tt
 
 flush_calmly : (lent : Bool) (items : List ℕ) (place was : ℕ) → place ≤ greatest_place → Calmly (file_in_memory items place false) lent was Flush Done (file_in_memory items place false) was
 flush_calmly lent items place was far =
-    calmly_by lent false false items items place place was was Flush Done refl refl (unlent lent (Some fault.BufferError) None) (λ twice. absurd (cc)) refl (record { life_is = refl; place = refl; far = far; within = tt }) tt (tt, tt) (settled refl) (λ reads. absurd (cc)) (record { count = 0; bytes = refl }) (record { none = refl; holds = λ told. refl })
+    calmly_by lent false false items items place place was was Flush Done refl refl (unlent lent (Some fault.BufferError) None) (λ twice. absurd (cc)) refl (record { life_is = refl; place = refl; far = far; within = tt }) tt (tt, tt) (settled refl) (λ reads. absurd (cc)) (lays_none _ _ _ _) (record { none = refl; holds = λ told. refl }) tt
 
 close_calmly : (closed : Bool) (items : List ℕ) (place was : ℕ) → place ≤ greatest_place → Calmly (file_in_memory items place closed) false was Close Done (file_in_memory items place true) was
 close_calmly true items place was far =
-    calmly_by false true true items items place place was was Close Done refl refl refl (λ twice. record { says = refl; same = refl }) refl (record { life_is = refl; place = refl; far = far; within = tt }) tt (tt, tt) (settled refl) (λ reads. absurd (cc)) (record { count = 0; bytes = refl }) (λ live. record { none = refl; holds = λ told. refl })
+    calmly_by false true true items items place place was was Close Done refl refl refl (λ twice. record { says = refl; same = refl }) refl (record { life_is = refl; place = refl; far = far; within = tt }) tt (tt, tt) (settled refl) (λ reads. absurd (cc)) (lays_none _ _ _ _) (λ live. record { none = refl; holds = λ told. refl }) tt
 close_calmly false items place was far =
-    calmly_by false false true items items place place was was Close Done refl refl refl (λ twice. absurd (cc)) refl (record { life_is = refl; place = refl; far = far; within = tt }) tt (tt, tt) (settled refl) (λ reads. absurd (cc)) (record { count = 0; bytes = refl }) (λ live. record { none = refl; holds = λ told. refl })
+    calmly_by false false true items items place place was was Close Done refl refl refl (λ twice. absurd (cc)) refl (record { life_is = refl; place = refl; far = far; within = tt }) tt (tt, tt) (settled refl) (λ reads. absurd (cc)) (lays_none _ _ _ _) (λ live. record { none = refl; holds = λ told. refl }) tt
 
 -- Want of memory.
 
 read_starves : (lent : Bool) (items : List ℕ) (place was : ℕ) (size : Option ℕ) → place ≤ greatest_place → Calmly (file_in_memory items place false) lent was (Read1 size) (Refused fault.NoMemory) (file_in_memory items place false) was
 read_starves lent items place was size far =
-    calmly_by lent false false items items place place was was (Read1 size) (Refused fault.NoMemory) refl refl (unlent lent (Some fault.BufferError) None) (λ twice. absurd (cc)) refl (record { life_is = refl; place = refl; far = far; within = tt }) tt (tt, tt) (out_of_memory refl (refl, refl)) (λ reads. omega arith) (record { count = 0; bytes = refl }) tt
+    calmly_by lent false false items items place place was was (Read1 size) (Refused fault.NoMemory) refl refl (unlent lent (Some fault.BufferError) None) (λ twice. absurd (cc)) refl (record { life_is = refl; place = refl; far = far; within = tt }) tt (tt, tt) (out_of_memory refl (refl, refl)) (λ reads. omega arith) (lays_none _ _ _ _) tt tt
 
 write_starves : (items : List ℕ) (place was : ℕ) (bytes : List ℕ) (taken : ℕ) → taken ≡ place - place → place ≤ greatest_place → too_far (place + length bytes) ≡ None → Calmly (file_in_memory items place false) false was (Write bytes) (Refused fault.NoMemory) (file_in_memory items place false) taken
 write_starves items place was bytes taken counts far accepts =
     let starved = subst (λ (refused : Option IoFault). IsTrue ((is_none refused && true) || false)) (sym accepts) refl in
-    calmly_by false false false items items place place was taken (Write bytes) (Refused fault.NoMemory) counts refl accepts (λ twice. absurd (cc)) refl (record { life_is = inl refl; place = refl; far = far; within = tt }) tt (tt, tt) (out_of_memory refl (starved, inl refl)) (λ reads. absurd (cc)) (record { count = 0; bytes = refl }) tt
+    calmly_by false false false items items place place was taken (Write bytes) (Refused fault.NoMemory) counts refl accepts (λ twice. absurd (cc)) refl (record { life_is = inl refl; place = refl; far = far; within = tt }) tt (tt, tt) (out_of_memory refl (starved, inl refl)) (λ reads. absurd (cc)) (lays_none _ _ _ _) tt (omega arith, omega arith)
 
 -- Refused calls.
 

@@ -1,5 +1,5 @@
 -- A call that neither waits nor fails of a stream in memory, as one of a buffered stream.
-use Rattle.std.proofs.Common.{◌≡◌, ℕ, ◌≤◌, max, Bool, true, false, IsTrue, length, Option, Some, None, refl, sym, ap, subst, arith}
+use Rattle.std.proofs.Common.{◌≡◌, ℕ, ◌≤◌, max, Bool, true, false, IsTrue, List, length, Option, Some, None, refl, sym, ap, subst, arith}
 use Rattle.py_flat.specs.declared.fault.IoFault.{IoFault}
 use Rattle.py_flat.specs.declared.fault.IoFault.TheVariants as fault
 use Rattle.py_flat.specs.declared.life.Life.{Life}
@@ -10,11 +10,26 @@ use Rattle.py_flat.specs.Refusals.{refusal}
 use Rattle.py_flat.specs.AllowedStep.{settled}
 use Rattle.py_flat.specs.BinaryStep.{payload, SettledBy, BinaryStep}
 use Rattle.py_flat.proofs.Settling.{blames}
+use Rattle.py_flat.specs.Owed.{Owed}
+use Rattle.py_stream.specs.Writing.{LaysFrontOf}
 use Rattle.py_stream.specs.Kinds.{is_reading, says_fault}
 use Rattle.py_stream.specs.Answers.{IsAnswerTo, IsReplyTo, IsShort, LifeMoves, PlaceMoves}
-use Rattle.py_stream.specs.Buffer.{Buffer, size_shown, taken_by, refused_here, refused_lent, LeavesBuffer, closes_twice, GivesAsked, BufferMoves, BufferSeeksByEnd, BufferPasses, BufferLays, AnswersAsBuffer}
+use Rattle.py_stream.specs.Buffer.{Buffer, size_shown, taken_by, refused_here, refused_lent, LeavesBuffer, closes_twice, GivesAsked, BufferMoves, BufferSeeksByEnd, BufferPasses, BufferLays, BufferBlocksFull, BufferTakes, AnswersAsBuffer}
 use Rattle.py_stream.proofs.Buffering.{owes_none_so}
 use Rattle.py_memio.specs.BytesIO.{buffer_with}
+
+-- nothing was laid on
+pub lays_none : (bytes : List ℕ) (owed : Owed) (place : ℕ) (own : List ℕ) → LaysFrontOf bytes owed place own bytes
+lays_none bytes owed place own = record { passed = 0; more = 0; laid = refl; order = λ some. absurd (some refl) }
+
+-- a call that isn't short had nothing to wait for
+full_of : (call : FileCall) (reply : FileReply) (after : Buffer) → IsShort call reply false → BufferBlocksFull call reply after
+full_of call reply after whole = grind arith
+
+-- a call that leaves the place takes nothing
+takes_none : (call : FileCall) (place : ℕ) → BufferTakes call place place
+takes_none (Write bytes) place = (omega arith, omega arith)
+takes_none call place = tt
 
 -- what is to be shown of a call that neither waits nor fails
 pub record Calmly (file : FlatFile) (lent : Bool) (was : ℕ) (call : FileCall) (reply : FileReply) (left : FlatFile) (taken : ℕ) : Type 0 where
@@ -32,6 +47,7 @@ pub record Calmly (file : FlatFile) (lent : Bool) (was : ℕ) (call : FileCall) 
   pub reach : IsTrue (is_reading call) → left.place ≤ max file.place (length file.bytes)
   pub lays : BufferLays (buffer_with file lent was) (payload call) left.bytes
   pub passes : BufferPasses (buffer_with file lent was) call reply (buffer_with left lent taken)
+  pub takes : BufferTakes call file.place left.place
 
 pub calm : (file : FlatFile) (lent : Bool) (was : ℕ) (call : FileCall) (reply : FileReply) (left : FlatFile) (taken : ℕ) → Calmly file lent was call reply left taken → AnswersAsBuffer (buffer_with file lent was) call reply (buffer_with left lent taken)
 calm file lent was call reply left taken calmly =
@@ -53,6 +69,8 @@ calm file lent was call reply left taken calmly =
       hides = λ short. absurd (cc);
       owes = owes_none_so (buffer_with file lent was) (buffer_with left lent taken) call refl refl;
       lays = λ told. calmly.lays;
+      full = full_of call reply (buffer_with left lent taken) calmly.shorts;
+      takes = calmly.takes;
       taken = calmly.counts;
       passes = calmly.passes;
     }
@@ -105,6 +123,7 @@ refusedly file lent was call why taken own counts far only once ends answer told
   answer = answer;
   told = λ unlent. settled (subst (λ (refused : Option IoFault). SettledBy file call refused (Refused why) file) (sym (told unlent)) (refl, refl));
   reach = λ reads. omega arith;
-  lays = record { count = 0; bytes = refl };
+  lays = lays_none _ _ _ _;
   passes = passes_refused (buffer_with file lent was) (buffer_with file lent taken) call why;
+  takes = takes_none call file.place;
 }

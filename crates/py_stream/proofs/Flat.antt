@@ -129,7 +129,7 @@ fails_bytes old new bytes fails tells =
 -- What the raw has.
 
 -- no more of what is owed lies before a place than is owed
-owed_before_all : (owed : Owed) (place count : ℕ) → length owed.bytes ≤ count → owed_before owed place ≤ count
+pub owed_before_all : (owed : Owed) (place count : ℕ) → length owed.bytes ≤ count → owed_before owed place ≤ count
 unfolding owed_before
 owed_before_all owed place count all = omega (arith, all)
 
