@@ -1,7 +1,6 @@
 -- The calls that give nothing, or bytes, by what the stream is opened for: what holds when a call begins, and what its steps come to.
-use Rattle.std.proofs.Common.{◌≡◌, ℕ, ℤ, ◌+◌, ◌≤◌, ◌⊎◌, Bool, true, false, not, ◌||◌, length, Result, Ok, Err, refl, ap, subst, arith}
+use Rattle.std.proofs.Common.{◌≡◌, ℕ, ℤ, ◌+◌, ◌≤◌, Bool, true, false, length, Result, Ok, Err, refl, ap, subst, arith}
 use Rattle.py_flat.specs.declared.fault.IoFault.{IoFault}
-use Rattle.py_flat.specs.declared.fault.IoFault.TheVariants as fault
 use Rattle.py_flat.specs.declared.life.Life.TheVariants as life
 use Rattle.py_flat.specs.Limits.{greatest_place}
 use Rattle.py_flat.specs.Calls.{FileCall, Flush, Close, Seek, Place, Refused}
@@ -84,14 +83,7 @@ closes other old started mid new result opened is began passed shut =
 -- Moving.
 
 seeks_writing : (old started : EngineView) → Stands old → MaySeek (begun (stream_of old)) → is_read old.access ≡ false → SeeksWriting (begun (stream_of old))
-seeks_writing old started is may writes = record {
-  may = may;
-  behind = owes_behind (record old { short = false }) (stands_whole old is) writes;
-  size = old.window.size;
-  buffered = refl;
-  writes = (writes_only old.access old.raw.seekable writes).0;
-  reads = (writes_only old.access old.raw.seekable writes).1;
-}
+seeks_writing old started is may writes = grind (arith, owes_behind, stands_whole, writes_only)
 
 -- what is known once a seek found where it goes
 pub record SeekFinds (old : EngineView) (offset whence : ℤ) (target : ℕ) (found : EngineView) : Type 0 where

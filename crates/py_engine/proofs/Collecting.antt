@@ -50,10 +50,7 @@ to_follows : (window : WindowView) (after : ℕ) → Collects window → window.
 to_follows window after collects forth = grind (arith, eqb_tells)
 
 pasted_behind : (held bytes : List ℕ) (cursor : ℕ) → cursor ≡ length held → pasted held cursor bytes ≡ held ++ bytes
-pasted_behind held bytes cursor end =
-    ap (λ (xs : List ℕ). take cursor held ++ (bytes ++ xs)) (drop_of_length-le held (omega (arith, end)))
-    ∙ (ap (λ (xs : List ℕ). take cursor held ++ xs) (append-nil bytes)
-    ∙ ap (λ (xs : List ℕ). xs ++ bytes) (take_all cursor held (omega (arith, end))))
+pasted_behind held bytes cursor end = grind (arith, drop_of_length-le, append-nil, take_all)
 
 -- bytes that were put at the cursor, where there was room after it
 laid_shows : (window : WindowView) (bytes : List ℕ) (size place : ℕ) (owed : List ℕ) → window.cursor + length bytes ≤ window.size → place_of window + length bytes ≤ 9223372036854775807 → 0 < length bytes → Shows window size place owed → Shows (laid_at_cursor bytes window) size place (owed ++ bytes)

@@ -13,8 +13,7 @@ use Rattle.py_stream.specs.Kinds.{by_several}
 use Rattle.py_stream.proofs.ReadingOn.{WantsSize, gathers_size, refuses_size, refused_stop}
 use Rattle.py_engine.specs.declared.data.reading.Progress.{Progress}
 use Rattle.py_engine.specs.Engine.{EngineView, BeginOutcome}
-use Rattle.py_engine.specs.Reading.{reading_of, IsReading}
-use Rattle.py_engine.specs.Reading.{StarvesIn, ReadsInto, ReadIntoOutcome}
+use Rattle.py_engine.specs.Reading.{reading_of, IsReading, StarvesIn, ReadsInto, ReadIntoOutcome}
 use Rattle.py_engine.proofs.Seen.{placed, readable}
 use Rattle.py_engine.proofs.Transfers.{reading_whole}
 

@@ -11,18 +11,17 @@ use Rattle.py_raw.specs.RawStream.{WhereTold, WherePlace, WhereTransfers, NoFaul
 use Rattle.py_raw.proofs.ReadingOn.{no_fault_then, no_wait_then, uncounted_then}
 use Rattle.py_stream.specs.declared.stop.Stop.{Stop}
 use Rattle.py_stream.specs.declared.stop.Stop.TheVariants as stop
-use Rattle.py_stream.specs.Stream.{Stream, file_of, nothing_owed}
-use Rattle.py_stream.specs.Answers.{IsNear, OnlyAsked, EachBrings}
+use Rattle.py_stream.specs.Stream.{Stream, nothing_owed}
+use Rattle.py_stream.specs.Answers.{OnlyAsked, EachBrings}
 use Rattle.py_stream.proofs.Coming.{each_still, each_seen, each_then as stream_each_then}
-use Rattle.py_stream.specs.Reading.{KeepsReading, Reaches, Gives, FailsReading, FailsMoved, RestOutcome}
-use Rattle.py_stream.proofs.ReadingSteps.{uncounted, more_taken, next_behind, within_end, next_reaches, same_bytes, gives_then, waits_once_then, still_tells as stream_still_tells, keeps_then as stream_keeps_then, keeps_failed as stream_keeps_failed}
+use Rattle.py_stream.specs.Reading.{Reaches, Gives, FailsReading, FailsMoved, RestOutcome}
+use Rattle.py_stream.proofs.ReadingSteps.{more_taken, next_behind, within_end, next_reaches, same_bytes, gives_then, waits_once_then, still_tells as stream_still_tells, keeps_then as stream_keeps_then, keeps_failed as stream_keeps_failed}
 use Rattle.py_stream.proofs.ReadingAnswers.{Reads as StreamReads}
 use Rattle.py_stream.proofs.ReadingOn.{asked_gives, asked_each}
 use Rattle.py_engine.specs.declared.data.reading.Step.TheVariants as step
 use Rattle.py_engine.specs.Window.{place_of, end_of, ahead_of, advanced}
 use Rattle.py_engine.specs.Engine.{EngineView}
-use Rattle.py_engine.specs.Reading.{reading_of, IsReading, KeepsEngine, FailsByRaw, StarvesWith, UsesUp}
-use Rattle.py_engine.specs.Reading.{StepsOn, StepOutcome, FailsStarved, ReadsInto, ReadIntoOutcome, ReadsMore, ReadMoreOutcome}
+use Rattle.py_engine.specs.Reading.{reading_of, IsReading, KeepsEngine, FailsByRaw, StarvesWith, UsesUp, StepsOn, StepOutcome, FailsStarved, ReadsInto, ReadIntoOutcome, ReadsMore, ReadMoreOutcome}
 use Rattle.py_engine.proofs.Transfers.{held_next, keeps_self, keeps_then, keeps_reading, still_tells, keeps_told, keeps_advanced, keeps_failed, each_then, each_but_last, each_but_failed}
 
 -- a buffer after what is left of it was written
@@ -234,17 +233,7 @@ pub record ReadsAll (before : Stream) (bytes : List ℕ) (more : ℕ) (moved : B
 
 -- a reading of all begins, once the raw was asked where it ends
 pub all_begins : (old now : EngineView) (bytes : List ℕ) (more : ℕ) → bytes ≡ [] → IsReading old → StreamReads (reading_of old) → OnlyAsked (reading_of old) (reading_of now) × (length (ahead_of old.window) < more) × (more < 2 ^ 64) → ReadsAll (reading_of old) bytes more false (reading_of now)
-all_begins old now bytes more none is begun asked = record {
-  gives = subst (λ (part : List ℕ). Gives (reading_of old) part (reading_of now)) (sym none) (asked_gives (reading_of old) (reading_of now) begun asked.0);
-  no_wait = asked.0.counts.no_wait;
-  each = asked_each (reading_of old) (reading_of now) asked.0;
-  stands = λ tells. is.stands tells begun.live;
-  bare = refl;
-  some = omega (arith, asked.1);
-  fits = asked.2;
-  first = λ _. (asked.0, omega (arith, asked.1, length-drop old.window.cursor old.window.held, is.window_is.cursor));
-  later = λ some. absurd (cc);
-}
+all_begins old now bytes more none is begun asked = grind (arith, asked_gives, asked_each, length-drop)
 
 module _ (before : Stream) (bytes : List ℕ) (more : ℕ) (moved : Bool) (now new : EngineView) (reads : ReadsAll before bytes more moved (reading_of now)) where
   -- told, a place that lies before the end after what was given lies before it at first
@@ -296,22 +285,7 @@ module _ (before : Stream) (bytes : List ℕ) (more : ℕ) (moved : Bool) (now n
 
   -- the first turn found no memory once bytes had moved
   first_moved : moved ≡ false → FailsStarved false (reading_of now) (reading_of new) → FailsMoved before (reading_of new)
-  first_moved is fails =
-      let here : KeepsReading before (reading_of now) = reads.gives.kept in
-      let asked : OnlyAsked before (reading_of now) = (reads.first is).0 in
-      let place : place_of now.window ≡ before.place = ap (λ (stream : Stream). stream.place) asked.same in
-      let raw_place : end_of now.window ≡ before.raw_place = ap (λ (stream : Stream). stream.raw_place) asked.same in
-      record {
-        kept = stream_keeps_then before (reading_of now) (reading_of new) here fails.kept;
-        counts = uncounted_then before.raw now.raw new.raw here.raw asked.counts fails.counts;
-        failed = fails.failed;
-        forth = omega (arith, place, fails.forth);
-        reach = reaches_on fails.reach;
-        further = omega (arith, raw_place, fails.further refl);
-        stands = λ tells. omega (arith, asked.place tells, fails.stands_further refl (here.raw.tells_place ∙ tells));
-        some = λ tells none. fails.some refl (stream_still_tells before (reading_of now) here tells) (ap (λ (bytes : List ℕ). left_at bytes (place_of now.window)) (same_bytes before (reading_of now) reads.bare here tells) ∙ (ap (left_at (file_of before).bytes) place ∙ none));
-        each = stream_each_then before (reading_of now) (reading_of new) 0 0 here.raw reads.each fails.each;
-      }
+  first_moved is fails = grind (arith, stream_keeps_then, uncounted_then, reaches_on, stream_still_tells, same_bytes, stream_each_then)
 
 -- a stream that memory failed between two turns
 fails_between : (before : Stream) (bytes : List ℕ) (more : ℕ) (now : EngineView) → ReadsAll before bytes more true (reading_of now) → FailsStarved true (reading_of now) (reading_of (record now { life = life.Failed }))

@@ -18,8 +18,7 @@ use Rattle.py_stream.proofs.ReadingAnswers.{answers_begun, reading_refused}
 use Rattle.py_stream.proofs.SingleReading.{asks_for, moves_by, moves_within, single_call, GivesOnce, answers_once, unready_once, faulted_once, unmoved_once}
 use Rattle.py_engine.specs.Window.{WindowView, IsWindow, place_of, end_of, ahead_of, advanced}
 use Rattle.py_engine.specs.Engine.{EngineView, BeginOutcome}
-use Rattle.py_engine.specs.Reading.{reading_of, IsReading, KeepsEngine, Transferred}
-use Rattle.py_engine.specs.Reading.{ReadyOutcome}
+use Rattle.py_engine.specs.Reading.{reading_of, IsReading, KeepsEngine, Transferred, ReadyOutcome}
 use Rattle.py_engine.proofs.Seen.{placed}
 use Rattle.py_engine.proofs.Transfers.{ahead_told, keeps_self, keeps_then, keeps_reading, still_tells, keeps_told, keeps_advanced, each_but_failed, advanced_none, reading_whole}
 use Rattle.py_engine.proofs.Reading.{reading_begins}
@@ -58,11 +57,7 @@ front_held n ahead left held =
 
 -- the bytes held come next in the raw
 ahead_next : (old mid : EngineView) → KeepsEngine old mid → mid.life ≡ life.Live → place_of mid.window ≡ place_of old.window → WhereTold old.raw (take (length (ahead_of mid.window)) (left_at old.raw.bytes (place_of old.window)) ≡ ahead_of mid.window)
-ahead_next old mid kept live place tells =
-    let count : ℕ = length (ahead_of mid.window) in
-    ap (λ (bytes : List ℕ). take count (left_at bytes (place_of old.window))) (sym (keeps_told old mid kept tells))
-    ∙ (ap (λ (at : ℕ). take count (left_at mid.raw.bytes at)) (sym place)
-    ∙ ahead_told mid.raw mid.window kept.is.window_is.cursor (kept.is.told (still_tells old mid kept tells) live))
+ahead_next old mid kept live place tells = grind (arith, keeps_told, ahead_told, still_tells)
 
 -- where the window is used up, the raw stands at the stream's place
 used_up_stands : (window : WindowView) → IsWindow window → ahead_of window ≡ [] → end_of window ≡ place_of window

@@ -1,5 +1,5 @@
 -- Where an engine and its raw stand, as a stream.
-use Rattle.std.proofs.Common.{◌≡◌, ℕ, ◌+◌, ◌-◌, ◌≤◌, Bool, true, false, [], take, drop, Err, refl, sym, ap, subst, arith}
+use Rattle.std.proofs.Common.{◌≡◌, ℕ, ◌≤◌, true, false, Err, refl, sym, ap, subst, arith}
 use Rattle.py_flat.specs.declared.fault.IoFault.{IoFault}
 use Rattle.py_flat.specs.declared.fault.IoFault.TheVariants as fault
 use Rattle.py_flat.specs.declared.life.Life.TheVariants as life
@@ -11,7 +11,7 @@ use Rattle.py_stream.specs.Answers.{IsNear}
 use Rattle.py_stream.specs.Keeping.{IsSound, OwesBehind}
 use Rattle.py_stream.specs.Moving.{FailsMoving, EndOutcome}
 use Rattle.py_stream.proofs.Refusing.{IsPlaced}
-use Rattle.py_engine.specs.Window.{WindowView, IsWindow, place_of, end_of, owed_of}
+use Rattle.py_engine.specs.Window.{WindowView, IsWindow, place_of, owed_of}
 use Rattle.py_engine.specs.Engine.{EngineView, stream_of, ReadsAhead, OwesBefore, HasShape, Stands, RawEndOutcome}
 use Rattle.py_engine.proofs.Collecting.{pending_ends}
 

@@ -1,15 +1,12 @@
 -- The engine with which a call begins, and what a stream without a buffer refuses by itself.
-use Rattle.std.proofs.Common.{◌≡◌, true, false, Some, Err, Ok, refl, sym, ap, subst, arith, add-zero, ℕ, None, IsSome, Option, Result}
+use Rattle.std.proofs.Common.{◌≡◌, false, Some, Err, Ok, refl, sym, ap, subst, arith, add-zero, ℕ, None, IsSome, Option, Result}
 use Rattle.py_flat.specs.declared.fault.IoFault.{IoFault}
-use Rattle.py_flat.specs.declared.fault.IoFault.TheVariants as fault
 use Rattle.py_flat.specs.declared.life.Life.{Life}
 use Rattle.py_flat.specs.declared.life.Life.TheVariants as life
-use Rattle.py_flat.specs.Calls.{FileCall, Close, FileReply, Refused}
+use Rattle.py_flat.specs.Calls.{FileCall, Close, Refused}
 use Rattle.py_flat.specs.FlatFile.{Unbuffered}
-use Rattle.py_flat.specs.Refusals.{is_getter, is_other_getter, is_close, lets_through, life_fault, lacks}
-use Rattle.py_stream.specs.Stream.{Stream, file_of}
+use Rattle.py_flat.specs.Refusals.{is_getter, is_other_getter, is_close, lets_through, life_fault}
 use Rattle.py_stream.specs.Answers.{Answers, IsNear}
-use Rattle.py_stream.proofs.Begun.{answers_whole}
 use Rattle.py_stream.proofs.Alone.{detaches, Begins, begins_in_vain as stream_begins_in_vain}
 use Rattle.py_stream.proofs.Refusing.{IsPlaced, refused_by_life as life_refuses}
 use Rattle.py_stream.specs.Keeping.{IsSound, KeepsOn, OwesBehind}
@@ -38,18 +35,6 @@ owes_behind engine = record { ends = add-zero engine.place; stands = refl }
 -- what every step keeps of an engine it keeps of its stream
 pub keeps_on : (old new : EngineView) → KeepsEngine old new → KeepsOn (stream_of old) (stream_of new)
 keeps_on old new kept = grind (arith, is_sound)
-
--- the engine with which a call begins
-abbrev pub begun : EngineView → EngineView
-begun engine = record engine { short = false }
-
--- a call of an engine that has begun the call is one of the engine that it was
-pub answers_begun : (first : EngineView) (call : FileCall) (reply : FileReply) (after : Stream) → Answers (stream_of (begun first)) call reply after → Answers (stream_of first) call reply after
-answers_begun first call reply after answers = answers_whole (stream_of first) after call reply answers
-
--- a call of an engine that is known to be the begun one is one of the engine that it was
-pub answers_from : (first now : EngineView) (call : FileCall) (reply : FileReply) (after : Stream) → now ≡ begun first → Answers (stream_of now) call reply after → Answers (stream_of first) call reply after
-answers_from first now call reply after is answers = answers_begun first call reply after (subst (λ (engine : EngineView). Answers (stream_of engine) call reply after) is answers)
 
 -- A call that the life doesn't let through.
 pub refused_by_life : (old new : EngineView) (call : FileCall) (why : IoFault) → Stands old → is_getter call ≡ false → is_other_getter call ≡ false → lets_through old.life Unbuffered call ≡ false → BeginOutcome old (Err why) new → Answers (stream_of old) call (Refused why) (stream_of new)

@@ -1,27 +1,20 @@
 -- Readings of an engine without a buffer, as readings of the stream that it is.
-use Rattle.std.proofs.Common.{◌≡◌, ◌≢◌, ℕ, zero, suc, ◌-◌, ◌≤◌, Bool, true, false, not, List, [], ◌∷◌, length, take, Option, Some, None, is_none, Ok, Err, refl, sym, ap, ◌∙◌, subst, arith}
+use Rattle.std.proofs.Common.{◌≡◌, ◌≢◌, ℕ, ◌≤◌, Bool, true, false, not, List, [], ◌∷◌, length, take, Option, Some, None, is_none, Ok, Err, refl, sym, ap, ◌∙◌, subst, arith}
 use Rattle.std.proofs.lemmas.List.{length-take-le, take_all, take-take, drop_all}
-use Rattle.std.specs.Bool.{◌==◌}
-use Rattle.std.specs.Option.{is_some, option_eq}
+use Rattle.std.specs.Option.{is_some}
 use Rattle.py_flat.specs.declared.fault.IoFault.{IoFault}
 use Rattle.py_flat.specs.declared.fault.IoFault.TheVariants as fault
-use Rattle.py_flat.specs.declared.life.Life.TheVariants as life
 use Rattle.py_flat.specs.Bytes.{left_at}
-use Rattle.py_flat.specs.Lines.{lines_within, joined}
 use Rattle.py_flat.specs.Calls.{FileCall, Read, ReadInto, Refused}
-use Rattle.py_lines.specs.Collecting.{LinesView, LinesAreOpen}
-use Rattle.py_lines.proofs.Asking.{lines_ask}
 use Rattle.py_stream.specs.Kinds.{asks_none}
 use Rattle.py_stream.specs.Answers.{Answers}
 use Rattle.py_stream.specs.Replies.{into_reply}
 use Rattle.py_stream.proofs.Coming.{came_once, came_unread, one_unread, each_but_one}
-use Rattle.py_stream.proofs.ReadingAnswers.{Reads, ReadingBegins}
+use Rattle.py_stream.proofs.ReadingAnswers.{Reads}
 use Rattle.py_stream.proofs.ReadingOn.{comes_front}
 use Rattle.py_stream.proofs.SingleReading.{reads_once, asks_for, moves_by, answers_once, unready_once, faulted_once, unmoved_once}
-use Rattle.py_stream.specs.declared.access.Access.TheVariants as access
-use Rattle.py_stream.specs.Access.{can_of}
-use Rattle.py_unbuffered.specs.Engine.{EngineView, stream_of, BeginOutcome, TransferOutcome}
-use Rattle.py_unbuffered.proofs.Begun.{bufferless, Stands, is_placed, begun_live}
+use Rattle.py_unbuffered.specs.Engine.{EngineView, stream_of, TransferOutcome}
+use Rattle.py_unbuffered.proofs.Begun.{bufferless}
 use Rattle.py_unbuffered.proofs.Steps.{keeps_reading}
 
 -- Readings by one transfer.

@@ -16,7 +16,8 @@ use Rattle.py_stream.specs.Reading.{KeepsReading, ComesNext, FailsReading, Fails
 use Rattle.py_stream.proofs.ReadingSteps.{next_behind, next_reaches, keeps_then as keeps_then_reading}
 use Rattle.py_unbuffered.specs.Engine.{EngineView, stream_of, IsEngine, KeepsEngine, Waits, Fails, StarvesWith, Brings, TransferOutcome, FillsWith, FillOutcome}
 use Rattle.py_unbuffered.proofs.Begun.{bufferless}
-use Rattle.py_unbuffered.proofs.Steps.{keeps_self, keeps_then, keeps_failed, keeps_reading, no_fault_then, no_wait_then, uncounted, uncounted_then, answers_none, answers_none_then}
+use Rattle.py_raw.proofs.ReadingOn.{no_fault_then, no_wait_then, uncounted_then}
+use Rattle.py_unbuffered.proofs.Steps.{keeps_self, keeps_then, keeps_failed, keeps_reading, uncounted, answers_none, answers_none_then}
 
 -- a reading has taken a part, at least one byte by each transfer, the last too: told, the next ones; it began live, where its raw stood
 pub record Took (old : EngineView) (part : List ℕ) (now : EngineView) : Type 0 where
@@ -58,7 +59,7 @@ module _ (old now : EngineView) (part : List ℕ) (took : Took old part now) whe
         began = took.began;
         stands = took.stands;
         kept = keeps_then old now new took.kept brings.kept;
-        counts = uncounted_then old now new took.kept took.counts brings.counts;
+        counts = uncounted_then old.raw now.raw new.raw took.kept.raw took.counts brings.counts;
         answered = answers_none_then old now new 0 took.kept took.answered brings.answered;
         live = brings.live;
         place = omega (arith, took.place, brings.place, long);
@@ -106,7 +107,7 @@ module _ (old now : EngineView) (part : List ℕ) (took : Took old part now) whe
   fails_after new fails = record {
     kept = keeps_on new fails.kept fails.bytes fails.answered;
     cause = omega (arith, took.kept.raw.faults, fails.cause);
-    no_wait = no_wait_then old now new took.kept took.counts.no_wait fails.no_wait;
+    no_wait = no_wait_then old.raw now.raw new.raw took.kept.raw took.counts.no_wait fails.no_wait;
     failed = fails.failed;
     forth = omega (arith, fails.place, took.place);
     reach = next_reaches (stream_of old) (stream_of new) part (fails.place ∙ took.place) took.told;

@@ -1,7 +1,7 @@
 -- What stays of an engine from step to step.
 use Rattle.std.proofs.Common.{◌≡◌, ℕ, ap, ◌∙◌, arith}
 use Rattle.py_flat.specs.declared.life.Life.TheVariants as life
-use Rattle.py_raw.specs.RawStream.{Raw, NoFault, NoWait, LeavesCounts, AnswersFor, KeepsBytes}
+use Rattle.py_raw.specs.RawStream.{Raw, LeavesCounts, AnswersFor, KeepsBytes}
 use Rattle.py_raw.proofs.Telling.{keeps_same}
 use Rattle.py_raw.proofs.ReadingOn.{Keeps-then}
 use Rattle.py_stream.specs.Reading.{KeepsReading}
@@ -31,18 +31,6 @@ can_stays old new kept = ap (λ (opened : Access). can_of opened new.raw.seekabl
 -- a step that leaves the bytes, and answers for none, is one of a reading
 pub keeps_reading : (old new : EngineView) → KeepsEngine old new → KeepsBytes old.raw new.raw → AnswersFor 0 old.raw new.raw → KeepsReading (stream_of old) (stream_of new)
 keeps_reading old new kept bytes answered = grind (arith, can_stays, is_near)
-
--- what two steps leave uncounted
-pub no_fault_then : (old mid new : EngineView) → KeepsEngine old mid → NoFault old.raw mid.raw → NoFault mid.raw new.raw → NoFault old.raw new.raw
-no_fault_then old mid new kept first second exact = second (kept.raw.counts_exactly ∙ exact) ∙ first exact
-
--- two steps count no wait where neither of them did
-pub no_wait_then : (old mid new : EngineView) → KeepsEngine old mid → NoWait old.raw mid.raw → NoWait mid.raw new.raw → NoWait old.raw new.raw
-no_wait_then old mid new kept first second exact = second (kept.raw.counts_exactly ∙ exact) ∙ first exact
-
--- two steps count neither fault nor wait where neither step did
-pub uncounted_then : (old mid new : EngineView) → KeepsEngine old mid → LeavesCounts old.raw mid.raw → LeavesCounts mid.raw new.raw → LeavesCounts old.raw new.raw
-uncounted_then old mid new kept first second = grind (arith, no_fault_then, no_wait_then)
 
 -- a raw that isn't called counts nothing
 pub uncounted : (old new : Raw) → new ≡ old → LeavesCounts old new

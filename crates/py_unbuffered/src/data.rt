@@ -64,20 +64,20 @@ impl<R: RawStream> UnbufferedData<R> {
         self.live.begin()
     }
 
-    /// Memory was wanting: the stream fails where bytes had moved in this call.
-    fn starve(&mut self, moved: bool) -> IoFault
-        ensures fault { result ≡ IoFault.NoMemory }
-        ensures stream { StarvesWith moved self.old self.new }
-    {
-        self.live.starve(moved)
-    }
-
     /// Whether the stream reads; else it writes.
     fn reads(&self) -> bool
         ensures readable { result ≡ (can_of self.now.access self.now.raw.seekable).readable }
         ensures writable { not result ≡ (can_of self.now.access self.now.raw.seekable).writable }
     {
         self.live.reads()
+    }
+
+    /// Memory was wanting: the stream fails where bytes had moved in this call.
+    fn starve(&mut self, moved: bool) -> IoFault
+        ensures fault { result ≡ IoFault.NoMemory }
+        ensures stream { StarvesWith moved self.old self.new }
+    {
+        self.live.starve(moved)
     }
 
     /// One transfer into a buffer, of no byte past the greatest place. `moved` tells whether bytes had moved in this call.

@@ -1,11 +1,11 @@
-use Rattle.std.proofs.Common.{ℤ, true, false, Ok, Err, refl, sym, ap, ◌∙◌, subst, subst₂, to_z-of_z}
+use Rattle.std.proofs.Common.{ℤ, Ok, Err, refl, sym, ap, subst, subst₂, to_z-of_z}
 use Rattle.std.proofs.lemmas.Result.{err_from_is_err_and}
 use Rattle.py_flat.specs.Calls.{Seek}
 use Rattle.py_stream.specs.Moving.{TargetOutcome}
 use Rattle.py_stream.proofs.Alone.{begins_in_vain}
 use Rattle.py_stream.proofs.Going.{seek_finds_nothing}
 use Rattle.py_stream.proofs.Movable.{seeks_on, seeks_not}
-use Rattle.py_engine.specs.Engine.{EngineView, stream_of, Stands}
+use Rattle.py_engine.specs.Engine.{stream_of, Stands}
 use Rattle.py_engine.proofs.Standing.{is_placed, is_sound}
 use Rattle.py_engine.proofs.Calls.{SeekFinds, begins, seek_found, seeking_stops, seeking_fails, seeking_arrives}
 use Rattle.py_engine.proofs.data.BufferedData.seek.Goals as goal

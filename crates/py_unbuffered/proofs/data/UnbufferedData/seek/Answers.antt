@@ -1,9 +1,9 @@
-use Rattle.std.proofs.Common.{◌≡◌, ℤ, true, false, Ok, Err, refl, sym, ap, ◌∙◌, subst, subst₂, to_z-of_z}
+use Rattle.std.proofs.Common.{ℤ, Ok, Err, refl, ap, subst, subst₂, to_z-of_z}
 use Rattle.std.proofs.lemmas.Result.{err_from_is_err_and}
 use Rattle.py_flat.specs.Calls.{Seek}
 use Rattle.py_stream.specs.Moving.{TargetOutcome}
 use Rattle.py_stream.proofs.Going.{seek_finds_nothing, seek_finds, going_fails, going_answers}
-use Rattle.py_unbuffered.specs.Engine.{EngineView, stream_of}
+use Rattle.py_unbuffered.specs.Engine.{stream_of}
 use Rattle.py_stream.proofs.Movable.{seeks_on, seeks_not}
 use Rattle.py_unbuffered.proofs.Begun.{Stands, begins, begins_in_vain, is_placed, is_sound}
 use Rattle.py_unbuffered.proofs.data.UnbufferedData.seek.Goals as goal

@@ -1,4 +1,4 @@
-use Rattle.std.proofs.Common.{rules, ◌≡◌, ℕ, Bool, true, false, List, Result, Ok, Err, ap, ◌∙◌, subst, sym, arith}
+use Rattle.std.proofs.Common.{rules, ◌≡◌, ℕ, Bool, false, List, Result, Ok, Err, ap, ◌∙◌, subst, sym, arith}
 use Rattle.py_flat.specs.declared.fault.IoFault.{IoFault}
 use Rattle.py_flat.specs.Lines.{joined}
 use Rattle.py_flat.specs.FlatFile.{Abilities}

@@ -3,8 +3,7 @@ use Rattle.py_flat.specs.declared.fault.IoFault.{IoFault}
 use Rattle.py_stream.specs.declared.stop.Stop.{Stop}
 use Rattle.py_stream.specs.Reading.{RestOutcome}
 use Rattle.py_engine.specs.Engine.{EngineView, Stands}
-use Rattle.py_engine.specs.Reading.{reading_of, IsReading}
-use Rattle.py_engine.specs.Reading.{ReadsMore}
+use Rattle.py_engine.specs.Reading.{reading_of, IsReading, ReadsMore}
 use Rattle.py_engine.proofs.ReadingSteps.{all_begins, all_on, all_read, all_refused}
 use Rattle.py_engine.proofs.Reading.{reads_live}
 use Rattle.py_engine.proofs.Seen.{seen_reading}

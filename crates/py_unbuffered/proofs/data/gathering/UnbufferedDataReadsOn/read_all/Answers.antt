@@ -1,4 +1,4 @@
-use Rattle.std.proofs.Common.{◌<◌, ◌∙◌, arith}
+use Rattle.std.proofs.Common.{◌<◌, arith}
 use Rattle.py_unbuffered.specs.Engine.{FillsWith}
 use Rattle.py_unbuffered.proofs.ReadingSteps.{took_none, rest_refused, rest_ends, rest_waits, rest_goes_on}
 use Rattle.py_unbuffered.proofs.data.gathering.UnbufferedDataReadsOn.read_all.Goals as goal
@@ -21,10 +21,7 @@ loop-preserved g c =
     rest_goes_on c.args.self.now c.loop.self c.loop.bytes.items c.in-Some.field-0 c.fill.new.bytes.items c.fill.new.self c.loop.invariant some fills
 
 pub loop-smaller : goal.loop-smaller
-loop-smaller g c =
-    let fills : FillsWith c.loop.self c.loop.bytes.items c.in-Some.field-0 c.fill.new.bytes.items c.fill.new.self = rw c.in-Some.is at c.in_ok-fill.ensures in
-    let some : 0 < c.in-Some.field-0 = grind (arith, c.in-Some.field-0-test) in
-    omega (arith, fills.brings.place, fills.brings.kept.is.far)
+loop-smaller g c = grind (arith)
 
 pub returns-in-None : goal.returns-in-None
 returns-in-None g c = rest_waits c.args.self.now c.loop.self c.loop.bytes.items c.fill.new.bytes.items c.fill.new.self c.loop.invariant (rw c.in-None.is at c.in_ok-fill.ensures)
