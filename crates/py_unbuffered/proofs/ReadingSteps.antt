@@ -165,10 +165,7 @@ room_for_some held came more resized whole chunk none = absurd (omega (arith, ro
 
 -- nothing came any more
 pub rest_ends : (old now : EngineView) (part : List ℕ) (count : ℕ) (bytes : List ℕ) (new : EngineView) → Took old part now → count ≡ 0 → FillsWith now part count bytes new → RestOutcome (stream_of old) (Ok stop.End) bytes (stream_of new)
-rest_ends old now part count bytes new took none fills =
-    let last : Brings now fills.before 0 fills.after new = subst (λ (n : ℕ). Brings now fills.before n fills.after new) none fills.brings in
-    let is : bytes ≡ part = fills.holds ∙ ap (λ (n : ℕ). part ++ take n fills.after) none ∙ append-nil part in
-    subst (λ (xs : List ℕ). RestOutcome (stream_of old) (Ok stop.End) xs (stream_of new)) (sym is) (stops_at_end old now part took fills.before fills.after new last fills.asked)
+rest_ends old now part count bytes new took none fills = grind (arith, append-nil, stops_at_end)
 
 -- the raw would have blocked
 pub rest_waits : (old now : EngineView) (part bytes : List ℕ) (new : EngineView) → Took old part now → FillOutcome now part (Ok None) bytes new → RestOutcome (stream_of old) (Ok stop.Waits) bytes (stream_of new)
