@@ -15,7 +15,9 @@ returns-in_err-begin g c =
     rw (left.1, left.2) (begins_in_vain c.args.self.now c.begin.new.self (Write c.args.bytes.now) c.in_err-begin.field-0.0 (subst Stands c.self.view_is c.self.invariant) refl refl refl refl c.in_err-begin.ensures)
 
 pub returns-then-bytes-self : goal.returns-then-bytes-self
-returns-then-bytes-self g c = grind (arith, too_far_answers)
+returns-then-bytes-self g c =
+    let writing : Writing c.args.self.now c.begin.new.self = record { stands = subst Stands c.self.view_is c.self.invariant; begins = c.in_ok-begin.ensures; reads = sym c.reads.ensures.readable ∙ c.if-reads.false } in
+    too_far_answers c.args.self.now c.begin.new.self (Write c.args.bytes.now) refl writing (omega (arith, ap (λ (engine : EngineView). engine.place) c.self-2.view_is, c.self-2.invariant.far, c.if-bytes-self.true))
 
 pub returns-in_err-count : goal.returns-in_err-count
 returns-in_err-count g c =

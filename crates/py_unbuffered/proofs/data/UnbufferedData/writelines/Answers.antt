@@ -1,4 +1,4 @@
-use Rattle.std.proofs.Common.{arith, ◌≡◌, ℕ, ◌+◌, ◌-◌, ◌≤◌, length, List, Bool, false, Ok, refl, sym, ap, ◌∙◌, subst}
+use Rattle.std.proofs.Common.{◌≡◌, ℕ, ◌+◌, ◌-◌, ◌<◌, ◌≤◌, length, List, Bool, true, false, Ok, refl, sym, ap, ◌∙◌, subst}
 use Rattle.std.proofs.lemmas.Result.{err_from_is_err_and}
 use Rattle.py_flat.specs.declared.fault.IoFault.TheVariants as fault
 use Rattle.py_flat.specs.Limits.{greatest_place}
@@ -18,7 +18,12 @@ returns-in_err-begin g c =
     rw (left.1, left.2) (begins_in_vain c.args.self.now c.begin.new.self (WriteLines c.args.lines.now) c.in_err-begin.field-0.0 (subst Stands c.self.view_is c.self.invariant) refl refl refl refl c.in_err-begin.ensures)
 
 pub returns-then-is_none : goal.returns-then-is_none
-returns-then-is_none g c = grind (arith, too_far_answers, lines_too_far, is_there)
+returns-then-is_none g c =
+    let lines : List (List ℕ) = c.args.lines.now in
+    let writing : Writing c.args.self.now c.begin.new.self = record { stands = subst Stands c.self.view_is c.self.invariant; begins = c.in_ok-begin.ensures; reads = sym c.reads.ensures.readable ∙ c.if-reads.false } in
+    let at : c.self-2.inside.place ≡ c.begin.new.self.place = ap (λ (engine : EngineView). engine.place) c.self-2.view_is in
+    too_far_answers c.args.self.now c.begin.new.self (WriteLines lines) refl writing
+    (subst (λ (start : ℕ). greatest_place < start + length (joined lines)) at (lines_too_far (c.self-2.inside.place + length (joined lines)) c.end_of_lines.result c.end_of_lines.ensures (is_there c.end_of_lines.result c.is_none.result true c.is_none.ensures c.if-is_none.true)))
 
 pub returns-in_err-write_lines : goal.returns-in_err-write_lines
 returns-in_err-write_lines g c =
