@@ -16,7 +16,7 @@ use Rattle.py_flat.specs.BinaryStep.{is_live, Fails, WaitedBy, FaultedBy, Starve
 use Rattle.py_flat.proofs.Laying.{lay_resumes}
 use Rattle.py_raw.specs.RawStream.{NoFault, WhereTold, NoWait, WaitsOnce, AnswersFor}
 use Rattle.py_stream.specs.Stream.{Stream, file_of}
-use Rattle.py_stream.specs.Writing.{OwesUpTo, NoneAtPlace, PassesFront, LaysFront}
+use Rattle.py_stream.specs.Writing.{NoneAtPlace, PassesFront, LaysFront}
 use Rattle.py_stream.specs.Answers.{Answers, KeepsStream, ClosedWith, InHand, IsShort, LifeMoves, PlaceMoves, IsReplyTo}
 use Rattle.py_stream.specs.Keeping.{KeepsOn}
 use Rattle.py_stream.specs.Taking.{Took, FailsTaking, Lacks, PassAllOutcome}

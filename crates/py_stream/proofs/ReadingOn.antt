@@ -24,7 +24,7 @@ use Rattle.py_stream.specs.declared.stop.Stop.TheVariants as stops
 use Rattle.py_stream.specs.Stream.{Stream, file_of}
 use Rattle.py_stream.specs.Kinds.{goes_on, makes_one, has_room, takes_space_first, asks_none, by_several}
 use Rattle.py_stream.proofs.Coming.{came_unread, came_more, each_more}
-use Rattle.py_stream.specs.Answers.{Answers, IsNear, OnlyAsked, CameByReads, EachBrings, ahead}
+use Rattle.py_stream.specs.Answers.{Answers, IsNear, OnlyAsked, EachBrings, ahead}
 use Rattle.py_stream.specs.Reading.{KeepsReading, ComesNext, Gives, StarvesReading, StopOutcome, RestOutcome, has_answer, answered_at, wanted_by, reply_by, GathersEnough, GathersFront, Gathers, IsOpen, WantsHeld, StarvesWanting, GatherOutcome}
 use Rattle.py_stream.proofs.Accepting.{work_reaches}
 use Rattle.py_stream.proofs.Stopping.{starves_alive, starves_there}

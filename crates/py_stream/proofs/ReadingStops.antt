@@ -20,7 +20,7 @@ use Rattle.py_raw.specs.RawStream.{WhereTold, NoWait, WaitsOnce}
 use Rattle.py_raw.proofs.Telling.{keeps_same}
 use Rattle.py_stream.specs.Stream.{Stream, size_of, buffering_of, file_of}
 use Rattle.py_stream.specs.Kinds.{is_reading, reads_on, goes_on, makes_one, has_room, takes_space_first, asks_none, by_several}
-use Rattle.py_stream.proofs.Coming.{came_still, came_more, each_still, each_seen, each_more}
+use Rattle.py_stream.proofs.Coming.{came_more, each_seen, each_more}
 use Rattle.py_stream.specs.Answers.{Answers, CameByReads, EachBrings, IsShort, PlaceMoves, PlaceStarves, MovesForth, moves_most, StarvesTo, GivesWithin, InHandOf, IsWhole, AsksNoMore, OnlyAsked, Unmoved}
 use Rattle.py_stream.specs.Reading.{KeepsReading, OneTransfer, IsNeeded, Gives, FailsReading, FailsMoved, wanted_by, reply_by, GathersEnough, GathersFront, IsOpen, WantsHeld}
 use Rattle.py_stream.proofs.Accepting.{work_reaches}

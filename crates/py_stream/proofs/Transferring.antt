@@ -4,7 +4,7 @@ use Rattle.std.proofs.lemmas.List.{length-append, length-take-le, take-append-le
 use Rattle.py_flat.specs.Limits.{greatest_place}
 use Rattle.py_raw.specs.RawStream.{Raw, WhereTold, ReadBytes, ReadOutcome}
 use Rattle.py_raw.proofs.Telling.{tells_its_bytes}
-use Rattle.py_stream.specs.LiveRaw.{Comes, TransferOutcome}
+use Rattle.py_stream.specs.LiveRaw.{TransferOutcome}
 
 -- where none came into a buffer that isn't empty, the end is reached, or the greatest place
 none_comes : (old new : Raw) (place room : ℕ) (before part : List ℕ) (count : ℕ) → (IsTrue old.tells_bytes → length old.bytes ≤ greatest_place) → room ≤ length before → (room < length before → place + room ≡ greatest_place) → ReadBytes old (take room before) count part new → count ≡ 0 → before ≢ [] → WhereTold old (old.place ≡ place → length old.bytes ≤ place)

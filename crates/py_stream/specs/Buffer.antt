@@ -1,6 +1,6 @@
 -- The one contract of buffered streams for the layer above them: what such a stream shows, over a raw stream or in memory, and what a
 -- call of it may answer and leave.
-use Rattle.std.specs.Prelude.{◌≡◌, ℕ, ◌+◌, ◌-◌, ◌≤◌, ℤ, pos, suc, zero, Bool, true, false, ◌&&◌, IsTrue, List, [], length, take, max, Option, Some, None, Result, Ok, Err, unwrap_or, if◌then◌else◌}
+use Rattle.std.specs.Prelude.{◌≡◌, ℕ, ◌+◌, ◌-◌, ◌≤◌, ℤ, pos, suc, zero, Bool, true, false, ◌&&◌, IsTrue, List, [], length, max, Option, Some, None, Result, Ok, Err, if◌then◌else◌}
 use Rattle.py_flat.specs.declared.fault.IoFault.{IoFault}
 use Rattle.py_flat.specs.declared.fault.IoFault.TheVariants as fault
 use Rattle.py_flat.specs.declared.life.Life.{Life}

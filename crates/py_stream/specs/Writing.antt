@@ -2,7 +2,7 @@
 use Rattle.std.specs.Prelude.{◌≡◌, ◌≢◌, ℕ, ◌+◌, ◌-◌, ◌<◌, ◌≤◌, ◌⊎◌, zero, suc, min, max, false, IsTrue, List, [], ◌∷◌, ◌++◌, length, take, drop, Option, unwrap_or}
 use Rattle.py_flat.specs.declared.fault.IoFault.TheVariants as fault
 use Rattle.py_flat.specs.declared.life.Life.TheVariants as life
-use Rattle.py_flat.specs.Bytes.{left_at, lay, resized}
+use Rattle.py_flat.specs.Bytes.{lay, resized}
 use Rattle.py_flat.specs.Causes.{counted}
 use Rattle.py_flat.specs.Owed.{Owed}
 use Rattle.py_flat.specs.Calls.{FileCall, Write, WriteLines, Seek, Truncate, Flush, Close, Detach, FileReply, Place, Done, Unwritten, Refused}
