@@ -1,11 +1,11 @@
 -- What one transfer of the window makes of an engine.
-use Rattle.std.proofs.Common.{◌≡◌, ◌≢◌, ℕ, ◌+◌, ◌<◌, ◌≤◌, Bool, true, false, List, [], ◌∷◌, length, take, drop, Result, Ok, Err, refl, sym, ap, ◌∙◌, arith}
+use Rattle.std.proofs.Common.{◌≡◌, ◌≢◌, ℕ, ◌<◌, ◌≤◌, Bool, true, List, [], ◌∷◌, length, Result, Ok, Err, refl, sym, ap, arith}
 use Rattle.std.proofs.lemmas.Bool.{eq-eqb}
-use Rattle.std.proofs.lemmas.List.{length-take-le, length-take, length-drop, nil_from_length}
+use Rattle.std.proofs.lemmas.List.{length-drop}
 use Rattle.py_flat.specs.declared.fault.IoFault.{IoFault}
 use Rattle.py_flat.specs.declared.fault.IoFault.TheVariants as fault
 use Rattle.py_flat.specs.declared.life.Life.TheVariants as life
-use Rattle.py_raw.specs.RawStream.{Raw, Keeps, StaysOpen}
+use Rattle.py_raw.specs.RawStream.{Keeps, StaysOpen}
 use Rattle.py_stream.specs.Access.{is_read}
 use Rattle.py_stream.specs.Answers.{CameByReads, EachBrings}
 use Rattle.py_stream.specs.LiveRaw.{LiveView}

@@ -8,7 +8,7 @@ use Rattle.py_flat.specs.Bytes.{left_at}
 use Rattle.py_flat.specs.Causes.{counted}
 use Rattle.py_raw.specs.declared.reads.Reads.{Reads}
 use Rattle.py_raw.specs.Reads.{after_read, BringInAll}
-use Rattle.py_raw.specs.RawStream.{Raw, Keeps, KeepsBytes, WherePlace, NoFault, NoWait, WaitsOnce, LeavesCounts, AnswersFor, AsksToWait, ReadBytes, ReadsBring, ReadsInAll}
+use Rattle.py_raw.specs.RawStream.{Raw, Keeps, KeepsBytes, WherePlace, NoFault, NoWait, WaitsOnce, LeavesCounts, AnswersFor, AsksToWait, ReadBytes}
 use Rattle.py_raw.proofs.Telling.{tells_its_bytes, tells_its_place, tells_still}
 use Rattle.py_raw.specs.ReadAll.{ReadOn, ReadSoFar, CameBy, ReadsAll, ReadAllOutcome}
 
