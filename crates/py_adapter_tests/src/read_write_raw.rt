@@ -1,6 +1,6 @@
 //! Raw streams over readers and writers.
 use crate::fake::{Fake, Holding, Step};
-use py_raw::{RawError, RawStream};
+use py_raw::{RawError, RawStream, Reads};
 use py_raw_files::{Counts, ReadRaw, WriteRaw};
 use std::io::ErrorKind;
 use std::process::Abort;
@@ -9,6 +9,7 @@ use std::process::Abort;
 fn a_reader_waits_and_fails_as_a_file_does(rt: HostRuntime) {
     let fault = Err(RawError::Fault);
     let table = [
+        (Step::Moves(0), Ok(Some(0)), 0, 0),
         (Step::Moves(2), Ok(Some(2)), 0, 0),
         (Step::Moves(9), Ok(Some(3)), 0, 0),
         (Step::Fails(ErrorKind::WouldBlock), Ok(None), 0, 1),
@@ -18,9 +19,14 @@ fn a_reader_waits_and_fails_as_a_file_does(rt: HostRuntime) {
     for (step, answer, faults, waits) in table {
         let mut raw = ReadRaw::new(Fake { step, stands: 0 });
         assert_eq!(rt; raw.readinto(&mut [0; 3]), answer);
+        let mut reads = Reads::default();
+        if let Ok(Some(count)) = answer {
+            reads.count(count);
+        }
         let counts = Counts {
             transfers: 1,
             written: 0,
+            reads,
             faults,
             waits,
         };
@@ -45,6 +51,7 @@ fn a_writer_waits_and_fails_as_a_file_does(rt: HostRuntime) {
         let counts = Counts {
             transfers: 1,
             written,
+            reads: Reads::default(),
             faults,
             waits,
         };
