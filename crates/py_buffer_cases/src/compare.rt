@@ -1,5 +1,7 @@
 //! One descriptor beside the plain walk.
+ghost use Rattle.std.specs.Prelude.{IsTrue};
 ghost use Rattle.py_buffer.specs.Descriptor.{IsValid};
+ghost use Rattle.py_buffer.specs.Position.{AreIndices};
 
 use crate::plain;
 use crate::sweep::Tally;
@@ -57,7 +59,34 @@ fn compare_calls(descriptor: &BufferDescriptor, joined: bool) -> bool
     !told && called == bytes && !apart && stopped == has_some && calls == usize::from(has_some)
 }
 
-/// Compares the position of each item, its last index counted from the front and from the end, and of one past the end.
+/// Whether there is an index for each dimension, and each lies below its shape.
+fn are_indices(indices: &[usize], dimensions: &[(usize, isize, isize)]) -> bool
+    ensures { IsTrue result → AreIndices indices.now dimensions.now }
+{
+    let mut indices = indices;
+    let mut dimensions = dimensions;
+    while let (Some((index, others)), Some((dimension, rest))) = (
+        indices.split_first(),
+        dimensions.split_first(),
+    ) {
+        if *index >= dimension.0 {
+            return false;
+        }
+        indices = others;
+        dimensions = rest;
+    }
+    indices.is_empty() && dimensions.is_empty()
+}
+
+/// Compares the position of one item by indices that are known to be in bounds.
+fn compare_fast(descriptor: &BufferDescriptor, indices: &[usize], position: isize) -> bool
+    requires { IsValid descriptor.now }
+{
+    are_indices(indices, descriptor.dim_desc.as_slice())
+        && descriptor.fast_position(indices) == position
+}
+
+/// Compares the position of each item, its indices counted from the front, checked and unchecked, and from the end.
 fn compare_positions(
     alloc: Global,
     descriptor: &BufferDescriptor,
@@ -69,23 +98,27 @@ fn compare_positions(
     let dimensions = descriptor.dim_desc.as_slice();
     for (number, position) in positions.iter().enumerate() {
         let mut left = number;
+        let mut places = Vec::new(alloc);
         let mut indices = Vec::new(alloc);
         let mut ends = Vec::new(alloc);
         for (shape, _, _) in dimensions.iter().rev() {
             let index = left.checked_rem(*shape).unwrap_or(0);
             left = left.checked_div(*shape).unwrap_or(0);
+            places.push(index)?;
             let index = isize::try_from(index).unwrap_or(0);
             indices.push(index)?;
             ends.push(index.wrapping_sub(isize::try_from(*shape).unwrap_or(0)))?;
         }
+        places.as_mut_slice().reverse();
         indices.as_mut_slice().reverse();
         ends.as_mut_slice().reverse();
         if indices.len() != dimensions.len() || ends.len() != dimensions.len() {
             return Ok(false);
         }
-        tally.positions = tally.positions.saturating_add(2);
+        tally.positions = tally.positions.saturating_add(3);
         if descriptor.position(indices.as_slice()) != Ok(*position)
             || descriptor.position(ends.as_slice()) != Ok(*position)
+            || !compare_fast(descriptor, places.as_slice(), *position)
         {
             return Ok(false);
         }

@@ -1,7 +1,7 @@
 //! Tries descriptors and buffers, and prints what came; `stdout` has what must come (docs/TESTS.md).
 //!
-//! First come worked examples, then every descriptor of up to three dimensions with shapes 0 to 3 and strides -4 to 4,
-//! compared with a plain walk over its items.
+//! First come worked examples, then every descriptor of up to three dimensions with shapes 0 to 3 and strides -4 to 4, and
+//! with shapes 0 to 2, strides -1 to 2 and suboffsets 0 to 2, compared with a plain walk over its items.
 #![tactic(auto)]
 
 mod compare;
@@ -11,6 +11,7 @@ mod plain;
 mod sweep;
 
 use anyhow::Result;
+use sweep::Kind;
 
 fn main(rt: HostRuntime) -> Result<()> {
     examples::print_segments(&rt)?;
@@ -19,10 +20,12 @@ fn main(rt: HostRuntime) -> Result<()> {
     examples::print_owned(&rt)?;
     examples::print_matrix(&rt)?;
     examples::print_arguments(&rt)?;
-    for itemsize in 1..3 {
-        for dimensions in 1..4 {
-            let tally = sweep::sweep(rt.alloc(), itemsize, dimensions)?;
-            tally.print(&rt, itemsize, dimensions)?;
+    for kind in [Kind::Strides, Kind::Suboffsets] {
+        for itemsize in 1..3 {
+            for dimensions in 1..4 {
+                let tally = sweep::sweep(rt.alloc(), kind, itemsize, dimensions)?;
+                tally.print(&rt, kind, itemsize, dimensions)?;
+            }
         }
     }
     Ok(())

@@ -5,6 +5,37 @@ use py_buffer::BufferDescriptor;
 use std::alloc::{AllocError, Global};
 use std::io;
 
+/// Which dimensions are tried: 36 of each kind.
+#[derive(Clone, Copy, Drop)]
+pub(crate) enum Kind {
+    /// Shapes 0 to 3 and strides -4 to 4, without a suboffset.
+    Strides,
+    /// Shapes 0 to 2, strides -1 to 2 and suboffsets 0 to 2.
+    Suboffsets,
+}
+
+impl Kind {
+    /// What the program prints of it.
+    fn name(self) -> &'static str {
+        match self {
+            Kind::Strides => "no suboffsets",
+            Kind::Suboffsets => "suboffsets",
+        }
+    }
+
+    /// The dimension of a number below 36: its shape, its stride and its suboffset.
+    fn dimension(self, number: usize) -> (usize, isize, isize) {
+        match self {
+            Kind::Strides => (number % 4, (number / 4) as isize - 4, 0),
+            Kind::Suboffsets => (
+                number % 3,
+                (number / 3 % 4) as isize - 1,
+                (number / 12) as isize,
+            ),
+        }
+    }
+}
+
 /// What was tried, and how much of it was which. A count stands still at its type's end.
 #[derive(Drop)]
 pub(crate) struct Tally {
@@ -38,11 +69,13 @@ impl Tally {
     pub(crate) fn print(
         &self,
         rt: &HostRuntime,
+        kind: Kind,
         itemsize: usize,
         dimensions: usize,
     ) -> io::Result<()> {
         println!(rt;
-            "items of {itemsize}, dimensions {dimensions}: {} descriptors",
+            "{}, items of {itemsize}, dimensions {dimensions}: {} descriptors",
+            kind.name(),
             self.tried
         )?;
         println!(rt;
@@ -61,9 +94,10 @@ impl Tally {
     }
 }
 
-/// The descriptor of a number: each dimension is a digit to the base 36, its shape and its stride.
+/// The descriptor of a number: each dimension is a digit to the base 36.
 fn descriptor(
     alloc: Global,
+    kind: Kind,
     itemsize: usize,
     dimensions: usize,
     number: usize,
@@ -72,12 +106,10 @@ fn descriptor(
     let mut len = itemsize;
     let mut left = number;
     for _ in 0..dimensions {
-        let digit = left % 36;
+        let dimension = kind.dimension(left % 36);
         left /= 36;
-        let shape = digit % 4;
-        let stride = (digit / 4) as isize - 4;
-        len = len.wrapping_mul(shape);
-        dim_desc.push((shape, stride, 0))?;
+        len = len.wrapping_mul(dimension.0);
+        dim_desc.push(dimension)?;
     }
     Ok(BufferDescriptor {
         len,
@@ -91,6 +123,7 @@ fn descriptor(
 /// Tries all descriptors of so many dimensions and items of this many bytes.
 pub(crate) fn sweep(
     alloc: Global,
+    kind: Kind,
     itemsize: usize,
     dimensions: usize,
 ) -> Result<Tally, AllocError> {
@@ -101,7 +134,7 @@ pub(crate) fn sweep(
     }
     for number in 0..count {
         tally.tried = tally.tried.saturating_add(1);
-        match descriptor(alloc, itemsize, dimensions, number)?.validate() {
+        match descriptor(alloc, kind, itemsize, dimensions, number)?.validate() {
             None => tally.refused = tally.refused.saturating_add(1),
             Some(descriptor) => {
                 if !compare::agrees(alloc, &descriptor, &mut tally)? {
