@@ -7,6 +7,8 @@
 #[cfg(test)]
 mod buffered;
 #[cfg(test)]
+mod buffers;
+#[cfg(test)]
 mod callers;
 #[cfg(test)]
 mod codecs;
