@@ -94,12 +94,6 @@ LendsBytes (Some why) bytes result = result ≡ Err why
 LendsBytes None bytes (Ok lent) = lent.now ≡ bytes
 LendsBytes None bytes (Err why) = ⊥
 
--- the bytes that an export lends to be written are the flat bytes
-abbrev pub LendsBytesMut : Option IoFault → List ℕ → Result (MutBor (List ℕ)) IoFault → Type 0
-LendsBytesMut (Some why) bytes result = result ≡ Err why
-LendsBytesMut None bytes (Ok lent) = lent.now ≡ bytes
-LendsBytesMut None bytes (Err why) = ⊥
-
 -- a stream with these bytes in place of its own, which keep their number: more are cut, and of fewer the old ones behind stay
 abbrev pub with_bytes : BytesView → List ℕ → BytesView
 with_bytes view bytes = record view { file = record view.file { bytes = take (length view.file.bytes) (bytes ++ drop (length bytes) view.file.bytes) } }

@@ -6,6 +6,7 @@ ghost use Rattle.py_memio.specs.BytesIO.{no_exports, is_lent};
 
 mod as_buffer;
 mod exports;
+mod lent;
 mod moving;
 mod reading;
 mod resizing;
@@ -13,6 +14,7 @@ mod writing;
 
 use crate::standing::check_open;
 use py_flat::IoFault;
+pub use lent::LentBytes;
 pub use resizing::Resizable;
 use std::alloc::Global;
 use std::marker::Model;

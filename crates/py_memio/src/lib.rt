@@ -11,7 +11,7 @@ mod laws;
 mod standing;
 mod string_io;
 
-pub use bytes_io::{BytesIO, Resizable};
+pub use bytes_io::{BytesIO, LentBytes, Resizable};
 pub use export::Export;
 pub use laws::lent_bytes_keep_their_number;
 pub use py_flat::{Data, IoFault, Life, Lines};

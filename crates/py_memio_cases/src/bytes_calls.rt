@@ -66,8 +66,7 @@ fn lines_of(alloc: Global, words: &str) -> Result<Lines> {
 
 /// Writes the letter z over all bytes that an export lends.
 fn fill(stream: &mut BytesIO, export: Export) -> Result<(), IoFault> {
-    let bytes = stream.export_bytes_mut(export)?;
-    bytes.fill(b'z');
+    stream.export_bytes_mut(export)?.as_mut_slice().fill(b'z');
     Ok(())
 }
 

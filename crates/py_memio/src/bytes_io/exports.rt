@@ -1,7 +1,7 @@
 //! Bytes that are lent out, under numbers.
 ghost use Rattle.std.specs.Borrow.{sem};
 ghost use Rattle.std.specs.Prelude.{◌≡◌, false, position, nat_eq, IfOk};
-ghost use Rattle.py_memio.specs.BytesIO.{is_out, export_refusal, use_refusal, GivesExport, LendsBytes, LendsBytesMut, Releases, PlaceOutcome};
+ghost use Rattle.py_memio.specs.BytesIO.{is_out, export_refusal, use_refusal, GivesExport, LendsBytes, Releases, PlaceOutcome};
 ghost use Rattle.py_memio.specs.Lending.{WritesThrough};
 
 use super::BytesIO;
@@ -31,15 +31,7 @@ impl BytesIO {
         ensures { LendsBytes (use_refusal self.now export.0) self.now.file.bytes result }
     {
         self.place_of(export)?;
-        Ok(self.bytes.as_slice())
-    }
-
-    /// The bytes that an export lends, to be written; they keep their number. `BadArgument`: that number isn't out. It takes no memory.
-    pub fn export_bytes_mut(&mut self, export: Export) -> Result<&mut [u8], IoFault>
-        ensures { LendsBytesMut (use_refusal self.old export.0) self.old.file.bytes result }
-    {
-        self.place_of(export)?;
-        Ok(self.bytes_mut())
+        Ok(self.lent_bytes())
     }
 
     /// Takes an export back: its number is out no more. `BadArgument`: it isn't out. It takes no memory.
@@ -53,15 +45,22 @@ impl BytesIO {
     }
 
     /// All bytes, to be written; they keep their number.
-    fn bytes_mut(&mut self) -> &mut [u8]
+    pub(super) fn bytes_mut(&mut self) -> &mut [u8]
         ensures* writes_back { sem 𝓛 (WritesThrough self.entry result) }
         ensures value { result.now ≡ self.old.file.bytes }
     {
         self.bytes.as_mut_slice()
     }
 
+    /// All bytes, lent.
+    pub(super) fn lent_bytes(&self) -> &[u8]
+        ensures { result.now ≡ self.now.file.bytes }
+    {
+        self.bytes.as_slice()
+    }
+
     /// Where the number of an export stands among those that are out; a closed stream has none out.
-    fn place_of(&self, export: Export) -> Result<usize, IoFault>
+    pub(super) fn place_of(&self, export: Export) -> Result<usize, IoFault>
         ensures { PlaceOutcome (use_refusal self.now export.0) self.now.exports.out export.0 result }
     {
         self.check_open()?;
