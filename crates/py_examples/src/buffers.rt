@@ -53,7 +53,7 @@ fn front_columns_of_a_matrix_are_joined(rt: HostRuntime) -> Result<(), Fail> {
 /// Writes a mark over the first byte of a stream. Its bytes are lent out for as long, so that nothing may change how many there are.
 fn mark_first(stream: &mut BytesIO, mark: u8) -> Result<(), IoFault> {
     let export = stream.getbuffer()?;
-    if let Some(first) = stream.export_bytes_mut(export)?.first_mut() {
+    if let Some(first) = stream.export_bytes_mut(export)?.as_mut_slice().first_mut() {
         *first = mark;
     }
     stream.release(export)

@@ -101,7 +101,7 @@ close_calmly true items place was far =
 close_calmly false items place was far =
     calmly_by false false true items items place place was was Close Done refl refl refl (λ twice. absurd (cc)) refl (record { life_is = refl; place = refl; far = far; within = tt }) tt (tt, tt) (settled refl) (λ reads. absurd (cc)) (lays_none _ _ _ _) (λ live. record { none = refl; holds = λ told. refl }) tt
 
--- Want of memory.
+-- Running out of memory.
 
 read_starves : (lent : Bool) (items : List ℕ) (place was : ℕ) (size : Option ℕ) → place ≤ greatest_place → Calmly (file_in_memory items place false) lent was (Read1 size) (Refused fault.NoMemory) (file_in_memory items place false) was
 read_starves lent items place was size far =

@@ -70,7 +70,7 @@ export_refusal view = or_else (life_fault view.file.life) (refused_if (nat_lt gr
 abbrev pub exported : BytesView → BytesView
 exported view = record view { exports = record { out = view.exports.out ++ (view.exports.next ∷ []); next = view.exports.next + 1 } }
 
--- a new export has the next number; refused, or for want of memory, there is none, and all is as before
+-- a new export has the next number; refused, or out of memory, there is none, and all is as before
 abbrev pub GivesExport : Option IoFault → BytesView → Result Export IoFault → BytesView → Type 0
 GivesExport (Some why) before result after = (result ≡ Err why) × (after ≡ before)
 GivesExport None before (Ok export) after = (export.0 ≡ before.exports.next) × (after ≡ exported before)
@@ -145,7 +145,7 @@ as_buffer view = buffer_with view.file (is_lent view) view.taken
 
 -- The whole.
 
--- all bytes, or want of memory
+-- all bytes, or out of memory
 abbrev pub GivesAll : Option IoFault → List ℕ → Result (Vec ℕ Global) IoFault → Type 0
 GivesAll (Some why) bytes result = result ≡ Err why
 GivesAll None bytes (Ok given) = given.items ≡ bytes

@@ -39,7 +39,7 @@ may_lack_memory (Write items) = true
 may_lack_memory (WriteLines lines) = true
 may_lack_memory call = false
 
--- what an accepted call answers and leaves: the exact reply and the exact next file, or want of memory with all as before
+-- what an accepted call answers and leaves: the exact reply and the exact next file, or out of memory with all as before
 abbrev pub CarriedOutInMemory : FlatFile → FileCall → FileReply → FlatFile → Type 0
 CarriedOutInMemory before call (Refused why) after = IsTrue (may_lack_memory call) × (why ≡ fault.NoMemory) × (after ≡ before)
 CarriedOutInMemory before call reply after = (reply, after) ≡ carried_out before call

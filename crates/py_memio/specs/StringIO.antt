@@ -15,7 +15,7 @@ abbrev pub text_reply : Result (String Global) IoFault → FileReply
 text_reply (Ok text) = Bytes (characters_of text)
 text_reply (Err why) = Refused why
 
--- a text of all characters, or want of memory
+-- a text of all characters, or out of memory
 abbrev pub GivesText : Option IoFault → List ℕ → Result (String Global) IoFault → Type 0
 GivesText (Some why) characters result = result ≡ Err why
 GivesText None characters (Ok text) = characters_of text ≡ characters

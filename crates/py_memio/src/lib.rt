@@ -1,6 +1,6 @@
 //! Streams in memory: `BytesIO` over bytes, with exports of them, and `StringIO` over characters.
 //!
-//! Each call is the exact step of the flat file: nothing waits, and nothing fails but for want of memory, which leaves all as it was.
+//! Each call is the exact step of the flat file: nothing waits, and nothing fails but by running out of memory, which leaves all as it was.
 //! Where bytes are lent out their number stays, and what would change it is refused.
 #![tactic(auto)]
 

@@ -3,7 +3,7 @@ use Rattle.std.specs.Prelude.{◌≡◌, ℕ, zero, suc, ◌≤◌}
 use Rattle.py_flat.specs.Causes.{counted}
 use Rattle.py_raw.specs.declared.reads.Reads.{Reads}
 
--- before the first read
+-- what reads brought before the first one: nothing
 abbrev pub no_reads : Reads
 no_reads = record { brought = 0; empty = 0; last = 0 }
 

@@ -111,7 +111,7 @@ abbrev pub StarvesTo : Bool → Life → Life → Type 0
 StarvesTo true before after = (after ≡ before) ⊎ (after ≡ life.Failed)
 StarvesTo false before after = after ≡ before
 
--- the life after an answer: closed by a close, detached by a detach, failed by a fault or by want of memory, else as it was
+-- the life after an answer: closed by a close, detached by a detach, failed by a fault or by running out of memory, else as it was
 abbrev pub LifeMoves : Option ℕ → FileCall → FileReply → Life → Life → Type 0
 LifeMoves buffer Close Done before after = after ≡ life.Closed
 LifeMoves buffer Close (Refused fault.RawFault) before after = after ≡ life.Closed
@@ -135,7 +135,7 @@ moves_most (Write bytes) = Some (length bytes)
 moves_most (WriteLines lines) = Some (length (joined lines))
 moves_most call = None
 
--- the place moved forth, by no more than that
+-- the place moved forth, where there is a bound by no more than that
 abbrev pub MovesForth : Option ℕ → ℕ → ℕ → Type 0
 MovesForth None before after = before ≤ after
 MovesForth (Some most) before after = (before ≤ after) × (after ≤ before + most)

@@ -319,7 +319,7 @@ pub record FailsAtEnd (before after : Buffer) : Type 0 where
   pub life_is : after.life ≡ life.Failed
   pub cause : Rose before.faults after.faults
 
--- an accepted `end`: the end, a fault of the raw, or want of memory, of a stream that takes some
+-- an accepted `end`: the end, a fault of the raw, or out of memory, of a stream that takes some
 abbrev pub EndsAt : Buffer → Result ℕ IoFault → Buffer → Type 0
 EndsAt before (Ok end) after = SaysEnd before end after
 EndsAt before (Err fault.RawFault) after = FailsAtEnd before after

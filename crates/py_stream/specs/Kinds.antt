@@ -22,7 +22,7 @@ pub record Profile : Type 0 where
   pub unready : Bool
   pub outlasts : Bool
 
--- a call of which nothing of that is so
+-- a profile of which no field is so
 abbrev pub plain : Profile
 plain = record { gives = false; takes = false; many = false; one = false; space_first = false; room = false; none = false; idle = false; passes = false; unready = false; outlasts = false }
 

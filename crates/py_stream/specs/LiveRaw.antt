@@ -45,7 +45,7 @@ abbrev pub life_after : RawError → Bool → Life → Life
 life_after raw_error.Fault moved current = life.Failed
 life_after raw_error.Memory moved current = starved moved current
 
--- a call of the raw, and the stream's life after an answer, after a fault and after want of memory; all else is as it was
+-- a call of the raw, and the stream's life after an answer, after a fault and after running out of memory; all else is as it was
 abbrev pub Calls : {A : Type 0} → (Result A RawError → Raw → Type 0) → (on_answer on_fault on_lack : Life) → LiveView → Result A IoFault → LiveView → Type 0
 Calls Outcome on_answer on_fault on_lack old (Ok answer) new = Outcome (Ok answer) new.raw × (new ≡ record old { raw = new.raw; life = on_answer })
 Calls Outcome on_answer on_fault on_lack old (Err fault.RawFault) new = Outcome (Err raw_error.Fault) new.raw × (new ≡ record old { raw = new.raw; life = on_fault })
