@@ -1,5 +1,5 @@
 -- A reader and a writer that go as one stream.
-use Rattle.std.specs.Prelude.{◌≡◌, ℕ, ◌⊎◌, false, Option, Some, None, Result, Ok, Err}
+use Rattle.std.specs.Prelude.{◌≡◌, ℕ, ◌⊎◌, Bool, true, false, IsTrue, Option, Some, None, Result, Ok, Err}
 use Rattle.py_flat.specs.declared.fault.IoFault.{IoFault}
 use Rattle.py_flat.specs.declared.fault.IoFault.TheVariants as fault
 use Rattle.py_flat.specs.Calls.{Close}
@@ -45,18 +45,29 @@ PairOutcome reads writes reader writer size (Err refused) = RefusesReader (reads
 
 -- Closing.
 
--- the reader is closed after the writer, unless that had to wait; of two faults the first is answered
-abbrev pub ClosesReader : Result (Unit {0}) IoFault → Stream → Result (Unit {0}) IoFault → Stream → Type 0
-ClosesReader (Ok done) before result after = Answers before Close (done_reply result) after
-ClosesReader (Err (fault.WouldBlock taken)) before result after = (result ≡ Err (fault.WouldBlock taken)) × (after ≡ before)
-ClosesReader (Err why) before result after = (second : Result (Unit {0}) IoFault) × Answers before Close (done_reply second) after × (result ≡ Err why)
+-- whether a close had to wait
+abbrev pub had_to_wait : Result (Unit {0}) IoFault → Bool
+had_to_wait (Err (fault.WouldBlock taken)) = true
+had_to_wait result = false
 
--- the writer is closed first
+-- of two faults the first is answered
+abbrev pub first_fault : (first second : Result (Unit {0}) IoFault) → Result (Unit {0}) IoFault
+first_fault (Ok done) second = second
+first_fault (Err why) second = Err why
+
+-- a reader is closed
+pub record ClosesReader (first : Result (Unit {0}) IoFault) (before : Stream) (result : Result (Unit {0}) IoFault) (after : Stream) : Type 0 where
+  pub second : Result (Unit {0}) IoFault
+  pub reader : Answers before Close (done_reply second) after
+  pub answer : result ≡ first_fault first second
+
+-- the writer is closed first, and then the reader, unless the writer had to wait: then the reader is as it was
 pub record ClosesBoth (old : PairView) (result : Result (Unit {0}) IoFault) (new : PairView) : Type 0 where
   pub first : Result (Unit {0}) IoFault
   pub writer : Answers old.writer.stream Close (done_reply first) new.writer.stream
   pub taken : new.writer.taken ≡ old.writer.taken
-  pub reader : ClosesReader first old.reader result new.reader
+  pub waits : IsTrue (had_to_wait first) → (result ≡ first) × (new.reader ≡ old.reader)
+  pub closes : had_to_wait first ≡ false → ClosesReader first old.reader result new.reader
 
 -- Handing back.
 

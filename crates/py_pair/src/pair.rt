@@ -1,14 +1,16 @@
 //! The pair: a reader and a writer, each over a raw stream of its own.
-ghost use Rattle.std.specs.Prelude.{◌≡◌, Some, true, length};
+ghost use Rattle.std.specs.Prelude.{◌≡◌, true, length};
+ghost use types.Logic.{sem};
+ghost use Rattle.std.specs.Io.BufRead.{Rests};
 ghost use Rattle.py_flat.specs.declared.life.Life.TheVariants.{Live};
 ghost use Rattle.py_flat.specs.Lines.{joined};
-ghost use Rattle.py_flat.specs.Calls.{Read, Read1, ReadLine, ReadLines, ReadInto, ReadInto1, Write, WriteLines, Flush};
+ghost use Rattle.py_flat.specs.Calls.{Read, Read1, ReadLine, ReadLines, Peek, ReadInto, ReadInto1, Write, WriteLines, Flush};
 ghost use Rattle.py_flat.specs.ExactStep.{is_closed};
 ghost use Rattle.py_stream.specs.Answers.{Answers};
 ghost use Rattle.py_stream.specs.Opening.{StandsAtStart};
-ghost use Rattle.py_stream.specs.Replies.{bytes_reply, into_reply, CountFits, KeepsBuffer, KeepsUnread, lines_reply, count_reply, done_reply};
+ghost use Rattle.py_stream.specs.Replies.{bytes_reply, into_reply, CountFits, KeepsBuffer, KeepsUnread, lent_reply, lines_reply, count_reply, done_reply};
 ghost use Rattle.py_stream.specs.Taken.{taken_of};
-ghost use Rattle.py_pair.specs.Pair.{PairOutcome, ClosesBoth, HandsBoth};
+ghost use Rattle.py_pair.specs.Pair.{PairOutcome, had_to_wait, first_fault, ClosesBoth, HandsBoth};
 
 use py_buffered::{BufferedReader, BufferedWriter};
 use py_raw::{IoFault, Lines, RawStream};
@@ -44,7 +46,26 @@ fn raw_of<R: RawStream>(reader: BufferedReader<R>) -> R
     }
 }
 
+/// Whether a close had to wait.
+fn had_to_wait(closed: &Result<(), IoFault>) -> bool
+    ensures { result ≡ had_to_wait closed.now }
+{
+    matches!(closed, Err(IoFault::WouldBlock { .. }))
+}
+
+/// Of two faults the first.
+fn first_fault(first: Result<(), IoFault>, second: Result<(), IoFault>) -> Result<(), IoFault>
+    ensures { result ≡ first_fault first second }
+{
+    match first {
+        Ok(()) => second,
+        Err(fault) => Err(fault),
+    }
+}
+
 impl<R: RawStream, W: RawStream> BufferedRWPair<R, W> {
+    ghost use Rattle.py_pair.specs.contracts.pair.BufferedRWPair.{the_row};
+
     /// A reader of the one raw stream and a writer to the other, each from where that stands, with a buffer of `buffer_size` bytes.
     ///
     /// Refused, both raws are handed back: where `BufferedReader::new` refuses the one, which is tried first, the other is as it was; where
@@ -95,6 +116,13 @@ impl<R: RawStream, W: RawStream> BufferedRWPair<R, W> {
         ensures writer { self.new.writer ≡ self.old.writer }
     {
         self.reader.read1(alloc, size)
+    }
+
+    /// `peek` of the reader.
+    pub fn peek(&mut self) -> Result<Option<&[u8]>, IoFault>
+        ensures* { sem 𝓛 (Rests (the_row R.row W.row R.RawStream W.RawStream) self.entry (λ new. Answers self.old.reader Peek (lent_reply result) new.reader × (new.writer ≡ self.old.writer))) }
+    {
+        self.reader.peek()
     }
 
     /// `readinto` of the reader.
@@ -176,11 +204,11 @@ impl<R: RawStream, W: RawStream> BufferedRWPair<R, W> {
         ensures { ClosesBoth self.old result self.new }
     {
         let first = self.writer.close();
-        if let Err(IoFault::WouldBlock { taken }) = first {
-            return Err(IoFault::WouldBlock { taken });
+        if had_to_wait(&first) {
+            return first;
         }
         let second = self.reader.close();
-        first.and(second)
+        first_fault(first, second)
     }
 
     /// Both raws, each with what its stream owes it and the place of that, in every life; `None` of one that was handed back already. It
