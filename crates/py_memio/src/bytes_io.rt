@@ -13,8 +13,8 @@ mod resizing;
 mod writing;
 
 use crate::standing::check_open;
-use py_flat::IoFault;
 pub use lent::LentBytes;
+use py_flat::IoFault;
 pub use resizing::Resizable;
 use std::alloc::Global;
 use std::marker::Model;
