@@ -1,4 +1,4 @@
--- What a buffer ends as, where its bytes were lent to be written. Bytes that are written keep their number.
+-- What a buffer ends as, where its bytes were lent to be written.
 use Rattle.std.specs.Prelude.{ℕ, List, []}
 use Rattle.std.specs.Borrow.{Lends, Array, u8, Fml, MutBor}
 use mir.Syntax.{named}

@@ -8,7 +8,11 @@ use py_buffer::{
 use std::alloc::{AllocError, Global};
 
 /// Two rows of two bytes, the second of which begins three bytes after the first.
-fn two_rows(alloc: Global, shape: usize, len: usize) -> Result<BufferDescriptor, AllocError> {
+pub(crate) fn two_rows(
+    alloc: Global,
+    shape: usize,
+    len: usize,
+) -> Result<BufferDescriptor, AllocError> {
     let mut dim_desc = Vec::new(alloc);
     dim_desc.push((shape, 3, 0))?;
     dim_desc.push((2, 1, 0))?;
@@ -58,7 +62,15 @@ pub(crate) fn print_buffers(rt: &HostRuntime) -> Result<()> {
     let mut bytes = Vec::new(alloc);
     buffer.append_to(&mut bytes)?;
     println!(rt; "appended {:?}", str::from_utf8(&bytes)?)?;
-    println!(rt; "lent {:?}", buffer.as_contiguous())?;
+    println!(rt;
+        "lent {:?}, of all {}",
+        buffer.as_contiguous(),
+        buffer.obj_bytes().len()
+    )?;
+    println!(rt;
+        "rows collected {}",
+        buffer.contiguous_or_collect(alloc, |b| b == b"abde".as_slice())?
+    )?;
     let third = PyBuffer::new(b"abcdef", two_rows(alloc, 3, 6)?);
     println!(rt; "a third row {}", third.is_some())?;
     if let Some(buffer) = PyBuffer::new(b"abc", BufferDescriptor::simple(alloc, 3, true)?) {

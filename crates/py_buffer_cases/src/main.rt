@@ -9,6 +9,7 @@ mod examples;
 mod matrix;
 mod plain;
 mod sweep;
+mod writable;
 
 use anyhow::Result;
 use sweep::Kind;
@@ -20,6 +21,12 @@ fn main(rt: HostRuntime) -> Result<()> {
     examples::print_owned(&rt)?;
     examples::print_matrix(&rt)?;
     examples::print_arguments(&rt)?;
+    writable::print_buffer(&rt)?;
+    writable::print_contiguous(&rt)?;
+    writable::print_refused(&rt)?;
+    writable::print_argument(&rt)?;
+    writable::print_lent(&rt)?;
+    writable::print_owned(&rt)?;
     for kind in [Kind::Strides, Kind::Suboffsets] {
         for itemsize in 1..3 {
             for dimensions in 1..4 {

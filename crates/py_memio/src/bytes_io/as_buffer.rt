@@ -1,5 +1,8 @@
 //! A stream in memory, as a buffered stream.
 ghost use Rattle.std.specs.Prelude.{◌≡◌};
+ghost use Rattle.py_flat.specs.Calls.{Read1, Write, Seek, Flush, Close};
+ghost use Rattle.py_stream.specs.Replies.{bytes_reply, count_reply, place_reply, done_reply};
+ghost use Rattle.py_stream.specs.Buffer.{TellsPlace, AnswersEnd, AnswersAsBuffer};
 ghost use Rattle.py_memio.specs.BytesIO.{as_buffer};
 
 use super::BytesIO;
@@ -10,7 +13,10 @@ use std::alloc::Global;
 impl BufferedStream for BytesIO {
     ghost shows = { as_buffer };
 
-    fn read1(&mut self, alloc: Global, size: Option<usize>) -> Result<Option<Vec<u8>>, IoFault> {
+    fn read1(&mut self, alloc: Global, size: Option<usize>) -> Result<Option<Vec<u8>>, IoFault>
+        ensures answers { AnswersAsBuffer (as_buffer self.old) (Read1 size) (bytes_reply result) (as_buffer self.new) }
+        ensures exports { self.new.exports ≡ self.old.exports }
+    {
         let _ = &self.bytes;
         let given = BytesIO::read1(self, alloc, size);
         let _ = &self.bytes;
@@ -20,38 +26,56 @@ impl BufferedStream for BytesIO {
         }
     }
 
-    fn write(&mut self, bytes: &[u8]) -> Result<usize, IoFault> {
+    fn write(&mut self, bytes: &[u8]) -> Result<usize, IoFault>
+        ensures answers { AnswersAsBuffer (as_buffer self.old) (Write bytes.now) (count_reply result) (as_buffer self.new) }
+        ensures exports { self.new.exports ≡ self.old.exports }
+    {
         let _ = &self.bytes;
         let written = BytesIO::write(self, bytes);
         let _ = &self.bytes;
         written
     }
 
-    fn seek(&mut self, offset: i64, whence: i32) -> Result<u64, IoFault> {
+    fn seek(&mut self, offset: i64, whence: i32) -> Result<u64, IoFault>
+        ensures answers { AnswersAsBuffer (as_buffer self.old) (Seek offset whence) (place_reply result) (as_buffer self.new) }
+        ensures exports { self.new.exports ≡ self.old.exports }
+    {
         let _ = &self.bytes;
         let place = BytesIO::seek(self, offset, whence);
         let _ = &self.bytes;
         place
     }
 
-    fn tell(&mut self) -> Result<u64, IoFault> {
+    fn tell(&mut self) -> Result<u64, IoFault>
+        ensures answers { TellsPlace (as_buffer self.old) result (as_buffer self.new) }
+        ensures exports { self.new.exports ≡ self.old.exports }
+    {
         let _ = &self.bytes;
         BytesIO::tell(self)
     }
 
-    fn end(&mut self) -> Result<u64, IoFault> {
+    fn end(&mut self) -> Result<u64, IoFault>
+        ensures answers { AnswersEnd (as_buffer self.old) result (as_buffer self.new) }
+        ensures exports { self.new.exports ≡ self.old.exports }
+    {
         self.check_open()?;
         Ok(self.bytes.len() as u64)
     }
 
-    fn flush(&mut self) -> Result<(), IoFault> {
+    fn flush(&mut self) -> Result<(), IoFault>
+        ensures answers { AnswersAsBuffer (as_buffer self.old) Flush (done_reply result) (as_buffer self.new) }
+        ensures exports { self.new.exports ≡ self.old.exports }
+    {
         let _ = &self.bytes;
         let done = BytesIO::flush(self);
         let _ = &self.bytes;
         done
     }
 
-    fn close(&mut self) -> Result<(), IoFault> {
+    fn close(&mut self) -> Result<(), IoFault>
+        ensures answers { AnswersAsBuffer (as_buffer self.old) Close (done_reply result) (as_buffer self.new) }
+        ensures exports { self.new.exports ≡ self.old.exports }
+    {
         let _ = &self.bytes;
         let done = BytesIO::close(self);
         let _ = &self.bytes;

@@ -4,7 +4,7 @@ use Rattle.py_stream.specs.Replies.{done_reply}
 use Rattle.py_memio.proofs.AsBuffer.{meets}
 use Rattle.py_memio.proofs.bytes_io.as_buffer.BytesIOBufferedStream.close.Goals as goal
 
-pub returns : goal.returns
-returns c =
+pub returns-clause-answers : goal.returns-clause-answers
+returns-clause-answers c =
     let done = c.close-done.ensures in
     meets c.self.inside.closed c.self-2.inside.closed Close (done_reply c.close-done.result) c.self.view_is c.self-2.view_is c.self.invariant.within c.self-2.invariant.within (omega arith) c.self.invariant.shut refl done.exports done.taken done.answer

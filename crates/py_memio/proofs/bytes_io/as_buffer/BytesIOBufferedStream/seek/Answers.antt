@@ -7,8 +7,8 @@ use Rattle.py_memio.specs.BytesIO.{BytesView, is_lent}
 use Rattle.py_memio.proofs.AsBuffer.{meets}
 use Rattle.py_memio.proofs.bytes_io.as_buffer.BytesIOBufferedStream.seek.Goals as goal
 
-pub returns : goal.returns
-returns c =
+pub returns-clause-answers : goal.returns-clause-answers
+returns-clause-answers c =
     let after : BytesView = c.seek-place.new.self in
     let now : BytesView = c.args.self.now in
     let done = c.seek-place.ensures in
