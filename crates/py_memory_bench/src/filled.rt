@@ -1,5 +1,6 @@
 //! What a stream holds before it is timed.
 
+use crate::task::SHORT;
 use py_memio::{BytesIO, IoFault, StringIO};
 use std::alloc::Global;
 
@@ -24,11 +25,11 @@ pub(crate) fn lines_of_bytes(alloc: Global, count: u32) -> Result<Stream, IoFaul
     Ok(Stream::Bytes(BytesIO::new(alloc, bytes)))
 }
 
-/// A stream of as many lines of a text, at its start.
+/// A stream of as many short lines of a text, at its start.
 pub(crate) fn lines_of_text(alloc: Global, count: u32) -> Result<Stream, IoFault> {
     let mut text = String::new(alloc);
     for _ in 0..count {
-        if text.push_str(LINE).is_err() {
+        if text.push_str(SHORT).is_err() {
             return Err(IoFault::NoMemory);
         }
     }

@@ -3,8 +3,8 @@ use crate::filled::{Stream, lines_of_bytes, lines_of_text};
 use py_memio::{BytesIO, IoFault, StringIO};
 use std::alloc::Global;
 
-/// What a write writes: 10 bytes, which are 10 characters.
-const SHORT: &str = "nine char\n";
+/// What a write writes, and a line of a text: 10 bytes, which are 10 characters.
+pub(crate) const SHORT: &str = "nine char\n";
 
 /// How much a stream is asked for at once by `Pieces`.
 const PIECE: usize = 65536;
@@ -20,7 +20,7 @@ pub(crate) enum Task {
     Pieces,
     /// Short texts are appended, as many as are asked for.
     Appends,
-    /// Lines of a text are read one by one.
+    /// Short lines of a text are read one by one.
     TextLines,
 }
 
