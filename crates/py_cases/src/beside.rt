@@ -67,7 +67,7 @@ struct End<'a> {
     shorts: u64,
 }
 
-/// Makes the calls up to one that a fault answers, and compares what is handed back then.
+/// Makes the calls up to one that a fault answers, and ends the run.
 fn follow(alloc: Global, case: &SessionCase<'_>, opened: Opened) -> Result<Outcome> {
     let mut opened = opened;
     let mut plain = plain_of(alloc, case)?;
@@ -96,6 +96,22 @@ fn follow(alloc: Global, case: &SessionCase<'_>, opened: Opened) -> Result<Outco
             break;
         }
     }
+    settle(alloc, case, opened, plain, end, differs)
+}
+
+/// Ends a run, and compares what is handed back then where nothing differs so far.
+fn settle(
+    alloc: Global,
+    case: &SessionCase<'_>,
+    opened: Opened,
+    plain: Plain,
+    end: End<'_>,
+    differs: Option<String>,
+) -> Result<Outcome> {
+    let mut opened = opened;
+    let mut plain = plain;
+    let mut end = end;
+    let mut differs = differs;
     let is_left = end
         .failed
         .is_none_or(|call| is_left_by_a_fault(alloc, &mut opened, call));
