@@ -1,5 +1,4 @@
 //! Worked examples, whose answers stand in `stdout`.
-use crate::matrix::front_columns;
 use anyhow::{Result, bail};
 use py_buffer::{
     ArgAsciiBuffer, ArgBytesLike, ArgMemoryBuffer, ArgStrOrBytesLike, BufferDescriptor, PyBuffer,
@@ -97,17 +96,6 @@ pub(crate) fn print_owned(rt: &HostRuntime) -> Result<()> {
         }
         Err(_) => println!(rt; "out of memory")?,
     }
-    Ok(())
-}
-
-/// Prints the front columns of a matrix.
-pub(crate) fn print_matrix(rt: &HostRuntime) -> Result<()> {
-    let front = front_columns(rt.alloc(), b"abcdef", 2, 3, 2)?;
-    println!(rt; "front {:?}", str::from_utf8(&front)?)?;
-    println!(rt;
-        "a row outside {:?}",
-        front_columns(rt.alloc(), b"abcde", 3, 3, 2).err()
-    )?;
     Ok(())
 }
 

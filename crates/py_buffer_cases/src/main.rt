@@ -6,7 +6,6 @@
 
 mod compare;
 mod examples;
-mod matrix;
 mod plain;
 mod sweep;
 mod writable;
@@ -19,7 +18,6 @@ fn main(rt: HostRuntime) -> Result<()> {
     examples::print_positions(&rt)?;
     examples::print_buffers(&rt)?;
     examples::print_owned(&rt)?;
-    examples::print_matrix(&rt)?;
     examples::print_arguments(&rt)?;
     writable::print_buffer(&rt)?;
     writable::print_contiguous(&rt)?;

@@ -1,5 +1,6 @@
 -- A reader and a writer that go as one stream.
 use Rattle.std.specs.Prelude.{◌≡◌, ℕ, ◌⊎◌, Bool, true, false, IsTrue, Option, Some, None, Result, Ok, Err}
+use Rattle.std.specs.Result.{result_and}
 use Rattle.py_flat.specs.declared.fault.IoFault.{IoFault}
 use Rattle.py_flat.specs.declared.fault.IoFault.TheVariants as fault
 use Rattle.py_flat.specs.Calls.{Close}
@@ -50,16 +51,11 @@ abbrev pub had_to_wait : Result (Unit {0}) IoFault → Bool
 had_to_wait (Err (fault.WouldBlock taken)) = true
 had_to_wait result = false
 
--- of two faults the first is answered
-abbrev pub first_fault : (first second : Result (Unit {0}) IoFault) → Result (Unit {0}) IoFault
-first_fault (Ok done) second = second
-first_fault (Err why) second = Err why
-
--- a reader is closed
+-- a reader is closed, and of two faults the first is answered
 pub record ClosesReader (first : Result (Unit {0}) IoFault) (before : Stream) (result : Result (Unit {0}) IoFault) (after : Stream) : Type 0 where
   pub second : Result (Unit {0}) IoFault
   pub reader : Answers before Close (done_reply second) after
-  pub answer : result ≡ first_fault first second
+  pub answer : result ≡ result_and first second
 
 -- the writer is closed first, and then the reader, unless the writer had to wait: then the reader is as it was
 pub record ClosesBoth (old : PairView) (result : Result (Unit {0}) IoFault) (new : PairView) : Type 0 where

@@ -10,7 +10,7 @@ ghost use Rattle.py_stream.specs.Answers.{Answers};
 ghost use Rattle.py_stream.specs.Opening.{StandsAtStart};
 ghost use Rattle.py_stream.specs.Replies.{bytes_reply, into_reply, CountFits, KeepsBuffer, KeepsUnread, lent_reply, lines_reply, count_reply, done_reply};
 ghost use Rattle.py_stream.specs.Taken.{taken_of};
-ghost use Rattle.py_pair.specs.Pair.{PairOutcome, had_to_wait, first_fault, ClosesBoth, HandsBoth};
+ghost use Rattle.py_pair.specs.Pair.{PairOutcome, had_to_wait, ClosesBoth, HandsBoth};
 
 use py_buffered::{BufferedReader, BufferedWriter};
 use py_raw::{IoFault, Lines, RawStream};
@@ -26,7 +26,6 @@ pub struct BufferedRWPair<R: RawStream, W: RawStream> {
     writer: BufferedWriter<W>,
 }
 
-// A function's proof knows the invariant where the function uses a field.
 impl<R: RawStream, W: RawStream> Model for BufferedRWPair<R, W> {
     ghost use Rattle.py_pair.specs.Pair.{PairView};
 
@@ -51,16 +50,6 @@ fn had_to_wait(closed: &Result<(), IoFault>) -> bool
     ensures { result ≡ had_to_wait closed.now }
 {
     matches!(closed, Err(IoFault::WouldBlock { .. }))
-}
-
-/// Of two faults the first.
-fn first_fault(first: Result<(), IoFault>, second: Result<(), IoFault>) -> Result<(), IoFault>
-    ensures { result ≡ first_fault first second }
-{
-    match first {
-        Ok(()) => second,
-        Err(fault) => Err(fault),
-    }
 }
 
 impl<R: RawStream, W: RawStream> BufferedRWPair<R, W> {
@@ -208,7 +197,7 @@ impl<R: RawStream, W: RawStream> BufferedRWPair<R, W> {
             return first;
         }
         let second = self.reader.close();
-        first_fault(first, second)
+        first.and(second)
     }
 
     /// Both raws, each with what its stream owes it and the place of that, in every life; `None` of one that was handed back already. It
