@@ -20,8 +20,7 @@ begun first before began = record {
 
 -- a reading of all that is left makes as many transfers as it takes, with a buffer or without one
 pub all_by_several : (buffer : Option ℕ) → by_several buffer (Read None) ≡ true
-all_by_several None = refl
-all_by_several (Some size) = refl
+all_by_several buffer = grind arith
 
 -- how much a hint leaves before the first line
 abbrev left_of : Option ℕ → Option ℕ
@@ -35,9 +34,7 @@ no_lines hint = record { lines = []; part = []; hint = hint; left = left_of hint
 
 -- a hint allows some lines at first
 no_lines_open : (hint : Option ℕ) → LinesAreOpen (no_lines hint)
-no_lines_open None = refl
-no_lines_open (Some zero) = refl
-no_lines_open (Some (suc hint)) = (omega arith, refl)
+no_lines_open hint = grind arith
 
 -- some line is wanted of whatever comes
 pub lines_hold_some : (hint : Option ℕ) (more : List ℕ) → more ≢ [] → joined (lines_within hint more) ≢ []

@@ -1,5 +1,5 @@
 -- What a reading that goes on answers, by where it stopped: of all that is left, of a size, of a line, of lines.
-use Rattle.std.proofs.Common.{◌≡◌, ◌≢◌, ℕ, zero, suc, ◌+◌, ◌<◌, ◌≤◌, ◌⊎◌, inl, inr, Bool, true, false, ◌||◌, IsTrue, List, [], ◌∷◌, ◌++◌, length, take, drop, replicate, Option, Some, None, Result, Ok, Err, refl, sym, ap, ◌∙◌, subst, arith, rules}
+use Rattle.std.proofs.Common.{◌≡◌, ◌≢◌, ℕ, ◌+◌, ◌<◌, ◌≤◌, ◌⊎◌, inl, inr, Bool, true, false, ◌||◌, IsTrue, List, [], ◌∷◌, ◌++◌, length, take, drop, replicate, Option, None, Result, Ok, Err, refl, sym, ap, ◌∙◌, subst, arith, rules}
 use Rattle.std.proofs.lemmas.List.{append-nil, nil_from_length, length-append, length-replicate, take_all, take-take, take-append-drop}
 use Rattle.std.proofs.Math.ListN.{drop_of_length-le}
 use Rattle.std.proofs.Math.Seq.{take-append_seam}
@@ -8,13 +8,10 @@ use Rattle.std.specs.Bool.{◌==◌}
 use Rattle.py_flat.specs.declared.fault.IoFault.{IoFault}
 use Rattle.py_flat.specs.declared.fault.IoFault.TheVariants as fault
 use Rattle.py_flat.specs.declared.life.Life.TheVariants as life
-use Rattle.py_flat.specs.Bytes.{left_at, lay}
 use Rattle.py_flat.specs.Lines.{lines_of, joined}
 use Rattle.py_flat.specs.Causes.{counted}
 use Rattle.py_flat.specs.Calls.{FileCall, Read, ReadLine, ReadLines, NotReady, Refused}
-use Rattle.py_flat.specs.FlatFile.{FlatFile}
-use Rattle.py_flat.specs.ExactStep.{is_closed, rest}
-use Rattle.py_flat.specs.AllowedStep.{out_of_memory}
+use Rattle.py_flat.specs.ExactStep.{rest}
 use Rattle.py_flat.specs.BinaryStep.{IsFrontOf}
 use Rattle.py_lines.specs.Collecting.{LineView, LinesView, line_wanted, lines_wanted}
 use Rattle.py_raw.specs.RawStream.{Raw, WhereTold}
@@ -22,44 +19,17 @@ use Rattle.py_raw.proofs.Telling.{tells_its_bytes}
 use Rattle.py_stream.specs.declared.stop.Stop.{Stop}
 use Rattle.py_stream.specs.declared.stop.Stop.TheVariants as stops
 use Rattle.py_stream.specs.Stream.{Stream, file_of}
-use Rattle.py_stream.specs.Kinds.{goes_on, makes_one, has_room, takes_space_first, asks_none, by_several}
+use Rattle.py_stream.specs.Kinds.{has_room, takes_space_first, asks_none, by_several}
 use Rattle.py_stream.proofs.Coming.{came_unread, came_more, each_more}
 use Rattle.py_stream.specs.Answers.{Answers, IsNear, OnlyAsked, EachBrings, ahead}
-use Rattle.py_stream.specs.Reading.{KeepsReading, ComesNext, Gives, StarvesReading, StopOutcome, RestOutcome, has_answer, answered_at, wanted_by, reply_by, GathersEnough, GathersFront, Gathers, IsOpen, WantsHeld, StarvesWanting, GatherOutcome}
-use Rattle.py_stream.proofs.Accepting.{work_reaches}
-use Rattle.py_stream.proofs.Stopping.{starves_alive, starves_there}
+use Rattle.py_stream.specs.Reading.{KeepsReading, ComesNext, Gives, StarvesReading, StopOutcome, RestOutcome, has_answer, answered_at, wanted_by, reply_by, GathersEnough, GathersFront, Gathers, IsOpen, WantsHeld, StarvesWanting, GatherOutcome, is_wait}
 use Rattle.py_stream.proofs.ReadingCalls.{reading_on, on_suits, nothing_held, in_hand_held, wanted_within, is_several}
 use Rattle.py_stream.proofs.ReadingSteps.{next_parts}
 use Rattle.py_stream.proofs.ReadingAnswers.{works, Reads, ReadingBegins, answers_coming, answers_begun}
 use Rattle.py_stream.proofs.ReadingStops.{needs_enough, needs_open, answers_all, answers_part, answers_unready, several_asks, answers_faulted, unmoved, answers_failing}
+use Rattle.py_flat.specs.Bytes.{left_at}
 
 -- By where the reading stopped.
-
--- a reading with an answer
-pub answers_stopped : (before mid after : Stream) (call : FileCall) (part : List ℕ) (stop : Stop) (empty : Bool) → by_several before.buffer call ≡ true → Reads before → GatherOutcome (wanted_by call) before (Ok stop) part mid → (empty ≡ false → part ≢ []) → has_answer stop empty ≡ true → after ≡ answered_at stop mid → Answers before call (reply_by call part) after
-answers_stopped before mid after call part stops.Enough empty several begun outcome some answered is =
-    let stopped = outcome.stops in
-    subst (Answers before call (reply_by call part)) (sym is) (answers_all before mid call part several begun stopped.0 stopped.1 (λ held. (outcome.idle held).0) (needs_enough (wanted_by call) before part mid stopped.2 stopped.3) outcome.gathers)
-answers_stopped before mid after call part stops.End empty several begun outcome some answered is =
-    let stopped = outcome.stops in
-    let gathered = outcome.gathers in
-    subst (Answers before call (reply_by call part)) (sym is) (answers_all before mid call part several begun stopped.0 stopped.1 (λ held. (outcome.idle held).0) (needs_open (wanted_by call) before part mid stopped.3 gathered.1) gathered.0)
-answers_stopped before mid after call part stops.Waits true several begun outcome some answered is = absurd (cc)
-answers_stopped before mid after call part stops.Waits false several begun outcome some answered is =
-    let stopped = outcome.stops in
-    let gathered = outcome.gathers in
-    subst (Answers before call (reply_by call part)) (sym is) (answers_part before mid call part several begun stopped.0 stopped.1 stopped.2 stopped.3 (λ held. (outcome.idle held).0) (needs_open (wanted_by call) before part mid (each_more before mid 1 1 0 1 (omega arith) (omega arith) stopped.4) gathered.1) (some refl) gathered.0)
-
--- a reading that stopped without an answer
-pub unready_stopped : (before mid after : Stream) (call : FileCall) (part : List ℕ) (stop : Stop) (empty : Bool) → by_several before.buffer call ≡ true → Reads before → GatherOutcome (wanted_by call) before (Ok stop) part mid → (empty ≡ true → part ≡ []) → has_answer stop empty ≡ false → after ≡ answered_at stop mid → Answers before call NotReady after
-unready_stopped before mid after call part stops.Enough empty several begun outcome none unready is = absurd (cc)
-unready_stopped before mid after call part stops.End empty several begun outcome none unready is = absurd (cc)
-unready_stopped before mid after call part stops.Waits false several begun outcome none unready is = absurd (cc)
-unready_stopped before mid after call part stops.Waits true several begun outcome none unready is =
-    let stopped = outcome.stops in
-    let on = (is_several before.buffer call several).on in
-    let given : Gives before [] mid = subst (λ (bytes : List ℕ). Gives before bytes mid) (none refl) stopped.0 in
-    subst (Answers before call NotReady) (sym is) (answers_unready before mid call (reading_on call on) (on_suits (file_of before) call on begun.readable) begun given stopped.1 stopped.2 stopped.3 (several_asks before mid call several (λ held. (outcome.idle held).0) (each_more before mid 1 1 0 1 (omega arith) (omega arith) stopped.4)))
 
 not_asked : (asks : Bool) → (IsTrue asks → ⊥) → asks ≡ false
 not_asked true none = absurd (none refl)
@@ -87,13 +57,30 @@ refused_stop before after call part why several begun outcome takes = absurd out
 
 -- By the stream that a reading came to.
 
+answers_stopped : (before mid : Stream) (call : FileCall) (part : List ℕ) (stop : Stop) → by_several before.buffer call ≡ true → Reads before → GatherOutcome (wanted_by call) before (Ok stop) part mid → (IsTrue (is_wait stop) → part ≢ []) → Answers before call (reply_by call part) (answered_at stop mid)
+answers_stopped before mid call part stops.Enough several begun outcome some =
+    let stopped = outcome.stops in
+    answers_all before mid call part several begun stopped.0 stopped.1 (λ held. (outcome.idle held).0) (needs_enough (wanted_by call) before part mid stopped.2 stopped.3) outcome.gathers
+answers_stopped before mid call part stops.End several begun outcome some =
+    let stopped = outcome.stops in
+    answers_all before mid call part several begun stopped.0 stopped.1 (λ held. (outcome.idle held).0) (needs_open (wanted_by call) before part mid stopped.3 outcome.gathers.1) outcome.gathers.0
+answers_stopped before mid call part stops.Waits several begun outcome some =
+    let stopped = outcome.stops in
+    answers_part before mid call part several begun stopped.0 stopped.1 stopped.2 stopped.3 (λ held. (outcome.idle held).0) (needs_open (wanted_by call) before part mid (each_more before mid 1 1 0 1 (omega arith) (omega arith) stopped.4) outcome.gathers.1) (some refl) outcome.gathers.0
+
 -- a reading with an answer
 pub answered_from : (first before mid after : Stream) (call : FileCall) (part : List ℕ) (stop : Stop) (empty : Bool) → by_several before.buffer call ≡ true → ReadingBegins first before → GatherOutcome (wanted_by call) before (Ok stop) part mid → (empty ≡ false → part ≢ []) → has_answer stop empty ≡ true → after ≡ answered_at stop mid → Answers first call (reply_by call part) after
-answered_from first before mid after call part stop empty several begun outcome some answered is = answers_begun first before call (reply_by call part) after begun.from (answers_stopped before mid after call part stop empty several begun.reads outcome some answered is)
+answered_from first before mid after call part stop empty several begun outcome some answered is =
+    answers_begun first before call (reply_by call part) after begun.from (subst (Answers before call (reply_by call part)) (sym is) (answers_stopped before mid call part stop several begun.reads outcome (grind arith)))
 
 -- a reading without an answer, by the stream that it came to
 pub unready_from : (first before mid after : Stream) (call : FileCall) (part : List ℕ) (stop : Stop) (empty : Bool) → by_several before.buffer call ≡ true → ReadingBegins first before → GatherOutcome (wanted_by call) before (Ok stop) part mid → (empty ≡ true → part ≡ []) → has_answer stop empty ≡ false → after ≡ answered_at stop mid → Answers first call NotReady after
-unready_from first before mid after call part stop empty several begun outcome none unready is = answers_begun first before call NotReady after begun.from (unready_stopped before mid after call part stop empty several begun.reads outcome none unready is)
+unready_from first before mid after call part stops.Waits true several begun outcome none unready is =
+    let stopped = outcome.stops in
+    let on = (is_several before.buffer call several).on in
+    let given : Gives before [] mid = subst (λ (bytes : List ℕ). Gives before bytes mid) (none refl) stopped.0 in
+    answers_begun first before call NotReady after begun.from (subst (Answers before call NotReady) (sym is) (answers_unready before mid call (reading_on call on) (on_suits (file_of before) call on begun.reads.readable) begun.reads given stopped.1 stopped.2 stopped.3 (several_asks before mid call several (λ held. (outcome.idle held).0) (each_more before mid 1 1 0 1 (omega arith) (omega arith) stopped.4))))
+unready_from first before mid after call part stop empty several begun outcome none unready is = absurd (grind arith)
 
 -- a reading of lines that was refused once it had begun
 pub refused_from : (first before after : Stream) (call : FileCall) (part : List ℕ) (why : IoFault) → by_several before.buffer call ≡ true → (has_room call || takes_space_first call) ≡ false → ReadingBegins first before → GatherOutcome (wanted_by call) before (Err why) part after → Answers first call (Refused why) after
@@ -116,9 +103,9 @@ gathers_at_end wanted before part alone told last = record {
 
 -- more may come: what came is a front of what is wanted
 pub gathers_waiting : (wanted : List ℕ → List ℕ) (before : Stream) (part : List ℕ) → wanted part ≡ part → ((more : List ℕ) → IsFrontOf part (wanted (part ++ more))) → WhereTold before.raw (ComesNext before part) → GathersFront wanted before part
-gathers_waiting wanted before part alone goes_on told = record {
+gathers_waiting wanted before part alone more told = record {
   alone = alone;
-  front = λ tells. subst (λ (whole : List ℕ). IsFrontOf part (wanted whole)) (sym (next_parts (file_of before).bytes part before.place (told tells))) (goes_on (left_at (file_of before).bytes (before.place + length part)));
+  front = λ tells. subst (λ (whole : List ℕ). IsFrontOf part (wanted whole)) (sym (next_parts (file_of before).bytes part before.place (told tells))) (more (left_at (file_of before).bytes (before.place + length part)));
 }
 
 -- some of whatever comes after bytes is wanted
@@ -139,112 +126,52 @@ gathers_ok wanted before stop part after stopped gathered idle = record { stops 
 
 -- Readings of all that is left.
 
+-- no number bounds all that may be left
+rest_unbound : (most : ℕ) → ((bytes : List ℕ) → length (wanted_by (Read None) bytes) ≤ most) → ⊥
+rest_unbound most bound = omega (arith, bound (replicate (most + 1) 0), length-replicate {A = ℕ} (most + 1) 0)
+
 -- all that is left isn't known to be held
 rest_not_held : (before : Stream) → WantsHeld (wanted_by (Read None)) before → ⊥
-rest_not_held before held = omega (arith, held (replicate (ahead before + 1) 0), length-replicate {A = ℕ} (ahead before + 1) 0)
+rest_not_held before held = rest_unbound (ahead before) held
 
 -- some more may always come
 open_rest : (part : List ℕ) → IsOpen (wanted_by (Read None)) part
 open_rest part whole = omega (arith, ap length (whole (0 ∷ [])), length-append part (0 ∷ []))
 
-never_none : (buffer : Option ℕ) → IsTrue (asks_none buffer (Read None)) → ⊥
-never_none buffer asks = grind arith
-
-never_single : (buffer : Option ℕ) → IsTrue (makes_one buffer (Read None)) → ⊥
-never_single buffer single = grind arith
-
 always_several : (buffer : Option ℕ) → by_several buffer (Read None) ≡ true
-always_several None = refl
-always_several (Some size) = refl
+always_several buffer = grind arith
 
 asked_transfers : (old new : ℕ) → (new ≡ old) ⊎ (new ≡ counted old 0) → new ≤ old
-asked_transfers old new (inl same) = omega (arith, same)
-asked_transfers old new (inr same) = omega (arith, same)
+asked_transfers old new none = grind arith
 
 asked_near : (before : Stream) (raw : Raw) → OnlyAsked before (record before { raw = raw; short = false }) → IsNear before → IsNear (record before { raw = raw })
-asked_near before raw is near = record {
-  after_first = near.after_first;
-  before_end = near.before_end;
-  fits = near.fits;
-  read_ahead = near.read_ahead;
-  ahead = near.ahead;
-  behind = near.behind;
-  stands = λ tells. is.place (sym is.kept.tells_place ∙ tells) ∙ near.stands (sym is.kept.tells_place ∙ tells);
-}
+asked_near before raw is near = grind arith
 
 -- a stream whose raw was at most asked where it ends keeps what every step of a reading keeps
 asked_keeps : (before : Stream) (raw : Raw) → Reads before → OnlyAsked before (record before { raw = raw; short = false }) → KeepsReading before (record before { raw = raw })
-asked_keeps before raw begun is = record {
-  raw = is.kept;
-  stays = is.stays;
-  bytes = is.bytes;
-  written = is.written;
-  can = refl;
-  buffer = refl;
-  short = refl;
-  owed = begun.bare;
-  far = begun.placed.far;
-  near = λ living. asked_near before raw is (begun.placed.near living);
-}
+asked_keeps before raw begun is = grind (arith, asked_near)
 
 -- the flat file is as it was
 asked_file : (before : Stream) (raw : Raw) → Reads before → OnlyAsked before (record before { raw = raw; short = false }) → WhereTold before.raw (file_of (record before { raw = raw }) ≡ file_of before)
-asked_file before raw begun is tells = ap (λ (bytes : List ℕ). let file : FlatFile = record (file_of before) { bytes = lay bytes before.owed.place before.owed.bytes } in file) (is.bytes (tells_its_bytes before.raw tells))
+asked_file before raw begun is tells = grind (arith, tells_its_bytes)
 
 -- a stream whose raw was at most asked where it ends gave nothing
 pub asked_gives : (before after : Stream) → Reads before → OnlyAsked before after → Gives before [] after
-asked_gives before after begun is =
-    let same : after ≡ record before { raw = after.raw } = is.same ∙ (λ k. record before { raw = after.raw; short = sym begun.whole k }) in
-    subst (Gives before []) (sym same) (record {
-      kept = asked_keeps before after.raw begun (subst (OnlyAsked before) is.same is);
-      no_fault = is.counts.no_fault;
-      live = begun.live;
-      place = omega arith;
-      told = λ tells. refl;
-    })
+asked_gives before after begun is = grind (arith, asked_keeps)
 
 -- no transfer was made for it
 pub asked_each : (before after : Stream) → OnlyAsked before after → EachBrings 0 0 before after
-asked_each before after is =
-    let place : after.raw_place ≡ before.raw_place = ap (λ (stream : Stream). stream.raw_place) is.same in
-    record { transfers = λ tells. omega (arith, place, asked_transfers before.raw.transfers after.raw.transfers (is.transfers tells)); came = came_unread before after place is.reads }
+asked_each before after is = grind (arith, asked_transfers, came_unread)
 
 -- where memory ran out before any byte came, of a stream whose raw was asked where it ends
 starved_asked : (before : Stream) (raw : Raw) → Reads before → OnlyAsked before (record before { raw = raw; short = false }) → Answers before (Read None) (Refused fault.NoMemory) (record before { raw = raw; short = false })
 starved_asked before raw begun is =
     let mid : Stream = record before { raw = raw } in
-    answers_coming before mid (Read None) (Refused fault.NoMemory) false refl (on_suits (file_of before) (Read None) refl begun.readable) begun (record {
-      kept = asked_keeps before raw begun is;
-      is_open = ap is_closed begun.live;
-      causes = record { waits = λ short. absurd (cc); faults = λ faulted. absurd (cc) };
-      counted = λ exactly. record { faults = λ sound. is.counts.no_fault exactly; waits = λ whole outlasts. is.counts.no_wait exactly; once = λ short. absurd (cc) };
-      shorts = refl;
-      life_is = starves_alive before.buffer (Read None) before.life;
-      place = starves_there before.buffer (Read None) before.life before.place;
-      within = tt;
-      wants = λ wanting room. absurd (cc);
-      starves = λ wanting goes. record {
-        unmoved = λ living none. is;
-        moved = λ failed none. absurd (let both : life.Failed ≡ life.Live = sym failed ∙ begun.live in cc);
-        stands = λ failed none. absurd (let both : life.Failed ≡ life.Live = sym failed ∙ begun.live in cc);
-      };
-      first = λ wanting takes. absurd (cc);
-      sound = λ _. refl;
-      nothing = λ asks. absurd (never_none before.buffer asks);
-      one = λ single. absurd (never_single before.buffer single);
-      ready = λ _ held. absurd held;
-      in_hand = λ _ held. absurd held;
-      brings = came_more before mid 0 1 (omega arith) (came_unread before mid refl is.reads);
-      needs = λ _. record { enough = λ whole. absurd whole; whole = λ whole. absurd whole; needed = λ whole. absurd whole; last = each_more before (record mid { short = false }) 0 1 0 1 (omega arith) (omega arith) (asked_each before (record mid { short = false }) is) };
-      answers = tt;
-      told = λ tells. out_of_memory refl (work_reaches (file_of before) (Read None) (works before (Read None) refl (on_suits (file_of before) (Read None) refl begun.readable) begun.live), inl (asked_file before raw begun is tells));
-      reach = λ tells. omega arith;
-      hides = λ short. absurd (cc);
-    })
+    let kept : KeepsReading before mid = asked_keeps before raw begun is in
+    answers_coming before mid (Read None) (Refused fault.NoMemory) false refl (on_suits (file_of before) (Read None) refl begun.readable) begun (grind (arith, came_more, came_unread, each_more, asked_each, asked_file, works))
 
 starves_wanting_rest : (before after : Stream) → before.life ≡ life.Live → StarvesReading before after → after.life ≡ life.Failed → WhereTold before.raw (rest (file_of before) ≢ [])
-starves_wanting_rest before after live (inl same) failed = absurd (let both : life.Failed ≡ life.Live = sym failed ∙ ap (λ (stream : Stream). stream.life) same ∙ live in cc)
-starves_wanting_rest before after live (inr fails) failed = fails.some
+starves_wanting_rest before after live starves failed = grind arith
 
 -- a reading of all that is left, with an answer or without
 pub rest_gathers : (before after : Stream) (part : List ℕ) (stop : Stop) → RestOutcome before (Ok stop) part after → GatherOutcome (wanted_by (Read None)) before (Ok stop) part after
@@ -253,13 +180,7 @@ rest_gathers before after part stops.End outcome = gathers_ok (wanted_by (Read N
 rest_gathers before after part stops.Waits outcome = gathers_ok (wanted_by (Read None)) before stops.Waits part after outcome (gathers_waiting (wanted_by (Read None)) before part refl (λ more. (more, refl)) outcome.0.told, open_rest part) (λ held. absurd (rest_not_held before held))
 
 rest_stopped : (before after : Stream) (part : List ℕ) (why : IoFault) → StarvesWanting (wanted_by (Read None)) before (Err why) after → StopOutcome before part (Err why) after → GatherOutcome (wanted_by (Read None)) before (Err why) part after
-rest_stopped before after part why starves outcome = record {
-  stops = outcome;
-  gathers = tt;
-  starves = starves;
-  idle = λ held. absurd (rest_not_held before held);
-  within = λ most bound. absurd (omega (arith, bound (replicate (most + 1) 0), length-replicate {A = ℕ} (most + 1) 0));
-}
+rest_stopped before after part why starves outcome = grind (arith, rest_not_held, rest_unbound)
 
 -- a reading of all that is left that was refused
 pub refused_rest : (before after : Stream) (part : List ℕ) (why : IoFault) → Reads before → RestOutcome before (Err why) part after → Answers before (Read None) (Refused why) after
@@ -310,27 +231,15 @@ gathers_size before after call size part stops.Waits wants fits full less outcom
     ) (idle_size before after call size wants idle)
 
 some_taken : (size : ℕ) (left : List ℕ) → 0 < size → left ≢ [] → take size left ≢ []
-some_taken size [] asks some = absurd (some refl)
-some_taken zero (byte ∷ more) asks some = absurd (omega arith)
-some_taken (suc size) (byte ∷ more) asks some = λ none. cc
+some_taken size left asks some = grind arith
 
 -- a reading that was refused, for which more is wanted than was held
 pub refuses_size : (before after : Stream) (call : FileCall) (size : ℕ) (part : List ℕ) (why : IoFault) → WantsSize call size → ahead before < size → before.life ≡ life.Live → after.place ≤ before.place + size → StopOutcome before part (Err why) after → GatherOutcome (wanted_by call) before (Err why) part after
-refuses_size before after call size part fault.RawFault wants past live within outcome = record {
-  stops = outcome;
-  gathers = tt;
-  starves = tt;
-  idle = λ held. absurd (past_held before call size wants past held);
-  within = λ most bound. omega (arith, within, size_bound call size most wants bound);
-}
-refuses_size before after call size part fault.NoMemory wants past live within outcome = record {
-  stops = outcome;
-  gathers = tt;
-  starves = λ failed tells. subst (λ (bytes : List ℕ). bytes ≢ []) (sym (wants (rest (file_of before)))) (some_taken size (rest (file_of before)) (omega (arith, past)) (starves_wanting_rest before after live outcome failed tells));
-  idle = λ held. absurd (past_held before call size wants past held);
-  within = λ most bound. omega (arith, within, size_bound call size most wants bound);
-}
-refuses_size before after call size part why wants past live within outcome = absurd outcome
+refuses_size before after call size part why wants past live within outcome =
+    let none : WantsHeld (wanted_by call) before → ⊥ = past_held before call size wants past in
+    let wanted : wanted_by call (rest (file_of before)) ≡ take size (rest (file_of before)) = wants (rest (file_of before)) in
+    let moves : (most : ℕ) → ((bytes : List ℕ) → length (wanted_by call bytes) ≤ most) → after.place ≤ before.place + most = λ most bound. omega (arith, within, size_bound call size most wants bound) in
+    grind (arith, some_taken, starves_wanting_rest)
 
 -- what a vector has whose front was read into, and which was cut to what came
 pub cut_to : (buffer more : List ℕ) (count size : ℕ) → length buffer ≡ size → take count (take size (buffer ++ more)) ≡ take count buffer

@@ -1,5 +1,5 @@
 -- What a reading by at most one transfer answers.
-use Rattle.std.proofs.Common.{◌≡◌, ◌≢◌, ℕ, suc, zero, ◌+◌, ◌<◌, ◌≤◌, Bool, true, false, ◌||◌, not, IsTrue, List, [], length, take, max, Option, Some, None, IsSome, unwrap_or, refl, sym, ap, ◌∙◌, subst, arith}
+use Rattle.std.proofs.Common.{◌≡◌, ◌≢◌, ℕ, ◌+◌, ◌<◌, ◌≤◌, Bool, true, false, IsTrue, List, [], length, take, max, Option, Some, None, IsSome, unwrap_or, refl, sym, ap, ◌∙◌, subst, arith}
 use Rattle.std.proofs.lemmas.List.{length-append, length-take, length-drop}
 use Rattle.py_flat.specs.declared.fault.IoFault.{IoFault}
 use Rattle.py_flat.specs.declared.fault.IoFault.TheVariants as fault
@@ -12,10 +12,10 @@ use Rattle.py_flat.specs.FlatFile.{FlatFile}
 use Rattle.py_flat.specs.Refusals.{lacks}
 use Rattle.py_flat.specs.ExactStep.{is_closed, rest, after_read}
 use Rattle.py_flat.specs.AllowedStep.{settled}
-use Rattle.py_flat.specs.BinaryStep.{IsFrontOf, Transfers, Accepted, SettledBy}
+use Rattle.py_flat.specs.BinaryStep.{IsFrontOf, Accepted, SettledBy}
 use Rattle.py_raw.specs.RawStream.{WhereTold, WaitsOnce, LeavesCounts}
 use Rattle.py_stream.specs.Stream.{Stream, size_of, buffering_of, file_of}
-use Rattle.py_stream.specs.Kinds.{is_reading, reads_on, is_single, goes_on, has_room, asks_none, by_several}
+use Rattle.py_stream.specs.Kinds.{is_reading, is_single, goes_on, asks_none, by_several}
 use Rattle.py_stream.specs.Answers.{Answers, IsReplyTo, IsShort, LifeMoves, PlaceMoves, GivesWithin, InHandOf, ahead}
 use Rattle.py_stream.specs.Reading.{KeepsReading, OneTransfer, Gives, FailsReading}
 use Rattle.py_stream.proofs.ReadingSteps.{file_after}
@@ -62,21 +62,9 @@ pub record IsSingleCall (buffer : Option ℕ) (call : FileCall) : Type 0 where
   pub within : (part : List ℕ) → length part ≤ asks_for (unwrap_or buffer 0) call → GivesWithin (unwrap_or buffer 0) call (Bytes part)
   pub answers : (writes : Bool) (part : List ℕ) → IsReplyTo buffer writes call (Bytes part)
 
--- a readable stream with a buffer lacks nothing
-readable_lacks : (readable : Bool) → readable ≡ true → (not readable || false) ≡ false
-readable_lacks readable reads = ap (λ (can : Bool). not can || false) reads
-
 -- what holds of every reading by one transfer holds of each
 pub single_call : (buffer : Option ℕ) (call : FileCall) → reads_once buffer call ≡ true → IsSingleCall buffer call
-single_call (Some size) (Read1 None) once = record { reads = refl; stops = refl; stays = refl; suits = λ file reads. readable_lacks file.can.readable reads; some = λ some. refl; ahead_is = λ before buffered has. has.0; short = λ part. refl; lives = λ part before after same. same; moves = λ part current before after is. is; within = λ part most. most; answers = λ writes part. tt }
-single_call (Some size) (Read1 (Some zero)) once = record { reads = refl; stops = refl; stays = refl; suits = λ file reads. readable_lacks file.can.readable reads; some = λ some. absurd (some refl); ahead_is = λ before buffered has. has.0; short = λ part. refl; lives = λ part before after same. same; moves = λ part current before after is. is; within = λ part most. most; answers = λ writes part. tt }
-single_call (Some size) (Read1 (Some (suc bytes))) once = record { reads = refl; stops = refl; stays = refl; suits = λ file reads. readable_lacks file.can.readable reads; some = λ some. refl; ahead_is = λ before buffered has. has.0; short = λ part. refl; lives = λ part before after same. same; moves = λ part current before after is. is; within = λ part most. most; answers = λ writes part. tt }
-single_call (Some size) (ReadInto1 zero) once = record { reads = refl; stops = refl; stays = refl; suits = λ file reads. readable_lacks file.can.readable reads; some = λ some. absurd (some refl); ahead_is = λ before buffered has. has.0; short = λ part. refl; lives = λ part before after same. same; moves = λ part current before after is. is; within = λ part most. most; answers = λ writes part. tt }
-single_call (Some size) (ReadInto1 (suc bytes)) once = record { reads = refl; stops = refl; stays = refl; suits = λ file reads. readable_lacks file.can.readable reads; some = λ some. refl; ahead_is = λ before buffered has. has.0; short = λ part. refl; lives = λ part before after same. same; moves = λ part current before after is. is; within = λ part most. most; answers = λ writes part. tt }
-single_call (Some size) Peek once = record { reads = refl; stops = refl; stays = refl; suits = λ file reads. readable_lacks file.can.readable reads; some = λ some. refl; ahead_is = λ before buffered has. has.0; short = λ part. refl; lives = λ part before after same. same; moves = λ part current before after is. omega (arith, is); within = λ part most. most; answers = λ writes part. tt }
-single_call None (Read (Some bytes)) once = record { reads = refl; stops = refl; stays = refl; suits = λ file reads. ap not reads; some = λ some. refl; ahead_is = λ before buffered has. absurd (cc); short = λ part short. absurd (cc); lives = λ part before after same. same; moves = λ part current before after is. is; within = λ part most. most; answers = λ writes part. tt }
-single_call None (ReadInto bytes) once = record { reads = refl; stops = refl; stays = refl; suits = λ file reads. ap not reads; some = λ some. refl; ahead_is = λ before buffered has. absurd (cc); short = λ part short. absurd (cc); lives = λ part before after same. same; moves = λ part current before after is. is; within = λ part most. most; answers = λ writes part. tt }
-single_call buffer call once = absurd (cc)
+single_call buffer call once = grind arith
 
 -- What is given.
 
@@ -91,18 +79,7 @@ buffer_of size bytes some = grind arith
 
 -- the flat file gives a first part by one transfer
 once_carried : (buffer : Option ℕ) (file : FlatFile) (call : FileCall) (part : List ℕ) (after : FlatFile) → reads_once buffer call ≡ true → ((size : ℕ) → buffer ≡ Some size → 0 < size) → IsPartOf part (take (asks_for (unwrap_or buffer 0) call) (rest file)) → after ≡ after_read (record file { buffering = buffering_of buffer }) (moves_by call (length part)) → Accepted (record file { buffering = buffering_of buffer }) call (Bytes part) after
-once_carried (Some size) file (Read1 None) part after once some is leaves =
-    let of : FlatFile = record file { buffering = buffering_of (Some size) } in
-    subst (λ (wanted : List ℕ). Transfers of (Read1 None) wanted (Bytes part) after) (buffer_of size (rest file) (some size refl)) (record { part = part; front = is.front; some = is.some; outcome = ap (λ (left : FlatFile). (Bytes part, left)) leaves })
-once_carried (Some size) file (Read1 (Some bytes)) part after once some is leaves = record { part = part; front = is.front; some = is.some; outcome = ap (λ (left : FlatFile). (Bytes part, left)) leaves }
-once_carried (Some size) file (ReadInto1 bytes) part after once some is leaves = record { part = part; front = is.front; some = is.some; outcome = ap (λ (left : FlatFile). (Bytes part, left)) leaves }
-once_carried (Some size) file Peek part after once some is leaves =
-    let of : FlatFile = record file { buffering = buffering_of (Some size) } in
-    let stays : after_read of 0 ≡ of = ap (λ (at : ℕ). let left : FlatFile = record of { place = at } in left) (let same : file.place + 0 ≡ file.place = omega arith in same) in
-    subst (λ (wanted : List ℕ). Transfers of Peek wanted (Bytes part) after) (buffer_of size (rest file) (some size refl)) (record { part = part; front = is.front; some = is.some; outcome = ap (λ (left : FlatFile). (Bytes part, left)) (leaves ∙ stays) })
-once_carried None file (Read (Some bytes)) part after once some is leaves = record { part = part; front = is.front; some = is.some; outcome = ap (λ (left : FlatFile). (Bytes part, left)) leaves }
-once_carried None file (ReadInto bytes) part after once some is leaves = record { part = part; front = is.front; some = is.some; outcome = ap (λ (left : FlatFile). (Bytes part, left)) leaves }
-once_carried buffer file call part after once some is leaves = absurd (cc)
+once_carried buffer file call part after once some is leaves = grind (arith, buffer_of)
 
 -- some first part of what is asked was given: nothing only where nothing is asked or left
 pub record GivesOnce (before : Stream) (call : FileCall) (part : List ℕ) (after : Stream) : Type 0 where
@@ -170,7 +147,3 @@ faulted_once before after call once asks begun fails stays one none =
 -- a reading that wanted memory before anything moved
 pub unmoved_once : (before : Stream) (call : FileCall) → reads_once before.buffer call ≡ true → Reads before → IsTrue before.raw.takes_memory → Answers before call (Refused fault.NoMemory) before
 unmoved_once before call once begun takes = grind arith
-
--- a reading that wanted memory of its own once its transfer was made
-pub wanting_once : (before after : Stream) (call : FileCall) → reads_once before.buffer call ≡ true → asks_none before.buffer call ≡ false → Reads before → KeepsReading before after → LeavesCounts before.raw after.raw → after.life ≡ life.Live → after.place ≡ before.place → has_room call ≡ false → reads_on call ≡ false → OneTransfer before after → (IsSome before.buffer → 0 < ahead before → after.raw ≡ before.raw) → Answers before call (Refused fault.NoMemory) after
-wanting_once before after call once asks begun kept counts live place room ends one still = grind arith
