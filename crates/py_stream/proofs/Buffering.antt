@@ -1,18 +1,16 @@
 -- A stream over a raw one is a buffered stream for the layer above it.
 use Rattle.std.proofs.Common.{◌≡◌, ℕ, ℤ, pos, suc, zero, inl, Bool, true, false, IsTrue, List, [], Option, Some, None, IsSome, unwrap_or, refl, sym, ap, ◌∙◌, subst, arith}
 use Rattle.py_flat.specs.declared.fault.IoFault.{IoFault}
-use Rattle.py_flat.specs.declared.fault.IoFault.TheVariants as fault
 use Rattle.py_flat.specs.Bytes.{lay}
 use Rattle.py_flat.specs.Owed.{Owed}
-use Rattle.py_flat.specs.Refusals.{moved_by, target_refusal}
-use Rattle.py_flat.specs.Calls.{FileCall, Read1, Write, Seek, Flush, Close, FileReply, Bytes, Done, Refused}
+use Rattle.py_flat.specs.Calls.{FileCall, Write, Seek, Close, FileReply, Done}
 use Rattle.py_flat.specs.BinaryStep.{payload}
 use Rattle.py_raw.specs.RawStream.{WhereTold}
 use Rattle.py_raw.proofs.Telling.{tells_still, tells_its_bytes}
 use Rattle.py_stream.specs.Stream.{Stream, buffering_of, nothing_owed}
 use Rattle.py_stream.specs.Kinds.{is_writing}
 use Rattle.py_stream.specs.Writing.{OwesRest, PassesFront, PassedOn, OwesBoth, PassesOn, LaysInOrder, BlocksFull, Writes}
-use Rattle.py_stream.specs.Answers.{Answers, Leaves, IsCounted, GivesWithin, LifeMoves, PlaceMoves, IsReplyTo, SeeksTo, SeeksFromEnd, EndMoves, SeeksByEnd, closes_again}
+use Rattle.py_stream.specs.Answers.{Answers, Leaves, GivesWithin, SeeksTo, SeeksFromEnd, EndMoves, SeeksByEnd, closes_again}
 use Rattle.py_stream.specs.Buffer.{Buffer, buffer_of, taken_by, size_shown, LeavesBuffer, closes_twice, GivesAsked, GoesFromEnd, BufferSeeksFromEnd, BufferEndMoves, BufferSeeksByEnd, BufferOwes, BufferPassedOn, BufferPasses, BufferLays, BufferBlocksFull, BufferTakes, OwesAsItCan, is_made, AnswersAsBuffer}
 
 -- the size that is shown is the stream's own
@@ -21,15 +19,10 @@ size_is (Some size) some = refl
 size_is None some = absurd (cc)
 
 gives_asked : (buffer : Option ℕ) (call : FileCall) (reply : FileReply) → IsSome buffer → GivesWithin (unwrap_or buffer 0) call reply → GivesAsked (buffering_of buffer) call reply
-gives_asked (Some size) (Read1 None) (Bytes part) some within = within
-gives_asked (Some size) (Read1 (Some most)) (Bytes part) some within = within
-gives_asked None call reply some within = absurd (cc)
-gives_asked buffer call reply some within = tt
+gives_asked buffer call reply some within = grind arith
 
 left_so : (before : Stream) (was : ℕ) (call : FileCall) (expected reply : FileReply) (after : Stream) (taken : ℕ) → taken ≡ taken_by call before.place after.place was → Leaves before expected reply after → LeavesBuffer (buffer_of before was) call expected reply (buffer_of after taken)
-left_so before was call expected reply after taken counts leaves =
-    let stays : taken_by call before.place after.place was ≡ taken_by call before.place before.place was = ap (λ (stream : Stream). taken_by call before.place stream.place was) leaves.same in
-    record { says = leaves.says; same = ap (λ (stream : Stream). buffer_of stream taken) leaves.same ∙ ap (buffer_of (record before { short = false })) (counts ∙ stays) }
+left_so before was call expected reply after taken counts leaves = grind arith
 
 closed_so : (before : Stream) (was : ℕ) (call : FileCall) (reply : FileReply) (after : Stream) (taken : ℕ) → taken ≡ taken_by call before.place after.place was → (closes_again before call ≡ true → Leaves before Done reply after) → closes_twice (buffer_of before was) call ≡ true → LeavesBuffer (buffer_of before was) call Done reply (buffer_of after taken)
 closed_so before was Close reply after taken counts again closed = left_so before was Close Done reply after taken counts (again closed)
@@ -38,29 +31,13 @@ closed_so before was call reply after taken counts again closed = absurd (cc)
 -- A seek from the end.
 
 goes_so : (was taken : ℕ) (before after : Stream) (target : Option ℕ) (refused : Option IoFault) (reply : FileReply) → SeeksTo before target refused reply after → GoesFromEnd (buffer_of before was) target refused reply (buffer_of after taken)
-goes_so was taken before after (Some target) None reply goes = goes
-goes_so was taken before after target (Some why) reply goes = record {
-  says = goes.says;
-  place = ap (λ (stream : Stream). stream.place) goes.same;
-  life_is = ap (λ (stream : Stream). stream.life) goes.same;
-  owed = ap (λ (stream : Stream). stream.owed) goes.same;
-  whole = ap (λ (stream : Stream). stream.short) goes.same;
-}
-goes_so was taken before after None None reply goes = absurd goes
+goes_so was taken before after target refused reply goes = grind arith
 
 from_end_so : (was taken : ℕ) (before after : Stream) (offset : ℤ) (reply : FileReply) → SeeksFromEnd before offset reply after → BufferSeeksFromEnd (buffer_of before was) offset reply (buffer_of after taken)
-from_end_so was taken before after offset reply seeks = record {
-  end = seeks.end;
-  within = seeks.within;
-  told = λ told. seeks.told (tells_its_bytes before.raw told);
-  target = goes_so was taken before after (moved_by seeks.end offset) (target_refusal (moved_by seeks.end offset)) reply seeks.target;
-}
+from_end_so was taken before after offset reply seeks = grind (arith, tells_its_bytes, goes_so)
 
 end_moves_so : (was taken : ℕ) (before after : Stream) (offset : ℤ) (reply : FileReply) → EndMoves before offset reply after → BufferEndMoves (buffer_of before was) offset reply (buffer_of after taken)
-end_moves_so was taken before after offset (Refused fault.RawFault) moves = tt
-end_moves_so was taken before after offset (Refused fault.NoMemory) moves = tt
-end_moves_so was taken before after offset (Refused (fault.WouldBlock count)) moves = tt
-end_moves_so was taken before after offset reply moves = from_end_so was taken before after offset reply moves
+end_moves_so was taken before after offset reply moves = grind (arith, from_end_so)
 
 by_end_so : (was taken : ℕ) (before after : Stream) (call : FileCall) (reply : FileReply) → SeeksByEnd before call reply after → BufferSeeksByEnd (buffer_of before was) call reply (buffer_of after taken)
 by_end_so was taken before after (Seek offset (pos (suc (suc zero)))) reply seeks = λ asks. end_moves_so was taken before after offset reply (seeks asks)
@@ -72,12 +49,7 @@ rest_so : (before after : Stream) → PassesFront before after → OwesRest befo
 rest_so before after passes = record { passed = passes.passed; bytes = passes.bytes; place = passes.place }
 
 owes_so : (was taken : ℕ) (before after : Stream) (call : FileCall) (reply : FileReply) → IsTrue (is_made call) → Writes before call reply after → BufferOwes (buffer_of before was) call (buffer_of after taken)
-owes_so was taken before after (Write bytes) reply made writes = λ up_to. (writes.takes refl up_to).up_to
-owes_so was taken before after (Read1 size) reply made writes = rest_so before after (writes.leaves refl)
-owes_so was taken before after (Seek offset whence) reply made writes = rest_so before after (writes.leaves refl)
-owes_so was taken before after Flush reply made writes = rest_so before after (writes.leaves refl)
-owes_so was taken before after Close reply made writes = rest_so before after (writes.leaves refl)
-owes_so was taken before after call reply made writes = absurd (cc)
+owes_so was taken before after call reply made writes = grind (arith, rest_so)
 
 none_left : (before after : Owed) → before.bytes ≡ [] → after.bytes ≡ [] → OwesRest before after
 none_left before after was none = record { passed = 0; bytes = none ∙ sym was; place = λ some. absurd (some none) }
@@ -90,22 +62,13 @@ passed_so : (was taken : ℕ) (before after : Stream) → PassedOn before after 
 passed_so was taken before after passes = record { none = passes.none; holds = passes.holds }
 
 passes_so : (was taken : ℕ) (before after : Stream) (call : FileCall) (reply : FileReply) → PassesOn before call reply after → BufferPasses (buffer_of before was) call reply (buffer_of after taken)
-passes_so was taken before after Flush Done passes = passed_so was taken before after passes.0
-passes_so was taken before after Close Done passes = λ live. passed_so was taken before after (passes live)
-passes_so was taken before after call reply passes = tt
+passes_so was taken before after call reply passes = grind (arith, passed_so)
 
 passes_none_so : (before after : Buffer) (call : FileCall) (reply : FileReply) → BufferPassedOn before after → BufferPasses before call reply after
-passes_none_so before after Flush Done passed = passed
-passes_none_so before after Close Done passed = λ live. passed
-passes_none_so before after call reply passed = tt
+passes_none_so before after call reply passed = grind arith
 
 lays_so : (was taken : ℕ) (before : Stream) (call : FileCall) (bytes : List ℕ) → IsTrue (is_made call) → LaysInOrder before call bytes → BufferLays (buffer_of before was) (payload call) bytes
-lays_so was taken before (Write own) bytes made lays = lays
-lays_so was taken before (Read1 size) bytes made lays = lays
-lays_so was taken before (Seek offset whence) bytes made lays = lays
-lays_so was taken before Flush bytes made lays = lays
-lays_so was taken before Close bytes made lays = lays
-lays_so was taken before call bytes made lays = absurd (cc)
+lays_so was taken before call bytes made lays = grind arith
 
 -- a wait has filled the buffer, whose size is shown
 full_so : (taken : ℕ) (call : FileCall) (reply : FileReply) (after : Stream) → IsSome after.buffer → BlocksFull call reply after → BufferBlocksFull call reply (buffer_of after taken)
@@ -163,41 +126,4 @@ answers_as_buffer before was call reply after taken answers counts made buffered
     let same : size_shown (buffering_of before.buffer) ≡ before.buffer = size_is before.buffer buffered in
     let own : Option ℕ = size_shown (buffering_of before.buffer) in
     let passing = passing_of was taken before.can.writable before after call reply refl made buffered owes answers in
-    record {
-      keeps = record {
-        tells = tells_still before.raw after.raw answers.keeps.raw;
-        can = answers.keeps.can;
-        buffering = ap buffering_of answers.keeps.buffer;
-        counts_exactly = answers.keeps.raw.counts_exactly;
-        takes_memory = answers.keeps.raw.takes_memory;
-        exported = refl;
-        faults = answers.keeps.raw.faults;
-        waits = answers.keeps.raw.waits;
-      };
-      refused = λ why refuses. left_so before was call (Refused why) reply after taken counts (answers.refused why refuses);
-      again = closed_so before was call reply after taken counts answers.again;
-      causes = record { waits = answers.causes.waits; faults = answers.causes.faults };
-      counted = λ exactly.
-          let is = subst (λ (buffer : Option ℕ). IsCounted buffer before.raw call reply after.raw after.short) (sym same) (answers.counted exactly) in
-          record { faults = is.faults; waits = is.waits; once = is.once };
-      shorts = answers.shorts;
-      moves = record {
-        life_is = subst (λ (buffer : Option ℕ). LifeMoves buffer call reply before.life after.life) (sym same) answers.moves.life_is;
-        place = subst (λ (buffer : Option ℕ). PlaceMoves buffer call reply after.life before.place after.place) (sym same) answers.moves.place;
-        far = answers.moves.far;
-        within = gives_asked before.buffer call reply buffered answers.moves.within;
-      };
-      ends = by_end_so was taken before after call reply answers.ends;
-      wants = answers.wants;
-      answer = λ accepts. subst (λ (buffer : Option ℕ). IsReplyTo buffer before.can.writable call reply) (sym same) (answers.answer accepts);
-      complete = answers.complete;
-      told = λ unlent. answers.told;
-      taken = counts;
-      reach = answers.reach;
-      hides = answers.hides;
-      owes = passing.owes;
-      lays = passing.lays;
-      passes = passing.passes;
-      full = passing.full;
-      takes = passing.takes;
-    }
+    grind (arith, size_is, passing_of, tells_still, left_so, closed_so, gives_asked, by_end_so)

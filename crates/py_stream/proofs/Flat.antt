@@ -46,10 +46,7 @@ laid_beyond raw place owed own count beyond =
 
 -- a front of all, laid on: first what was owed, then the call's own
 pub laid_in_order : (raw : List ℕ) (place : ℕ) (owed own : List ℕ) (count : ℕ) → lay raw place (take count (owed ++ own)) ≡ lay (lay raw place (take count owed)) (place + length owed) (take (count - length owed) own)
-laid_in_order raw place owed own count = ⊎_elim
-    (λ fewer. laid_within raw place owed own count (omega arith))
-    (λ beyond. laid_beyond raw place owed own count beyond ∙ ap (λ (t : List ℕ). lay (lay raw place t) (place + length owed) (take (count - length owed) own)) (sym (take_all count owed beyond)))
-    (cases_lt count (length owed))
+laid_in_order raw place owed own count = grind (arith, laid_within, laid_beyond, take_all, cases_lt)
 
 -- a front of what some bytes begin with
 pub take_front : (owed own : List ℕ) (taken count : ℕ) → taken ≤ length own → count ≤ length owed + taken → take count (owed ++ own) ≡ take count (owed ++ take taken own)

@@ -218,10 +218,7 @@ cut_bytes owed front passed most within is =
 
 -- a stream that goes back to the place where the call began has taken nothing
 lets_go : (old between new : Stream) (front : List ℕ) → between.owed.place ≤ old.place → Took old front between → CutsBack old.place between new → Took old [] new
-lets_go old between new front before took cut =
-    let owed : List ℕ = old.owed.bytes in
-    let within : took.passed ≤ length owed = omega (arith, before, took.place, took.was.ends) in
-    grind (arith, cut_bytes, take-append-le)
+lets_go old between new front before took cut = grind (arith, cut_bytes, take-append-le)
 
 -- a stream whose last answer is known to be short or not
 said_short : (stream : Stream) (short : Bool) → stream.short ≡ short → record stream { short = short } ≡ stream

@@ -1,5 +1,5 @@
 -- The answers of `seek`, as its steps come: where it goes, what is passed on before, and the moving.
-use Rattle.std.proofs.Common.{◌≡◌, ℕ, ◌+◌, suc, zero, ℤ, pos, max, nat_eq, Bool, true, false, List, [], ◌∷◌, length, Option, Some, None, IsSome, Result, Ok, Err, ne_eqb, if◌then◌else◌, refl, sym, ap, ◌∙◌, subst, arith, zero-le, rules}
+use Rattle.std.proofs.Common.{◌≡◌, ℕ, ◌+◌, suc, zero, ℤ, pos, max, nat_eq, Bool, true, false, List, [], length, Option, Some, None, IsSome, Result, Ok, Err, ne_eqb, if◌then◌else◌, refl, sym, ap, ◌∙◌, subst, arith, zero-le, rules}
 use Rattle.std.proofs.lemmas.List.{append-nil}
 use Rattle.py_flat.specs.declared.fault.IoFault.{IoFault}
 use Rattle.py_flat.specs.declared.fault.IoFault.TheVariants as fault
@@ -35,11 +35,7 @@ use Rattle.py_stream.proofs.Seeking.{MaySeek, seek_refusal_is, target_why, bad_p
 -- Where the stream ends.
 
 ends_at : (raw : List ℕ) (place : ℕ) (bytes : List ℕ) → length (lay raw place bytes) ≡ (if nat_eq (length bytes) 0 then length raw else max (length raw) (place + length bytes))
-ends_at raw place [] = refl
-ends_at raw place (byte ∷ more) =
-    let bytes : List ℕ = byte ∷ more in
-    let some : nat_eq (length bytes) 0 ≡ false = ne_eqb (length bytes) 0 (λ none. absurd (omega (arith, none))) in
-    length-lay raw place bytes (omega arith) ∙ sym (ap (λ (none : Bool). if none then length raw else max (length raw) (place + length bytes)) some)
+ends_at raw place bytes = grind (arith, ne_eqb, length-lay)
 
 answers_end : (old new : Stream) (end : ℕ) → AsksEnd old end new → AnswersEnd old end
 answers_end old new end asks = record { within = asks.within; told = λ tells. asks.told tells ∙ sym (ends_at old.raw.bytes old.owed.place old.owed.bytes) }
@@ -205,9 +201,7 @@ gone old mid new offset whence target may to beside passes empty no_fault no_wai
 
 -- the raw failed to move, or wanted memory
 going_refused : (old found new : Stream) (offset whence : ℤ) (target : ℕ) (why : IoFault) → MaySeek old → Finds old offset whence target found → GoOutcome found target (Err why) new → Answers old (Seek offset whence) (Refused why) new
-going_refused old found new offset whence target fault.RawFault may finds fails = grind (arith, lays_nothing)
-going_refused old found new offset whence target fault.NoMemory may finds wants = grind (arith, lays_nothing)
-going_refused old found new offset whence target why may finds never = absurd never
+going_refused old found new offset whence target why may finds fails = grind (arith, lays_nothing)
 
 -- a stream that owes nothing fails to move
 pub going_fails : (old found new : Stream) (offset whence : ℤ) (target : ℕ) (why : IoFault) → MaySeek (begun old) → Finds (begun old) offset whence target found → GoOutcome found target (Err why) new → Answers old (Seek offset whence) (Refused why) new
@@ -273,9 +267,7 @@ seek_stops old found new offset whence target why seeks finds stops = search (ru
 
 -- a failing of the moving answers the seek
 pub seek_fails : (old found mid new : Stream) (offset whence : ℤ) (target : ℕ) (why : IoFault) → SeeksWriting (begun old) → Finds (begun old) offset whence target found → PassAllOutcome found (Ok tt) mid → GoOutcome mid target (Err why) new → Answers old (Seek offset whence) (Refused why) new
-seek_fails old found mid new offset whence target why seeks finds passed fails =
-    answers_whole old new (Seek offset whence) (Refused why)
-    (moving_fails (begun old) mid new offset whence target why seeks finds.to (passes_all_then (begun old) found mid (Ok tt) (found_took (begun old) found seeks finds.out) finds.out.counts.no_wait passed) fails)
+seek_fails old found mid new offset whence target why seeks finds passed fails = search (rules, answers_whole, moving_fails, begun, passes_all_then, found_took)
 
 -- a stream that writes stands where it was to go
 pub seek_answers : (old found mid new : Stream) (offset whence : ℤ) (target : ℕ) → SeeksWriting (begun old) → Finds (begun old) offset whence target found → PassAllOutcome found (Ok tt) mid → GoesTo mid target new → Answers old (Seek offset whence) (Place target) new

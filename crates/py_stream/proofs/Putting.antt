@@ -24,11 +24,7 @@ takes_then old mid new front more first second = grind (arith, took_then, calm_t
 
 -- an answer of a front of the bytes, but that all of it was taken, is one of all of them
 pub put_more : (old new : Stream) (bytes more : List ℕ) (start : ℕ) (result : Result Bool IoFault) → PutsOutcome old bytes start result new → (result ≢ Ok true) → PutsOutcome old (bytes ++ more) start result new
-put_more old new bytes more start (Ok true) put stops = absurd (stops refl)
-put_more old new bytes more start (Ok false) put stops = fills_more old new bytes more put
-put_more old new bytes more start (Err fault.RawFault) put stops = fails_more old new bytes more put
-put_more old new bytes more start (Err fault.NoMemory) put stops = starves_more old new bytes more start put
-put_more old new bytes more start (Err why) put stops = absurd put
+put_more old new bytes more start result put stops = grind (arith, fills_more, fails_more, starves_more)
 
 -- what a piece comes to after others were taken is what all of them come to
 pub put_then : (old mid new : Stream) (front more : List ℕ) (start : ℕ) (result : Result Bool IoFault) → TookAll old front mid → PutsOutcome mid more start result new → PutsOutcome old (front ++ more) start result new

@@ -1,5 +1,5 @@
 -- Moving a stream, whatever is below it: where a seek goes, what refuses it, and what an answer of it comes to.
-use Rattle.std.proofs.Common.{◌≡◌, ℕ, ◌≤◌, suc, zero, ◌⊎◌, inl, ℤ, pos, Bool, true, false, ◌||◌, IsTrue, length, Option, Some, None, Result, Ok, Err, refl, ◌∙◌, arith}
+use Rattle.std.proofs.Common.{◌≡◌, ℕ, ◌≤◌, suc, zero, ◌⊎◌, inl, ℤ, pos, Bool, true, false, ◌||◌, IsTrue, length, Option, Some, None, Result, Ok, Err, refl, arith, rules}
 use Rattle.py_flat.specs.declared.fault.IoFault.{IoFault}
 use Rattle.py_flat.specs.declared.fault.IoFault.TheVariants as fault
 use Rattle.py_flat.specs.declared.life.Life.{Life}
@@ -113,6 +113,4 @@ seeks_nowhere before None why after left = left
 
 -- a target that isn't in the stream, or a whence that isn't known, refuses the seek before the raw is asked
 pub argument_refuses : (before after : Stream) (offset whence : ℤ) (why : IoFault) → MaySeek before → asks_end (file_of before) (Seek offset whence) ≡ false → seek_refusal (seek_base (file_of before) whence) offset ≡ Some why → is_own why ≡ true → after ≡ before → Answers before (Seek offset whence) (Refused why) after
-argument_refuses before after offset whence why may unasked refuses own same =
-    let whole : before ≡ record before { short = false } = (λ k. record before { short = may.whole k }) in
-    refused_with before after (Seek offset whence) why (record { far = may.sound.far; near = may.sound.near }) (seek_refusal_is before offset whence may ∙ refuses) unasked own refl (same ∙ whole)
+argument_refuses before after offset whence why may unasked refuses own same = search (rules, refused_with, seek_refusal_is)
