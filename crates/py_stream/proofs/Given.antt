@@ -1,5 +1,5 @@
 -- The answers of the calls that give bytes to a stream, by what their steps came to.
-use Rattle.std.proofs.Common.{◌≡◌, ℕ, ◌+◌, ◌-◌, ◌<◌, ◌≤◌, inl, inr, Bool, true, false, IsTrue, List, [], ◌++◌, length, take, drop, Option, Result, Ok, Err, refl, sym, ap, ◌∙◌, subst, arith}
+use Rattle.std.proofs.Common.{◌≡◌, ℕ, ◌+◌, ◌-◌, ◌<◌, ◌≤◌, inl, inr, Bool, true, false, IsTrue, List, [], ◌++◌, length, take, drop, Option, Result, Ok, Err, refl, sym, ap, ◌∙◌, subst, arith, None, rules}
 use Rattle.std.proofs.Math.Seq.{take-append_seam}
 use Rattle.std.proofs.lemmas.List.{length-take-le, take_all, take-append-le, append-nil, drop-take}
 use Rattle.py_flat.specs.declared.fault.IoFault.{IoFault}
@@ -9,14 +9,13 @@ use Rattle.py_flat.specs.declared.life.Life.TheVariants as life
 use Rattle.py_flat.specs.Bytes.{lay}
 use Rattle.py_flat.specs.Causes.{Rose}
 use Rattle.py_flat.specs.Calls.{FileCall, FileReply, Write, Refused}
-use Rattle.py_flat.specs.ExactStep.{is_closed}
 use Rattle.py_flat.specs.AllowedStep.{settled, waited_for, raw_faulted, out_of_memory}
-use Rattle.py_flat.specs.BinaryStep.{payload, SettledBy, BinaryStep}
-use Rattle.py_raw.specs.RawStream.{WhereTransfers}
+use Rattle.py_flat.specs.BinaryStep.{payload, SettledBy, BinaryStep, does_work}
+use Rattle.py_raw.specs.RawStream.{WhereTransfers, WhereTold}
 use Rattle.py_stream.specs.Stream.{Stream, size_of, file_of}
-use Rattle.py_stream.specs.Kinds.{is_writing, goes_on, makes_one}
-use Rattle.py_stream.specs.Writing.{Takes, OwesNoneOfIts, TookOwn}
-use Rattle.py_stream.specs.Answers.{Answers, LifeMoves, PlaceMoves}
+use Rattle.py_stream.specs.Kinds.{is_writing, goes_on, makes_one, says_fault, says_no_memory}
+use Rattle.py_stream.specs.Writing.{Takes, OwesNoneOfIts, TookOwn, BlocksFull}
+use Rattle.py_stream.specs.Answers.{Answers, LifeMoves, PlaceMoves, HasCauses, IsCounted}
 use Rattle.py_stream.specs.Keeping.{KeepsOn}
 use Rattle.py_stream.specs.Taking.{Took, TookAll, FailsTaking, Calm, WaitsAsOne, CutsBack, Starved, StarvesTaking, FillsUp, PutOutcome, PutsOutcome}
 use Rattle.py_stream.proofs.Begun.{answers_whole}
@@ -26,7 +25,9 @@ use Rattle.py_stream.proofs.Refused.{nothing_blocked}
 use Rattle.py_stream.proofs.Stopping.{says_short, fault_answers, starves_alive, starves_there, starve_answers}
 use Rattle.py_stream.proofs.Taking.{fails_sound}
 use Rattle.py_stream.proofs.Flat.{took_ends, fails_ends, took_bytes, took_file, took_none_ends, took_none_file, failed_file, fails_bytes, lays_taken, fails_lays}
-use Rattle.py_stream.proofs.Giving.{MayWrite, answers_coming, accepted, works, no_tell, calm_counts, one_counts, TakesCount, taken_reply, is_taken, WaitsCount, waited_reply, is_blocked, FailsCount, is_faulted}
+use Rattle.py_stream.proofs.Giving.{MayWrite, answers_coming, accepted, works, no_tell, calm_counts, one_counts, TakesCount, taken_reply, is_taken, WaitsCount, waited_reply, is_blocked, FailsCount, is_faulted, IsPart, StepsBy}
+use Rattle.py_flat.specs.Refusals.{refusal}
+use Rattle.py_flat.specs.FlatFile.{FlatFile}
 
 -- at most one transfer was made, where the call makes no more
 abbrev pub OneTransfer : Stream → FileCall → Stream → Type 0
@@ -46,100 +47,52 @@ takes_front old new own taken current short fits took = record {
   told = λ tells. (taken, omega arith, fits, took_bytes old new (take taken own) took tells);
 }
 
--- Some were taken.
-pub takes_answers : (old new : Stream) (call : FileCall) (count : ℕ) → MayWrite old call → count ≤ length (payload call) → TakesCount old.buffer call count → Took old (take count (payload call)) new → Calm old.buffer old.raw new.raw → OneTransfer old call new → Answers old call (taken_reply call count) (record new { short = false })
-takes_answers old new call count may fits counts took calm one =
-    let own : List ℕ = payload call in
-    let is = is_taken old count old.buffer call may.writing in
-    let left : Stream = record new { short = false } in
-    answers_coming old new call (taken_reply call count) false may (record {
-      kept = took.kept;
-      behind = took.behind;
-      is_open = ap is_closed took.live;
-      causes = record { waits = λ short. absurd (cc); faults = λ faulted. absurd (cc (is.no_fault)) };
-      counted = λ exact. record { faults = λ _. took.no_fault exact; waits = λ _ ends. calm_counts old.buffer call old.raw new.raw may.writing calm ends exact; once = λ short. absurd (cc) };
-      shorts = is.shorts;
-      life_is = is.life_is old.life new.life (took.live ∙ sym may.live);
-      place = is.place new.life old.place new.place fits counts (omega (arith, took_ends old new (take count own) took, length-take-le count own fits));
-      wants = λ wanting. absurd (cc (is.no_want));
-      one = one;
-      takes = takes_front old new own count new.life false fits took;
-      lays = lays_taken old new own count fits took;
-      full = is.full left;
-      straight = is.straight left;
-      starves = λ wanting. absurd (cc (is.no_want));
-      answers = is.answers;
-      told = λ tells. subst (λ (faulted : Bool). BinaryStep (file_of old) call (taken_reply call count) false faulted (file_of new)) (sym is.no_fault) (settled (subst (λ (refused : Option IoFault). SettledBy (file_of old) call refused (taken_reply call count) (file_of new)) (sym (accepted old call may))
-          (is.carried (file_of new) fits counts (took_file old new (take count own) may.live took tells))));
-    })
+part_steps : (file after : FlatFile) (call : FileCall) (reply : FileReply) (short faulted : Bool) → IsTrue (does_work file call) → refusal file call ≡ None → StepsBy short file call reply after → BinaryStep file call reply short faulted after
+part_steps file after call reply true faulted work passes waited = waited_for refl (work, waited)
+part_steps file after call reply false faulted work passes carried = settled (subst (λ (refused : Option IoFault). SettledBy file call refused reply after) (sym passes) carried)
 
--- The raw would have blocked.
-pub waits_answers : (old new : Stream) (call : FileCall) (taken : ℕ) → MayWrite old call → taken ≤ length (payload call) → WaitsCount old.buffer call taken → Took old (take taken (payload call)) new → length new.owed.bytes ≡ size_of new → Rose old.raw.waits new.raw.waits → WaitsAsOne old.buffer old.raw new.raw → OneTransfer old call new → Answers old call (waited_reply old.buffer call taken) (record new { short = true })
-waits_answers old new call taken may fits counts took full waited once one =
+-- The first n bytes were taken: all that the call could take, or what it could before the raw would have blocked.
+part_answers : (old new : Stream) (call : FileCall) (reply : FileReply) (count : ℕ) (short : Bool) → MayWrite old call → count ≤ length (payload call) → IsPart old count old.buffer call reply short → Took old (take count (payload call)) new → (IsTrue short → length new.owed.bytes ≡ size_of new) → (IsTrue short → Rose old.raw.waits new.raw.waits) → (short ≡ false → Calm old.buffer old.raw new.raw) → (IsTrue short → WaitsAsOne old.buffer old.raw new.raw) → OneTransfer old call new → Answers old call reply (record new { short = short })
+part_answers old new call reply count short may fits is took filled waited calm once one =
     let own : List ℕ = payload call in
-    let is = is_blocked old taken old.buffer call may.writing in
-    let left : Stream = record new { short = true } in
-    answers_coming old new call (waited_reply old.buffer call taken) true may (record {
-      kept = took.kept;
-      behind = took.behind;
-      is_open = ap is_closed took.live;
-      causes = record { waits = λ short. waited; faults = λ faulted. absurd (cc (is.no_fault)) };
-      counted = λ exact. record { faults = λ _. took.no_fault exact; waits = λ whole. absurd (cc); once = λ _ ends. one_counts old.buffer call old.raw new.raw may.writing once ends exact };
-      shorts = is.shorts;
-      life_is = is.life_is old.life new.life (took.live ∙ sym may.live);
-      place = is.place new.life old.place new.place counts (omega (arith, took_ends old new (take taken own) took, length-take-le taken own fits));
-      wants = λ wanting. absurd (cc (is.no_want));
-      one = one;
-      takes = takes_front old new own taken new.life true fits took;
-      lays = lays_taken old new own taken fits took;
-      full = is.full left full;
-      straight = is.straight left;
-      starves = λ wanting. absurd (cc (is.no_want));
-      answers = is.answers;
-      told = λ tells. waited_for refl (works old call may, is.waited (file_of new) counts (took_file old new (take taken own) may.live took tells));
-    })
+    let life_is : LifeMoves old.buffer call reply old.life new.life = is.life_is old.life new.life (took.live ∙ sym may.live) in
+    let place : PlaceMoves old.buffer call reply new.life old.place new.place = is.place new.life old.place new.place (omega (arith, took_ends old new (take count own) took, length-take-le count own fits)) in
+    let causes : HasCauses old.raw reply new.raw short = record { waits = waited; faults = λ faulted. absurd (cc (is.no_fault)) } in
+    let counted : IsTrue old.raw.counts_exactly → IsCounted old.buffer old.raw call reply new.raw short = λ exact. record { faults = λ _. took.no_fault exact; waits = λ whole ends. calm_counts old.buffer call old.raw new.raw may.writing (calm whole) ends exact; once = λ cut ends. one_counts old.buffer call old.raw new.raw may.writing (once cut) ends exact } in
+    let wants : IsTrue (says_no_memory reply) → IsTrue old.raw.takes_memory = λ wanting. absurd (cc (is.no_want)) in
+    let starves : IsTrue (says_no_memory reply) → new.life ≡ life.Failed → TookOwn old (record new { short = short }) = λ wanting. absurd (cc (is.no_want)) in
+    let full : BlocksFull call reply (record new { short = short }) = is.full (record new { short = short }) filled in
+    let straight = is.straight (record new { short = short }) in
+    let told : WhereTold old.raw (BinaryStep (file_of old) call reply short (says_fault reply) (file_of new)) = λ tells. part_steps (file_of old) (file_of new) call reply short (says_fault reply) (works old call may) (accepted old call may) (is.steps (file_of new) (took_file old new (take count own) may.live took tells)) in
+    answers_coming old new call reply short may (search (rules, takes_front, lays_taken))
+
+-- some were taken
+pub takes_answers : (old new : Stream) (call : FileCall) (count : ℕ) → MayWrite old call → count ≤ length (payload call) → TakesCount old.buffer call count → Took old (take count (payload call)) new → Calm old.buffer old.raw new.raw → OneTransfer old call new → Answers old call (taken_reply call count) (record new { short = false })
+takes_answers old new call count may fits counts took calm one = part_answers old new call (taken_reply call count) count false may fits (is_taken old count old.buffer call may.writing fits counts) took (λ short. absurd (cc)) (λ short. absurd (cc)) (λ whole. calm) (λ short. absurd (cc)) one
+
+-- the raw would have blocked
+pub waits_answers : (old new : Stream) (call : FileCall) (taken : ℕ) → MayWrite old call → taken ≤ length (payload call) → WaitsCount old.buffer call taken → Took old (take taken (payload call)) new → length new.owed.bytes ≡ size_of new → Rose old.raw.waits new.raw.waits → WaitsAsOne old.buffer old.raw new.raw → OneTransfer old call new → Answers old call (waited_reply old.buffer call taken) (record new { short = true })
+waits_answers old new call taken may fits counts took full waited once one = part_answers old new call (waited_reply old.buffer call taken) taken true may fits (is_blocked old taken old.buffer call may.writing counts) took (λ _. full) (λ _. waited) (λ whole. absurd (cc)) (λ _. once) one
 
 -- The raw failed.
 pub faults_answers : (old new : Stream) (call : FileCall) → MayWrite old call → (fails : FailsTaking old (payload call) new) → FailsCount old.buffer call fails.taken → OneTransfer old call new → OwesNoneOfIts old call (Refused fault.RawFault) (record new { short = false }) → Answers old call (Refused fault.RawFault) (record new { short = false })
 faults_answers old new call may fails counts one straight =
     let own : List ℕ = payload call in
     let is = is_faulted old fails.taken old.buffer call may.writing in
-    let left : Stream = record new { short = false } in
     let ends : new.place ≡ old.place + fails.taken = fails_ends old new own fails in
-    answers_coming old new call (Refused fault.RawFault) false may (record {
-      kept = fails.kept;
-      behind = fails.behind;
-      is_open = ap is_closed fails.failed;
-      causes = record { waits = λ short. absurd (cc); faults = λ faulted. fails.cause };
-      counted = λ exact. record { faults = λ sound. absurd (cc); waits = λ _ ends. calm_counts old.buffer call old.raw new.raw may.writing fails.calm ends exact; once = λ short. absurd (cc) };
-      shorts = says_short call fault.RawFault;
-      life_is = subst (LifeMoves old.buffer call (Refused fault.RawFault) old.life) (sym fails.failed) (is.life_is old.life);
-      place = is.place new.life old.place new.place counts ends;
-      wants = λ wanting. absurd (cc);
-      one = one;
-      takes = record {
-        taken = fails.taken;
-        within = fails.fits;
-        place = ends;
-        passed = fails.passed;
-        most = fails.within;
-        answered = fails.answered;
-        owed = fails.owed;
-        up_to = inr fails.behind.ends;
-        told = λ tells. let laid = fails_bytes old new own fails tells in (laid.count, laid.least_is, laid.fits, laid.bytes);
-      };
-      lays = fails_lays old new own fails;
-      full = nothing_blocked left call fault.RawFault refl;
-      straight = straight;
-      starves = λ wanting. absurd (cc);
-      answers = fault_answers old.buffer true call (no_tell call may.writing);
-      told = λ tells.
-          let laid = fails_bytes old new own fails tells in
-          raw_faulted refl refl (
-            work_reaches (file_of old) call (works old call may),
-            is.faulted (file_of new) (laid.count, laid.fits, failed_file old new life.Failed (lay (file_of old).bytes old.place (take laid.count own)) fails.kept fails.failed laid.bytes),
-          );
-    })
+    let life_is : LifeMoves old.buffer call (Refused fault.RawFault) old.life new.life = subst (LifeMoves old.buffer call (Refused fault.RawFault) old.life) (sym fails.failed) (is.life_is old.life) in
+    let place : PlaceMoves old.buffer call (Refused fault.RawFault) new.life old.place new.place = is.place new.life old.place new.place counts ends in
+    let counted : IsTrue old.raw.counts_exactly → IsCounted old.buffer old.raw call (Refused fault.RawFault) new.raw false = λ exact. record { faults = λ sound. absurd (cc); waits = λ _ ends. calm_counts old.buffer call old.raw new.raw may.writing fails.calm ends exact; once = λ short. absurd (cc) } in
+    let takes : Takes old own (record new { short = false }) = record { taken = fails.taken; within = fails.fits; place = ends; passed = fails.passed; most = fails.within; answered = fails.answered; owed = fails.owed; up_to = inr fails.behind.ends; told = λ tells. let laid = fails_bytes old new own fails tells in (laid.count, laid.least_is, laid.fits, laid.bytes) } in
+    let lays = fails_lays old new own fails in
+    let answers = fault_answers old.buffer true call (no_tell call may.writing) in
+    let told : WhereTold old.raw (BinaryStep (file_of old) call (Refused fault.RawFault) false true (file_of new)) = λ tells.
+        let laid = fails_bytes old new own fails tells in
+        raw_faulted refl refl (
+          work_reaches (file_of old) call (works old call may),
+          is.faulted (file_of new) (laid.count, laid.fits, failed_file old new life.Failed (lay (file_of old).bytes old.place (take laid.count own)) fails.kept fails.failed laid.bytes),
+        ) in
+    answers_coming old new call (Refused fault.RawFault) false may (search (rules, says_short, nothing_blocked))
 
 -- Memory ran out.
 
@@ -148,28 +101,14 @@ pub wants_answers : (old new : Stream) (call : FileCall) → MayWrite old call �
 wants_answers old new call may takes took calm one straight =
     let own : List ℕ = payload call in
     let is = is_faulted old 0 old.buffer call may.writing in
-    let left : Stream = record new { short = false } in
-    let same : new.life ≡ old.life = took.live ∙ sym may.live in
-    let ends : new.place ≡ old.place = took_none_ends old new took in
-    answers_coming old new call (Refused fault.NoMemory) false may (record {
-      kept = took.kept;
-      behind = took.behind;
-      is_open = ap is_closed took.live;
-      causes = record { waits = λ short. absurd (cc); faults = λ faulted. absurd (cc) };
-      counted = λ exact. record { faults = λ _. took.no_fault exact; waits = λ _ ends. calm_counts old.buffer call old.raw new.raw may.writing calm ends exact; once = λ short. absurd (cc) };
-      shorts = says_short call fault.NoMemory;
-      life_is = subst (LifeMoves old.buffer call (Refused fault.NoMemory) old.life) (sym same) (starves_alive old.buffer call old.life);
-      place = subst (PlaceMoves old.buffer call (Refused fault.NoMemory) new.life old.place) (sym ends) (starves_there old.buffer call new.life old.place);
-      wants = λ wanting. takes;
-      one = one;
-      takes = takes_front old new own 0 new.life false (omega arith) took;
-      lays = lays_taken old new own 0 (omega arith) took;
-      full = nothing_blocked left call fault.NoMemory refl;
-      straight = straight;
-      starves = λ wanting failed. absurd (let wrong : life.Live ≡ life.Failed = sym took.live ∙ failed in cc);
-      answers = starve_answers old.buffer true call (no_tell call may.writing);
-      told = λ tells. out_of_memory refl (work_reaches (file_of old) call (works old call may), is.same (file_of new) (took_none_file old new may.live took tells));
-    })
+    let life_is : LifeMoves old.buffer call (Refused fault.NoMemory) old.life new.life = subst (LifeMoves old.buffer call (Refused fault.NoMemory) old.life) (may.live ∙ sym took.live) (starves_alive old.buffer call old.life) in
+    let place : PlaceMoves old.buffer call (Refused fault.NoMemory) new.life old.place new.place = subst (PlaceMoves old.buffer call (Refused fault.NoMemory) new.life old.place) (sym (took_none_ends old new took)) (starves_there old.buffer call new.life old.place) in
+    let counted : IsTrue old.raw.counts_exactly → IsCounted old.buffer old.raw call (Refused fault.NoMemory) new.raw false = λ exact. record { faults = λ _. took.no_fault exact; waits = λ _ ends. calm_counts old.buffer call old.raw new.raw may.writing calm ends exact; once = λ short. absurd (cc) } in
+    let takes_none : Takes old own (record new { short = false }) = takes_front old new own 0 new.life false (omega arith) took in
+    let lays = lays_taken old new own 0 (omega arith) took in
+    let answers = starve_answers old.buffer true call (no_tell call may.writing) in
+    let told : WhereTold old.raw (BinaryStep (file_of old) call (Refused fault.NoMemory) false false (file_of new)) = λ tells. out_of_memory refl (work_reaches (file_of old) call (works old call may), is.same (file_of new) (took_none_file old new may.live took tells)) in
+    answers_coming old new call (Refused fault.NoMemory) false may (search (rules, says_short, nothing_blocked))
 
 -- a raw stands where what is owed belongs, and past the place of a call it took some of that call's own bytes
 took_own : (old new : Stream) (bytes : List ℕ) → Took old bytes new → old.place < new.owed.place → TookOwn old (record new { life = life.Failed; short = false })
@@ -185,28 +124,17 @@ midway_answers old between call taken may goes fits takes took calm one past str
     let long : length (take taken own) ≡ taken = length-take-le taken own fits in
     let ends : between.place ≡ old.place + taken = omega (arith, took_ends old between (take taken own) took, long) in
     let some : 0 < taken = omega (arith, past, took.place, took.was.ends, took.within, long) in
-    answers_coming old new call (Refused fault.NoMemory) false may (record {
-      kept = kept;
-      behind = record { ends = took.behind.ends; stands = took.behind.stands };
-      is_open = refl;
-      causes = record { waits = λ short. absurd (cc); faults = λ faulted. absurd (cc) };
-      counted = λ exact. record { faults = λ _. took.no_fault exact; waits = λ _ ends. calm_counts old.buffer call old.raw between.raw may.writing calm ends exact; once = λ short. absurd (cc) };
-      shorts = says_short call fault.NoMemory;
-      life_is = is.starved_life old.life goes;
-      place = is.starved_place old.place between.place fits ends;
-      wants = λ wanting. takes;
-      one = one;
-      takes = takes_front old between own taken life.Failed false fits took;
-      lays = lays_taken old between own taken fits took;
-      full = nothing_blocked (record new { short = false }) call fault.NoMemory refl;
-      straight = straight;
-      starves = λ wanting failed. took_own old between (take taken own) took past;
-      answers = starve_answers old.buffer true call (no_tell call may.writing);
-      told = λ tells. out_of_memory refl (
+    let causes : HasCauses old.raw (Refused fault.NoMemory) between.raw false = record { waits = λ short. absurd (cc); faults = λ faulted. absurd (cc) } in
+    let shorts = says_short call fault.NoMemory in
+    let life_is = is.starved_life old.life goes in
+    let place = is.starved_place old.place between.place fits ends in
+    let counted : IsTrue old.raw.counts_exactly → IsCounted old.buffer old.raw call (Refused fault.NoMemory) between.raw false = λ exact. record { faults = λ _. took.no_fault exact; waits = λ _ ends. calm_counts old.buffer call old.raw between.raw may.writing calm ends exact; once = λ short. absurd (cc) } in
+    let answers = starve_answers old.buffer true call (no_tell call may.writing) in
+    let told : WhereTold old.raw (BinaryStep (file_of old) call (Refused fault.NoMemory) false false (file_of new)) = λ tells. out_of_memory refl (
         work_reaches (file_of old) call (works old call may),
         is.starved (file_of new) (taken, some, fits, failed_file old new life.Failed (lay (file_of old).bytes old.place (take taken own)) kept refl (took_bytes old between (take taken own) took tells)),
-      );
-    })
+    ) in
+    answers_coming old new call (Refused fault.NoMemory) false may (search (rules, says_short, nothing_blocked, takes_front, lays_taken, took_own))
 
 -- up to where the call began all bytes are as they were
 cut_bytes : (owed front : List ℕ) (passed most : ℕ) → passed ≤ length owed → most ≡ length owed - passed → take most (drop passed (owed ++ front)) ≡ drop passed (owed ++ [])

@@ -5,7 +5,6 @@ use Rattle.py_flat.specs.declared.fault.IoFault.TheVariants as fault
 use Rattle.py_flat.specs.declared.life.Life.{Life}
 use Rattle.py_flat.specs.declared.life.Life.TheVariants as life
 use Rattle.py_flat.specs.Limits.{greatest_place}
-use Rattle.py_flat.specs.Lines.{joined}
 use Rattle.py_flat.specs.FlatFile.{FlatFile}
 use Rattle.py_flat.specs.Calls.{FileCall, Write, WriteLines, FileReply, Count, Done, NotReady, Refused}
 use Rattle.py_flat.specs.Refusals.{refusal, is_getter, is_other_getter, life_refusal, or_else, refused_if, too_far}
@@ -190,49 +189,40 @@ abbrev pub taken_reply : FileCall → ℕ → FileReply
 taken_reply (Write bytes) count = Count count
 taken_reply call count = Done
 
--- an answer of a call that took n bytes
-pub record IsTaken (old : Stream) (count : ℕ) (buffer : Option ℕ) (call : FileCall) : Type 0 where
-  pub no_fault : says_fault (taken_reply call count) ≡ false
-  pub no_want : says_no_memory (taken_reply call count) ≡ false
-  pub shorts : IsShort call (taken_reply call count) false
-  pub life_is : (before after : Life) → after ≡ before → LifeMoves buffer call (taken_reply call count) before after
-  pub place : (current : Life) (before after : ℕ) → count ≤ length (payload call) → TakesCount buffer call count → after ≡ before + count → PlaceMoves buffer call (taken_reply call count) current before after
-  pub full : (after : Stream) → BlocksFull call (taken_reply call count) after
-  pub straight : (after : Stream) → OwesNoneOfIts old call (taken_reply call count) after
-  pub answers : IsReplyTo buffer true call (taken_reply call count)
-  pub carried : (after : FlatFile) → count ≤ length (payload call) → TakesCount buffer call count → after ≡ after_write (file_of (record old { buffer = buffer })) (take count (payload call)) → Accepted (file_of (record old { buffer = buffer })) call (taken_reply call count) after
+-- what a call carried out, or what it did before it had to wait
+abbrev pub StepsBy : Bool → FlatFile → FileCall → FileReply → FlatFile → Type 0
+StepsBy true file call reply after = WaitedBy file call reply after
+StepsBy false file call reply after = Accepted file call reply after
+
+-- an answer of a call that took the first n of its bytes: all that it could, or what it could before it had to wait
+pub record IsPart (old : Stream) (count : ℕ) (buffer : Option ℕ) (call : FileCall) (reply : FileReply) (short : Bool) : Type 0 where
+  pub no_fault : says_fault reply ≡ false
+  pub no_want : says_no_memory reply ≡ false
+  pub shorts : IsShort call reply short
+  pub life_is : (before after : Life) → after ≡ before → LifeMoves buffer call reply before after
+  pub place : (current : Life) (before after : ℕ) → after ≡ before + count → PlaceMoves buffer call reply current before after
+  pub full : (after : Stream) → (IsTrue short → length after.owed.bytes ≡ size_of after) → BlocksFull call reply after
+  pub straight : (after : Stream) → OwesNoneOfIts old call reply after
+  pub answers : IsReplyTo buffer true call reply
+  pub steps : (after : FlatFile) → after ≡ after_write (file_of (record old { buffer = buffer })) (take count (payload call)) → StepsBy short (file_of (record old { buffer = buffer })) call reply after
 
 all_taken : (bytes : List ℕ) (count : ℕ) → count ≡ length bytes → take count bytes ≡ bytes
 all_taken bytes count all = take_all count bytes (omega (arith, all))
 
-lines_taken : (old : Stream) (count : ℕ) (buffer : Option ℕ) (lines : List (List ℕ)) (after : FlatFile) → count ≡ length (joined lines) → after ≡ after_write (file_of (record old { buffer = buffer })) (take count (joined lines)) → after ≡ after_write (file_of (record old { buffer = buffer })) (joined lines)
-lines_taken old count buffer lines after all is = is ∙ ap (after_write (file_of (record old { buffer = buffer }))) (all_taken (joined lines) count all)
+carried : (old : Stream) (count : ℕ) (buffer : Option ℕ) (call : FileCall) → is_writing call ≡ true → count ≤ length (payload call) → TakesCount buffer call count → (after : FlatFile) → after ≡ after_write (file_of (record old { buffer = buffer })) (take count (payload call)) → Accepted (file_of (record old { buffer = buffer })) call (taken_reply call count) after
+carried old count (Some size) (Write bytes) writing fits all after is = grind (arith, all_taken)
+carried old count None (Write bytes) writing fits some after is = record {
+  part = take count bytes;
+  front = (drop count bytes, take-append-drop count bytes);
+  some = λ nothing. some (omega (arith, ap length nothing, length-take-le count bytes fits));
+  outcome = ap (λ (left : FlatFile). (Count count, left)) is ∙ ap (λ (taken : ℕ). (Count taken, after_write (file_of (record old { buffer = None })) (take count bytes))) (sym (length-take-le count bytes fits));
+}
+carried old count buffer (WriteLines lines) writing fits all after is = grind (arith, all_taken)
+carried old count buffer call writing fits all after is = absurd (cc)
 
 -- each call that gives bytes has the answer of one that took n bytes
-pub is_taken : (old : Stream) (count : ℕ) (buffer : Option ℕ) (call : FileCall) → is_writing call ≡ true → IsTaken old count buffer call
-is_taken old count buffer call writing = of_all (IsTaken old count)
-    (λ size bytes. (grind (arith, all_taken)))
-    (λ bytes. record {
-      no_fault = refl;
-      no_want = refl;
-      shorts = refl;
-      life_is = λ before after same. same;
-      place = λ current before after fits some at. ((fits, some), at);
-      full = λ after. tt;
-      straight = λ after. tt;
-      answers = tt;
-      carried = λ after fits some is. record {
-        part = take count bytes;
-        front = (drop count bytes, take-append-drop count bytes);
-        some = λ nothing. some (omega (arith, ap length nothing, length-take-le count bytes fits));
-        outcome =
-            ap (λ (left : FlatFile). (Count count, left)) is
-            ∙ ap (λ (taken : ℕ). (Count taken, after_write (file_of (record old { buffer = None })) (take count bytes))) (sym (length-take-le count bytes fits));
-      };
-    })
-    (λ size lines. record { no_fault = refl; no_want = refl; shorts = refl; life_is = λ before after same. same; place = λ current before after fits all at. omega (arith, all, at); full = λ after. tt; straight = λ after. tt; answers = tt; carried = λ after fits all is. ap (λ (left : FlatFile). (Done, left)) (lines_taken old count (Some size) lines after all is) })
-    (λ lines. record { no_fault = refl; no_want = refl; shorts = refl; life_is = λ before after same. same; place = λ current before after fits all at. omega (arith, all, at); full = λ after. tt; straight = λ after. tt; answers = tt; carried = λ after fits all is. ap (λ (left : FlatFile). (Done, left)) (lines_taken old count None lines after all is) })
-    buffer call writing
+pub is_taken : (old : Stream) (count : ℕ) (buffer : Option ℕ) (call : FileCall) → is_writing call ≡ true → count ≤ length (payload call) → TakesCount buffer call count → IsPart old count buffer call (taken_reply call count) false
+is_taken old count buffer call writing fits counts = grind (arith, carried)
 
 -- the raw would have blocked: n bytes were taken, fewer than all, and none of a `write` without a buffer, which says that it isn't ready
 abbrev pub WaitsCount : Option ℕ → FileCall → ℕ → Type 0
@@ -244,21 +234,9 @@ abbrev pub waited_reply : Option ℕ → FileCall → ℕ → FileReply
 waited_reply None (Write bytes) taken = NotReady
 waited_reply buffer call taken = Refused (fault.WouldBlock taken)
 
--- an answer of a call that had to wait after n bytes
-pub record IsBlocked (old : Stream) (taken : ℕ) (buffer : Option ℕ) (call : FileCall) : Type 0 where
-  pub no_fault : says_fault (waited_reply buffer call taken) ≡ false
-  pub no_want : says_no_memory (waited_reply buffer call taken) ≡ false
-  pub shorts : IsShort call (waited_reply buffer call taken) true
-  pub life_is : (before after : Life) → after ≡ before → LifeMoves buffer call (waited_reply buffer call taken) before after
-  pub place : (current : Life) (before after : ℕ) → WaitsCount buffer call taken → after ≡ before + taken → PlaceMoves buffer call (waited_reply buffer call taken) current before after
-  pub full : (after : Stream) → length after.owed.bytes ≡ size_of after → BlocksFull call (waited_reply buffer call taken) after
-  pub straight : (after : Stream) → OwesNoneOfIts old call (waited_reply buffer call taken) after
-  pub answers : IsReplyTo buffer true call (waited_reply buffer call taken)
-  pub waited : (after : FlatFile) → WaitsCount buffer call taken → after ≡ after_write (file_of (record old { buffer = buffer })) (take taken (payload call)) → WaitedBy (file_of (record old { buffer = buffer })) call (waited_reply buffer call taken) after
-
 -- each call that gives bytes has the answer of one that had to wait
-pub is_blocked : (old : Stream) (taken : ℕ) (buffer : Option ℕ) (call : FileCall) → is_writing call ≡ true → IsBlocked old taken buffer call
-is_blocked old taken buffer call writing = grind arith
+pub is_blocked : (old : Stream) (taken : ℕ) (buffer : Option ℕ) (call : FileCall) → is_writing call ≡ true → WaitsCount buffer call taken → IsPart old taken buffer call (waited_reply buffer call taken) true
+is_blocked old taken buffer call writing counts = grind arith
 
 -- the raw failed, or memory ran out once it took some: no byte is counted of a `write` without a buffer
 abbrev pub FailsCount : Option ℕ → FileCall → ℕ → Type 0
