@@ -134,7 +134,7 @@ midway_answers old between call taken may goes fits takes took calm one past str
         work_reaches (file_of old) call (works old call may),
         is.starved (file_of new) (taken, some, fits, failed_file old new life.Failed (lay (file_of old).bytes old.place (take taken own)) kept refl (took_bytes old between (take taken own) took tells)),
     ) in
-    answers_coming old new call (Refused fault.NoMemory) false may (search (rules, says_short, nothing_blocked, takes_front, lays_taken, took_own))
+    answers_coming old new call (Refused fault.NoMemory) false may (search (rules, nothing_blocked, takes_front, lays_taken, took_own))
 
 -- up to where the call began all bytes are as they were
 cut_bytes : (owed front : List ℕ) (passed most : ℕ) → passed ≤ length owed → most ≡ length owed - passed → take most (drop passed (owed ++ front)) ≡ drop passed (owed ++ [])

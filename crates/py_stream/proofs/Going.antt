@@ -1,5 +1,5 @@
 -- The answers of `seek`, as its steps come: where it goes, what is passed on before, and the moving.
-use Rattle.std.proofs.Common.{◌≡◌, ℕ, ◌+◌, suc, zero, ℤ, pos, max, nat_eq, Bool, true, false, List, [], length, Option, Some, None, IsSome, Result, Ok, Err, ne_eqb, if◌then◌else◌, refl, sym, ap, ◌∙◌, subst, arith, zero-le, rules}
+use Rattle.std.proofs.Common.{◌≡◌, ℕ, ◌+◌, suc, zero, ℤ, pos, max, nat_eq, Bool, true, false, List, [], length, Option, Some, None, IsSome, Result, Ok, Err, ne_eqb, if◌then◌else◌, refl, sym, ap, ◌∙◌, subst, arith, zero-le, rules, IsTrue}
 use Rattle.std.proofs.lemmas.List.{append-nil}
 use Rattle.py_flat.specs.declared.fault.IoFault.{IoFault}
 use Rattle.py_flat.specs.declared.fault.IoFault.TheVariants as fault
@@ -10,7 +10,7 @@ use Rattle.py_flat.specs.Owed.{Owed}
 use Rattle.py_flat.specs.Calls.{FileCall, Seek, Place, Refused}
 use Rattle.py_flat.specs.FlatFile.{FlatFile}
 use Rattle.py_flat.specs.Refusals.{moved_by, refusal, target_refusal}
-use Rattle.py_flat.specs.ExactStep.{is_closed, seek_target}
+use Rattle.py_flat.specs.ExactStep.{seek_target}
 use Rattle.py_flat.specs.AllowedStep.{settled}
 use Rattle.py_flat.specs.BinaryStep.{BinaryStep, SettledBy}
 use Rattle.py_flat.proofs.Laying.{length-lay}
@@ -18,8 +18,8 @@ use Rattle.py_raw.specs.RawStream.{NoFault, WhereTold, NoWait, LeavesCounts}
 use Rattle.py_raw.proofs.Telling.{tells_its_bytes}
 use Rattle.py_raw.proofs.ReadingOn.{no_fault_then, no_wait_then}
 use Rattle.py_stream.specs.Stream.{Span, Stream, file_of, nothing_owed}
-use Rattle.py_stream.specs.Writing.{LaysFront}
-use Rattle.py_stream.specs.Answers.{Answers, Leaves, SeeksTo, SeeksFromEnd, InHandOf, InHand, SparesBytes}
+use Rattle.py_stream.specs.Writing.{LaysFront, Writes}
+use Rattle.py_stream.specs.Answers.{Answers, Leaves, SeeksTo, SeeksFromEnd, InHandOf, InHand, SparesBytes, IsCounted}
 use Rattle.py_stream.specs.Keeping.{KeepsOn, OwesBehind}
 use Rattle.py_stream.specs.Taking.{Took, PassAllOutcome}
 use Rattle.py_stream.specs.Moving.{StandsAsBefore, AsksEnd, TargetFromEnd, TargetOutcome, IsHeld, GoesTo, GoOutcome}
@@ -151,51 +151,33 @@ gone old mid new offset whence target may to beside passes empty no_fault no_wai
     let at : new.owed.place ≡ new.place = ap (λ (owed : Owed). owed.place) goes.owed ∙ sym goes.place in
     let short : new.short ≡ false = kept.short ∙ may.whole in
     let bytes : WhereTold old.raw (new.raw.bytes ≡ mid.raw.bytes) = λ tells. goes.bytes (passes.kept.raw.tells_bytes ∙ tells_its_bytes old.raw tells) in
-    shows_answers old call (Place target) new asked.none (record {
-      keeps = record { buffer = kept.buffer; can = kept.can; raw = kept.raw; bare = λ bare _. kept.sound.bare (kept.buffer ∙ bare) };
-      passes = asked.passes;
-      again = λ closes. absurd (cc);
-      shut = λ _ none closed. kept.stays ∙ stays_open old new.life may.live (ap is_closed goes.live) closed;
-      causes = record { waits = λ waited. absurd (cc); faults = λ faults. absurd (cc) };
-      counted = λ exact. record { faults = λ _. no_fault_then old.raw mid.raw new.raw passes.kept.raw no_fault goes.counts.no_fault exact; waits = λ _ _. no_wait_then old.raw mid.raw new.raw passes.kept.raw no_wait goes.counts.no_wait exact; once = λ waited. absurd (cc) };
-      shorts = short;
-      life_is = goes.live ∙ sym may.live;
-      place = (goes.place, to.to);
-      far = kept.sound.far;
-      ends = to.ends new;
-      wants = λ wanting. absurd (cc);
-      idle = λ idle. absurd (cc (asked.busy));
-      in_hand = beside.in_hand;
-      spares = beside.spares;
-      writes = λ _. passing_writes old call (Place target) new asked.none (record {
-        leaves = record {
-          passed = passes.passed;
-          most = passes.within;
-          answered = answers_still old.raw mid.raw new.raw passes.passed passes.kept.raw passes.answered goes.answered;
-          bytes = none ∙ sym empty ∙ passes.owed;
-          place = λ some. absurd (some none);
-        };
-        lays = λ tells. subst (LaysFront old []) (sym (bytes tells)) (passes.lays tells);
-        passes = λ _. none;
-        full = tt;
-        settles = λ _ _. at;
-        unclosed = λ some. absurd (some none);
-        rests = λ dead. absurd (dead may.live);
-      });
-      at_once = λ failed. absurd (cc (may.live));
-      answer = tt;
-      told = λ tells.
-          let lies : (seek_target (file_of old) offset whence ≡ target) × (refusal (file_of old) call ≡ None) = to.lies (tells_its_bytes old.raw tells) in
-          let flat : flat_of new ≡ flat_of old = ap (lay new.raw.bytes new.owed.place) none ∙ bytes tells ∙ passed_all old mid passes empty tells in
-          let file : file_of new ≡ record (file_of old) { place = target } =
-          file_now old new kept (goes.live ∙ sym may.live)
-          ∙ ap (λ (all : List ℕ). record (file_of old) { bytes = all; place = new.place }) flat
-          ∙ ap (λ (place : ℕ). record (file_of old) { place = place }) goes.place in
-          subst (λ (said : Bool). BinaryStep (file_of old) call (Place target) said false (file_of new)) (sym short)
-          (settled (subst (λ (refused : Option IoFault). SettledBy (file_of old) call refused (Place target) (file_of new)) (sym lies.1)
-          (ap (λ (after : FlatFile). (Place target, after)) file ∙ ap (λ (to : ℕ). (Place to, record (file_of old) { place = to })) (sym lies.0))));
-      near = λ lives. kept.sound.near lives;
-    })
+    let counted : IsTrue old.raw.counts_exactly → IsCounted old.buffer old.raw call (Place target) new.raw new.short = λ exact. record { faults = λ _. no_fault_then old.raw mid.raw new.raw passes.kept.raw no_fault goes.counts.no_fault exact; waits = λ _ _. no_wait_then old.raw mid.raw new.raw passes.kept.raw no_wait goes.counts.no_wait exact; once = λ waited. absurd (cc) } in
+    let writes : Writes old call (Place target) new = passing_writes old call (Place target) new asked.none (record {
+      leaves = record {
+        passed = passes.passed;
+        most = passes.within;
+        answered = answers_still old.raw mid.raw new.raw passes.passed passes.kept.raw passes.answered goes.answered;
+        bytes = none ∙ sym empty ∙ passes.owed;
+        place = λ some. absurd (some none);
+      };
+      lays = λ tells. subst (LaysFront old []) (sym (bytes tells)) (passes.lays tells);
+      passes = λ _. none;
+      full = tt;
+      settles = λ _ _. at;
+      unclosed = λ some. absurd (some none);
+      rests = λ dead. absurd (dead may.live);
+    }) in
+    let told : WhereTold old.raw (BinaryStep (file_of old) call (Place target) new.short false (file_of new)) = λ tells.
+        let lies : (seek_target (file_of old) offset whence ≡ target) × (refusal (file_of old) call ≡ None) = to.lies (tells_its_bytes old.raw tells) in
+        let flat : flat_of new ≡ flat_of old = ap (lay new.raw.bytes new.owed.place) none ∙ bytes tells ∙ passed_all old mid passes empty tells in
+        let file : file_of new ≡ record (file_of old) { place = target } =
+        file_now old new kept (goes.live ∙ sym may.live)
+        ∙ ap (λ (all : List ℕ). record (file_of old) { bytes = all; place = new.place }) flat
+        ∙ ap (λ (place : ℕ). record (file_of old) { place = place }) goes.place in
+        subst (λ (said : Bool). BinaryStep (file_of old) call (Place target) said false (file_of new)) (sym short)
+        (settled (subst (λ (refused : Option IoFault). SettledBy (file_of old) call refused (Place target) (file_of new)) (sym lies.1)
+        (ap (λ (after : FlatFile). (Place target, after)) file ∙ ap (λ (to : ℕ). (Place to, record (file_of old) { place = to })) (sym lies.0)))) in
+    shows_answers old call (Place target) new asked.none (search (rules, stays_open))
 
 -- A stream that owes nothing is moved at once.
 

@@ -1,5 +1,5 @@
 -- Handing a stream's raw back.
-use Rattle.std.proofs.Common.{◌≡◌, ℕ, ◌≤◌, ◌⊎◌, inl, inr, Bool, true, false, List, [], length, Option, Some, None, Ok, Err, if◌then◌else◌, refl, sym, ap, ◌∙◌, subst, arith, zero-le, rules}
+use Rattle.std.proofs.Common.{◌≡◌, ℕ, ◌≤◌, ◌⊎◌, inl, inr, Bool, true, false, List, [], length, Option, Some, None, Ok, Err, if◌then◌else◌, refl, sym, ap, ◌∙◌, subst, arith, zero-le, rules, IsTrue}
 use Rattle.py_flat.specs.declared.fault.IoFault.{IoFault}
 use Rattle.py_flat.specs.declared.fault.IoFault.TheVariants as fault
 use Rattle.py_flat.specs.declared.life.Life.{Life}
@@ -12,12 +12,12 @@ use Rattle.py_flat.specs.FlatFile.{FlatFile}
 use Rattle.py_flat.specs.Refusals.{refusal, lets_through}
 use Rattle.py_flat.specs.ExactStep.{is_closed}
 use Rattle.py_flat.specs.AllowedStep.{settled}
-use Rattle.py_flat.specs.BinaryStep.{SettledBy, DetachesIn, StandAt}
+use Rattle.py_flat.specs.BinaryStep.{SettledBy, DetachesIn, StandAt, BinaryStep}
 use Rattle.py_flat.proofs.Laying.{lay_reads_back}
-use Rattle.py_raw.specs.RawStream.{WherePlace}
+use Rattle.py_raw.specs.RawStream.{WherePlace, WhereTold}
 use Rattle.py_raw.proofs.Telling.{keeps_same}
 use Rattle.py_stream.specs.Stream.{Stream, buffering_of, file_of, nothing_owed}
-use Rattle.py_stream.specs.Answers.{Answers}
+use Rattle.py_stream.specs.Answers.{Answers, IsCounted}
 use Rattle.py_stream.specs.Handing.{place_handed, handed_over, left_behind, owed_then, HandsOver}
 use Rattle.py_stream.specs.Taking.{Took, PassAllOutcome}
 use Rattle.py_stream.specs.Ending.{BeginDetachIn}
@@ -25,6 +25,7 @@ use Rattle.py_stream.proofs.Refused.{lays_nothing}
 use Rattle.py_stream.proofs.Begun.{answers_whole}
 use Rattle.py_stream.proofs.Showing.{Asked, shows_answers, passing_writes, detach_moves_none, IsWriting, detach_asked}
 use Rattle.py_stream.proofs.PassingOn.{begun, none_owed_at, PassesSome, FaultLeaves, took_passes, passed_all, pass_all_refuses}
+use Rattle.py_stream.specs.Writing.{Writes}
 
 -- A detaching that is refused.
 
@@ -105,38 +106,20 @@ detached_live old new is far passed =
     let passes : PassesSome old new = took_passes old new took in
     let reply : FileReply = Unwritten [] (place_handed old (nothing_owed old.place)) in
     let after : Stream = handed_over old new.raw (nothing_owed old.place) in
-    shows_answers old Detach reply after asked.none (record {
-      keeps = record { buffer = refl; can = refl; raw = took.kept.raw; bare = λ _ _. refl };
-      passes = asked.passes;
-      again = λ closes. absurd (cc);
-      shut = λ _ none closed. took.kept.stays ∙ closed ∙ ap is_closed is.live;
-      causes = record { waits = λ waited. absurd (cc); faults = λ faults. absurd (cc) };
-      counted = λ exact. record { faults = λ _. took.no_fault exact; waits = λ _ _. passed.1 exact; once = λ waited. absurd (cc) };
-      shorts = refl;
-      life_is = refl;
-      place = refl;
-      far = far;
-      ends = tt;
-      wants = λ wanting. absurd (cc);
-      idle = λ idle. absurd (cc (asked.busy));
-      in_hand = λ has. absurd has.of;
-      spares = λ reads. absurd (cc (is.writes));
-      writes = λ _. passing_writes old Detach reply after asked.none (record {
-        leaves = record { passed = passes.passed; most = passes.within; answered = passes.answered; bytes = sym passed.2 ∙ passes.owed; place = λ some. absurd (some refl) };
-        lays = passes.lays;
-        passes = λ _. (record { none = refl; holds = passed_all old new passes passed.2 }, refl, stands_at_end old new took passed.2);
-        full = tt;
-        settles = λ _ _. refl;
-        unclosed = λ some. absurd (some refl);
-        rests = λ dead. absurd (dead is.live);
-      });
-      at_once = λ failed. absurd (cc (is.live));
-      answer = tt;
-      told = λ tells. settled (subst (λ (refused : Option IoFault). SettledBy (file_of old) Detach refused reply (file_of after)) (sym asked.passes)
-          (subst (λ (current : Life). DetachesIn current (file_of old) reply (file_of after)) (sym is.live)
-          (ap (λ (bytes : List ℕ). let file : FlatFile = record (file_of old) { bytes = bytes; life = life.Detached } in (reply, file)) (passed_all old new passes passed.2 tells))));
-      near = λ lives. absurd (cc);
-    })
+    let counted : IsTrue old.raw.counts_exactly → IsCounted old.buffer old.raw Detach reply new.raw false = λ exact. record { faults = λ _. took.no_fault exact; waits = λ _ _. passed.1 exact; once = λ waited. absurd (cc) } in
+    let writes : Writes old Detach reply after = passing_writes old Detach reply after asked.none (record {
+      leaves = record { passed = passes.passed; most = passes.within; answered = passes.answered; bytes = sym passed.2 ∙ passes.owed; place = λ some. absurd (some refl) };
+      lays = passes.lays;
+      passes = λ _. (record { none = refl; holds = passed_all old new passes passed.2 }, refl, stands_at_end old new took passed.2);
+      full = tt;
+      settles = λ _ _. refl;
+      unclosed = λ some. absurd (some refl);
+      rests = λ dead. absurd (dead is.live);
+    }) in
+    let told : WhereTold old.raw (BinaryStep (file_of old) Detach reply false false (file_of after)) = λ tells. settled (subst (λ (refused : Option IoFault). SettledBy (file_of old) Detach refused reply (file_of after)) (sym asked.passes)
+        (subst (λ (current : Life). DetachesIn current (file_of old) reply (file_of after)) (sym is.live)
+        (ap (λ (bytes : List ℕ). let file : FlatFile = record (file_of old) { bytes = bytes; life = life.Detached } in (reply, file)) (passed_all old new passes passed.2 tells)))) in
+    shows_answers old Detach reply after asked.none (search rules)
 
 hands_live : (old new : Stream) → old.life ≡ life.Live → IsWriting (begun old) → old.place ≤ greatest_place → PassAllOutcome (begun old) (Ok tt) new → HandsOver old new.raw new.owed.bytes (place_handed old new.owed) (left_behind old)
 hands_live old new live is far passed =
