@@ -1,5 +1,5 @@
 -- What a stream refuses without a look at the argument, whatever is below it: by its life, or since it lacks what the call needs.
-use Rattle.std.proofs.Common.{◌≡◌, ◌≢◌, ◌⊎◌, inl, inr, Bool, true, false, ◌&&◌, Some, Result, Ok, Err, refl, sym, ap, ◌∙◌, arith}
+use Rattle.std.proofs.Common.{◌≡◌, ◌≢◌, ◌⊎◌, inl, inr, Bool, true, false, ◌&&◌, Some, Result, Ok, Err, sym, ap, ◌∙◌, arith}
 use Rattle.py_flat.specs.declared.fault.IoFault.{IoFault}
 use Rattle.py_flat.specs.declared.fault.IoFault.TheVariants as fault
 use Rattle.py_flat.specs.declared.life.Life.{Life}
@@ -19,10 +19,7 @@ detaches buffering call = is_detach call && is_buffered buffering
 
 -- a stream that isn't live lets no call through but a `close` and a `detach`
 pub stopped : (current : Life) (buffering : Buffering) (call : FileCall) → current ≢ life.Live → is_close call ≡ false → detaches buffering call ≡ false → lets_through current buffering call ≡ false
-stopped life.Live buffering call dead close detach = absurd (dead refl)
-stopped life.Failed buffering call dead close detach = detach
-stopped life.Closed buffering call dead close detach = close
-stopped life.Detached buffering call dead close detach = refl
+stopped current buffering call dead close detach = grind arith
 
 -- a life that refuses calls lets none through but a `close` and a `detach`
 pub shut_by_life : (current : Life) (buffering : Buffering) (call : FileCall) (why : IoFault) → is_close call ≡ false → detaches buffering call ≡ false → life_fault current ≡ Some why → lets_through current buffering call ≡ false

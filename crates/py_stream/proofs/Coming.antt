@@ -1,5 +1,5 @@
 -- How far a raw came by what its reads brought, over any raw.
-use Rattle.std.proofs.Common.{◌≡◌, ℕ, zero, suc, ◌+◌, ◌-◌, ◌<◌, ◌≤◌, refl, ap, ◌∙◌, arith}
+use Rattle.std.proofs.Common.{◌≡◌, ℕ, zero, suc, ◌+◌, ◌-◌, ◌<◌, ◌≤◌, refl, ap, arith}
 use Rattle.py_raw.specs.declared.reads.Reads.{Reads}
 use Rattle.py_raw.specs.Reads.{BringInAll}
 use Rattle.py_raw.specs.RawStream.{Raw, Keeps, WhereTransfers, ReadsBring, KeepsReads}
@@ -29,10 +29,7 @@ came_unread before after place same = record { forth = omega (arith, place); rea
 
 -- in two steps
 pub came_then : (before mid after : Stream) (empties : ℕ) → Keeps before.raw mid.raw → CameByReads 0 before mid → CameByReads empties mid after → CameByReads empties before after
-came_then before mid after empties kept one two = record {
-  forth = omega (arith, one.forth, two.forth);
-  reads = λ tells. rw (let whole : after.raw_place - before.raw_place ≡ (mid.raw_place - before.raw_place) + (after.raw_place - mid.raw_place) = omega (arith, one.forth, two.forth) in whole) (brought_then before.raw.reads mid.raw.reads after.raw.reads (mid.raw_place - before.raw_place) (after.raw_place - mid.raw_place) empties (one.reads tells) (two.reads (kept.tells_transfers ∙ tells)));
-}
+came_then before mid after empties kept one two = grind (arith, brought_then)
 
 -- streams that differ in nothing that says how far their raws came
 pub came_seen : (was before now after : Stream) (empties : ℕ) → was.raw ≡ before.raw → was.raw_place ≡ before.raw_place → now.raw ≡ after.raw → now.raw_place ≡ after.raw_place → CameByReads empties was now → CameByReads empties before after
@@ -44,10 +41,7 @@ came_more before after less more within came = record { forth = came.forth; read
 -- Transfers that each brought a byte.
 
 pub each_still : (before after : Stream) (others empties : ℕ) → after.raw ≡ before.raw → after.raw_place ≡ before.raw_place → EachBrings others empties before after
-each_still before after others empties same place = record {
-  transfers = λ tells. omega (arith, place, ap (λ (raw : Raw). raw.transfers) same);
-  came = came_still before after empties (ap (λ (raw : Raw). raw.reads) same) place;
-}
+each_still before after others empties same place = grind (arith, came_still)
 
 pub each_seen : (was before now after : Stream) (others empties : ℕ) → was.raw ≡ before.raw → was.raw_place ≡ before.raw_place → now.raw ≡ after.raw → now.raw_place ≡ after.raw_place → EachBrings others empties was now → EachBrings others empties before after
 each_seen was before now after others empties raw place raw_now place_now each = grind (arith, came_seen)
@@ -57,21 +51,11 @@ each_more before after others most empties more within as_many each = record { t
 
 -- transfers in two steps
 pub each_then : (before mid after : Stream) (others empties : ℕ) → Keeps before.raw mid.raw → EachBrings 0 0 before mid → EachBrings others empties mid after → EachBrings others empties before after
-each_then before mid after others empties kept first second = record {
-  transfers = λ tells. omega (arith, first.transfers tells, second.transfers (kept.tells_transfers ∙ tells));
-  came = came_then before mid after empties kept first.came second.came;
-}
+each_then before mid after others empties kept first second = grind (arith, came_then)
 
 -- one transfer that brought some bytes
 pub each_brought : (before after : Stream) (count : ℕ) → 0 < count → after.raw_place ≡ before.raw_place + count → WhereTransfers before.raw (after.raw.transfers ≤ before.raw.transfers + 1) → ReadsBring count before.raw after.raw → EachBrings 0 0 before after
-each_brought before after (suc count) some place transfers brings = record {
-  transfers = λ tells. omega (arith, place, transfers tells);
-  came = record {
-    forth = omega (arith, place);
-    reads = λ tells. rw (brings tells, let more : after.raw_place - before.raw_place ≡ suc count = omega (arith, place) in more) (record { brought = omega arith; empty = omega arith });
-  };
-}
-each_brought before after zero some place transfers brings = absurd (omega (arith, some))
+each_brought before after count some place transfers brings = grind arith
 
 -- one read, whatever it brought
 pub came_once : (before after : Stream) (count : ℕ) → after.raw_place ≡ before.raw_place + count → ReadsBring count before.raw after.raw → CameByReads 1 before after

@@ -1,5 +1,5 @@
 -- What is owed after a write, wherever it was made.
-use Rattle.std.proofs.Common.{◌≡◌, ◌≢◌, ℕ, zero, suc, ◌+◌, ◌-◌, ◌<◌, ◌≤◌, ◌⊎◌, inl, inr, ⊎_elim, max, List, [], ◌∷◌, ◌++◌, length, take, drop, refl, sym, ap, ◌∙◌, subst, arith, length-append, length-drop, length-take}
+use Rattle.std.proofs.Common.{◌≡◌, ◌≢◌, ℕ, ◌+◌, ◌-◌, ◌<◌, ◌≤◌, ◌⊎◌, inl, inr, ⊎_elim, max, List, [], ◌∷◌, ◌++◌, length, take, drop, refl, sym, ap, ◌∙◌, subst, arith, length-append, length-drop, length-take}
 use Rattle.std.proofs.Math.Seq.{take-nil, drop-nil, drop-append-add}
 use Rattle.std.proofs.lemmas.Bool.{cases_lt}
 use Rattle.std.proofs.lemmas.List.{append-nil, take_all, take_min, drop_all, drop-append-le, take_at, length-take-le}
@@ -51,28 +51,18 @@ module _ (old taken : List ℕ) (start place passed at : ℕ) (new : List ℕ) (
 
 -- the place of the first of both
 begins_by : (old : List ℕ) (start place at : ℕ) → (old ≡ []) ⊎ (start + length old ≡ place) → place ≤ at + length old → first_of_both old start place ≤ at
-begins_by [] start place at up_to reach = omega (arith, reach)
-begins_by (byte ∷ more) start place at (inl none) reach = absurd (cc)
-begins_by (byte ∷ more) start place at (inr ends) reach = omega (arith, reach, ends)
+begins_by old start place at up_to reach = grind arith
 
 -- the end of what was owed up to the place, and of n bytes taken from there, is n bytes after that place
 ends_by : (old : List ℕ) (start place count : ℕ) → (old ≡ []) ⊎ (start + length old ≡ place) → 0 < length old + count → end_of_both old start place count ≡ place + count
-ends_by [] start place zero up_to some = absurd (omega (arith, some))
-ends_by [] start place (suc count) up_to some = refl
-ends_by (byte ∷ more) start place count (inl none) some = absurd (cc)
-ends_by (byte ∷ more) start place zero (inr ends) some = omega (arith, ends)
-ends_by (byte ∷ more) start place (suc count) (inr ends) some = omega (arith, ends)
+ends_by old start place count up_to some = grind arith
 
 -- what was owed up to the place
 up_to_place : (old : List ℕ) (start place : ℕ) → (old ≡ []) ⊎ (start + length old ≡ place) → take (place - start) old ≡ old
-up_to_place [] start place up_to = take-nil (place - start)
-up_to_place (byte ∷ more) start place (inl none) = absurd (cc)
-up_to_place (byte ∷ more) start place (inr ends) = take_all (place - start) (byte ∷ more) (omega (arith, ends))
+up_to_place old start place up_to = grind (arith, take-nil, take_all)
 
 none_behind : (old : List ℕ) (start place count : ℕ) → (old ≡ []) ⊎ (start + length old ≡ place) → drop (place + count - start) old ≡ []
-none_behind [] start place count up_to = drop-nil (place + count - start)
-none_behind (byte ∷ more) start place count (inl none) = absurd (cc)
-none_behind (byte ∷ more) start place count (inr ends) = drop_all (place + count - start) (byte ∷ more) (omega (arith, ends))
+none_behind old start place count up_to = grind (arith, drop-nil, drop_all)
 
 counts_some : (bytes : List ℕ) → bytes ≢ [] → 0 < length bytes
 counts_some [] some = absurd (some refl)

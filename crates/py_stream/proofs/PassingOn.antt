@@ -1,6 +1,6 @@
 -- A call that passes on what is owed, and what stops it.
 use Rattle.py_stream.specs.Moving.{StandsAsBefore}
-use Rattle.std.proofs.Common.{IsTrue, ◌≡◌, ℕ, suc, zero, ◌+◌, ◌≤◌, Bool, true, false, List, [], length, take, drop, Option, Some, Err, refl, sym, ap, ◌∙◌, subst, arith, length-drop}
+use Rattle.std.proofs.Common.{IsTrue, ◌≡◌, ℕ, suc, zero, ◌+◌, ◌≤◌, Bool, true, false, List, [], length, take, drop, Option, Some, Err, refl, sym, ap, ◌∙◌, subst, arith, length-drop, rules}
 use Rattle.std.proofs.lemmas.List.{append-nil}
 use Rattle.py_flat.specs.declared.fault.IoFault.{IoFault}
 use Rattle.py_flat.specs.declared.fault.IoFault.TheVariants as fault
@@ -8,16 +8,16 @@ use Rattle.py_flat.specs.declared.life.Life.{Life}
 use Rattle.py_flat.specs.declared.life.Life.TheVariants as life
 use Rattle.py_flat.specs.Bytes.{lay}
 use Rattle.py_flat.specs.Causes.{Rose}
-use Rattle.py_flat.specs.Calls.{FileCall, Refused}
+use Rattle.py_flat.specs.Calls.{FileCall, Refused, FileReply}
 use Rattle.py_flat.specs.FlatFile.{FlatFile}
 use Rattle.py_flat.specs.ExactStep.{is_closed}
 use Rattle.py_flat.specs.AllowedStep.{waited_for, out_of_memory}
-use Rattle.py_flat.specs.BinaryStep.{is_live, Fails, WaitedBy, FaultedBy, StarvedBy}
+use Rattle.py_flat.specs.BinaryStep.{is_live, Fails, WaitedBy, FaultedBy, StarvedBy, BinaryStep}
 use Rattle.py_flat.proofs.Laying.{lay_resumes}
 use Rattle.py_raw.specs.RawStream.{NoFault, WhereTold, NoWait, WaitsOnce, AnswersFor}
 use Rattle.py_stream.specs.Stream.{Stream, file_of}
-use Rattle.py_stream.specs.Writing.{NoneAtPlace, PassesFront, LaysFront}
-use Rattle.py_stream.specs.Answers.{Answers, KeepsStream, ClosedWith, InHand, IsShort, LifeMoves, PlaceMoves, IsReplyTo}
+use Rattle.py_stream.specs.Writing.{NoneAtPlace, PassesFront, LaysFront, Writes}
+use Rattle.py_stream.specs.Answers.{Answers, KeepsStream, ClosedWith, InHand, IsShort, LifeMoves, PlaceMoves, IsReplyTo, IsCounted}
 use Rattle.py_stream.specs.Keeping.{KeepsOn}
 use Rattle.py_stream.specs.Taking.{Took, FailsTaking, Lacks, PassAllOutcome}
 use Rattle.py_stream.proofs.Refused.{nothing_passed, nothing_blocked}
@@ -102,72 +102,29 @@ waiting_answers old new call size accepts buffered can apart took short rose onc
     let left : Stream = record new { short = old.short } in
     let passes : PassesSome old left = took_passes old left took in
     let same : new.life ≡ old.life = took.live ∙ sym asked.live in
-    shows_answers old call (Refused (fault.WouldBlock 0)) new asked.none (record {
-      keeps = passing_keeps old left new.life new.short passes;
-      passes = asked.passes;
-      again = λ closes. absurd (cc (asked.again));
-      shut = λ _ none closed. took.kept.stays ∙ stays_open old new.life asked.live (ap is_closed took.live) closed;
-      causes = record { waits = λ _. rose; faults = λ faults. absurd (cc) };
-      counted = λ exact. record { faults = λ _. took.no_fault exact; waits = λ whole. absurd (cc); once = λ _ _. once exact };
-      shorts = subst (IsShort call (Refused (fault.WouldBlock 0))) (sym short) (says_short call (fault.WouldBlock 0));
-      life_is = subst (LifeMoves old.buffer call (Refused (fault.WouldBlock 0)) old.life) (sym same) (waits_alive old.buffer call old.life);
-      place = subst (PlaceMoves old.buffer call (Refused (fault.WouldBlock 0)) new.life old.place) (sym passes.still) (waits_there old.buffer call new.life old.place asked.none.writing);
-      far = took.kept.sound.far;
-      ends = needs_no_end old call (fault.WouldBlock 0) new refl;
-      wants = λ wanting. absurd (cc);
-      idle = λ idle. absurd (cc (asked.busy));
-      in_hand = λ has. absurd (apart has);
-      spares = λ reads. absurd (cc (can));
-      writes = λ _. passing_writes old call (Refused (fault.WouldBlock 0)) new asked.none (record {
-        leaves = passing_front old left new.life new.short passes;
-        lays = passes.lays;
-        passes = nothing_passed old new call (fault.WouldBlock 0);
-        full = waits_with_none call new asked.none.writing;
-        settles = passes.at;
-        unclosed = λ some. took.kept.stays;
-        rests = λ dead. absurd (dead asked.live);
-      });
-      at_once = λ failed. absurd (cc (asked.live));
-      answer = subst (λ (does : Bool). IsReplyTo old.buffer does call (Refused (fault.WouldBlock 0))) (sym can) (subst (λ (buffer : Option ℕ). IsReplyTo buffer true call (Refused (fault.WouldBlock 0))) (sym buffered) (waits_answer size call asked.none.reading asked.none.telling));
-      told = λ tells. waited_for short (accepts.works tells, subst (λ (file : FlatFile). WaitedBy (file_of old) call (Refused (fault.WouldBlock 0)) file) (sym (passing_file old left passes same tells)) (asked.none.waits (file_of old)));
-      near = λ lives. let near = took.kept.sound.near lives in record { after_first = near.after_first; before_end = near.before_end; fits = near.fits; read_ahead = near.read_ahead; ahead = near.ahead; behind = near.behind; stands = near.stands };
-    })
+    let reply : FileReply = Refused (fault.WouldBlock 0) in
+    let counted : IsTrue old.raw.counts_exactly → IsCounted old.buffer old.raw call reply new.raw new.short = λ exact. record { faults = λ _. took.no_fault exact; waits = λ whole. absurd (cc); once = λ _ _. once exact } in
+    let shorts : IsShort call reply new.short = subst (IsShort call reply) (sym short) (says_short call (fault.WouldBlock 0)) in
+    let life_is : LifeMoves old.buffer call reply old.life new.life = subst (LifeMoves old.buffer call reply old.life) (sym same) (waits_alive old.buffer call old.life) in
+    let place : PlaceMoves old.buffer call reply new.life old.place new.place = subst (PlaceMoves old.buffer call reply new.life old.place) (sym passes.still) (waits_there old.buffer call new.life old.place asked.none.writing) in
+    let writes : Writes old call reply new = passing_writes old call reply new asked.none (search (rules, passing_front, nothing_passed, waits_with_none)) in
+    let answer : IsReplyTo old.buffer old.can.writable call reply = subst (λ (does : Bool). IsReplyTo old.buffer does call reply) (sym can) (subst (λ (buffer : Option ℕ). IsReplyTo buffer true call reply) (sym buffered) (waits_answer size call asked.none.reading asked.none.telling)) in
+    let told : WhereTold old.raw (BinaryStep (file_of old) call reply new.short false (file_of new)) = λ tells. waited_for short (accepts.works tells, subst (λ (file : FlatFile). WaitedBy (file_of old) call reply file) (sym (passing_file old left passes same tells)) (asked.none.waits (file_of old))) in
+    shows_answers old call reply new asked.none (search (rules, passing_keeps, stays_open, needs_no_end))
 
 -- memory ran out, after some was passed on, or none
 pub lacking_answers : (old new : Stream) (call : FileCall) → Asked old call → Beside old call (Refused fault.NoMemory) new → IsTrue old.raw.takes_memory → PassesSome old new → new.life ≡ life.Live → NoFault old.raw new.raw → NoWait old.raw new.raw → Answers old call (Refused fault.NoMemory) new
 lacking_answers old new call asked beside takes passes live no_fault no_wait =
     let same : new.life ≡ old.life = live ∙ sym asked.live in
     let short : new.short ≡ false = passes.kept.short ∙ asked.whole in
-    shows_answers old call (Refused fault.NoMemory) new asked.none (record {
-      keeps = passing_keeps old new new.life new.short passes;
-      passes = asked.passes;
-      again = λ closes. absurd (cc (asked.again));
-      shut = λ _ none closed. passes.kept.stays ∙ stays_open old new.life asked.live (ap is_closed live) closed;
-      causes = record { waits = λ waited. absurd (cc); faults = λ faults. absurd (cc) };
-      counted = λ exact. record { faults = λ _. no_fault exact; waits = λ _ _. no_wait exact; once = λ waited. absurd (cc) };
-      shorts = subst (IsShort call (Refused fault.NoMemory)) (sym short) (says_short call fault.NoMemory);
-      life_is = subst (LifeMoves old.buffer call (Refused fault.NoMemory) old.life) (sym same) (starves_alive old.buffer call old.life);
-      place = subst (PlaceMoves old.buffer call (Refused fault.NoMemory) new.life old.place) (sym passes.still) (starves_there old.buffer call new.life old.place);
-      far = passes.kept.sound.far;
-      ends = needs_no_end old call fault.NoMemory new refl;
-      wants = λ _. takes;
-      idle = λ idle. absurd (cc (asked.busy));
-      in_hand = beside.in_hand;
-      spares = beside.spares;
-      writes = λ _. passing_writes old call (Refused fault.NoMemory) new asked.none (record {
-        leaves = passing_front old new new.life new.short passes;
-        lays = passes.lays;
-        passes = nothing_passed old new call fault.NoMemory;
-        full = nothing_blocked new call fault.NoMemory refl;
-        settles = passes.at;
-        unclosed = λ some. passes.kept.stays;
-        rests = λ dead. absurd (dead asked.live);
-      });
-      at_once = λ failed. absurd (cc (asked.live));
-      answer = starve_answers old.buffer old.can.writable call asked.none.telling;
-      told = λ tells. out_of_memory refl (asked.reaches, subst (λ (file : FlatFile). StarvedBy (file_of old) call file) (sym (passing_file old new passes same tells)) (asked.none.starves (file_of old)));
-      near = passes.kept.sound.near;
-    })
+    let reply : FileReply = Refused fault.NoMemory in
+    let counted : IsTrue old.raw.counts_exactly → IsCounted old.buffer old.raw call reply new.raw new.short = λ exact. record { faults = λ _. no_fault exact; waits = λ _ _. no_wait exact; once = λ waited. absurd (cc) } in
+    let shorts : IsShort call reply new.short = subst (IsShort call reply) (sym short) (says_short call fault.NoMemory) in
+    let life_is : LifeMoves old.buffer call reply old.life new.life = subst (LifeMoves old.buffer call reply old.life) (sym same) (starves_alive old.buffer call old.life) in
+    let place : PlaceMoves old.buffer call reply new.life old.place new.place = subst (PlaceMoves old.buffer call reply new.life old.place) (sym passes.still) (starves_there old.buffer call new.life old.place) in
+    let writes : Writes old call reply new = passing_writes old call reply new asked.none (search (rules, passing_front, nothing_passed, nothing_blocked)) in
+    let told : WhereTold old.raw (BinaryStep (file_of old) call reply new.short false (file_of new)) = λ tells. out_of_memory refl (asked.reaches, subst (λ (file : FlatFile). StarvedBy (file_of old) call file) (sym (passing_file old new passes same tells)) (asked.none.starves (file_of old))) in
+    shows_answers old call reply new asked.none (search (rules, passing_keeps, stays_open, needs_no_end, starve_answers))
 
 -- the life in which a fault leaves the stream
 pub record FaultLeaves (call : FileCall) (left : Life) : Type 0 where
@@ -199,9 +156,7 @@ waits_refuse old new call size taken accepts buffered can apart waits =
 
 -- running out of memory refuses a call that passes on, after a step of its stream
 pub lacks_refuse : (old new : Stream) (call : FileCall) → Asked old call → old.can.writable ≡ true → (InHand old call → ⊥) → Lacks old [] new → NoWait old.raw new.raw → Answers old call (Refused fault.NoMemory) new
-lacks_refuse old new call asked can apart lacks no_wait =
-    let took : Took old [] new = lacks.took in
-    lacking_answers old new call asked (beside_writing old call (Refused fault.NoMemory) new can apart) lacks.takes (took_passes old new took) took.live took.no_fault no_wait
+lacks_refuse old new call asked can apart lacks no_wait = search (rules, lacking_answers, beside_writing, took_passes)
 
 -- whatever stops the passing on refuses the call
 pub pass_all_refuses : (old new : Stream) (call : FileCall) (size : ℕ) (why : IoFault) → Accepts old call → old.buffer ≡ Some size → old.can.writable ≡ true → (InHand old call → ⊥) → FaultLeaves call life.Failed → PassAllOutcome old (Err why) new → Answers old call (Refused why) new

@@ -88,6 +88,4 @@ next_reaches before after part place next tells = omega (arith, place, within_en
 
 -- what was given, and what was given after it
 pub gives_then : (before mid after : Stream) (first second : List ℕ) → before.owed ≡ nothing_owed before.place → Gives before first mid → Gives mid second after → Gives before (first ++ second) after
-gives_then before mid after first second bare one behind =
-    let long : length (first ++ second) ≡ length first + length second = length-append first second in
-    grind (arith, keeps_then, no_fault_then, same_bytes, still_tells, take_all, next_behind)
+gives_then before mid after first second bare one behind = grind (arith, length-append, keeps_then, no_fault_then, same_bytes, still_tells, take_all, next_behind)

@@ -94,10 +94,7 @@ refused_with before after call why is refuses alone own first same =
 -- By the life.
 
 own_of_life : (current : Life) (why : IoFault) → life_fault current ≡ Some why → is_own why ≡ true
-own_of_life life.Live why by = absurd (cc)
-own_of_life life.Failed why by = let same : fault.Failed ≡ why = cc in ap is_own (sym same)
-own_of_life life.Closed why by = let same : fault.Closed ≡ why = cc in ap is_own (sym same)
-own_of_life life.Detached why by = let same : fault.Detached ≡ why = cc in ap is_own (sym same)
+own_of_life current why by = grind (arith, is_own)
 
 not_live : (current : Life) (why : IoFault) → life_fault current ≡ Some why → is_live current ≡ false
 not_live current why by = grind arith
@@ -114,9 +111,7 @@ life_refuses file call why works own stopped by = grind arith
 
 -- A call that the life doesn't let through.
 pub refused_by_life : (before after : Stream) (call : FileCall) (why : IoFault) → IsPlaced before → is_getter call ≡ false → is_other_getter call ≡ false → lets_through before.life (buffering_of before.buffer) call ≡ false → life_fault before.life ≡ Some why → after ≡ record before { short = false } → Answers before call (Refused why) after
-refused_by_life before after call why is works own stopped fails same =
-    let file : FlatFile = file_of before in
-    refused_with before after call why is (life_refuses file call why works own stopped fails) (asks_no_end file call (not_live before.life why fails)) (own_of_life before.life why fails) (closes_no_more before call stopped) same
+refused_by_life before after call why is works own stopped fails same = search (rules, refused_with, life_refuses, asks_no_end, not_live, own_of_life, closes_no_more)
 
 -- By what the stream can do.
 

@@ -1,6 +1,6 @@
 -- The answers of `flush` and `close` of a stream with a buffer that writes.
 use Rattle.py_stream.specs.Keeping.{IsSound, KeepsOn}
-use Rattle.std.proofs.Common.{◌≡◌, ℕ, ◌≤◌, IsTrue, Bool, true, false, [], length, Option, Result, Ok, Err, refl, sym, ap, ◌∙◌, subst, arith, zero-le}
+use Rattle.std.proofs.Common.{◌≡◌, ℕ, ◌≤◌, IsTrue, Bool, true, false, [], length, Option, Result, Ok, Err, refl, sym, ap, ◌∙◌, subst, arith, zero-le, rules}
 use Rattle.py_flat.specs.declared.fault.IoFault.{IoFault}
 use Rattle.py_flat.specs.declared.fault.IoFault.TheVariants as fault
 use Rattle.py_flat.specs.declared.life.Life.{Life}
@@ -10,7 +10,7 @@ use Rattle.py_flat.specs.Owed.{Owed}
 use Rattle.py_flat.specs.Limits.{greatest_place}
 use Rattle.py_flat.specs.Calls.{Flush, Close, FileReply, Done, Refused}
 use Rattle.py_flat.specs.FlatFile.{FlatFile}
-use Rattle.py_flat.specs.ExactStep.{is_closed, in_life}
+use Rattle.py_flat.specs.ExactStep.{in_life}
 use Rattle.py_flat.specs.AllowedStep.{settled, raw_faulted}
 use Rattle.py_flat.specs.BinaryStep.{BinaryStep, SettledBy}
 use Rattle.py_raw.specs.RawStream.{WhereTold, NoWait, NoFault}
@@ -19,7 +19,7 @@ use Rattle.py_raw.proofs.ReadingOn.{Keeps-then, no_fault_then, no_wait_then}
 use Rattle.py_stream.specs.Stream.{Stream, buffering_of, file_of, nothing_owed}
 use Rattle.py_stream.specs.Kinds.{says_fault, says_no_memory}
 use Rattle.py_stream.specs.Replies.{done_reply}
-use Rattle.py_stream.specs.Writing.{NoneAtPlace, PassesFront, LaysFront, PassedOn, PassesOn, BlocksFull}
+use Rattle.py_stream.specs.Writing.{NoneAtPlace, PassesFront, LaysFront, PassedOn, PassesOn, BlocksFull, Writes}
 use Rattle.py_stream.specs.Answers.{Answers, KeepsStream, HasCauses, IsCounted, IsShort, LifeMoves, PlaceMoves, IsReplyTo, SparesBytes}
 use Rattle.py_stream.specs.Taking.{Took, PassAllOutcome}
 use Rattle.py_stream.specs.Ending.{ClosingOutcome, ClosesRaw, CloseRawOutcome}
@@ -45,36 +45,18 @@ flushed old new is passed =
     let passes : PassesSome old new = took_passes old new took in
     let same : new.life ≡ old.life = took.live ∙ sym is.live in
     let short : new.short ≡ false = took.kept.short ∙ is.whole in
-    shows_answers old Flush Done new asked.none (record {
-      keeps = passing_keeps old new new.life new.short passes;
-      passes = asked.passes;
-      again = λ closes. absurd (cc);
-      shut = λ _ none closed. took.kept.stays ∙ stays_open old new.life is.live (ap is_closed took.live) closed;
-      causes = record { waits = λ waited. absurd (cc); faults = λ faults. absurd (cc) };
-      counted = λ exact. record { faults = λ _. took.no_fault exact; waits = λ _ _. passed.1 exact; once = λ waited. absurd (cc) };
-      shorts = short;
-      life_is = same;
-      place = passes.still;
-      far = took.kept.sound.far;
-      ends = tt;
-      wants = λ wanting. absurd (cc);
-      idle = λ idle. absurd (cc (asked.busy));
-      in_hand = λ has. absurd has.of;
-      spares = λ reads. absurd (cc (is.writes));
-      writes = λ _. passing_writes old Flush Done new asked.none (record {
-        leaves = passing_front old new new.life new.short passes;
-        lays = passes.lays;
-        passes = (record { none = passed.2; holds = passed_all old new passes passed.2 }, omega (arith, took.behind.ends, took.behind.stands, ap length passed.2));
-        full = tt;
-        settles = passes.at;
-        unclosed = λ some. took.kept.stays;
-        rests = λ dead. absurd (dead is.live);
-      });
-      at_once = λ failed is. absurd (cc);
-      answer = tt;
-      told = λ tells. settled (subst (λ (refused : Option IoFault). SettledBy (file_of old) Flush refused Done (file_of new)) (sym asked.passes) (ap (λ (file : FlatFile). (Done, file)) (passing_file old new passes same tells)));
-      near = took.kept.sound.near;
-    })
+    let counted : IsTrue old.raw.counts_exactly → IsCounted old.buffer old.raw Flush Done new.raw new.short = λ exact. record { faults = λ _. took.no_fault exact; waits = λ _ _. passed.1 exact; once = λ waited. absurd (cc) } in
+    let writes : Writes old Flush Done new = passing_writes old Flush Done new asked.none (record {
+      leaves = passing_front old new new.life new.short passes;
+      lays = passes.lays;
+      passes = (record { none = passed.2; holds = passed_all old new passes passed.2 }, omega (arith, took.behind.ends, took.behind.stands, ap length passed.2));
+      full = tt;
+      settles = passes.at;
+      unclosed = λ some. took.kept.stays;
+      rests = λ dead. absurd (dead is.live);
+    }) in
+    let told : WhereTold old.raw (BinaryStep (file_of old) Flush Done new.short false (file_of new)) = λ tells. settled (subst (λ (refused : Option IoFault). SettledBy (file_of old) Flush refused Done (file_of new)) (sym asked.passes) (ap (λ (file : FlatFile). (Done, file)) (passing_file old new passes same tells))) in
+    shows_answers old Flush Done new asked.none (search (rules, passing_keeps, stays_open))
 
 flush_ends : (old new : Stream) (result : Result (Unit {0}) IoFault) → IsWriting old → PassAllOutcome old result new → Answers old Flush (done_reply result) new
 flush_ends old new (Ok done) is passed = flushed old new is passed

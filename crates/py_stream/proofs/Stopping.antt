@@ -1,15 +1,14 @@
 -- What a call leaves that its raw stops, whichever call it is: the raw would have blocked, or failed, or memory ran out.
-use Rattle.std.proofs.Common.{◌≡◌, ℕ, inl, Bool, true, false, length, Option, Some, None, refl, arith}
+use Rattle.std.proofs.Common.{◌≡◌, ℕ, inl, Bool, true, false, Option, Some, None, refl, arith}
 use Rattle.py_flat.specs.declared.fault.IoFault.{IoFault}
 use Rattle.py_flat.specs.declared.fault.IoFault.TheVariants as fault
 use Rattle.py_flat.specs.declared.life.Life.{Life}
-use Rattle.py_flat.specs.Lines.{joined}
-use Rattle.py_flat.specs.Calls.{FileCall, Read, Read1, ReadLine, ReadLines, Peek, ReadInto, ReadInto1, Write, WriteLines, Close, Detach, FileReply, Refused}
+use Rattle.py_flat.specs.Calls.{FileCall, FileReply, Refused}
 use Rattle.py_flat.specs.BinaryStep.{is_tell}
 use Rattle.py_stream.specs.Stream.{Stream}
-use Rattle.py_stream.specs.Kinds.{is_reading, reads_on, by_several, takes_space_first, asks_none, is_writing, goes_on, says_would_block}
+use Rattle.py_stream.specs.Kinds.{is_reading, reads_on, by_several, takes_space_first, asks_none, is_writing, says_would_block}
 use Rattle.py_stream.specs.Writing.{BlocksFull}
-use Rattle.py_stream.specs.Answers.{IsReplyTo, IsShort, StarvesTo, LifeMoves, MovesForth, PlaceFails, PlaceMoves, moves_most, GivesWithin, SeeksByEnd}
+use Rattle.py_stream.specs.Answers.{IsReplyTo, IsShort, StarvesTo, LifeMoves, MovesForth, PlaceFails, PlaceMoves, GivesWithin, SeeksByEnd}
 use Rattle.py_stream.proofs.Refused.{is_own}
 
 -- A call that gives no bytes.
@@ -24,14 +23,7 @@ pub record GivesNone (call : FileCall) : Type 0 where
 
 -- each call that doesn't read is one that gives no bytes
 pub gives_none : (call : FileCall) → is_reading call ≡ false → GivesNone call
-gives_none (Read size) reads = absurd (cc)
-gives_none (Read1 size) reads = absurd (cc)
-gives_none (ReadLine limit) reads = absurd (cc)
-gives_none (ReadLines hint) reads = absurd (cc)
-gives_none Peek reads = absurd (cc)
-gives_none (ReadInto size) reads = absurd (cc)
-gives_none (ReadInto1 size) reads = absurd (cc)
-gives_none call reads = record { going_on = refl; first = refl; several = λ buffer. refl; nothing = λ buffer. refl; within = λ size reply. tt }
+gives_none call reads = grind arith
 
 -- Whatever stops a call.
 
@@ -51,9 +43,7 @@ waits_alive buffer call current = grind arith
 
 -- a wait of a call that gives no bytes to the stream leaves the place as it was
 pub waits_there : (buffer : Option ℕ) (call : FileCall) (current : Life) (place : ℕ) → is_writing call ≡ false → PlaceMoves buffer call (Refused (fault.WouldBlock 0)) current place place
-waits_there buffer (Write bytes) current place writing = absurd (cc)
-waits_there buffer (WriteLines lines) current place writing = absurd (cc)
-waits_there buffer call current place writing = refl
+waits_there buffer call current place writing = grind arith
 
 -- a call that gives no bytes to the stream took none where it had to wait
 pub waits_with_none : (call : FileCall) (after : Stream) → is_writing call ≡ false → BlocksFull call (Refused (fault.WouldBlock 0)) after
@@ -75,9 +65,7 @@ fails_where false most place = refl
 
 -- a fault may leave the place
 pub fails_there : (buffer : Option ℕ) (call : FileCall) (current : Life) (place : ℕ) → PlaceMoves buffer call (Refused fault.RawFault) current place place
-fails_there buffer (Write bytes) current place = fails_where (goes_on buffer (Write bytes)) (Some (length bytes)) place
-fails_there buffer (WriteLines lines) current place = fails_where (goes_on buffer (WriteLines lines)) (Some (length (joined lines))) place
-fails_there buffer call current place = fails_where (goes_on buffer call) (moves_most call) place
+fails_there buffer call current place = grind (arith, fails_where)
 
 -- every call but a `tell` may answer a fault
 pub fault_answers : (buffer : Option ℕ) (writes : Bool) (call : FileCall) → is_tell call ≡ false → IsReplyTo buffer writes call (Refused fault.RawFault)
@@ -91,9 +79,7 @@ starves_so false current = refl
 
 -- running out of memory may leave the life
 pub starves_alive : (buffer : Option ℕ) (call : FileCall) (current : Life) → LifeMoves buffer call (Refused fault.NoMemory) current current
-starves_alive buffer Close current = starves_so (goes_on buffer Close) current
-starves_alive buffer Detach current = starves_so (goes_on buffer Detach) current
-starves_alive buffer call current = starves_so (goes_on buffer call) current
+starves_alive buffer call current = grind (arith, starves_so)
 
 -- running out of memory may leave the place
 pub starves_there : (buffer : Option ℕ) (call : FileCall) (current : Life) (place : ℕ) → PlaceMoves buffer call (Refused fault.NoMemory) current place place

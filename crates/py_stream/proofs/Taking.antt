@@ -75,15 +75,11 @@ calm_of (Some size) old new calm = tt
 
 -- two steps that never wait without a buffer
 pub calm_then : (buffer next : Option ℕ) (old mid new : Raw) → next ≡ buffer → Keeps old mid → Calm buffer old mid → Calm next mid new → Calm buffer old new
-calm_then None None old mid new same kept first second = no_wait_then old mid new kept first second
-calm_then (Some size) next old mid new same kept first second = tt
-calm_then None (Some size) old mid new same kept first second = absurd (cc)
+calm_then buffer next old mid new same kept first second = grind (arith, no_wait_then)
 
 -- one wait after a step that never waits without a buffer
 pub one_wait_then : (buffer next : Option ℕ) (old mid new : Raw) → next ≡ buffer → Keeps old mid → Calm buffer old mid → WaitsAsOne next mid new → WaitsAsOne buffer old new
-one_wait_then None None old mid new same kept first second = waits_once_then old mid new kept first second
-one_wait_then (Some size) next old mid new same kept first second = tt
-one_wait_then None (Some size) old mid new same kept first second = absurd (cc)
+one_wait_then buffer next old mid new same kept first second = grind (arith, waits_once_then)
 
 -- What the raw answered for.
 
@@ -111,13 +107,7 @@ within_then owed mid front more first second within one two = omega (arith, ap l
 
 -- what two steps lay
 told_then : (raw after new : List ℕ) (place between : ℕ) (owed mid front more : List ℕ) (first second : ℕ) → first ≤ length owed + length front → mid ≡ drop first (owed ++ front) → between ≡ place + first → after ≡ lay raw place (take first (owed ++ front)) → new ≡ lay after between (take second (mid ++ more)) → new ≡ lay raw place (take (first + second) (owed ++ (front ++ more)))
-told_then raw after new place between owed mid front more first second within one moved laid two =
-    two
-    ∙ (ap (λ (xs : List ℕ). lay xs between (take second (mid ++ more))) laid
-    ∙ (ap (λ (p : ℕ). lay (lay raw place (take first (owed ++ front))) p (take second (mid ++ more))) moved
-    ∙ (ap (λ (xs : List ℕ). lay (lay raw place (take first (owed ++ front))) (place + first) (take second (xs ++ more))) one
-    ∙ (lay_twice raw place (owed ++ front) more first second (omega (arith, length-append owed front))
-    ∙ ap (λ (xs : List ℕ). lay raw place (take (first + second) xs)) (append_assoc owed front more)))))
+told_then raw after new place between owed mid front more first second within one moved laid two = grind (arith, lay_twice, length-append, append_assoc)
 
 -- two steps, one after the other, take the bytes of both
 pub took_then : (old mid new : Stream) (front more : List ℕ) → Took old front mid → Took mid more new → Took old (front ++ more) new
