@@ -31,6 +31,7 @@ writes_none stream size live = record {
   owes = λ writing. absurd (cc);
   takes = λ writing. absurd (cc);
   leaves = λ _. record { passed = 0; most = omega arith; answered = λ tells. refl; bytes = refl; place = λ _. omega arith };
+  stands = λ is reads. absurd (cc);
   lays = λ tells. lays_nothing stream [] stream.raw.bytes refl;
   passes = tt;
   full = tt;
@@ -65,6 +66,7 @@ starved_into stream size is live reads = record {
   single = λ one none tells. omega arith;
   in_hand = λ has. record { raw = refl; fault = refl };
   brings = λ reading none. came_still stream (record stream { short = false }) 1 refl refl;
+  unread = λ reads. absurd (cc);
   needs = λ reading none. record {
     enough = λ whole within buffered. record { raw = refl; fault = refl };
     whole = λ whole. each_still stream (record stream { short = false }) 0 0 refl refl;

@@ -6,8 +6,7 @@ use Rattle.py_flat.specs.declared.fault.IoFault.{IoFault}
 use Rattle.py_flat.specs.declared.fault.IoFault.TheVariants as fault
 use Rattle.py_flat.specs.Causes.{Rose}
 use Rattle.py_stream.specs.Stream.{Stream}
-use Rattle.py_stream.specs.Keeping.{OwesBehind}
-use Rattle.py_stream.specs.Writing.{OwesRest, OwesOld}
+use Rattle.py_stream.specs.Writing.{OwesBehind, OwesRest, OwesOld}
 use Rattle.py_stream.specs.Taking.{Calm, WaitsAsOne, Took, TookAll, FailsTaking, Lacks, PutsOutcome, PutOutcome}
 use Rattle.py_stream.proofs.Taking.{take_behind, took_then, took_on, fails_then, fails_more, starves_then, waited_then, waited_before}
 use Rattle.py_stream.proofs.Putting.{put_then}

@@ -8,7 +8,8 @@ use Rattle.py_stream.specs.declared.access.Access.TheVariants as access
 use Rattle.py_stream.specs.Access.{can_of, is_read}
 use Rattle.py_stream.specs.Stream.{nothing_owed}
 use Rattle.py_stream.specs.Answers.{IsNear}
-use Rattle.py_stream.specs.Keeping.{IsSound, OwesBehind}
+use Rattle.py_stream.specs.Keeping.{IsSound}
+use Rattle.py_stream.specs.Writing.{OwesBehind}
 use Rattle.py_stream.specs.Moving.{FailsMoving, EndOutcome}
 use Rattle.py_stream.proofs.Refusing.{IsPlaced}
 use Rattle.py_engine.specs.Window.{WindowView, IsWindow, place_of, owed_of}
@@ -51,6 +52,7 @@ end_refused old new fault.RawFault is fails = subst (λ (engine : EngineView). F
     kept = record {
       raw = fails.kept;
       stays = fails.stays;
+      reads = fails.fails.reads;
       buffer = refl;
       can = ap (can_of old.access) fails.kept.seekable;
       short = refl;

@@ -5,12 +5,13 @@ use Rattle.py_flat.specs.declared.fault.IoFault.{IoFault}
 use Rattle.py_flat.specs.declared.fault.IoFault.TheVariants as fault
 use Rattle.py_flat.specs.declared.life.Life.TheVariants as life
 use Rattle.py_flat.specs.Bytes.{lay}
-use Rattle.py_raw.specs.RawStream.{Raw, Keeps, StaysOpen, AsksToWait, WritesBytes}
+use Rattle.py_raw.specs.RawStream.{Raw, Keeps, StaysOpen, KeepsReads, AsksToWait, WritesBytes}
 use Rattle.py_stream.specs.LiveRaw.{LiveView, Calls, FailsGiven, GiveOutcome}
 use Rattle.py_stream.proofs.Pieces.{some_taken}
 use Rattle.py_raw.proofs.Telling.{keeps_same, tells_its_place, tells_its_bytes}
 use Rattle.py_stream.specs.Access.{is_read}
-use Rattle.py_stream.specs.Keeping.{KeepsOn, OwesBehind}
+use Rattle.py_stream.specs.Keeping.{KeepsOn}
+use Rattle.py_stream.specs.Writing.{OwesBehind}
 use Rattle.py_stream.specs.Taking.{Took, FailsTaking, CutsBack}
 use Rattle.py_stream.proofs.Taking.{calm_of}
 use Rattle.py_engine.specs.Window.{WindowView, place_of, pending_of, pushed, passed_on, emptied_at, cut_at, room_of}
@@ -30,6 +31,7 @@ pub record Leaves (old new : EngineView) (place : ℕ) (owed : List ℕ) : Type 
   pub short : new.short ≡ old.short
   pub raw : Keeps old.raw new.raw
   pub stays : StaysOpen old.raw new.raw
+  pub reads : KeepsReads old.raw new.raw
   pub shows : Shows new.window old.window.size place owed
   pub raw_place : new.raw_place ≡ place
   pub attached : new.life ≢ life.Detached
@@ -58,8 +60,8 @@ pub stands_there : (engine : EngineView) → Stands engine → is_read engine.ac
 stands_there engine is writes live tells = is.stands tells live ∙ (owes_before engine.access engine.raw_place engine.window writes is.shape).stands
 
 -- a step that leaves the life as it was
-steps_on : (old : EngineView) (raw : Raw) (raw_place : ℕ) (window : WindowView) (place : ℕ) (owed : List ℕ) → Stands old → is_read old.access ≡ false → Keeps old.raw raw → StaysOpen old.raw raw → Shows window old.window.size place owed → raw_place ≡ place → (old.life ≡ life.Live → IsTrue raw.tells_place → raw.place ≡ place) → Stepped old (record old { raw = raw; raw_place = raw_place; window = window }) place owed
-steps_on old raw raw_place window place owed is writes keeps stays shows at there = stepped old (record old { raw = raw; raw_place = raw_place; window = window }) place owed is writes (grind arith)
+steps_on : (old : EngineView) (raw : Raw) (raw_place : ℕ) (window : WindowView) (place : ℕ) (owed : List ℕ) → Stands old → is_read old.access ≡ false → Keeps old.raw raw → StaysOpen old.raw raw → KeepsReads old.raw raw → Shows window old.window.size place owed → raw_place ≡ place → (old.life ≡ life.Live → IsTrue raw.tells_place → raw.place ≡ place) → Stepped old (record old { raw = raw; raw_place = raw_place; window = window }) place owed
+steps_on old raw raw_place window place owed is writes keeps stays reads shows at there = stepped old (record old { raw = raw; raw_place = raw_place; window = window }) place owed is writes (grind arith)
 
 -- The raw took some of what it was owed.
 
@@ -67,7 +69,7 @@ steps_on old raw raw_place window place owed is writes keeps stays shows at ther
 pub drained : (old : EngineView) (raw : Raw) (count : ℕ) → Stands old → is_read old.access ≡ false → old.life ≡ life.Live → Keeps old.raw raw → StaysOpen old.raw raw → 0 < count → WritesBytes old.raw (pending_of old.window) count raw →
     Stepped old (record old { raw = raw; raw_place = old.raw_place + count; window = passed_on count old.window }) ((stream_of old).owed.place + count) (drop count (pending_of old.window))
 drained old raw count is writes live keeps stays some wrote =
-    steps_on old raw (old.raw_place + count) (passed_on count old.window) ((stream_of old).owed.place + count) (drop count (pending_of old.window)) is writes keeps stays
+    steps_on old raw (old.raw_place + count) (passed_on count old.window) ((stream_of old).owed.place + count) (drop count (pending_of old.window)) is writes keeps stays wrote.reads
     (passed_shows old.window count old.window.size (stream_of old).owed.place (stream_of old).owed.bytes wrote.fits (shows_now old is writes))
     (ap (λ (n : ℕ). n + count) (owes_before old.access old.raw_place old.window writes is.shape).stands)
     (λ lives tells.
@@ -99,7 +101,7 @@ took_drained old raw count is writes live keeps stays some wrote =
 -- the stream took nothing, and passed nothing on, where the raw would have blocked
 pub waited : (old : EngineView) (raw : Raw) → Stands old → is_read old.access ≡ false → old.life ≡ life.Live → Keeps old.raw raw → StaysOpen old.raw raw → AsksToWait old.raw raw → Took (stream_of old) [] (stream_of (record old { raw = raw }))
 waited old raw is writes live keeps stays waits =
-    let step = steps_on old raw old.raw_place old.window (stream_of old).owed.place (stream_of old).owed.bytes is writes keeps stays (shows_now old is writes) (owes_before old.access old.raw_place old.window writes is.shape).stands
+    let step = steps_on old raw old.raw_place old.window (stream_of old).owed.place (stream_of old).owed.bytes is writes keeps stays waits.reads (shows_now old is writes) (owes_before old.access old.raw_place old.window writes is.shape).stands
     (λ lives tells.
     let told : IsTrue old.raw.tells_place = sym keeps.tells_place ∙ tells in
     waits.still.place told ∙ stands_there old is writes live told) in
@@ -153,7 +155,7 @@ fails_passing old raw bytes is writes live none keeps stays faults =
 pub kept_behind : (old : EngineView) (bytes : List ℕ) → Stands old → is_read old.access ≡ false → 0 < length bytes → length bytes ≤ room_of old.window → place_of old.window + length bytes ≤ 9223372036854775807 →
     Stepped old (record old { window = pushed bytes old.window }) (stream_of old).owed.place (pending_of old.window ++ bytes)
 kept_behind old bytes is writes some room far =
-    steps_on old old.raw old.raw_place (pushed bytes old.window) (stream_of old).owed.place (pending_of old.window ++ bytes) is writes (keeps_same old.raw) refl
+    steps_on old old.raw old.raw_place (pushed bytes old.window) (stream_of old).owed.place (pending_of old.window ++ bytes) is writes (keeps_same old.raw) refl (λ tells. refl)
     (pushed_shows old.window bytes old.window.size (stream_of old).owed.place (pending_of old.window) some room far (shows_now old is writes))
     (owes_before old.access old.raw_place old.window writes is.shape).stands (stands_there old is writes)
 
@@ -176,7 +178,7 @@ took_given old raw bytes count is writes live none keeps stays far some wrote = 
 -- the stream drops what it owes from a place on
 pub cut_back : (old : EngineView) (start : ℕ) → Stands old → is_read old.access ≡ false → (stream_of old).owed.place ≤ start → start ≤ place_of old.window → CutsBack start (stream_of old) (stream_of (record old { window = cut_at start old.window }))
 cut_back old start is writes behind within =
-    let step = steps_on old old.raw old.raw_place (cut_at start old.window) (stream_of old).owed.place (take (start - (stream_of old).owed.place) (pending_of old.window)) is writes (keeps_same old.raw) refl
+    let step = steps_on old old.raw old.raw_place (cut_at start old.window) (stream_of old).owed.place (take (start - (stream_of old).owed.place) (pending_of old.window)) is writes (keeps_same old.raw) refl (λ tells. refl)
     (cut_shows old.window start old.window.size (stream_of old).owed.place (pending_of old.window) behind within (shows_now old is writes))
     (owes_before old.access old.raw_place old.window writes is.shape).stands (stands_there old is writes) in
     record { kept = step.kept; behind = step.behind; raw = refl; life_is = refl; place = step.place_is; owed = step.bytes_are }

@@ -6,7 +6,7 @@ use Rattle.py_flat.specs.BinaryStep.{payload}
 use Rattle.py_raw.specs.RawStream.{WhereTold}
 use Rattle.py_stream.specs.Stream.{Stream}
 use Rattle.py_stream.specs.Kinds.{is_writing, has_room}
-use Rattle.py_stream.specs.Writing.{OwesUpTo, Takes, PassesFront, LaysInOrder, OwesBoth, PassesOn, OwesNoneOfIts, Writes}
+use Rattle.py_stream.specs.Writing.{OwesUpTo, OwesBehind, Takes, PassesFront, LaysInOrder, OwesBoth, PassesOn, OwesNoneOfIts, Writes}
 use Rattle.py_stream.proofs.Coming.{came_seen, each_seen}
 use Rattle.py_stream.specs.Answers.{Answers, AnswersWith, Leaves, SeeksFromEnd, EndMoves, SeeksByEnd, Unmoved, closes_again}
 
@@ -41,8 +41,11 @@ module _ (short : Bool) where
   again : (before after : Stream) (call : FileCall) (reply : FileReply) → (closes_again (seen short before) call ≡ true → Leaves (seen short before) Done reply after) → closes_again before call ≡ true → Leaves before Done reply after
   again before after call reply closed closes = grind arith
 
+  owed_behind : (before : Stream) → OwesBehind before → OwesBehind (seen short before)
+  owed_behind before behind = record { ends = behind.ends; stands = behind.stands }
+
   taken : (before after : Stream) (call : FileCall) → (IsTrue (is_writing call) → OwesUpTo before.owed before.place → Takes (seen short before) (payload call) after) → IsTrue (is_writing call) → OwesUpTo before.owed before.place → Takes before (payload call) after
-  taken before after call takes writing up_to = let is = takes writing up_to in record { taken = is.taken; within = is.within; place = is.place; passed = is.passed; most = is.most; answered = is.answered; owed = is.owed; up_to = is.up_to; told = is.told }
+  taken before after call takes writing up_to = let is = takes writing up_to in record { taken = is.taken; within = is.within; place = is.place; passed = is.passed; most = is.most; answered = is.answered; forth = λ behind. is.forth (owed_behind before behind); owed = is.owed; up_to = is.up_to; told = is.told }
 
   owed_both : (before after : Stream) (bytes : List ℕ) → OwesBoth (seen short before) bytes after → OwesBoth before bytes after
   owed_both before after bytes is = record { taken = is.taken; within = is.within; place = is.place; from = is.from; to = is.to; new = is.new; old = is.old; behind = is.behind }
@@ -64,6 +67,7 @@ module _ (short : Bool) where
     owes = λ writing. owed_both before after (payload call) (written.owes writing);
     takes = taken before after call written.takes;
     leaves = λ spares. front_passed before after (written.leaves spares);
+    stands = λ behind. written.stands (owed_behind before behind);
     lays = laid before call after.raw.bytes written.lays;
     passes = passed before after call reply written.passes;
     full = written.full;
@@ -94,6 +98,7 @@ module _ (short : Bool) where
     single = answers.single;
     in_hand = λ has. let none = answers.in_hand (record { lives = has.lives; buffered = has.buffered; of = has.of }) in record { raw = none.raw; fault = none.fault };
     brings = λ reads none. came_seen (seen short before) before after after 1 refl refl refl refl (answers.brings reads none);
+    unread = answers.unread;
     needs = λ reads none. let asks = answers.needs reads none in record { enough = λ whole within buffered. let idle = asks.enough whole within buffered in record { raw = idle.raw; fault = idle.fault }; whole = λ whole. each_seen (seen short before) before after after 0 0 refl refl refl refl (asks.whole whole); needed = asks.needed; last = each_seen (seen short before) before after after 1 1 refl refl refl refl asks.last };
     spares = λ reads none. let spared = answers.spares reads none in record { bytes = spared.bytes; written = spared.written; owed = spared.owed };
     writes = λ can. writes_seen before after call reply (answers.writes can);

@@ -42,6 +42,7 @@ takes_front old new own taken current short fits took = record {
   passed = took.passed;
   most = omega (arith, took.within, length-take-le taken own fits);
   answered = took.answered;
+  forth = λ _. omega (arith, took.behind.stands, took.place, took.was.stands);
   owed = took.owed;
   up_to = inr took.behind.ends;
   told = λ tells. (taken, omega arith, fits, took_bytes old new (take taken own) took tells);
@@ -83,7 +84,7 @@ faults_answers old new call may fails counts one straight =
     let life_is : LifeMoves old.buffer call (Refused fault.RawFault) old.life new.life = subst (LifeMoves old.buffer call (Refused fault.RawFault) old.life) (sym fails.failed) (is.life_is old.life) in
     let place : PlaceMoves old.buffer call (Refused fault.RawFault) new.life old.place new.place = is.place new.life old.place new.place counts ends in
     let counted : IsTrue old.raw.counts_exactly → IsCounted old.buffer old.raw call (Refused fault.RawFault) new.raw false = λ exact. record { faults = λ sound. absurd (cc); waits = λ _ ends. calm_counts old.buffer call old.raw new.raw may.writing fails.calm ends exact; once = λ short. absurd (cc) } in
-    let takes : Takes old own (record new { short = false }) = record { taken = fails.taken; within = fails.fits; place = ends; passed = fails.passed; most = fails.within; answered = fails.answered; owed = fails.owed; up_to = inr fails.behind.ends; told = λ tells. let laid = fails_bytes old new own fails tells in (laid.count, laid.least_is, laid.fits, laid.bytes) } in
+    let takes : Takes old own (record new { short = false }) = record { taken = fails.taken; within = fails.fits; place = ends; passed = fails.passed; most = fails.within; answered = fails.answered; forth = λ _. omega (arith, fails.behind.stands, fails.place, fails.was.stands); owed = fails.owed; up_to = inr fails.behind.ends; told = λ tells. let laid = fails_bytes old new own fails tells in (laid.count, laid.least_is, laid.fits, laid.bytes) } in
     let lays = fails_lays old new own fails in
     let answers = fault_answers old.buffer true call (no_tell call may.writing) in
     let told : WhereTold old.raw (BinaryStep (file_of old) call (Refused fault.RawFault) false true (file_of new)) = λ tells.
@@ -120,7 +121,7 @@ midway_answers old between call taken may goes fits takes took calm one past str
     let own : List ℕ = payload call in
     let is = is_faulted old taken old.buffer call may.writing in
     let new : Stream = record between { life = life.Failed } in
-    let kept : KeepsOn old new = record { raw = took.kept.raw; stays = took.kept.stays; buffer = took.kept.buffer; can = took.kept.can; short = took.kept.short; sound = fails_sound between took.kept.sound } in
+    let kept : KeepsOn old new = record { raw = took.kept.raw; stays = took.kept.stays; reads = took.kept.reads; buffer = took.kept.buffer; can = took.kept.can; short = took.kept.short; sound = fails_sound between took.kept.sound } in
     let long : length (take taken own) ≡ taken = length-take-le taken own fits in
     let ends : between.place ≡ old.place + taken = omega (arith, took_ends old between (take taken own) took, long) in
     let some : 0 < taken = omega (arith, past, took.place, took.was.ends, took.within, long) in

@@ -14,9 +14,9 @@ use Rattle.py_raw.specs.RawStream.{Raw, WhereTold, WhereTransfers, NoWait, Waits
 use Rattle.py_stream.specs.Stream.{Stream, size_of, file_of}
 use Rattle.py_stream.specs.Moving.{EndsWithin}
 use Rattle.py_stream.specs.Kinds.{is_reading, is_writing, goes_on, asks_none, calls_none, makes_one, outlasts, says_fault, says_no_memory}
-use Rattle.py_stream.specs.Writing.{Takes, LaysFront, LaysInOrder, PassesOn, BlocksFull, OwesNoneOfIts, TookOwn, Writes}
+use Rattle.py_stream.specs.Writing.{OwesBehind, Takes, LaysFront, LaysInOrder, PassesOn, BlocksFull, OwesNoneOfIts, TookOwn, Writes}
 use Rattle.py_stream.specs.Answers.{Answers, HasCauses, IsCounted, InHandOf, IsShort, LifeMoves, PlaceMoves, SeeksByEnd, IsReplyTo, closes_again, refused_by}
-use Rattle.py_stream.specs.Keeping.{IsSound, KeepsOn, OwesBehind}
+use Rattle.py_stream.specs.Keeping.{IsSound, KeepsOn}
 use Rattle.py_stream.specs.Taking.{Calm, WaitsAsOne}
 use Rattle.py_stream.proofs.Completing.{completes}
 use Rattle.py_stream.proofs.Alone.{Begins}
@@ -151,6 +151,7 @@ answers_coming old new call reply short may comes =
       single = λ single none. comes.one single;
       in_hand = λ has. absurd (giving.unheld old has.of);
       brings = λ reads. absurd (cc (giving.reads));
+      unread = λ _. comes.kept.reads;
       needs = λ reads. absurd (cc (gives.several old.buffer));
       spares = λ reads. absurd (cc (may.can));
       writes = λ can. coming_writes old new call reply short may comes;

@@ -18,9 +18,9 @@ use Rattle.py_raw.specs.RawStream.{NoFault, WhereTold, NoWait, LeavesCounts}
 use Rattle.py_raw.proofs.Telling.{tells_its_bytes}
 use Rattle.py_raw.proofs.ReadingOn.{no_fault_then, no_wait_then}
 use Rattle.py_stream.specs.Stream.{Span, Stream, file_of, nothing_owed}
-use Rattle.py_stream.specs.Writing.{LaysFront, Writes}
+use Rattle.py_stream.specs.Writing.{OwesBehind, LaysFront, Writes}
 use Rattle.py_stream.specs.Answers.{Answers, Leaves, SeeksTo, SeeksFromEnd, InHandOf, InHand, SparesBytes, IsCounted}
-use Rattle.py_stream.specs.Keeping.{KeepsOn, OwesBehind}
+use Rattle.py_stream.specs.Keeping.{KeepsOn}
 use Rattle.py_stream.specs.Taking.{Took, PassAllOutcome}
 use Rattle.py_stream.specs.Moving.{StandsAsBefore, AsksEnd, TargetFromEnd, TargetOutcome, IsHeld, GoesTo, GoOutcome}
 use Rattle.py_stream.proofs.Refused.{lays_nothing}
@@ -160,6 +160,7 @@ gone old mid new offset whence target may to beside passes empty no_fault no_wai
         bytes = none ∙ sym empty ∙ passes.owed;
         place = λ some. absurd (some none);
       };
+      stands = λ _ some. absurd (some none);
       lays = λ tells. subst (LaysFront old []) (sym (bytes tells)) (passes.lays tells);
       passes = λ _. none;
       full = tt;
@@ -223,7 +224,9 @@ found_took old found seeks out = grind (arith, append-nil, tells_its_bytes)
 
 passes_all_then : (old mid new : Stream) (result : Result (Unit {0}) IoFault) → Took old [] mid → NoWait old.raw mid.raw → PassAllOutcome mid result new → PassAllOutcome old result new
 passes_all_then old mid new (Ok done) took no_wait passed = (took_on old mid new [] took passed.0, no_wait_then old.raw mid.raw new.raw took.kept.raw no_wait passed.1, passed.2)
-passes_all_then old mid new (Err (fault.WouldBlock taken)) took no_wait waits = grind (arith, took_on, waited_then, waits_once_then)
+passes_all_then old mid new (Err (fault.WouldBlock taken)) took no_wait waits =
+    let stands : Took old [] (record new { short = old.short }) = subst (λ (short : Bool). Took old [] (record new { short = short })) took.kept.short (took_on old mid (record new { short = mid.short }) [] took waits.1) in
+    (waits.0, stands, waits.2, waited_then old.raw mid.raw new.raw took.kept.raw waits.3, waits_once_then old.raw mid.raw new.raw took.kept.raw no_wait waits.4)
 passes_all_then old mid new (Err fault.RawFault) took no_wait fails = (fails_on old mid new [] (record { took = took; calm = calm_of old.buffer old.raw mid.raw no_wait }) fails.0, no_wait_then old.raw mid.raw new.raw took.kept.raw no_wait fails.1, fails.2)
 passes_all_then old mid new (Err fault.NoMemory) took no_wait lacks = (lacks_on old mid new [] took lacks.0, no_wait_then old.raw mid.raw new.raw took.kept.raw no_wait lacks.1)
 passes_all_then old mid new (Err why) took no_wait never = absurd never

@@ -109,6 +109,7 @@ detached_live old new is far passed =
     let counted : IsTrue old.raw.counts_exactly → IsCounted old.buffer old.raw Detach reply new.raw false = λ exact. record { faults = λ _. took.no_fault exact; waits = λ _ _. passed.1 exact; once = λ waited. absurd (cc) } in
     let writes : Writes old Detach reply after = passing_writes old Detach reply after asked.none (record {
       leaves = record { passed = passes.passed; most = passes.within; answered = passes.answered; bytes = sym passed.2 ∙ passes.owed; place = λ some. absurd (some refl) };
+      stands = λ _ some. absurd (some refl);
       lays = passes.lays;
       passes = λ _. (record { none = refl; holds = passed_all old new passes passed.2 }, refl, stands_at_end old new took passed.2);
       full = tt;

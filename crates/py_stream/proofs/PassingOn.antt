@@ -16,7 +16,7 @@ use Rattle.py_flat.specs.BinaryStep.{is_live, Fails, WaitedBy, FaultedBy, Starve
 use Rattle.py_flat.proofs.Laying.{lay_resumes}
 use Rattle.py_raw.specs.RawStream.{NoFault, WhereTold, NoWait, WaitsOnce, AnswersFor}
 use Rattle.py_stream.specs.Stream.{Stream, file_of}
-use Rattle.py_stream.specs.Writing.{NoneAtPlace, PassesFront, LaysFront, Writes}
+use Rattle.py_stream.specs.Writing.{OwesBehind, NoneAtPlace, PassesFront, LaysFront, Writes}
 use Rattle.py_stream.specs.Answers.{Answers, KeepsStream, ClosedWith, InHand, IsShort, LifeMoves, PlaceMoves, IsReplyTo, IsCounted}
 use Rattle.py_stream.specs.Keeping.{KeepsOn}
 use Rattle.py_stream.specs.Taking.{Took, FailsTaking, Lacks, PassAllOutcome}
@@ -39,6 +39,7 @@ pub record PassesSome (old new : Stream) : Type 0 where
   pub owed : new.owed.bytes ≡ drop passed old.owed.bytes
   pub still : new.place ≡ old.place
   pub at : NoneAtPlace old → NoneAtPlace new
+  pub stands : OwesBehind old → new.raw_place ≡ new.owed.place
   pub lays : WhereTold old.raw (LaysFront old [] new.raw.bytes)
   pub told : WhereTold old.raw ((laid : ℕ) × (passed ≤ laid) × (laid ≤ length old.owed.bytes) × (new.raw.bytes ≡ lay old.raw.bytes old.owed.place (take laid old.owed.bytes)))
 

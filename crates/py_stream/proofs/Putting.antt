@@ -8,7 +8,8 @@ use Rattle.py_flat.specs.declared.life.Life.TheVariants as life
 use Rattle.py_flat.specs.Limits.{greatest_place}
 use Rattle.py_flat.specs.Lines.{joined}
 use Rattle.py_stream.specs.Stream.{Stream}
-use Rattle.py_stream.specs.Keeping.{IsSound, OwesBehind}
+use Rattle.py_stream.specs.Writing.{OwesBehind}
+use Rattle.py_stream.specs.Keeping.{IsSound}
 use Rattle.py_stream.specs.Taking.{Took, TookAll, PutsOutcome}
 use Rattle.py_stream.proofs.Joined.{joined_more, joined_parts, length-joined_parts}
 use Rattle.py_stream.proofs.Taking.{calm_of, calm_then, took_none, took_then, fails_then, fails_more, starves_then, starves_more, fills_then, fills_more}

@@ -78,6 +78,7 @@ refused_with before after call why is refuses alone own first same =
       single = λ single none tells. omega arith;
       in_hand = λ _. record { raw = refl; fault = no_fault why own };
       brings = λ _ _. came_still before left 1 refl refl;
+      unread = λ _ tells. refl;
       needs = λ _ _. record { enough = λ _ _ _. record { raw = refl; fault = no_fault why own }; whole = λ _. each_still before left 0 0 refl refl; needed = λ _. inl refl; last = each_still before left 1 1 refl refl };
       spares = λ reads none. record { bytes = λ tells. refl; written = λ tells. refl; owed = none };
       writes = λ can. writes_whole before left call (Refused why) writes;

@@ -7,10 +7,10 @@ use Rattle.py_flat.specs.Limits.{greatest_place}
 use Rattle.py_flat.specs.FlatFile.{FlatFile}
 use Rattle.py_flat.specs.Calls.{FileCall, Seek, Flush, Close, Detach, FileReply, Done, Unwritten, Refused}
 use Rattle.py_flat.specs.BinaryStep.{BinaryStep, reaches_raw, does_work, is_tell, WaitedBy, StarvedBy}
-use Rattle.py_raw.specs.RawStream.{WhereTold}
+use Rattle.py_raw.specs.RawStream.{WhereTold, KeepsReads}
 use Rattle.py_stream.specs.Stream.{Stream, file_of, nothing_owed}
 use Rattle.py_stream.specs.Kinds.{is_reading, is_writing, calls_none, makes_one, says_fault, says_no_memory}
-use Rattle.py_stream.specs.Writing.{NoneAtPlace, PassesFront, LaysFront, LaysInOrder, PassesOn, BlocksFull, Writes}
+use Rattle.py_stream.specs.Writing.{OwesBehind, NoneAtPlace, PassesFront, LaysFront, LaysInOrder, PassesOn, BlocksFull, Writes}
 use Rattle.py_stream.specs.Answers.{Answers, KeepsStream, Leaves, ClosedWith, parts_at_close, closes_again, IsReplyTo, HasCauses, IsCounted, InHand, AsksNothing, IsIdle, IsShort, LifeMoves, PlaceMoves, refused_by, SeeksByEnd, SparesBytes, IsNear}
 use Rattle.py_stream.specs.Keeping.{IsSound}
 use Rattle.py_stream.proofs.Completing.{completes}
@@ -53,6 +53,7 @@ pub record Shows (before : Stream) (call : FileCall) (reply : FileReply) (after 
   pub ends : SeeksByEnd before call reply after
   pub wants : IsTrue (says_no_memory reply) → IsTrue before.raw.takes_memory
   pub idle : IsTrue (calls_none before.buffer before.can.writable call) → IsIdle before reply after
+  pub reads : KeepsReads before.raw after.raw
   pub in_hand : InHand before call → AsksNothing before reply after
   pub spares : before.can.writable ≡ false → before.owed ≡ nothing_owed before.place → SparesBytes before after
   pub writes : before.can.writable ≡ true → Writes before call reply after
@@ -74,6 +75,7 @@ shows_answers before call reply after none shows = search (rules, gives_none, no
 -- a call passes on a front of what is owed
 pub record PassesBytes (before : Stream) (call : FileCall) (reply : FileReply) (after : Stream) : Type 0 where
   pub leaves : PassesFront before after
+  pub stands : OwesBehind before → after.owed.bytes ≢ [] → after.raw_place ≡ after.owed.place
   pub lays : WhereTold before.raw (LaysFront before [] after.raw.bytes)
   pub passes : PassesOn before call reply after
   pub full : BlocksFull call reply after

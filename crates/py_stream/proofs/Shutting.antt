@@ -13,7 +13,7 @@ use Rattle.py_flat.specs.FlatFile.{FlatFile}
 use Rattle.py_flat.specs.ExactStep.{in_life}
 use Rattle.py_flat.specs.AllowedStep.{settled, raw_faulted}
 use Rattle.py_flat.specs.BinaryStep.{BinaryStep, SettledBy}
-use Rattle.py_raw.specs.RawStream.{WhereTold, NoWait, NoFault}
+use Rattle.py_raw.specs.RawStream.{WhereTold, NoWait, NoFault, KeepsReads}
 use Rattle.py_raw.proofs.Telling.{tells_its_bytes}
 use Rattle.py_raw.proofs.ReadingOn.{Keeps-then, no_fault_then, no_wait_then}
 use Rattle.py_stream.specs.Stream.{Stream, buffering_of, file_of, nothing_owed}
@@ -48,6 +48,7 @@ flushed old new is passed =
     let counted : IsTrue old.raw.counts_exactly → IsCounted old.buffer old.raw Flush Done new.raw new.short = λ exact. record { faults = λ _. took.no_fault exact; waits = λ _ _. passed.1 exact; once = λ waited. absurd (cc) } in
     let writes : Writes old Flush Done new = passing_writes old Flush Done new asked.none (record {
       leaves = passing_front old new new.life new.short passes;
+      stands = λ behind some. passes.stands behind;
       lays = passes.lays;
       passes = (record { none = passed.2; holds = passed_all old new passes passed.2 }, omega (arith, took.behind.ends, took.behind.stands, ap length passed.2));
       full = tt;
@@ -103,6 +104,7 @@ record ShutsDown (old new : Stream) : Type 0 where
   pub place : new.place ≡ old.place
   pub far : new.place ≤ greatest_place
   pub short : new.short ≡ false
+  pub reads : KeepsReads old.raw new.raw
   pub leaves : PassesFront old new
   pub lays : WhereTold old.raw (LaysFront old [] new.raw.bytes)
   pub holds : WhereTold old.raw (new.raw.bytes ≡ flat_of old)
@@ -128,6 +130,7 @@ shuts_down old mid new ready closes =
       place = closes.place ∙ passes.still;
       far = closes.far;
       short = closes.short ∙ kept.short ∙ ready.asked.whole;
+      reads = λ tells. closes.reads (kept.raw.tells_transfers ∙ tells) ∙ kept.reads tells;
       leaves = record {
         passed = passes.passed;
         most = passes.within;

@@ -10,7 +10,8 @@ use Rattle.py_raw.specs.RawStream.{Raw, Keeps, NoWait, WaitsOnce, AnswersFor}
 use Rattle.py_raw.proofs.Telling.{keeps_same, tells_still}
 use Rattle.py_raw.proofs.ReadingOn.{no_fault_then, no_wait_then}
 use Rattle.py_stream.specs.Stream.{Stream}
-use Rattle.py_stream.specs.Keeping.{IsSound, KeepsOn, OwesBehind}
+use Rattle.py_stream.specs.Writing.{OwesBehind}
+use Rattle.py_stream.specs.Keeping.{IsSound, KeepsOn}
 use Rattle.py_stream.specs.Taking.{Took, LaysFurther, FailsTaking, Lacks, Calm, WaitsAsOne, StarvesTaking, FillsUp, TookAll}
 
 -- Lists.
@@ -40,7 +41,7 @@ lay_twice raw place bytes more first second within =
 
 -- a step that leaves all as it is
 pub keeps_itself : (stream : Stream) → IsSound stream → KeepsOn stream stream
-keeps_itself stream sound = record { raw = keeps_same stream.raw; stays = refl; buffer = refl; can = refl; short = refl; sound = sound }
+keeps_itself stream sound = record { raw = keeps_same stream.raw; stays = refl; reads = λ tells. refl; buffer = refl; can = refl; short = refl; sound = sound }
 
 -- two steps, one after the other, keep what each keeps
 pub keeps_then : (old mid new : Stream) → KeepsOn old mid → KeepsOn mid new → KeepsOn old new

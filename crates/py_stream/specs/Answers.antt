@@ -407,6 +407,8 @@ pub record AnswersWith (room : FileCall → Bool) (before : Stream) (call : File
   pub single : IsTrue (profile before.buffer call).one → before.owed.bytes ≡ [] → AtMostOne before after
   -- a reading, where nothing was owed, moves the raw by as many bytes as its reads bring, and meets the end once at most
   pub brings : IsTrue (is_reading call) → before.owed.bytes ≡ [] → CameByReads 1 before after
+  -- a call that gives no bytes reads none from the raw
+  pub unread : is_reading call ≡ false → KeepsReads before.raw after.raw
   -- what the bytes held answer by themselves asks the raw for nothing
   pub in_hand : InHand before call → AsksNothing before reply after
   -- a reading that goes on asks for no more than it answers with

@@ -6,7 +6,7 @@ use Rattle.py_flat.specs.declared.life.Life.{Life}
 use Rattle.py_flat.specs.declared.life.Life.TheVariants as life
 use Rattle.py_flat.specs.Limits.{greatest_place}
 use Rattle.py_flat.specs.Causes.{Rose}
-use Rattle.py_raw.specs.RawStream.{Keeps, KeepsBytes, NoFault, NoWait, AnswersFor}
+use Rattle.py_raw.specs.RawStream.{Keeps, KeepsBytes, NoFault, NoWait, AnswersFor, KeepsReads}
 use Rattle.py_stream.specs.Stream.{Stream}
 use Rattle.py_stream.specs.Taking.{FailsTaking, PassAllOutcome}
 
@@ -21,6 +21,7 @@ pub record ClosesRaw (old new : Stream) : Type 0 where
   pub closed : new.raw.closed ≡ true
   pub no_wait : NoWait old.raw new.raw
   pub answered : AnswersFor 0 old.raw new.raw
+  pub reads : KeepsReads old.raw new.raw
   pub bytes : KeepsBytes old.raw new.raw
   pub life_is : new.life ≡ life.Closed
   pub buffer : new.buffer ≡ old.buffer

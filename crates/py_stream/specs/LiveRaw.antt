@@ -11,7 +11,7 @@ use Rattle.py_flat.specs.Refusals.{life_fault}
 use Rattle.py_raw.specs.declared.raw_error.RawError.{RawError}
 use Rattle.py_raw.specs.declared.raw_error.RawError.TheVariants as raw_error
 use Rattle.py_flat.specs.Causes.{Rose}
-use Rattle.py_raw.specs.RawStream.{Raw, WhereTold, WherePlace, WhereTransfers, KeepsBytes, NoWait, Transfers, LeavesCounts, AnswersFor, ReadsBring, AsksToWait, FailsWithout, LacksMemory, LaysFront, WritesBytes}
+use Rattle.py_raw.specs.RawStream.{Raw, WhereTold, WherePlace, WhereTransfers, KeepsBytes, NoWait, Transfers, LeavesCounts, AnswersFor, ReadsBring, KeepsReads, AsksToWait, FailsWithout, LacksMemory, LaysFront, WritesBytes}
 use Rattle.py_stream.specs.declared.access.Access.{Access}
 
 -- a raw stream, what its stream is opened for, what became of that, and whether a wait cut its last answer short
@@ -79,6 +79,7 @@ pub record FailsGiven (old : Raw) (piece : List ℕ) (new : Raw) : Type 0 where
   pub cause : Rose old.faults new.faults
   pub no_wait : NoWait old new
   pub written : AnswersFor 0 old new
+  pub reads : KeepsReads old new
   pub told : WhereTold old ((count : ℕ) × (count ≤ length piece) × LaysFront old piece count new)
   pub transfers : WhereTransfers old (new.transfers ≤ old.transfers + 1)
 

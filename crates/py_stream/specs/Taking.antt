@@ -7,8 +7,8 @@ use Rattle.py_flat.specs.Bytes.{lay}
 use Rattle.py_flat.specs.Causes.{Rose}
 use Rattle.py_raw.specs.RawStream.{Raw, WhereTold, NoFault, NoWait, WaitsOnce, AnswersFor}
 use Rattle.py_stream.specs.Stream.{Stream, size_of}
-use Rattle.py_stream.specs.Writing.{OwesOld}
-use Rattle.py_stream.specs.Keeping.{KeepsOn, OwesBehind}
+use Rattle.py_stream.specs.Writing.{OwesBehind, OwesOld}
+use Rattle.py_stream.specs.Keeping.{KeepsOn}
 
 -- Waits: a stream with a buffer may go on over one, as that has room; without a buffer each ends the call.
 

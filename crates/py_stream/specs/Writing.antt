@@ -9,19 +9,25 @@ use Rattle.py_flat.specs.Calls.{FileCall, Write, WriteLines, Seek, Truncate, Flu
 use Rattle.py_flat.specs.BinaryStep.{payload}
 use Rattle.py_raw.specs.RawStream.{WhereTold, WherePlace, WhereTransfers, AnswersFor}
 use Rattle.py_stream.specs.Stream.{Stream, size_of, file_of}
-use Rattle.py_stream.specs.Kinds.{is_writing, says_no_memory}
+use Rattle.py_stream.specs.Kinds.{is_reading, is_writing, says_no_memory}
 
 -- nothing is owed, or what is owed ends at a place
 abbrev pub OwesUpTo : Owed → ℕ → Type 0
 OwesUpTo owed place = (owed.bytes ≡ []) ⊎ (owed.place + length owed.bytes ≡ place)
+
+-- what a stream owes lies right before its place, and its raw stands where that begins
+pub record OwesBehind (stream : Stream) : Type 0 where
+  pub ends : stream.owed.place + length stream.owed.bytes ≡ stream.place
+  pub stands : stream.raw_place ≡ stream.owed.place
 
 -- where nothing is owed, the place of the owed bytes is the stream's
 abbrev pub NoneAtPlace : Stream → Type 0
 NoneAtPlace stream = stream.owed.bytes ≡ [] → stream.owed.place ≡ stream.place
 
 -- a call that writes, whatever it answers: the stream took the first n of the bytes, after those that it owed, and
--- passed on the first of them all, exactly as many as the raw answered for; so it owes a suffix, up to its place. Told, those
--- that it took are laid on in the flat file, and after a fault of the raw some more may be
+-- passed on the first of them all, exactly as many as the raw answered for; so it owes a suffix, up to its place. By so many the raw
+-- went forth, where it stood where what was owed begins. Told, those that the stream took are laid on in the flat file, and after a fault
+-- of the raw some more may be
 pub record Takes (before : Stream) (bytes : List ℕ) (after : Stream) : Type 0 where
   pub taken : ℕ
   pub within : taken ≤ length bytes
@@ -29,6 +35,7 @@ pub record Takes (before : Stream) (bytes : List ℕ) (after : Stream) : Type 0 
   pub passed : ℕ
   pub most : passed ≤ length before.owed.bytes + taken
   pub answered : AnswersFor passed before.raw after.raw
+  pub forth : OwesBehind before → after.raw_place ≡ before.raw_place + passed
   pub owed : after.owed.bytes ≡ drop passed (before.owed.bytes ++ take taken bytes)
   pub up_to : OwesUpTo after.owed after.place
   pub told : WhereTold before.raw ((count : ℕ) × (taken ≤ count) × (count ≤ length bytes) × ((file_of after).bytes ≡ lay (file_of before).bytes before.place (take count bytes)))
@@ -170,6 +177,8 @@ pub record Writes (before : Stream) (call : FileCall) (reply : FileReply) (after
   pub takes : IsTrue (is_writing call) → OwesUpTo before.owed before.place → Takes before (payload call) after
   -- a call that gives no bytes owes what is left of what was owed, where it stood
   pub leaves : is_writing call ≡ false → PassesFront before after
+  -- where the raw stood where what was owed up to the place begins, it stands where what is left of that begins; a reading may move it
+  pub stands : OwesBehind before → is_reading call ≡ false → after.owed.bytes ≢ [] → after.raw_place ≡ after.owed.place
   -- what the raw's bytes are after a call
   pub lays : WhereTold before.raw (LaysInOrder before call after.raw.bytes)
   -- what is passed on of a live stream

@@ -6,10 +6,12 @@ use Rattle.py_flat.specs.declared.life.Life.TheVariants as life
 use Rattle.py_flat.specs.Calls.{FileCall, Close, Refused}
 use Rattle.py_flat.specs.FlatFile.{Unbuffered}
 use Rattle.py_flat.specs.Refusals.{is_getter, is_other_getter, is_close, lets_through, life_fault}
+use Rattle.py_raw.specs.RawStream.{KeepsReads}
 use Rattle.py_stream.specs.Answers.{Answers, IsNear}
 use Rattle.py_stream.proofs.Alone.{detaches, Begins, begins_in_vain as stream_begins_in_vain}
 use Rattle.py_stream.proofs.Refusing.{IsPlaced, refused_by_life as life_refuses}
-use Rattle.py_stream.specs.Keeping.{IsSound, KeepsOn, OwesBehind}
+use Rattle.py_stream.specs.Keeping.{IsSound, KeepsOn}
+use Rattle.py_stream.specs.Writing.{OwesBehind}
 use Rattle.py_unbuffered.specs.Engine.{EngineView, stream_of, IsEngine, KeepsEngine, BeginOutcome}
 
 -- what holds of every engine
@@ -32,9 +34,9 @@ is_sound engine stands = record { far = stands.far; near = is_near engine stands
 pub owes_behind : (engine : EngineView) → OwesBehind (stream_of engine)
 owes_behind engine = record { ends = add-zero engine.place; stands = refl }
 
--- what every step keeps of an engine it keeps of its stream
-pub keeps_on : (old new : EngineView) → KeepsEngine old new → KeepsOn (stream_of old) (stream_of new)
-keeps_on old new kept = grind (arith, is_sound)
+-- what every step keeps of an engine a step that reads nothing keeps of its stream
+pub keeps_on : (old new : EngineView) → KeepsEngine old new → KeepsReads old.raw new.raw → KeepsOn (stream_of old) (stream_of new)
+keeps_on old new kept reads = grind (arith, is_sound)
 
 -- A call that the life doesn't let through.
 pub refused_by_life : (old new : EngineView) (call : FileCall) (why : IoFault) → Stands old → is_getter call ≡ false → is_other_getter call ≡ false → lets_through old.life Unbuffered call ≡ false → BeginOutcome old (Err why) new → Answers (stream_of old) call (Refused why) (stream_of new)

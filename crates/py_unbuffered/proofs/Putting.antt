@@ -28,7 +28,7 @@ waits_full old new bytes some waits = record { taken = 0; less = some; took = wa
 -- the raw failed, and took none of the bytes
 pub fails_taking : (old new : EngineView) (bytes : List ℕ) → FailsPutting old bytes new → FailsTaking (stream_of old) bytes (stream_of new)
 fails_taking old new bytes fails = record {
-  kept = keeps_on old new fails.kept;
+  kept = keeps_on old new fails.kept fails.reads;
   was = owes_behind old;
   behind = owes_behind new;
   failed = fails.failed;

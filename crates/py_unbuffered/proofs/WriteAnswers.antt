@@ -72,7 +72,7 @@ write_answers old started now bytes None false writing fits waits is = absurd (c
 -- a write by one transfer failed, or memory ran out
 pub write_fails : (old started now : EngineView) (bytes : List ℕ) (why : IoFault) → Writing old started → started.place + length bytes ≤ greatest_place → PutOutcome started false bytes (Err why) now → Answers (stream_of old) (Write bytes) (Refused why) (stream_of now)
 write_fails old started now bytes fault.RawFault writing fits fails =
-    as_left (stream_of old) (stream_of started) (stream_of now) (Write bytes) (Refused fault.RawFault) (begins old started (Ok tt) writing.begins) (keeps_on started now fails.kept)
+    as_left (stream_of old) (stream_of started) (stream_of now) (Write bytes) (Refused fault.RawFault) (begins old started (Ok tt) writing.begins) (keeps_on started now fails.kept fails.reads)
     (faults_answers (stream_of started) (stream_of now) (Write bytes) (may_write old started (Write bytes) refl writing fits) (fails_taking started now bytes fails) (fails_with_none started now bytes fails) (λ _. fails.transfers) (owes_old started now false))
 write_fails old started now bytes fault.NoMemory writing fits wants =
     let begun = begun_live old started writing.stands writing.begins in

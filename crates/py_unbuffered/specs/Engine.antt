@@ -137,6 +137,7 @@ pub record Puts (old : EngineView) (bytes : List ℕ) (count : ℕ) (new : Engin
   pub kept : KeepsEngine old new
   pub counts : LeavesCounts old.raw new.raw
   pub answered : AnswersFor count old.raw new.raw
+  pub reads : KeepsReads old.raw new.raw
   pub live : new.life ≡ life.Live
   pub fits : count ≤ length bytes
   pub some : count ≡ 0 → bytes ≡ []
@@ -150,6 +151,7 @@ pub record FailsPutting (old : EngineView) (bytes : List ℕ) (new : EngineView)
   pub cause : Rose old.raw.faults new.raw.faults
   pub no_wait : NoWait old.raw new.raw
   pub answered : AnswersFor 0 old.raw new.raw
+  pub reads : KeepsReads old.raw new.raw
   pub failed : new.life ≡ life.Failed
   pub place : new.place ≡ old.place
   pub told : WhereTold old.raw ((count : ℕ) × (count ≤ length bytes) × (new.raw.bytes ≡ lay old.raw.bytes old.place (take count bytes)))
