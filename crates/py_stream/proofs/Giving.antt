@@ -30,11 +30,6 @@ use Rattle.py_stream.proofs.Refusing.{IsPlaced, refused_alone, refused_with}
 pub of_both : (Fact : FileCall → Type 0) → ((bytes : List ℕ) → Fact (Write bytes)) → ((lines : List (List ℕ)) → Fact (WriteLines lines)) → (call : FileCall) → is_writing call ≡ true → Fact call
 of_both Fact one many call writing = grind arith
 
--- what holds of each call that gives bytes, with a buffer and without, holds of all
-pub of_all : (Fact : Option ℕ → FileCall → Type 0) → ((size : ℕ) (bytes : List ℕ) → Fact (Some size) (Write bytes)) → ((bytes : List ℕ) → Fact None (Write bytes)) → ((size : ℕ) (lines : List (List ℕ)) → Fact (Some size) (WriteLines lines)) → ((lines : List (List ℕ)) → Fact None (WriteLines lines)) → (buffer : Option ℕ) (call : FileCall) → is_writing call ≡ true → Fact buffer call
-of_all Fact one bare many lone (Some size) call writing = grind arith
-of_all Fact one bare many lone None call writing = grind arith
-
 -- What a call that gives bytes is.
 
 -- what is alike of both calls, whatever the stream

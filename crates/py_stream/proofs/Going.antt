@@ -248,11 +248,11 @@ moving_fails old mid new offset whence target why seeks to passed never = absurd
 
 -- a stop of the passing on answers the seek
 pub seek_stops : (old found new : Stream) (offset whence : ℤ) (target : ℕ) (why : IoFault) → SeeksWriting (begun old) → Finds (begun old) offset whence target found → PassAllOutcome found (Err why) new → Answers old (Seek offset whence) (Refused why) new
-seek_stops old found new offset whence target why seeks finds stops = search (rules, answers_whole, pass_all_refuses, begun, accepts_seek, not_held, fault_fails_seek, passes_all_then, found_took)
+seek_stops old found new offset whence target why seeks finds stops = search (rules, answers_whole, pass_all_refuses, accepts_seek, not_held, fault_fails_seek, passes_all_then, found_took)
 
 -- a failing of the moving answers the seek
 pub seek_fails : (old found mid new : Stream) (offset whence : ℤ) (target : ℕ) (why : IoFault) → SeeksWriting (begun old) → Finds (begun old) offset whence target found → PassAllOutcome found (Ok tt) mid → GoOutcome mid target (Err why) new → Answers old (Seek offset whence) (Refused why) new
-seek_fails old found mid new offset whence target why seeks finds passed fails = search (rules, answers_whole, moving_fails, begun, passes_all_then, found_took)
+seek_fails old found mid new offset whence target why seeks finds passed fails = search (rules, answers_whole, moving_fails, passes_all_then, found_took)
 
 -- a stream that writes stands where it was to go
 pub seek_answers : (old found mid new : Stream) (offset whence : ℤ) (target : ℕ) → SeeksWriting (begun old) → Finds (begun old) offset whence target found → PassAllOutcome found (Ok tt) mid → GoesTo mid target new → Answers old (Seek offset whence) (Place target) new

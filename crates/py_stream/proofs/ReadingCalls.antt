@@ -14,7 +14,7 @@ use Rattle.py_flat.specs.BinaryStep.{asks_end, is_tell, Fails, FaultedBy, Starve
 use Rattle.py_stream.specs.Stream.{Stream}
 use Rattle.py_stream.specs.Kinds.{is_reading, reads_on, goes_on, by_several, makes_one, is_writing, asks_none, calls_none, waits_unready, says_fault, says_no_memory}
 use Rattle.py_stream.specs.Writing.{LaysInOrder, PassesOn, OwesNoneOfIts}
-use Rattle.py_stream.specs.Answers.{IsReplyTo, IsShort, LifeMoves, PlaceMoves, PlaceFails, PlaceStarves, moves_most, StarvesTo, GivesWithin, SeeksByEnd, InHandOf, IsWhole, closes_again}
+use Rattle.py_stream.specs.Answers.{IsReplyTo, IsShort, LifeMoves, PlaceMoves, PlaceFails, PlaceStarves, moves_most, StarvesTo, SeeksByEnd, InHandOf, IsWhole, closes_again}
 use Rattle.py_stream.specs.Reading.{wanted_by, reply_by, WantsHeld}
 
 -- What holds of every call that reads.
@@ -58,10 +58,6 @@ pub record IsReadingCall (call : FileCall) : Type 0 where
 -- what holds of every call that reads holds of each
 pub reading_call : (call : FileCall) → is_reading call ≡ true → IsReadingCall call
 reading_call call reads = grind arith
-
--- a reading that was refused gives nothing
-pub refused_within : (size : ℕ) (call : FileCall) (why : IoFault) → GivesWithin size call (Refused why)
-refused_within size call why = grind arith
 
 -- Readings that go on.
 

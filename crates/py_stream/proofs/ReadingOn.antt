@@ -10,7 +10,7 @@ use Rattle.py_flat.specs.declared.fault.IoFault.TheVariants as fault
 use Rattle.py_flat.specs.declared.life.Life.TheVariants as life
 use Rattle.py_flat.specs.Lines.{lines_of, joined}
 use Rattle.py_flat.specs.Causes.{counted}
-use Rattle.py_flat.specs.Calls.{FileCall, Read, ReadLine, ReadLines, NotReady, Refused}
+use Rattle.py_flat.specs.Calls.{FileCall, Read, ReadLine, ReadLines, NotReady, Refused, FileReply}
 use Rattle.py_flat.specs.ExactStep.{rest}
 use Rattle.py_flat.specs.BinaryStep.{IsFrontOf}
 use Rattle.py_lines.specs.Collecting.{LineView, LinesView, line_wanted, lines_wanted}
@@ -28,16 +28,16 @@ use Rattle.py_stream.proofs.ReadingSteps.{next_parts}
 use Rattle.py_stream.proofs.ReadingAnswers.{works, Reads, ReadingBegins, answers_coming, answers_begun}
 use Rattle.py_stream.proofs.ReadingStops.{needs_enough, needs_open, answers_all, answers_part, answers_unready, several_asks, answers_faulted, unmoved, answers_failing}
 use Rattle.py_flat.specs.Bytes.{left_at}
+use Rattle.py_stream.proofs.LineReadings.{all_by_several, begun as begins}
+use Rattle.py_stream.specs.ReadingOn.{BeginsReading}
 
 -- By where the reading stopped.
 
 not_asked : (asks : Bool) → (IsTrue asks → ⊥) → asks ≡ false
-not_asked true none = absurd (none refl)
-not_asked false none = refl
+not_asked asks none = grind arith
 
 or_right : (first second : Bool) → IsTrue second → IsTrue (first || second)
-or_right true second is = refl
-or_right false second is = is
+or_right first second is = grind arith
 
 -- where memory ran out, before anything moved or after bytes had left the raw
 starved : (before after : Stream) (call : FileCall) (part : List ℕ) → by_several before.buffer call ≡ true → Reads before → StarvesReading before after → GatherOutcome (wanted_by call) before (Err fault.NoMemory) part after → (IsTrue (has_room call || takes_space_first call) → IsTrue before.raw.takes_memory) → Answers before call (Refused fault.NoMemory) after
@@ -82,9 +82,23 @@ unready_from first before mid after call part stops.Waits true several begun out
     answers_begun first before call NotReady after begun.from (subst (Answers before call NotReady) (sym is) (answers_unready before mid call (reading_on call on) (on_suits (file_of before) call on begun.reads.readable) begun.reads given stopped.1 stopped.2 stopped.3 (several_asks before mid call several (λ held. (outcome.idle held).0) (each_more before mid 1 1 0 1 (omega arith) (omega arith) stopped.4))))
 unready_from first before mid after call part stop empty several begun outcome none unready is = absurd (grind arith)
 
+-- what a reading answers that stopped: what it gives, where it has an answer
+abbrev pub said_at : Bool → FileReply → FileReply
+said_at true given = given
+said_at false given = NotReady
+
+-- a test says whether there are any items
+abbrev pub TellsEmpty : {A : Type 0} → List A → Bool → Type 0
+TellsEmpty items empty = (empty ≡ true → items ≡ []) × (empty ≡ false → items ≢ [])
+
+-- a reading that stopped, as its steps come, with an answer or without
+pub stopped_from : (first before mid after : Stream) (call : FileCall) (part : List ℕ) (given : FileReply) (stop : Stop) (empty answered : Bool) → by_several before.buffer call ≡ true → BeginsReading first (Ok tt) before → GatherOutcome (wanted_by call) before (Ok stop) part mid → reply_by call part ≡ given → TellsEmpty part empty → has_answer stop empty ≡ answered → after ≡ answered_at stop mid → Answers first call (said_at answered given) after
+stopped_from first before mid after call part given stop empty true several began outcome is tells answered left = subst (λ (reply : FileReply). Answers first call reply after) is (answered_from first before mid after call part stop empty several (begins first before began) outcome tells.1 answered left)
+stopped_from first before mid after call part given stop empty false several began outcome is tells answered left = unready_from first before mid after call part stop empty several (begins first before began) outcome tells.0 answered left
+
 -- a reading of lines that was refused once it had begun
-pub refused_from : (first before after : Stream) (call : FileCall) (part : List ℕ) (why : IoFault) → by_several before.buffer call ≡ true → (has_room call || takes_space_first call) ≡ false → ReadingBegins first before → GatherOutcome (wanted_by call) before (Err why) part after → Answers first call (Refused why) after
-refused_from first before after call part why several roomless begun outcome = answers_begun first before call (Refused why) after begun.from (refused_stop before after call part why several begun.reads outcome (λ wants takes. absurd (cc)))
+pub refused_from : (first before after : Stream) (call : FileCall) (part : List ℕ) (why : IoFault) → by_several before.buffer call ≡ true → (has_room call || takes_space_first call) ≡ false → BeginsReading first (Ok tt) before → GatherOutcome (wanted_by call) before (Err why) part after → Answers first call (Refused why) after
+refused_from first before after call part why several roomless began outcome = let begun : ReadingBegins first before = begins first before began in answers_begun first before call (Refused why) after begun.from (refused_stop before after call part why several begun.reads outcome (λ wants takes. absurd (cc)))
 
 -- What was gathered.
 
@@ -138,9 +152,6 @@ rest_not_held before held = rest_unbound (ahead before) held
 open_rest : (part : List ℕ) → IsOpen (wanted_by (Read None)) part
 open_rest part whole = omega (arith, ap length (whole (0 ∷ [])), length-append part (0 ∷ []))
 
-always_several : (buffer : Option ℕ) → by_several buffer (Read None) ≡ true
-always_several buffer = grind arith
-
 asked_transfers : (old new : ℕ) → (new ≡ old) ⊎ (new ≡ counted old 0) → new ≤ old
 asked_transfers old new none = grind arith
 
@@ -184,9 +195,9 @@ rest_stopped before after part why starves outcome = grind (arith, rest_not_held
 
 -- a reading of all that is left that was refused
 pub refused_rest : (before after : Stream) (part : List ℕ) (why : IoFault) → Reads before → RestOutcome before (Err why) part after → Answers before (Read None) (Refused why) after
-refused_rest before after part fault.RawFault begun outcome = refused_stop before after (Read None) part fault.RawFault (always_several before.buffer) begun (rest_stopped before after part fault.RawFault tt outcome) (λ wants takes. absurd (cc))
+refused_rest before after part fault.RawFault begun outcome = refused_stop before after (Read None) part fault.RawFault (all_by_several before.buffer) begun (rest_stopped before after part fault.RawFault tt outcome) (λ wants takes. absurd (cc))
 refused_rest before after part fault.NoMemory begun (inr asked) = subst (Answers before (Read None) (Refused fault.NoMemory)) (sym asked.same) (starved_asked before after.raw begun (subst (OnlyAsked before) asked.same asked))
-refused_rest before after part fault.NoMemory begun (inl starves) = refused_stop before after (Read None) part fault.NoMemory (always_several before.buffer) begun (rest_stopped before after part fault.NoMemory (starves_wanting_rest before after begun.live starves) starves) (λ wants takes. absurd (cc))
+refused_rest before after part fault.NoMemory begun (inl starves) = refused_stop before after (Read None) part fault.NoMemory (all_by_several before.buffer) begun (rest_stopped before after part fault.NoMemory (starves_wanting_rest before after begun.live starves) starves) (λ wants takes. absurd (cc))
 refused_rest before after part why begun outcome = absurd outcome
 
 -- Of a size.
@@ -259,14 +270,6 @@ lines_gathered view hint before after result part is outcome = subst (λ (some :
 pub lines_are : (lines : List (List ℕ)) (part : List ℕ) → joined lines ≡ part → lines_of (joined lines) ≡ lines → lines ≡ lines_of part
 lines_are lines part all cut = sym cut ∙ ap lines_of all
 
--- no lines have no bytes
-pub none_joined : (lines : List (List ℕ)) (part : List ℕ) → joined lines ≡ part → lines ≡ [] → part ≡ []
-none_joined lines part all none = sym all ∙ ap joined none
-
--- lines have some
-pub some_joined : (lines : List (List ℕ)) (part : List ℕ) → joined lines ≡ part → lines_of (joined lines) ≡ lines → lines ≢ [] → part ≢ []
-some_joined lines part all cut some none = grind arith
-
 -- Whether there are any items.
 
 -- items of which none are counted are none
@@ -276,3 +279,11 @@ none_counted items count empty size is none = nil_from_length items (sym size �
 -- where some items are counted, there are some
 pub some_counted : {A : Type 0} → (items : List A) (count : ℕ) (empty : Bool) → count ≡ length items → empty ≡ (count == 0) → empty ≡ false → items ≢ []
 some_counted items count empty size is some none = grind arith
+
+-- a count tells whether there are any items
+pub counted_empty : {A : Type 0} → (items : List A) (count : ℕ) (empty : Bool) → count ≡ length items → empty ≡ (count == 0) → TellsEmpty items empty
+counted_empty items count empty size is = (none_counted items count empty size is, some_counted items count empty size is)
+
+-- a count of lines tells whether they have any bytes
+pub lines_empty : (lines : List (List ℕ)) (part : List ℕ) (count : ℕ) (empty : Bool) → count ≡ length lines → empty ≡ (count == 0) → joined lines ≡ part → lines_of (joined lines) ≡ lines → TellsEmpty part empty
+lines_empty lines part count empty size is all cut = grind (arith, none_counted, some_counted)

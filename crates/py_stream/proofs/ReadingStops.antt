@@ -20,7 +20,7 @@ use Rattle.py_raw.proofs.Telling.{keeps_same}
 use Rattle.py_stream.specs.Stream.{Stream, buffering_of, file_of}
 use Rattle.py_stream.specs.Kinds.{is_reading, reads_on, goes_on, makes_one, has_room, takes_space_first, asks_none, by_several, says_fault, says_no_memory}
 use Rattle.py_stream.proofs.Coming.{came_more, each_seen, each_more}
-use Rattle.py_stream.specs.Answers.{Answers, CameByReads, EachBrings, IsShort, PlaceMoves, PlaceStarves, MovesForth, moves_most, StarvesTo, GivesWithin, InHandOf, IsWhole, AsksNoMore, OnlyAsked, Unmoved, IsReplyTo, LifeMoves, HasCauses, IsCounted, WantsMemory, Starves, StarvesFirst}
+use Rattle.py_stream.specs.Answers.{Answers, CameByReads, EachBrings, IsShort, PlaceMoves, PlaceStarves, MovesForth, moves_most, GivesWithin, InHandOf, IsWhole, AsksNoMore, OnlyAsked, Unmoved, IsReplyTo, LifeMoves, HasCauses, IsCounted, WantsMemory, Starves, StarvesFirst}
 use Rattle.py_stream.specs.Reading.{KeepsReading, OneTransfer, IsNeeded, Gives, FailsReading, FailsMoved, wanted_by, reply_by, GathersEnough, GathersFront, IsOpen, WantsHeld}
 use Rattle.py_stream.proofs.ReadingCalls.{IsReadingCall, reading_call, starved_by_failing, reading_on, on_suits, nothing_held, in_hand_held, is_several}
 use Rattle.py_stream.proofs.ReadingSteps.{uncounted, file_after, file_fails, next_reaches}
@@ -192,9 +192,6 @@ stays_unmoved call stream whole = grind (arith, asked_none)
 -- a reading that wanted memory before anything moved: all is as it was
 pub unmoved : (before : Stream) (call : FileCall) → is_reading call ≡ true → lacks (file_of before) call ≡ false → Reads before → (IsTrue (has_room call) → IsTrue before.raw.takes_memory) → Answers before call (Refused fault.NoMemory) before
 unmoved before call reads has begun room = grind (arith, stays_unmoved)
-
-starving_fails : (may : Bool) (before after : Life) → may ≡ true → after ≡ life.Failed → StarvesTo may before after
-starving_fails may before after is failed = grind arith
 
 -- a reading that memory ran out for once bytes had left the raw, some of them wanted
 pub answers_failing : (before after : Stream) (call : FileCall) → by_several before.buffer call ≡ true → Reads before → FailsMoved before after → ((bound : ℕ) → moves_most call ≡ Some bound → after.place ≤ before.place + bound) → (IsTrue (has_room call) → IsTrue before.raw.takes_memory) → (IsTrue (takes_space_first call) → IsTrue before.raw.takes_memory) → (WantsHeld (wanted_by call) before → after.raw ≡ before.raw) → WhereTold before.raw (wanted_by call (rest (file_of before)) ≢ []) → Answers before call (Refused fault.NoMemory) after

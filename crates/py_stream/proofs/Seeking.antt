@@ -1,5 +1,5 @@
 -- Moving a stream, whatever is below it: where a seek goes, what refuses it, and what an answer of it comes to.
-use Rattle.std.proofs.Common.{◌≡◌, ℕ, ◌≤◌, suc, zero, ◌⊎◌, inl, ℤ, pos, Bool, true, false, ◌||◌, IsTrue, length, Option, Some, None, Result, Ok, Err, refl, arith, rules}
+use Rattle.std.proofs.Common.{◌≡◌, ℕ, ◌≤◌, suc, zero, ◌⊎◌, inl, ℤ, pos, Bool, true, false, IsTrue, length, Option, Some, None, Result, Ok, Err, arith, rules}
 use Rattle.py_flat.specs.declared.fault.IoFault.{IoFault}
 use Rattle.py_flat.specs.declared.fault.IoFault.TheVariants as fault
 use Rattle.py_flat.specs.declared.life.Life.{Life}
@@ -18,11 +18,6 @@ use Rattle.py_stream.specs.Writing.{PassesOn, BlocksFull}
 use Rattle.py_stream.specs.Answers.{Leaves, IsShort, LifeMoves, SeekGoes, PlaceMoves, refused_by, SeeksTo, SeeksFromEnd, SeeksByEnd, IsReplyTo, Answers}
 use Rattle.py_stream.proofs.Refused.{is_own}
 use Rattle.py_stream.proofs.Refusing.{refused_with}
-
--- true is the greater
-pub or_true : (first : Bool) → first || true ≡ true
-or_true true = refl
-or_true false = refl
 
 -- What a seek is refused by.
 

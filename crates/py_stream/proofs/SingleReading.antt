@@ -1,5 +1,5 @@
 -- What a reading by at most one transfer answers.
-use Rattle.std.proofs.Common.{◌≡◌, ◌≢◌, ℕ, ◌+◌, ◌<◌, ◌≤◌, Bool, true, false, IsTrue, List, [], length, take, max, Option, Some, None, IsSome, unwrap_or, refl, sym, ap, ◌∙◌, subst, arith}
+use Rattle.std.proofs.Common.{◌≡◌, ◌≢◌, ℕ, ◌+◌, ◌<◌, ◌≤◌, Bool, true, false, IsTrue, List, [], length, take, max, Option, Some, None, IsSome, unwrap_or, sym, ◌∙◌, subst, arith, rules}
 use Rattle.std.proofs.lemmas.List.{length-append, length-take, length-drop}
 use Rattle.py_flat.specs.declared.fault.IoFault.{IoFault}
 use Rattle.py_flat.specs.declared.fault.IoFault.TheVariants as fault
@@ -10,14 +10,14 @@ use Rattle.py_flat.specs.Causes.{Rose}
 use Rattle.py_flat.specs.Calls.{FileCall, Read, Read1, Peek, ReadInto, ReadInto1, Bytes, NotReady, Refused}
 use Rattle.py_flat.specs.FlatFile.{FlatFile}
 use Rattle.py_flat.specs.Refusals.{lacks}
-use Rattle.py_flat.specs.ExactStep.{is_closed, rest, after_read}
+use Rattle.py_flat.specs.ExactStep.{rest, after_read}
 use Rattle.py_flat.specs.AllowedStep.{settled}
-use Rattle.py_flat.specs.BinaryStep.{IsFrontOf, Accepted, SettledBy}
+use Rattle.py_flat.specs.BinaryStep.{IsFrontOf, Accepted, SettledBy, BinaryStep}
 use Rattle.py_raw.specs.RawStream.{WhereTold, WaitsOnce, LeavesCounts}
 use Rattle.py_stream.specs.Stream.{Stream, size_of, buffering_of, file_of}
 use Rattle.py_stream.specs.Kinds.{is_reading, is_single, goes_on, asks_none, by_several}
-use Rattle.py_stream.specs.Answers.{Answers, IsReplyTo, IsShort, LifeMoves, PlaceMoves, GivesWithin, InHandOf, ahead}
-use Rattle.py_stream.specs.Reading.{KeepsReading, OneTransfer, Gives, FailsReading}
+use Rattle.py_stream.specs.Answers.{Answers, IsReplyTo, IsShort, LifeMoves, PlaceMoves, GivesWithin, InHandOf, ahead, IsCounted, AsksNoMore}
+use Rattle.py_stream.specs.Reading.{KeepsReading, OneTransfer, Gives, FailsReading, Reaches}
 use Rattle.py_stream.proofs.ReadingSteps.{file_after}
 use Rattle.py_stream.proofs.ReadingAnswers.{accepted, Reads, answers_coming}
 use Rattle.py_stream.proofs.ReadingStops.{answers_faulted}
@@ -106,31 +106,16 @@ answers_once before mid call part once begun gives =
     let has : lacks file call ≡ false = is.suits file begun.readable in
     let same : mid.life ≡ before.life = gives.live ∙ sym begun.live in
     let asked : ℕ = asks_for (size_of before) call in
-    answers_coming before mid call (Bytes part) false is.reads has begun (record {
-      kept = gives.kept;
-      is_open = ap is_closed gives.live;
-      causes = record { waits = λ short. absurd (cc); faults = λ faulted. absurd (cc) };
-      counted = λ exact. record { faults = λ sound. gives.counts.no_fault exact; waits = λ whole writes. gives.counts.no_wait exact; once = λ short. absurd (cc) };
-      shorts = is.short part;
-      life_is = is.lives part before.life mid.life same;
-      place = is.moves part mid.life before.place mid.place gives.place;
-      within = is.within part gives.most;
-      wants = λ wanting room. absurd (cc);
-      starves = λ wanting goes. absurd (cc);
-      first = λ wanting takes none. absurd (cc);
-      sound = λ _. refl;
-      nothing = gives.idle;
-      one = λ _. gives.one;
-      ready = λ _ _. refl;
-      in_hand = λ buffered in_hand. gives.still buffered (is.ahead_is before buffered in_hand);
-      brings = gives.one.came;
-      needs = λ several. absurd (let never = is.stops in cc);
-      answers = is.answers before.can.writable part;
-      told = λ tells. settled (subst (λ (refused : Option IoFault). SettledBy file call refused (Bytes part) (file_of mid)) (sym (accepted before call is.reads has begun.live))
-          (once_carried before.buffer file call part (file_of mid) once gives.sized (gives.is tells) (file_after before mid (moves_by call (length part)) begun.bare gives.kept same gives.place tells)));
-      reach = λ tells. front_reaches (take asked (rest file)) part file.bytes before.place mid.place (omega (arith, length-take asked (rest file))) (gives.is tells).front (omega (arith, gives.place, moves_within call (length part)));
-      hides = λ short. absurd (cc);
-    })
+    let counted : IsTrue before.raw.counts_exactly → IsCounted before.buffer before.raw call (Bytes part) mid.raw false = λ exact. record { faults = λ sound. gives.counts.no_fault exact; waits = λ whole writes. gives.counts.no_wait exact; once = λ short. absurd (cc) } in
+    let life_is = is.lives part before.life mid.life same in
+    let place = is.moves part mid.life before.place mid.place gives.place in
+    let in_hand : IsSome before.buffer → InHandOf before call → mid.raw ≡ before.raw = λ buffered in_hand. gives.still buffered (is.ahead_is before buffered in_hand) in
+    let brings = gives.one.came in
+    let needs : IsTrue (by_several before.buffer call) → AsksNoMore before call (Bytes part) (record mid { short = false }) = λ several. absurd (let never = is.stops in cc) in
+    let told : WhereTold before.raw (BinaryStep file call (Bytes part) false false (file_of mid)) = λ tells. settled (subst (λ (refused : Option IoFault). SettledBy file call refused (Bytes part) (file_of mid)) (sym (accepted before call is.reads has begun.live))
+        (once_carried before.buffer file call part (file_of mid) once gives.sized (gives.is tells) (file_after before mid (moves_by call (length part)) begun.bare gives.kept same gives.place tells))) in
+    let reach : Reaches before mid = λ tells. front_reaches (take asked (rest file)) part file.bytes before.place mid.place (omega (arith, length-take asked (rest file))) (gives.is tells).front (omega (arith, gives.place, moves_within call (length part))) in
+    answers_coming before mid call (Bytes part) false is.reads has begun (search rules)
 
 -- Where the raw stopped a reading.
 

@@ -1,10 +1,9 @@
-use Rattle.std.proofs.Common.{ℕ, List, length, Ok, Err, refl, sym, ap, ◌∙◌, subst, arith}
+use Rattle.std.proofs.Common.{true, false, length, Ok, Err, refl, sym, ap, ◌∙◌, arith}
 use Rattle.std.proofs.lemmas.Result.{err_from_is_err_and}
 use Rattle.py_flat.specs.Calls.{Bytes, ReadLine}
 use Rattle.py_flat.proofs.Cutting.{first_line_holds_some}
-use Rattle.py_stream.specs.Answers.{Answers}
-use Rattle.py_stream.proofs.ReadingOn.{none_counted, some_counted, answered_from, unready_from, refused_from, line_gathered}
-use Rattle.py_stream.proofs.LineReadings.{begun, not_nothing}
+use Rattle.py_stream.proofs.ReadingOn.{counted_empty, stopped_from, refused_from, line_gathered}
+use Rattle.py_stream.proofs.LineReadings.{not_nothing}
 use Rattle.py_stream.proofs.reading_on.read_line.Goals as goal
 
 pub gather-requires-clause-asks : goal.gather-requires-clause-asks
@@ -18,26 +17,19 @@ returns-in_err-begin_reading g c =
 pub returns-in_err-stop : goal.returns-in_err-stop
 returns-in_err-stop g c =
     let left = err_from_is_err_and c.from_residual-in_err-stop.result c.from_residual-in_err-stop.ensures.1 in
-    let part : List ℕ = c.gather.new.collector.line in
-    rw (left.1, left.2) (refused_from _ _ _ (ReadLine c.args.limit) part c.in_err-stop.field-0.0 refl refl
-    (begun (g.S.ReadsOn.shows c.args.stream.now) (g.S.ReadsOn.shows c.begin_reading.new.self) c.in_ok-begin_reading.ensures.begins)
-    (line_gathered c.new-collector.result c.args.limit _ _ (Err c.in_err-stop.field-0.0) part c.new-collector.ensures.new c.in_err-stop.ensures))
+    rw (left.1, left.2) (refused_from (g.S.ReadsOn.shows c.args.stream.now) (g.S.ReadsOn.shows c.begin_reading.new.self) _ (ReadLine c.args.limit) c.gather.new.collector.line c.in_err-stop.field-0.0 refl refl c.in_ok-begin_reading.ensures.begins
+    (line_gathered c.new-collector.result c.args.limit _ _ (Err c.in_err-stop.field-0.0) c.gather.new.collector.line c.new-collector.ensures.new c.in_err-stop.ensures))
 
 pub returns-then-answers : goal.returns-then-answers
 returns-then-answers g c =
     let line = c.into_line-line.result in
-    let part : List ℕ = c.gather.new.collector.line in
-    subst (λ (bytes : List ℕ). Answers (g.S.ReadsOn.shows c.args.stream.now) (ReadLine c.args.limit) (Bytes bytes) (g.S.ReadsOn.shows c.answers.new.self)) (sym c.into_line-line.ensures)
-    (answered_from _ _ _ _ (ReadLine c.args.limit) part c.in_ok-stop.stop c.is_empty.result refl
-    (begun (g.S.ReadsOn.shows c.args.stream.now) (g.S.ReadsOn.shows c.begin_reading.new.self) c.in_ok-begin_reading.ensures.begins)
-    (line_gathered c.new-collector.result c.args.limit _ _ (Ok c.in_ok-stop.stop) part c.new-collector.ensures.new c.in_ok-stop.ensures)
-    (some_counted part line.len c.is_empty.result (line.ok.0 ∙ ap length c.into_line-line.ensures) c.is_empty.ensures) (sym c.answers.ensures.answer ∙ c.if-answers.true) c.answers.ensures.stream)
+    stopped_from (g.S.ReadsOn.shows c.args.stream.now) (g.S.ReadsOn.shows c.begin_reading.new.self) _ _ (ReadLine c.args.limit) c.gather.new.collector.line (Bytes line.items) _ c.is_empty.result true refl c.in_ok-begin_reading.ensures.begins
+    (line_gathered c.new-collector.result c.args.limit _ _ (Ok c.in_ok-stop.stop) c.gather.new.collector.line c.new-collector.ensures.new c.in_ok-stop.ensures)
+    (ap Bytes (sym c.into_line-line.ensures)) (counted_empty c.gather.new.collector.line line.len c.is_empty.result (line.ok.0 ∙ ap length c.into_line-line.ensures) c.is_empty.ensures) (sym c.answers.ensures.answer ∙ c.if-answers.true) c.answers.ensures.stream
 
 pub returns-else-answers : goal.returns-else-answers
 returns-else-answers g c =
     let line = c.into_line-line.result in
-    let part : List ℕ = c.gather.new.collector.line in
-    unready_from _ _ _ _ (ReadLine c.args.limit) part c.in_ok-stop.stop c.is_empty.result refl
-    (begun (g.S.ReadsOn.shows c.args.stream.now) (g.S.ReadsOn.shows c.begin_reading.new.self) c.in_ok-begin_reading.ensures.begins)
-    (line_gathered c.new-collector.result c.args.limit _ _ (Ok c.in_ok-stop.stop) part c.new-collector.ensures.new c.in_ok-stop.ensures)
-    (none_counted part line.len c.is_empty.result (line.ok.0 ∙ ap length c.into_line-line.ensures) c.is_empty.ensures) (sym c.answers.ensures.answer ∙ c.if-answers.false) c.answers.ensures.stream
+    stopped_from (g.S.ReadsOn.shows c.args.stream.now) (g.S.ReadsOn.shows c.begin_reading.new.self) _ _ (ReadLine c.args.limit) c.gather.new.collector.line (Bytes line.items) _ c.is_empty.result false refl c.in_ok-begin_reading.ensures.begins
+    (line_gathered c.new-collector.result c.args.limit _ _ (Ok c.in_ok-stop.stop) c.gather.new.collector.line c.new-collector.ensures.new c.in_ok-stop.ensures)
+    (ap Bytes (sym c.into_line-line.ensures)) (counted_empty c.gather.new.collector.line line.len c.is_empty.result (line.ok.0 ∙ ap length c.into_line-line.ensures) c.is_empty.ensures) (sym c.answers.ensures.answer ∙ c.if-answers.false) c.answers.ensures.stream

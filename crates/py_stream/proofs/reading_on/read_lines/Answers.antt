@@ -1,11 +1,10 @@
-use Rattle.std.proofs.Common.{ℕ, List, Ok, Err, refl, sym, ◌∙◌, subst, arith}
+use Rattle.std.proofs.Common.{true, false, ℕ, List, Ok, Err, refl, sym, ap, ◌∙◌, arith}
 use Rattle.std.proofs.lemmas.Result.{err_from_is_err_and}
 use Rattle.std.specs.Bool.{◌==◌}
 use Rattle.py_flat.specs.Calls.{Lines, ReadLines}
 use Rattle.py_lines.specs.Collecting.{lines_collected}
-use Rattle.py_stream.specs.Answers.{Answers}
-use Rattle.py_stream.proofs.ReadingOn.{none_counted, some_counted, answered_from, unready_from, refused_from, lines_gathered, lines_are, none_joined, some_joined}
-use Rattle.py_stream.proofs.LineReadings.{begun, lines_hold_some}
+use Rattle.py_stream.proofs.ReadingOn.{stopped_from, refused_from, lines_gathered, lines_are, lines_empty}
+use Rattle.py_stream.proofs.LineReadings.{lines_hold_some}
 use Rattle.py_stream.proofs.reading_on.read_lines.Goals as goal
 
 pub gather-requires-clause-asks : goal.gather-requires-clause-asks
@@ -20,8 +19,7 @@ pub returns-in_err-stop : goal.returns-in_err-stop
 returns-in_err-stop g c =
     let left = err_from_is_err_and c.from_residual-in_err-stop.result c.from_residual-in_err-stop.ensures.1 in
     let part : List ℕ = lines_collected c.gather.new.collector in
-    rw (left.1, left.2) (refused_from _ _ _ (ReadLines c.args.hint) part c.in_err-stop.field-0.0 refl refl
-    (begun (g.S.ReadsOn.shows c.args.stream.now) (g.S.ReadsOn.shows c.begin_reading.new.self) c.in_ok-begin_reading.ensures.begins)
+    rw (left.1, left.2) (refused_from (g.S.ReadsOn.shows c.args.stream.now) (g.S.ReadsOn.shows c.begin_reading.new.self) _ (ReadLines c.args.hint) part c.in_err-stop.field-0.0 refl refl c.in_ok-begin_reading.ensures.begins
     (lines_gathered c.new-collector.result c.args.hint _ _ (Err c.in_err-stop.field-0.0) part c.new-collector.ensures.new.2 c.in_err-stop.ensures))
 
 pub returns-then-answers : goal.returns-then-answers
@@ -29,17 +27,15 @@ returns-then-answers g c =
     let lines : List (List ℕ) = c.into_lines-lines.result in
     let handed = c.into_lines-lines.ensures in
     let part : List ℕ = lines_collected c.gather.new.collector in
-    subst (λ (all : List (List ℕ)). Answers (g.S.ReadsOn.shows c.args.stream.now) (ReadLines c.args.hint) (Lines all) (g.S.ReadsOn.shows c.answers.new.self)) (sym (lines_are lines part handed.all handed.cut))
-    (answered_from _ _ _ _ (ReadLines c.args.hint) part c.in_ok-stop.stop (c.len.result == 0) refl
-    (begun (g.S.ReadsOn.shows c.args.stream.now) (g.S.ReadsOn.shows c.begin_reading.new.self) c.in_ok-begin_reading.ensures.begins)
+    stopped_from (g.S.ReadsOn.shows c.args.stream.now) (g.S.ReadsOn.shows c.begin_reading.new.self) _ _ (ReadLines c.args.hint) part (Lines lines) _ (c.len.result == 0) true refl c.in_ok-begin_reading.ensures.begins
     (lines_gathered c.new-collector.result c.args.hint _ _ (Ok c.in_ok-stop.stop) part c.new-collector.ensures.new.2 c.in_ok-stop.ensures)
-    (λ left. some_joined lines part handed.all handed.cut (some_counted lines c.len.result (c.len.result == 0) c.len.ensures refl left)) (sym c.answers.ensures.answer ∙ c.if-answers.true) c.answers.ensures.stream)
+    (ap Lines (sym (lines_are lines part handed.all handed.cut))) (lines_empty lines part c.len.result (c.len.result == 0) c.len.ensures refl handed.all handed.cut) (sym c.answers.ensures.answer ∙ c.if-answers.true) c.answers.ensures.stream
 
 pub returns-else-answers : goal.returns-else-answers
 returns-else-answers g c =
     let lines : List (List ℕ) = c.into_lines-lines.result in
+    let handed = c.into_lines-lines.ensures in
     let part : List ℕ = lines_collected c.gather.new.collector in
-    unready_from _ _ _ _ (ReadLines c.args.hint) part c.in_ok-stop.stop (c.len.result == 0) refl
-    (begun (g.S.ReadsOn.shows c.args.stream.now) (g.S.ReadsOn.shows c.begin_reading.new.self) c.in_ok-begin_reading.ensures.begins)
+    stopped_from (g.S.ReadsOn.shows c.args.stream.now) (g.S.ReadsOn.shows c.begin_reading.new.self) _ _ (ReadLines c.args.hint) part (Lines lines) _ (c.len.result == 0) false refl c.in_ok-begin_reading.ensures.begins
     (lines_gathered c.new-collector.result c.args.hint _ _ (Ok c.in_ok-stop.stop) part c.new-collector.ensures.new.2 c.in_ok-stop.ensures)
-    (λ over. none_joined lines part c.into_lines-lines.ensures.all (none_counted lines c.len.result (c.len.result == 0) c.len.ensures refl over)) (sym c.answers.ensures.answer ∙ c.if-answers.false) c.answers.ensures.stream
+    (ap Lines (sym (lines_are lines part handed.all handed.cut))) (lines_empty lines part c.len.result (c.len.result == 0) c.len.ensures refl handed.all handed.cut) (sym c.answers.ensures.answer ∙ c.if-answers.false) c.answers.ensures.stream

@@ -1,8 +1,8 @@
-use Rattle.std.proofs.Common.{None, refl, sym, ◌∙◌}
+use Rattle.std.proofs.Common.{true, false, None, refl, sym, ◌∙◌}
 use Rattle.std.proofs.lemmas.Result.{err_from_is_err_and}
 use Rattle.py_flat.specs.Calls.{Read, Refused}
 use Rattle.py_stream.proofs.ReadingAnswers.{answers_begun}
-use Rattle.py_stream.proofs.ReadingOn.{none_counted, some_counted, refused_rest, rest_gathers, answered_from, unready_from}
+use Rattle.py_stream.proofs.ReadingOn.{refused_rest, rest_gathers, stopped_from, counted_empty}
 use Rattle.py_stream.proofs.LineReadings.{begun, all_by_several}
 use Rattle.py_stream.proofs.reading_on.read_rest.Goals as goal
 
@@ -20,13 +20,11 @@ returns-in_err-stop g c =
 pub returns-then-answers : goal.returns-then-answers
 returns-then-answers g c =
     let part = c.read_all.new.bytes in
-    answered_from _ _ _ _ (Read None) part.items c.in_ok-stop.stop c.is_empty.result (all_by_several (g.S.ReadsOn.shows c.begin_reading.new.self).buffer)
-    (begun (g.S.ReadsOn.shows c.args.stream.now) (g.S.ReadsOn.shows c.begin_reading.new.self) c.in_ok-begin_reading.ensures.begins)
-    (rest_gathers _ _ part.items c.in_ok-stop.stop c.in_ok-stop.ensures) (some_counted part.items part.len c.is_empty.result part.ok.0 c.is_empty.ensures) (sym c.answers.ensures.answer ∙ c.if-answers.true) c.answers.ensures.stream
+    stopped_from (g.S.ReadsOn.shows c.args.stream.now) (g.S.ReadsOn.shows c.begin_reading.new.self) _ _ (Read None) part.items _ _ c.is_empty.result true (all_by_several _) c.in_ok-begin_reading.ensures.begins
+    (rest_gathers _ _ part.items _ c.in_ok-stop.ensures) refl (counted_empty part.items part.len c.is_empty.result part.ok.0 c.is_empty.ensures) (sym c.answers.ensures.answer ∙ c.if-answers.true) c.answers.ensures.stream
 
 pub returns-else-answers : goal.returns-else-answers
 returns-else-answers g c =
     let part = c.read_all.new.bytes in
-    unready_from _ _ _ _ (Read None) part.items c.in_ok-stop.stop c.is_empty.result (all_by_several (g.S.ReadsOn.shows c.begin_reading.new.self).buffer)
-    (begun (g.S.ReadsOn.shows c.args.stream.now) (g.S.ReadsOn.shows c.begin_reading.new.self) c.in_ok-begin_reading.ensures.begins)
-    (rest_gathers _ _ part.items c.in_ok-stop.stop c.in_ok-stop.ensures) (none_counted part.items part.len c.is_empty.result part.ok.0 c.is_empty.ensures) (sym c.answers.ensures.answer ∙ c.if-answers.false) c.answers.ensures.stream
+    stopped_from (g.S.ReadsOn.shows c.args.stream.now) (g.S.ReadsOn.shows c.begin_reading.new.self) _ _ (Read None) part.items _ _ c.is_empty.result false (all_by_several _) c.in_ok-begin_reading.ensures.begins
+    (rest_gathers _ _ part.items _ c.in_ok-stop.ensures) refl (counted_empty part.items part.len c.is_empty.result part.ok.0 c.is_empty.ensures) (sym c.answers.ensures.answer ∙ c.if-answers.false) c.answers.ensures.stream
