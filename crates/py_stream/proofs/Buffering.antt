@@ -1,5 +1,5 @@
 -- A stream over a raw one is a buffered stream for the layer above it.
-use Rattle.std.proofs.Common.{◌≡◌, ℕ, ℤ, pos, suc, zero, inl, Bool, true, false, IsTrue, List, [], Option, Some, None, IsSome, unwrap_or, refl, sym, ap, ◌∙◌, subst, arith}
+use Rattle.std.proofs.Common.{◌≡◌, ℕ, ℤ, pos, suc, zero, inl, Bool, true, false, IsTrue, List, [], Option, Some, None, IsSome, unwrap_or, refl, sym, ap, ◌∙◌, arith, rules}
 use Rattle.py_flat.specs.declared.fault.IoFault.{IoFault}
 use Rattle.py_flat.specs.Bytes.{lay}
 use Rattle.py_flat.specs.Owed.{Owed}
@@ -96,13 +96,7 @@ record Passing (before : Buffer) (call : FileCall) (reply : FileReply) (after : 
 passing_of : (was taken : ℕ) (writes : Bool) (before after : Stream) (call : FileCall) (reply : FileReply) → before.can.writable ≡ writes → IsTrue (is_made call) → IsSome before.buffer → OwesAsItCan (buffer_of before was) → Answers before call reply after → Passing (buffer_of before was) call reply (buffer_of after taken)
 passing_of was taken true before after call reply can made buffered owes answers =
     let writes = answers.writes can in
-    record {
-      owes = owes_so was taken before after call reply made writes;
-      lays = λ told. lays_so was taken before call after.raw.bytes made (writes.lays told);
-      passes = passes_so was taken before after call reply writes.passes;
-      full = full_so taken call reply after (subst (λ (size : Option ℕ). IsSome size) (sym answers.keeps.buffer) buffered) writes.full;
-      takes = takes_so before after call writes.owes;
-    }
+    search (rules, owes_so, lays_so, passes_so, full_so, takes_so)
 passing_of was taken false before after call reply can made buffered owes answers =
     let none : before.owed ≡ nothing_owed before.place = owes can in
     let spares = answers.spares can none in

@@ -1,5 +1,5 @@
 -- What a stream refuses by itself, whatever the call: nothing but the reply tells that the call came.
-use Rattle.std.proofs.Common.{◌≡◌, inl, ℕ, ◌≤◌, Bool, true, false, Option, Some, None, if◌then◌else◌, refl, sym, ap, ◌∙◌, subst, arith, rules}
+use Rattle.std.proofs.Common.{◌≡◌, ℕ, ◌≤◌, Bool, true, false, Option, Some, None, if◌then◌else◌, refl, sym, ap, ◌∙◌, subst, arith, rules, IsTrue}
 use Rattle.py_flat.specs.declared.fault.IoFault.{IoFault}
 use Rattle.py_flat.specs.declared.fault.IoFault.TheVariants as fault
 use Rattle.py_flat.specs.declared.life.Life.{Life}
@@ -8,16 +8,17 @@ use Rattle.py_flat.specs.Calls.{FileCall, FileReply, Refused}
 use Rattle.py_flat.specs.FlatFile.{FlatFile}
 use Rattle.py_flat.specs.Refusals.{refusal, is_getter, is_other_getter, lets_through, life_fault, lacks}
 use Rattle.py_flat.specs.Limits.{greatest_place}
-use Rattle.py_flat.specs.BinaryStep.{asks_end, is_live, SettledBy}
+use Rattle.py_flat.specs.BinaryStep.{asks_end, is_live, SettledBy, BinaryStep}
 use Rattle.py_flat.specs.AllowedStep.{settled}
-use Rattle.py_stream.specs.Stream.{Stream, size_of, buffering_of, file_of}
+use Rattle.py_stream.specs.Stream.{Stream, buffering_of, file_of}
 use Rattle.py_stream.specs.Kinds.{says_fault, says_no_memory}
 use Rattle.py_stream.specs.Writing.{Writes}
-use Rattle.py_stream.specs.Answers.{Answers, LifeMoves, PlaceMoves, IsShort, IsNear, SeeksByEnd, GivesWithin, closes_again, refused_by}
+use Rattle.py_stream.specs.Answers.{Answers, LifeMoves, PlaceMoves, IsShort, IsNear, SeeksByEnd, GivesWithin, closes_again, refused_by, IsIdle, Leaves}
 use Rattle.py_raw.proofs.Telling.{keeps_same}
 use Rattle.py_stream.proofs.Refused.{is_own, leaves_all}
 use Rattle.py_stream.proofs.Coming.{came_still, each_still}
 use Rattle.py_stream.proofs.Begun.{writes_whole}
+use Rattle.py_raw.specs.RawStream.{WhereTold}
 
 life_stays : (buffer : Option ℕ) (call : FileCall) (why : IoFault) (current : Life) → is_own why ≡ true → LifeMoves buffer call (Refused why) current current
 life_stays buffer call why current own = grind arith
@@ -55,41 +56,12 @@ refused_with before after call why is refuses alone own first same =
     let left : Stream = record before { short = false } in
     let by : refused_by before call ≡ Some why = refused_alone before call alone ∙ refuses in
     let writes : Writes left call (Refused why) left = leaves_all left call why own refl in
-    let answers : Answers before call (Refused why) left = record {
-      keeps = record { buffer = refl; can = refl; raw = keeps_same before.raw; bare = λ _ none. none };
-      refused = λ other refused. record { says = let same_why : Some why ≡ Some other = sym by ∙ refused in cc; same = refl };
-      again = λ closes. absurd (cc);
-      shut = λ _ none closed. closed;
-      causes = record { waits = λ short. absurd (cc); faults = λ faulted. absurd (cc (no_fault why own)) };
-      counted = λ exact. record { faults = λ sound. refl; waits = λ short writes. refl; once = λ short. absurd (cc) };
-      shorts = never_short call why own;
-      moves = record {
-        life_is = life_stays before.buffer call why before.life own;
-        place = place_stays before.buffer call why before.life before.place own;
-        far = is.far;
-        within = gives_nothing (size_of before) call why;
-      };
-      ends = no_end before call (Refused why) left alone;
-      wants = λ wanting room. absurd (cc (no_want why own));
-      starves = λ wanting reads. absurd (cc (no_want why own));
-      first = λ wanting takes none. absurd (cc (no_want why own));
-      nothing = λ asks. record { raw = refl; fault = no_fault why own };
-      idle = λ keeps. record { raw = refl; fault = no_fault why own; memory = no_want why own };
-      single = λ single none tells. omega arith;
-      in_hand = λ _. record { raw = refl; fault = no_fault why own };
-      brings = λ _ _. came_still before left 1 refl refl;
-      unread = λ _ tells. refl;
-      needs = λ _ _. record { enough = λ _ _ _. record { raw = refl; fault = no_fault why own }; whole = λ _. each_still before left 0 0 refl refl; needed = λ _. inl refl; last = each_still before left 1 1 refl refl };
-      spares = λ reads none. record { bytes = λ tells. refl; written = λ tells. refl; owed = none };
-      writes = λ can. writes_whole before left call (Refused why) writes;
-      answer = λ accepted. absurd (let wrong : Some why ≡ None = sym by ∙ accepted in cc);
-      at_once = λ failed is accepted. absurd (let wrong : Some why ≡ None = sym by ∙ accepted in cc);
-      complete = λ accepted calm sound. absurd (let wrong : Some why ≡ None = sym by ∙ accepted in cc);
-      told = λ tells. settled (subst (λ (refused : Option IoFault). SettledBy (file_of before) call refused (Refused why) (file_of left)) (sym refuses) (refl, refl));
-      reach = λ reads tells. omega arith;
-      near = λ live. let near = is.near live in record { after_first = near.after_first; before_end = near.before_end; fits = near.fits; read_ahead = near.read_ahead; ahead = near.ahead; behind = near.behind; stands = near.stands };
-      hides = λ short. absurd (cc);
-    } in
+    let idle : IsIdle before (Refused why) left = record { raw = refl; fault = no_fault why own; memory = no_want why own } in
+    let refused : (other : IoFault) → refused_by before call ≡ Some other → Leaves before (Refused other) (Refused why) left = λ other refused. record { says = let same_why : Some why ≡ Some other = sym by ∙ refused in cc; same = refl } in
+    let fed : IsTrue (says_no_memory (Refused why)) → ⊥ = λ wanting. absurd (cc (idle.memory)) in
+    let passes : refused_by before call ≡ None → ⊥ = λ accepted. absurd (let wrong : Some why ≡ None = sym by ∙ accepted in cc) in
+    let told : WhereTold before.raw (BinaryStep (file_of before) call (Refused why) false (says_fault (Refused why)) (file_of left)) = λ tells. settled (subst (λ (refused : Option IoFault). SettledBy (file_of before) call refused (Refused why) (file_of left)) (sym refuses) (refl, refl)) in
+    let answers : Answers before call (Refused why) left = search (rules, keeps_same, never_short, life_stays, place_stays, gives_nothing, no_end, came_still, each_still, writes_whole, fed, passes) in
     subst (λ (now : Stream). Answers before call (Refused why) now) (sym same) answers
 
 -- By the life.
