@@ -19,10 +19,9 @@ use Rattle.py_stream.specs.Answers.{Answers, LifeMoves, PlaceMoves, HasCauses, I
 use Rattle.py_stream.specs.Keeping.{KeepsOn}
 use Rattle.py_stream.specs.Taking.{Took, TookAll, FailsTaking, Calm, WaitsAsOne, CutsBack, Starved, StarvesTaking, FillsUp, PutOutcome, PutsOutcome}
 use Rattle.py_stream.proofs.Begun.{answers_whole}
-use Rattle.py_stream.proofs.Accepting.{work_reaches}
 use Rattle.py_stream.proofs.Alone.{Begins}
 use Rattle.py_stream.proofs.Refused.{nothing_blocked}
-use Rattle.py_stream.proofs.Stopping.{says_short, fault_answers, starves_alive, starves_there, starve_answers}
+use Rattle.py_stream.proofs.Stopping.{says_short, fault_answers, starves_alive, starves_there, starve_answers, work_reaches}
 use Rattle.py_stream.proofs.Taking.{fails_sound}
 use Rattle.py_stream.proofs.Flat.{took_ends, fails_ends, took_bytes, took_file, took_none_ends, took_none_file, failed_file, fails_bytes, lays_taken, fails_lays}
 use Rattle.py_stream.proofs.Giving.{MayWrite, answers_coming, accepted, works, no_tell, calm_counts, one_counts, TakesCount, taken_reply, is_taken, WaitsCount, waited_reply, is_blocked, FailsCount, is_faulted, IsPart, StepsBy}

@@ -6,7 +6,6 @@ pub mod Transferring
 pub mod Refused
 pub mod Refusing
 pub mod Alone
-pub mod Accepting
 pub mod Stopping
 pub mod Completing
 pub mod Closing

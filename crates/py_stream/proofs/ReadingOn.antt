@@ -22,11 +22,11 @@ use Rattle.py_stream.specs.Stream.{Stream, file_of}
 use Rattle.py_stream.specs.Kinds.{has_room, takes_space_first, asks_none, by_several}
 use Rattle.py_stream.proofs.Coming.{came_unread, came_more, each_more}
 use Rattle.py_stream.specs.Answers.{Answers, IsNear, OnlyAsked, EachBrings, ahead}
-use Rattle.py_stream.specs.Reading.{KeepsReading, ComesNext, Gives, StarvesReading, StopOutcome, RestOutcome, has_answer, answered_at, wanted_by, reply_by, GathersEnough, GathersFront, Gathers, IsOpen, WantsHeld, StarvesWanting, GatherOutcome, is_wait}
+use Rattle.py_stream.specs.Reading.{KeepsReading, ComesNext, Gives, StarvesReading, StopOutcome, RestOutcome, has_answer, answered_at, wanted_by, reply_by, GathersEnough, GathersFront, Gathers, IsOpen, WantsHeld, StarvesWanting, GatherOutcome}
 use Rattle.py_stream.proofs.ReadingCalls.{reading_on, on_suits, nothing_held, in_hand_held, wanted_within, is_several}
 use Rattle.py_stream.proofs.ReadingSteps.{next_parts}
 use Rattle.py_stream.proofs.ReadingAnswers.{works, Reads, ReadingBegins, answers_coming, answers_begun}
-use Rattle.py_stream.proofs.ReadingStops.{needs_enough, needs_open, answers_all, answers_part, answers_unready, several_asks, answers_faulted, unmoved, answers_failing}
+use Rattle.py_stream.proofs.ReadingStops.{answers_unready, several_asks, answers_faulted, unmoved, answers_failing, answers_stopped}
 use Rattle.py_flat.specs.Bytes.{left_at}
 use Rattle.py_stream.proofs.LineReadings.{all_by_several, begun as begins}
 use Rattle.py_stream.specs.ReadingOn.{BeginsReading}
@@ -56,17 +56,6 @@ refused_stop before after call part fault.NoMemory several begun outcome takes =
 refused_stop before after call part why several begun outcome takes = absurd outcome.stops
 
 -- By the stream that a reading came to.
-
-answers_stopped : (before mid : Stream) (call : FileCall) (part : List ℕ) (stop : Stop) → by_several before.buffer call ≡ true → Reads before → GatherOutcome (wanted_by call) before (Ok stop) part mid → (IsTrue (is_wait stop) → part ≢ []) → Answers before call (reply_by call part) (answered_at stop mid)
-answers_stopped before mid call part stops.Enough several begun outcome some =
-    let stopped = outcome.stops in
-    answers_all before mid call part several begun stopped.0 stopped.1 (λ held. (outcome.idle held).0) (needs_enough (wanted_by call) before part mid stopped.2 stopped.3) outcome.gathers
-answers_stopped before mid call part stops.End several begun outcome some =
-    let stopped = outcome.stops in
-    answers_all before mid call part several begun stopped.0 stopped.1 (λ held. (outcome.idle held).0) (needs_open (wanted_by call) before part mid stopped.3 outcome.gathers.1) outcome.gathers.0
-answers_stopped before mid call part stops.Waits several begun outcome some =
-    let stopped = outcome.stops in
-    answers_part before mid call part several begun stopped.0 stopped.1 stopped.2 stopped.3 (λ held. (outcome.idle held).0) (needs_open (wanted_by call) before part mid (each_more before mid 1 1 0 1 (omega arith) (omega arith) stopped.4) outcome.gathers.1) (some refl) outcome.gathers.0
 
 -- a reading with an answer
 pub answered_from : (first before mid after : Stream) (call : FileCall) (part : List ℕ) (stop : Stop) (empty : Bool) → by_several before.buffer call ≡ true → ReadingBegins first before → GatherOutcome (wanted_by call) before (Ok stop) part mid → (empty ≡ false → part ≢ []) → has_answer stop empty ≡ true → after ≡ answered_at stop mid → Answers first call (reply_by call part) after

@@ -1,5 +1,5 @@
 -- What a reading answers, by what it gave and where it stopped.
-use Rattle.std.proofs.Common.{◌≡◌, ◌≢◌, ℕ, ◌+◌, ◌≤◌, Bool, true, false, IsTrue, List, [], ◌++◌, length, take, Option, Some, IsSome, refl, sym, ap, ◌∙◌, subst, arith, rules}
+use Rattle.std.proofs.Common.{◌≡◌, ◌≢◌, ℕ, ◌+◌, ◌≤◌, Bool, true, false, IsTrue, List, [], ◌++◌, length, take, Option, Some, IsSome, refl, sym, ap, ◌∙◌, subst, arith, rules, Ok}
 use Rattle.std.proofs.lemmas.List.{length-take}
 use Rattle.py_flat.specs.declared.fault.IoFault.{IoFault}
 use Rattle.py_flat.specs.declared.fault.IoFault.TheVariants as fault
@@ -21,10 +21,12 @@ use Rattle.py_stream.specs.Stream.{Stream, buffering_of, file_of}
 use Rattle.py_stream.specs.Kinds.{is_reading, reads_on, goes_on, makes_one, has_room, takes_space_first, asks_none, by_several, says_fault, says_no_memory}
 use Rattle.py_stream.proofs.Coming.{came_more, each_seen, each_more}
 use Rattle.py_stream.specs.Answers.{Answers, CameByReads, EachBrings, IsShort, PlaceMoves, PlaceStarves, MovesForth, moves_most, GivesWithin, InHandOf, IsWhole, AsksNoMore, OnlyAsked, Unmoved, IsReplyTo, LifeMoves, HasCauses, IsCounted, WantsMemory, Starves, StarvesFirst}
-use Rattle.py_stream.specs.Reading.{KeepsReading, OneTransfer, IsNeeded, Gives, FailsReading, FailsMoved, wanted_by, reply_by, GathersEnough, GathersFront, IsOpen, WantsHeld}
+use Rattle.py_stream.specs.Reading.{KeepsReading, OneTransfer, IsNeeded, Gives, FailsReading, FailsMoved, wanted_by, reply_by, GathersEnough, GathersFront, IsOpen, WantsHeld, GatherOutcome, is_wait, answered_at}
 use Rattle.py_stream.proofs.ReadingCalls.{IsReadingCall, reading_call, starved_by_failing, reading_on, on_suits, nothing_held, in_hand_held, is_several}
 use Rattle.py_stream.proofs.ReadingSteps.{uncounted, file_after, file_fails, next_reaches}
 use Rattle.py_stream.proofs.ReadingAnswers.{accepted, works, Reads, answers_coming}
+use Rattle.py_stream.specs.declared.stop.Stop.{Stop}
+use Rattle.py_stream.specs.declared.stop.Stop.TheVariants as stops
 
 -- What a reading that goes on gives.
 
@@ -137,24 +139,33 @@ answers_given before mid call part short several begun given =
     let told : WhereTold before.raw (BinaryStep (file_of before) call reply short (says_fault reply) (file_of mid)) = λ tells. subst (λ (faulted : Bool). BinaryStep (file_of before) call reply short faulted (file_of mid)) (sym said) (given.told tells) in
     answers_coming before mid call reply short (reading_on call on) (on_suits (file_of before) call on begun.readable) begun (search (rules, short_part, part_moves, part_within, asks_given, next_reaches))
 
--- a reading that had enough, or all that was left
-pub answers_all : (before mid : Stream) (call : FileCall) (part : List ℕ) → by_several before.buffer call ≡ true → Reads before → Gives before part mid → NoWait before.raw mid.raw → (WantsHeld (wanted_by call) before → mid.raw ≡ before.raw) → Needs (wanted_by call) before part mid → GathersEnough (wanted_by call) before part → Answers before call (reply_by call part) (record mid { short = false })
-answers_all before mid call part several begun given no_wait idle needs gathered =
-    let file : FlatFile = file_of before in
+told_enough : (before mid : Stream) (call : FileCall) (part : List ℕ) → by_several before.buffer call ≡ true → Reads before → Gives before part mid → GathersEnough (wanted_by call) before part → WhereTold before.raw (BinaryStep (file_of before) call (reply_by call part) false false (file_of mid))
+told_enough before mid call part several begun given gathered tells =
     let on : reads_on call ≡ true = (is_several before.buffer call several).on in
-    let told : WhereTold before.raw (BinaryStep file call (reply_by call part) false false (file_of mid)) = λ tells. settled (subst (λ (refused : Option IoFault). SettledBy file call refused (reply_by call part) (file_of mid)) (sym (accepted before call (reading_on call on) (on_suits file call on begun.readable) begun.live))
-        (carried before.buffer file call part (file_of mid) refl several (gathered.exact tells) (file_after before mid (length part) begun.bare given.kept (given.live ∙ sym begun.live) given.place tells))) in
-    answers_given before mid call part false several begun (grind arith)
+    settled (subst (λ (refused : Option IoFault). SettledBy (file_of before) call refused (reply_by call part) (file_of mid)) (sym (accepted before call (reading_on call on) (on_suits (file_of before) call on begun.readable) begun.live))
+    (carried before.buffer (file_of before) call part (file_of mid) refl several (gathered.exact tells) (file_after before mid (length part) begun.bare given.kept (given.live ∙ sym begun.live) given.place tells)))
 
--- a reading that a wait of the raw cut short
-pub answers_part : (before mid : Stream) (call : FileCall) (part : List ℕ) → by_several before.buffer call ≡ true → Reads before → Gives before part mid → Rose before.raw.waits mid.raw.waits → mid.raw_place ≡ mid.place → WaitsOnce before.raw mid.raw → (WantsHeld (wanted_by call) before → mid.raw ≡ before.raw) → Needs (wanted_by call) before part mid → part ≢ [] → GathersFront (wanted_by call) before part → Answers before call (reply_by call part) (record mid { short = true })
-answers_part before mid call part several begun given waits hides once idle needs some gathered =
+told_front : (before mid : Stream) (call : FileCall) (part : List ℕ) → by_several before.buffer call ≡ true → Reads before → Gives before part mid → part ≢ [] → GathersFront (wanted_by call) before part → WhereTold before.raw (BinaryStep (file_of before) call (reply_by call part) true false (file_of mid))
+told_front before mid call part several begun given some gathered tells =
     let on : reads_on call ≡ true = (is_several before.buffer call several).on in
-    let told : WhereTold before.raw (BinaryStep (file_of before) call (reply_by call part) true false (file_of mid)) = λ tells. waited_for refl (
-        works before call (reading_on call on) (on_suits (file_of before) call on begun.readable) begun.live,
-        part_waited (file_of before) call part (file_of mid) on (record { front = gathered.front tells; some = some; leaves = file_after before mid (length part) begun.bare given.kept (given.live ∙ sym begun.live) given.place tells }),
-    ) in
-    answers_given before mid call part true several begun (grind arith)
+    waited_for refl (works before call (reading_on call on) (on_suits (file_of before) call on begun.readable) begun.live,
+    part_waited (file_of before) call part (file_of mid) on (record { front = gathered.front tells; some = some; leaves = file_after before mid (length part) begun.bare given.kept (given.live ∙ sym begun.live) given.place tells }))
+
+-- what a reading gave, by where it stopped
+given_at : (before mid : Stream) (call : FileCall) (part : List ℕ) (stop : Stop) → by_several before.buffer call ≡ true → Reads before → GatherOutcome (wanted_by call) before (Ok stop) part mid → (IsTrue (is_wait stop) → part ≢ []) → Given before call part (is_wait stop) mid
+given_at before mid call part stops.Enough several begun outcome some = grind (arith, told_enough, needs_enough)
+given_at before mid call part stops.End several begun outcome some =
+    let told = told_enough before mid call part several begun outcome.stops.0 outcome.gathers.0 in
+    let needs : Needs (wanted_by call) before part mid = needs_open (wanted_by call) before part mid outcome.stops.3 outcome.gathers.1 in
+    grind arith
+given_at before mid call part stops.Waits several begun outcome some =
+    let told = told_front before mid call part several begun outcome.stops.0 (some refl) outcome.gathers.0 in
+    let needs : Needs (wanted_by call) before part mid = needs_open (wanted_by call) before part mid (each_more before mid 1 1 0 1 (omega arith) (omega arith) outcome.stops.4) outcome.gathers.1 in
+    record { gives = outcome.stops.0; waits = λ _. outcome.stops.1; no_wait = λ whole. absurd (cc); once = λ _. outcome.stops.3; some = some; idle = λ held. (outcome.idle held).0; needs = needs; alone = outcome.gathers.0.alone; told = told; hides = λ _. outcome.stops.2 }
+
+-- a reading with an answer
+pub answers_stopped : (before mid : Stream) (call : FileCall) (part : List ℕ) (stop : Stop) → by_several before.buffer call ≡ true → Reads before → GatherOutcome (wanted_by call) before (Ok stop) part mid → (IsTrue (is_wait stop) → part ≢ []) → Answers before call (reply_by call part) (answered_at stop mid)
+answers_stopped before mid call part stop several begun outcome some = answers_given before mid call part (is_wait stop) several begun (given_at before mid call part stop several begun outcome some)
 
 -- a reading that the raw made wait before anything came, whether it goes on or makes one transfer
 pub answers_unready : (before mid : Stream) (call : FileCall) → is_reading call ≡ true → lacks (file_of before) call ≡ false → Reads before → Gives before [] mid → Rose before.raw.waits mid.raw.waits → mid.raw_place ≡ mid.place → WaitsOnce before.raw mid.raw → AsksRaw before call mid → Answers before call NotReady (record mid { short = true })

@@ -1,15 +1,16 @@
 -- What a call leaves that its raw stops, whichever call it is: the raw would have blocked, or failed, or memory ran out.
-use Rattle.std.proofs.Common.{◌≡◌, ℕ, inl, Bool, true, false, Option, Some, None, refl, arith}
+use Rattle.std.proofs.Common.{◌≡◌, ℕ, inl, Bool, true, false, Option, Some, None, refl, arith, ◌||◌, IsTrue, ap}
 use Rattle.py_flat.specs.declared.fault.IoFault.{IoFault}
 use Rattle.py_flat.specs.declared.fault.IoFault.TheVariants as fault
 use Rattle.py_flat.specs.declared.life.Life.{Life}
 use Rattle.py_flat.specs.Calls.{FileCall, FileReply, Refused}
-use Rattle.py_flat.specs.BinaryStep.{is_tell}
+use Rattle.py_flat.specs.BinaryStep.{is_tell, asks_end, does_work, reaches_raw}
 use Rattle.py_stream.specs.Stream.{Stream}
 use Rattle.py_stream.specs.Kinds.{is_reading, reads_on, by_several, takes_space_first, asks_none, is_writing, says_would_block}
 use Rattle.py_stream.specs.Writing.{BlocksFull}
 use Rattle.py_stream.specs.Answers.{IsReplyTo, IsShort, StarvesTo, LifeMoves, MovesForth, PlaceFails, PlaceMoves, GivesWithin, SeeksByEnd}
 use Rattle.py_stream.proofs.Refused.{is_own}
+use Rattle.py_flat.specs.FlatFile.{FlatFile}
 
 -- A call that gives no bytes.
 
@@ -26,6 +27,10 @@ pub gives_none : (call : FileCall) → is_reading call ≡ false → GivesNone c
 gives_none call reads = grind arith
 
 -- Whatever stops a call.
+
+-- a call that does work may blame the raw
+pub work_reaches : (file : FlatFile) (call : FileCall) → IsTrue (does_work file call) → IsTrue (reaches_raw file call)
+work_reaches file call work = ap (λ (does : Bool). does || asks_end file call) work
 
 -- a refusal is short where it says that the raw would have blocked
 pub says_short : (call : FileCall) (why : IoFault) → IsShort call (Refused why) (says_would_block (Refused why))
