@@ -10,7 +10,7 @@ use Rattle.py_flat.specs.declared.fault.IoFault.TheVariants as fault
 use Rattle.py_flat.specs.declared.life.Life.TheVariants as life
 use Rattle.py_flat.specs.Lines.{lines_of, joined}
 use Rattle.py_flat.specs.Causes.{counted}
-use Rattle.py_flat.specs.Calls.{FileCall, Read, ReadLine, ReadLines, NotReady, Refused, FileReply}
+use Rattle.py_flat.specs.Calls.{FileCall, Read, ReadLine, ReadLines, NotReady, Refused, FileReply, Bytes, Lines}
 use Rattle.py_flat.specs.ExactStep.{rest}
 use Rattle.py_flat.specs.BinaryStep.{IsFrontOf}
 use Rattle.py_lines.specs.Collecting.{LineView, LinesView, line_wanted, lines_wanted}
@@ -245,20 +245,6 @@ refuses_size before after call size part why wants past live within outcome =
 pub cut_to : (buffer more : List ℕ) (count size : ℕ) → length buffer ≡ size → take count (take size (buffer ++ more)) ≡ take count buffer
 cut_to buffer more count size long = ap (λ (n : ℕ). take count (take n (buffer ++ more))) (sym long) ∙ ap (take count) (take-append_seam buffer more)
 
--- Of a line, or lines.
-
--- what a line was gathered by
-pub line_gathered : (view : LineView) (limit : Option ℕ) (before after : Stream) (result : Result Stop IoFault) (part : List ℕ) → view ≡ record { line = []; limit = limit } → GatherOutcome (line_wanted view) before result part after → GatherOutcome (wanted_by (ReadLine limit)) before result part after
-line_gathered view limit before after result part is outcome = subst (λ (seen : LineView). GatherOutcome (line_wanted seen) before result part after) is outcome
-
--- what lines were gathered by
-pub lines_gathered : (view : LinesView) (hint : Option ℕ) (before after : Stream) (result : Result Stop IoFault) (part : List ℕ) → view.hint ≡ hint → GatherOutcome (lines_wanted view) before result part after → GatherOutcome (wanted_by (ReadLines hint)) before result part after
-lines_gathered view hint before after result part is outcome = subst (λ (some : Option ℕ). GatherOutcome (wanted_by (ReadLines some)) before result part after) is outcome
-
--- lines that are told by their bytes
-pub lines_are : (lines : List (List ℕ)) (part : List ℕ) → joined lines ≡ part → lines_of (joined lines) ≡ lines → lines ≡ lines_of part
-lines_are lines part all cut = sym cut ∙ ap lines_of all
-
 -- Whether there are any items.
 
 -- items of which none are counted are none
@@ -276,3 +262,21 @@ counted_empty items count empty size is = (none_counted items count empty size i
 -- a count of lines tells whether they have any bytes
 pub lines_empty : (lines : List (List ℕ)) (part : List ℕ) (count : ℕ) (empty : Bool) → count ≡ length lines → empty ≡ (count == 0) → joined lines ≡ part → lines_of (joined lines) ≡ lines → TellsEmpty part empty
 lines_empty lines part count empty size is all cut = grind (arith, none_counted, some_counted)
+
+-- Of a line, or lines.
+
+-- what a line was gathered by
+pub line_gathered : (view : LineView) (limit : Option ℕ) (before after : Stream) (result : Result Stop IoFault) (part : List ℕ) → view ≡ record { line = []; limit = limit } → GatherOutcome (line_wanted view) before result part after → GatherOutcome (wanted_by (ReadLine limit)) before result part after
+line_gathered view limit before after result part is outcome = subst (λ (seen : LineView). GatherOutcome (line_wanted seen) before result part after) is outcome
+
+-- what lines were gathered by
+pub lines_gathered : (view : LinesView) (hint : Option ℕ) (before after : Stream) (result : Result Stop IoFault) (part : List ℕ) → view.hint ≡ hint → GatherOutcome (lines_wanted view) before result part after → GatherOutcome (wanted_by (ReadLines hint)) before result part after
+lines_gathered view hint before after result part is outcome = subst (λ (some : Option ℕ). GatherOutcome (wanted_by (ReadLines some)) before result part after) is outcome
+
+-- a line, as the steps of its reading come
+pub stopped_line : (first before mid after : Stream) (view : LineView) (limit : Option ℕ) (part line : List ℕ) (stop : Stop) (count : ℕ) (empty answered : Bool) → BeginsReading first (Ok tt) before → view ≡ record { line = []; limit = limit } → GatherOutcome (line_wanted view) before (Ok stop) part mid → line ≡ part → count ≡ length line → empty ≡ (count == 0) → has_answer stop empty ≡ answered → after ≡ answered_at stop mid → Answers first (ReadLine limit) (said_at answered (Bytes line)) after
+stopped_line first before mid after view limit part line stop count empty answered began is outcome same size counts says left = stopped_from first before mid after (ReadLine limit) part (Bytes line) stop empty answered refl began (line_gathered view limit before mid (Ok stop) part is outcome) (ap Bytes (sym same)) (counted_empty part count empty (size ∙ ap length same) counts) says left
+
+-- lines, as the steps of their reading come
+pub stopped_lines : (first before mid after : Stream) (view : LinesView) (hint : Option ℕ) (part : List ℕ) (lines : List (List ℕ)) (stop : Stop) (count : ℕ) (answered : Bool) → BeginsReading first (Ok tt) before → view.hint ≡ hint → GatherOutcome (lines_wanted view) before (Ok stop) part mid → joined lines ≡ part → lines_of (joined lines) ≡ lines → count ≡ length lines → has_answer stop (count == 0) ≡ answered → after ≡ answered_at stop mid → Answers first (ReadLines hint) (said_at answered (Lines lines)) after
+stopped_lines first before mid after view hint part lines stop count answered began is outcome all cut size says left = stopped_from first before mid after (ReadLines hint) part (Lines lines) stop (count == 0) answered refl began (lines_gathered view hint before mid (Ok stop) part is outcome) (ap Lines (sym (ap lines_of all) ∙ cut)) (lines_empty lines part count (count == 0) size refl all cut) says left

@@ -1,8 +1,8 @@
-use Rattle.std.proofs.Common.{true, false, length, Ok, Err, refl, sym, ap, ◌∙◌, arith}
+use Rattle.std.proofs.Common.{true, false, Err, refl, sym, ◌∙◌, arith}
 use Rattle.std.proofs.lemmas.Result.{err_from_is_err_and}
-use Rattle.py_flat.specs.Calls.{Bytes, ReadLine}
+use Rattle.py_flat.specs.Calls.{ReadLine}
 use Rattle.py_flat.proofs.Cutting.{first_line_holds_some}
-use Rattle.py_stream.proofs.ReadingOn.{counted_empty, stopped_from, refused_from, line_gathered}
+use Rattle.py_stream.proofs.ReadingOn.{stopped_line, refused_from, line_gathered}
 use Rattle.py_stream.proofs.LineReadings.{not_nothing}
 use Rattle.py_stream.proofs.reading_on.read_line.Goals as goal
 
@@ -23,13 +23,11 @@ returns-in_err-stop g c =
 pub returns-then-answers : goal.returns-then-answers
 returns-then-answers g c =
     let line = c.into_line-line.result in
-    stopped_from (g.S.ReadsOn.shows c.args.stream.now) (g.S.ReadsOn.shows c.begin_reading.new.self) _ _ (ReadLine c.args.limit) c.gather.new.collector.line (Bytes line.items) _ c.is_empty.result true refl c.in_ok-begin_reading.ensures.begins
-    (line_gathered c.new-collector.result c.args.limit _ _ (Ok c.in_ok-stop.stop) c.gather.new.collector.line c.new-collector.ensures.new c.in_ok-stop.ensures)
-    (ap Bytes (sym c.into_line-line.ensures)) (counted_empty c.gather.new.collector.line line.len c.is_empty.result (line.ok.0 ∙ ap length c.into_line-line.ensures) c.is_empty.ensures) (sym c.answers.ensures.answer ∙ c.if-answers.true) c.answers.ensures.stream
+    stopped_line (g.S.ReadsOn.shows c.args.stream.now) (g.S.ReadsOn.shows c.begin_reading.new.self) _ _ c.new-collector.result c.args.limit c.gather.new.collector.line line.items _ line.len c.is_empty.result true
+    c.in_ok-begin_reading.ensures.begins c.new-collector.ensures.new c.in_ok-stop.ensures c.into_line-line.ensures line.ok.0 c.is_empty.ensures (sym c.answers.ensures.answer ∙ c.if-answers.true) c.answers.ensures.stream
 
 pub returns-else-answers : goal.returns-else-answers
 returns-else-answers g c =
     let line = c.into_line-line.result in
-    stopped_from (g.S.ReadsOn.shows c.args.stream.now) (g.S.ReadsOn.shows c.begin_reading.new.self) _ _ (ReadLine c.args.limit) c.gather.new.collector.line (Bytes line.items) _ c.is_empty.result false refl c.in_ok-begin_reading.ensures.begins
-    (line_gathered c.new-collector.result c.args.limit _ _ (Ok c.in_ok-stop.stop) c.gather.new.collector.line c.new-collector.ensures.new c.in_ok-stop.ensures)
-    (ap Bytes (sym c.into_line-line.ensures)) (counted_empty c.gather.new.collector.line line.len c.is_empty.result (line.ok.0 ∙ ap length c.into_line-line.ensures) c.is_empty.ensures) (sym c.answers.ensures.answer ∙ c.if-answers.false) c.answers.ensures.stream
+    stopped_line (g.S.ReadsOn.shows c.args.stream.now) (g.S.ReadsOn.shows c.begin_reading.new.self) _ _ c.new-collector.result c.args.limit c.gather.new.collector.line line.items _ line.len c.is_empty.result false
+    c.in_ok-begin_reading.ensures.begins c.new-collector.ensures.new c.in_ok-stop.ensures c.into_line-line.ensures line.ok.0 c.is_empty.ensures (sym c.answers.ensures.answer ∙ c.if-answers.false) c.answers.ensures.stream

@@ -1,9 +1,8 @@
-use Rattle.std.proofs.Common.{true, false, ℕ, List, Ok, Err, refl, sym, ap, ◌∙◌, arith}
+use Rattle.std.proofs.Common.{true, false, ℕ, List, Err, refl, sym, ◌∙◌, arith}
 use Rattle.std.proofs.lemmas.Result.{err_from_is_err_and}
-use Rattle.std.specs.Bool.{◌==◌}
-use Rattle.py_flat.specs.Calls.{Lines, ReadLines}
+use Rattle.py_flat.specs.Calls.{ReadLines}
 use Rattle.py_lines.specs.Collecting.{lines_collected}
-use Rattle.py_stream.proofs.ReadingOn.{stopped_from, refused_from, lines_gathered, lines_are, lines_empty}
+use Rattle.py_stream.proofs.ReadingOn.{stopped_lines, refused_from, lines_gathered}
 use Rattle.py_stream.proofs.LineReadings.{lines_hold_some}
 use Rattle.py_stream.proofs.reading_on.read_lines.Goals as goal
 
@@ -24,18 +23,12 @@ returns-in_err-stop g c =
 
 pub returns-then-answers : goal.returns-then-answers
 returns-then-answers g c =
-    let lines : List (List ℕ) = c.into_lines-lines.result in
     let handed = c.into_lines-lines.ensures in
-    let part : List ℕ = lines_collected c.gather.new.collector in
-    stopped_from (g.S.ReadsOn.shows c.args.stream.now) (g.S.ReadsOn.shows c.begin_reading.new.self) _ _ (ReadLines c.args.hint) part (Lines lines) _ (c.len.result == 0) true refl c.in_ok-begin_reading.ensures.begins
-    (lines_gathered c.new-collector.result c.args.hint _ _ (Ok c.in_ok-stop.stop) part c.new-collector.ensures.new.2 c.in_ok-stop.ensures)
-    (ap Lines (sym (lines_are lines part handed.all handed.cut))) (lines_empty lines part c.len.result (c.len.result == 0) c.len.ensures refl handed.all handed.cut) (sym c.answers.ensures.answer ∙ c.if-answers.true) c.answers.ensures.stream
+    stopped_lines (g.S.ReadsOn.shows c.args.stream.now) (g.S.ReadsOn.shows c.begin_reading.new.self) _ _ c.new-collector.result c.args.hint (lines_collected c.gather.new.collector) c.into_lines-lines.result _ c.len.result true
+    c.in_ok-begin_reading.ensures.begins c.new-collector.ensures.new.2 c.in_ok-stop.ensures handed.all handed.cut c.len.ensures (sym c.answers.ensures.answer ∙ c.if-answers.true) c.answers.ensures.stream
 
 pub returns-else-answers : goal.returns-else-answers
 returns-else-answers g c =
-    let lines : List (List ℕ) = c.into_lines-lines.result in
     let handed = c.into_lines-lines.ensures in
-    let part : List ℕ = lines_collected c.gather.new.collector in
-    stopped_from (g.S.ReadsOn.shows c.args.stream.now) (g.S.ReadsOn.shows c.begin_reading.new.self) _ _ (ReadLines c.args.hint) part (Lines lines) _ (c.len.result == 0) false refl c.in_ok-begin_reading.ensures.begins
-    (lines_gathered c.new-collector.result c.args.hint _ _ (Ok c.in_ok-stop.stop) part c.new-collector.ensures.new.2 c.in_ok-stop.ensures)
-    (ap Lines (sym (lines_are lines part handed.all handed.cut))) (lines_empty lines part c.len.result (c.len.result == 0) c.len.ensures refl handed.all handed.cut) (sym c.answers.ensures.answer ∙ c.if-answers.false) c.answers.ensures.stream
+    stopped_lines (g.S.ReadsOn.shows c.args.stream.now) (g.S.ReadsOn.shows c.begin_reading.new.self) _ _ c.new-collector.result c.args.hint (lines_collected c.gather.new.collector) c.into_lines-lines.result _ c.len.result false
+    c.in_ok-begin_reading.ensures.begins c.new-collector.ensures.new.2 c.in_ok-stop.ensures handed.all handed.cut c.len.ensures (sym c.answers.ensures.answer ∙ c.if-answers.false) c.answers.ensures.stream
