@@ -115,37 +115,15 @@ shuts_down old mid new ready closes =
     let passes : PassesSome old mid = ready.passes in
     let kept : KeepsOn old mid = passes.kept in
     let bytes : WhereTold old.raw (new.raw.bytes ≡ mid.raw.bytes) = λ tells. closes.bytes (kept.raw.tells_bytes ∙ tells_its_bytes old.raw tells) in
-    record {
-      keeps = record {
-        buffer = closes.buffer ∙ kept.buffer;
-        can = closes.can ∙ kept.can;
-        raw = Keeps-then old.raw mid.raw new.raw kept.raw closes.raw;
-        bare = λ bare _. closes.owed ∙ kept.sound.bare (kept.buffer ∙ bare) ∙ ap nothing_owed (sym closes.place);
-      };
-      closed = closes.closed;
-      no_wait = no_wait_then old.raw mid.raw new.raw kept.raw ready.no_wait closes.no_wait;
-      life_is = closes.life_is;
-      none = ap (λ (owed : Owed). owed.bytes) closes.owed ∙ ready.none;
-      at = λ held. ap (λ (owed : Owed). owed.place) closes.owed ∙ passes.at held ready.none ∙ sym closes.place;
-      place = closes.place ∙ passes.still;
-      far = closes.far;
-      short = closes.short ∙ kept.short ∙ ready.asked.whole;
-      reads = λ tells. closes.reads (kept.raw.tells_transfers ∙ tells) ∙ kept.reads tells;
-      leaves = record {
-        passed = passes.passed;
-        most = passes.within;
-        answered = answers_still old.raw mid.raw new.raw passes.passed kept.raw passes.answered closes.answered;
-        bytes = ap (λ (owed : Owed). owed.bytes) closes.owed ∙ passes.owed;
-        place = λ some. ap (λ (owed : Owed). owed.place) closes.owed ∙ passes.place;
-      };
-      lays = λ tells. subst (LaysFront old []) (sym (bytes tells)) (passes.lays tells);
-      holds = λ tells. bytes tells ∙ passed_all old mid passes ready.none tells;
-      spares = λ reads. let spared : SparesBytes old mid = ready.spares reads in record {
-        bytes = λ tells. closes.bytes (kept.raw.tells_bytes ∙ tells) ∙ spared.bytes tells;
-        written = answers_still old.raw mid.raw new.raw 0 kept.raw spared.written closes.answered;
-        owed = closes.owed ∙ spared.owed ∙ ap nothing_owed (sym closes.place);
-      };
-    }
+    let keeps : KeepsStream old new = grind (arith, Keeps-then) in
+    let none : new.owed.bytes ≡ [] = ap (λ (owed : Owed). owed.bytes) closes.owed ∙ ready.none in
+    let at : NoneAtPlace old → new.owed.place ≡ new.place = λ held. ap (λ (owed : Owed). owed.place) closes.owed ∙ passes.at held ready.none ∙ sym closes.place in
+    let leaves : PassesFront old new = grind (arith, answers_still) in
+    let lays : WhereTold old.raw (LaysFront old [] new.raw.bytes) = λ tells. subst (LaysFront old []) (sym (bytes tells)) (passes.lays tells) in
+    let holds : WhereTold old.raw (new.raw.bytes ≡ flat_of old) = λ tells. bytes tells ∙ passed_all old mid passes ready.none tells in
+    let reads : KeepsReads old.raw new.raw = λ tells. closes.reads (kept.raw.tells_transfers ∙ tells) ∙ kept.reads tells in
+    let spares : old.can.writable ≡ false → SparesBytes old new = λ reads. let spared : SparesBytes old mid = ready.spares reads in grind (arith, answers_still) in
+    search (rules, no_wait_then)
 
 -- the flat bytes of a stream that was shut down
 shut_bytes : (old new : Stream) → ShutsDown old new → WhereTold old.raw (flat_of new ≡ flat_of old)
