@@ -141,6 +141,13 @@ module _ (old found : Stream) (offset whence : ℤ) (target : ℕ) (finds : Find
 
 -- The raw is moved, once nothing is owed.
 
+gone_file : (old mid new : Stream) (target : ℕ) → old.life ≡ life.Live → PassesSome old mid → mid.owed.bytes ≡ [] → KeepsOn old new → GoesTo mid target new → WhereTold old.raw (file_of new ≡ record (file_of old) { place = target })
+gone_file old mid new target live passes empty kept went tells =
+    let none : new.owed.bytes ≡ [] = ap (λ (owed : Owed). owed.bytes) went.owed in
+    let bytes : new.raw.bytes ≡ mid.raw.bytes = went.bytes (passes.kept.raw.tells_bytes ∙ tells_its_bytes old.raw tells) in
+    let flat : flat_of new ≡ flat_of old = ap (lay new.raw.bytes new.owed.place) none ∙ bytes ∙ passed_all old mid passes empty tells in
+    grind (arith, file_now)
+
 -- the stream stands where it was to go
 gone : (old mid new : Stream) (offset whence : ℤ) (target : ℕ) → MaySeek old → Goes old offset whence target → Beside old (Seek offset whence) (Place target) new → PassesSome old mid → mid.owed.bytes ≡ [] → NoFault old.raw mid.raw → NoWait old.raw mid.raw → GoesTo mid target new → Answers old (Seek offset whence) (Place target) new
 gone old mid new offset whence target may to beside passes empty no_fault no_wait goes =
@@ -170,14 +177,9 @@ gone old mid new offset whence target may to beside passes empty no_fault no_wai
     }) in
     let told : WhereTold old.raw (BinaryStep (file_of old) call (Place target) new.short false (file_of new)) = λ tells.
         let lies : (seek_target (file_of old) offset whence ≡ target) × (refusal (file_of old) call ≡ None) = to.lies (tells_its_bytes old.raw tells) in
-        let flat : flat_of new ≡ flat_of old = ap (lay new.raw.bytes new.owed.place) none ∙ bytes tells ∙ passed_all old mid passes empty tells in
-        let file : file_of new ≡ record (file_of old) { place = target } =
-        file_now old new kept (goes.live ∙ sym may.live)
-        ∙ ap (λ (all : List ℕ). record (file_of old) { bytes = all; place = new.place }) flat
-        ∙ ap (λ (place : ℕ). record (file_of old) { place = place }) goes.place in
         subst (λ (said : Bool). BinaryStep (file_of old) call (Place target) said false (file_of new)) (sym short)
         (settled (subst (λ (refused : Option IoFault). SettledBy (file_of old) call refused (Place target) (file_of new)) (sym lies.1)
-        (ap (λ (after : FlatFile). (Place target, after)) file ∙ ap (λ (to : ℕ). (Place to, record (file_of old) { place = to })) (sym lies.0)))) in
+        (ap (λ (after : FlatFile). (Place target, after)) (gone_file old mid new target may.live passes empty kept goes tells) ∙ ap (λ (to : ℕ). (Place to, record (file_of old) { place = to })) (sym lies.0)))) in
     shows_answers old call (Place target) new asked.none (search (rules, stays_open))
 
 -- A stream that owes nothing is moved at once.
