@@ -7,7 +7,7 @@ use Rattle.py_flat.specs.declared.life.Life.{Life}
 use Rattle.py_flat.specs.declared.life.Life.TheVariants as life
 use Rattle.py_flat.specs.Bytes.{lay}
 use Rattle.py_flat.specs.Owed.{Owed}
-use Rattle.py_flat.specs.Calls.{FileCall, Seek, Place, Refused}
+use Rattle.py_flat.specs.Calls.{FileCall, FileReply, Seek, Place, Refused}
 use Rattle.py_flat.specs.FlatFile.{FlatFile}
 use Rattle.py_flat.specs.Refusals.{moved_by, refusal, target_refusal}
 use Rattle.py_flat.specs.ExactStep.{seek_target}
@@ -148,6 +148,9 @@ gone_file old mid new target live passes empty kept went tells =
     let flat : flat_of new ≡ flat_of old = ap (lay new.raw.bytes new.owed.place) none ∙ bytes ∙ passed_all old mid passes empty tells in
     grind (arith, file_now)
 
+sought_at : (file after : FlatFile) (sought target : ℕ) → sought ≡ target → after ≡ record file { place = target } → ◌≡◌ {A = FileReply × FlatFile} (Place target, after) (Place sought, record file { place = sought })
+sought_at file after sought target same is = grind arith
+
 -- the stream stands where it was to go
 gone : (old mid new : Stream) (offset whence : ℤ) (target : ℕ) → MaySeek old → Goes old offset whence target → Beside old (Seek offset whence) (Place target) new → PassesSome old mid → mid.owed.bytes ≡ [] → NoFault old.raw mid.raw → NoWait old.raw mid.raw → GoesTo mid target new → Answers old (Seek offset whence) (Place target) new
 gone old mid new offset whence target may to beside passes empty no_fault no_wait goes =
@@ -179,7 +182,7 @@ gone old mid new offset whence target may to beside passes empty no_fault no_wai
         let lies : (seek_target (file_of old) offset whence ≡ target) × (refusal (file_of old) call ≡ None) = to.lies (tells_its_bytes old.raw tells) in
         subst (λ (said : Bool). BinaryStep (file_of old) call (Place target) said false (file_of new)) (sym short)
         (settled (subst (λ (refused : Option IoFault). SettledBy (file_of old) call refused (Place target) (file_of new)) (sym lies.1)
-        (ap (λ (after : FlatFile). (Place target, after)) (gone_file old mid new target may.live passes empty kept goes tells) ∙ ap (λ (to : ℕ). (Place to, record (file_of old) { place = to })) (sym lies.0)))) in
+        (sought_at (file_of old) (file_of new) (seek_target (file_of old) offset whence) target lies.0 (gone_file old mid new target may.live passes empty kept goes tells)))) in
     shows_answers old call (Place target) new asked.none (search (rules, stays_open))
 
 -- A stream that owes nothing is moved at once.
