@@ -82,6 +82,11 @@ GivesExport None before (Err why) after = (why ≡ fault.NoMemory) × (after ≡
 abbrev pub resize_refusal : BytesView → Option IoFault
 resize_refusal view = or_else (life_fault view.file.life) (refused_if (is_lent view) fault.BufferError)
 
+-- a call that changes the length goes on, or is refused by that
+abbrev pub ResizableOutcome : Option IoFault → Result (Unit {0}) IoFault → Type 0
+ResizableOutcome (Some why) result = result ≡ Err why
+ResizableOutcome None result = result ≡ Ok tt
+
 -- Exports that are out.
 
 -- what refuses an export to be used: a closed stream has none, and the number has to be out

@@ -2,7 +2,7 @@
 ghost use Rattle.std.specs.Prelude.{◌≡◌, false};
 ghost use Rattle.py_flat.specs.ExactStep.{is_closed};
 ghost use Rattle.py_memio.specs.InMemory.{file_in_memory, OpenOutcome, UnlentOutcome};
-ghost use Rattle.py_memio.specs.BytesIO.{no_exports, is_lent};
+ghost use Rattle.py_memio.specs.BytesIO.{no_exports, is_lent, resize_refusal, ResizableOutcome};
 
 mod as_buffer;
 mod exports;
@@ -108,5 +108,16 @@ impl BytesIO {
         } else {
             Err(IoFault::BufferError)
         }
+    }
+
+    /// What changes how many bytes there are is refused by a closed stream, and where an export of them is out.
+    fn check_resizable(&self) -> Result<(), IoFault>
+        ensures { ResizableOutcome (resize_refusal self.now) result }
+    {
+        if !self.closed & self.out.is_empty() {
+            return Ok(()); // one test of both, as most calls pass it
+        }
+        self.check_open()?;
+        self.check_unlent()
     }
 }

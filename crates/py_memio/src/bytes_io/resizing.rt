@@ -45,8 +45,7 @@ impl BytesIO {
         ensures* unchanged { sem 𝓛 (StaysIfRefused self.entry result) }
         ensures answer { MayResize (resize_refusal self.old) self.entry result }
     {
-        self.check_open()?;
-        self.check_unlent()?;
+        self.check_resizable()?;
         Ok(Resizable { stream: self })
     }
 
@@ -55,7 +54,7 @@ impl BytesIO {
         ensures* unchanged { sem 𝓛 (StaysIfNone self.entry result) }
         ensures answer { MayResizeIf (resize_refusal self.old) self.entry result }
     {
-        if self.check_open().is_err() || self.check_unlent().is_err() {
+        if self.check_resizable().is_err() {
             return None;
         }
         Some(Resizable { stream: self })

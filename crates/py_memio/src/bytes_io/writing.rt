@@ -33,15 +33,25 @@ impl BytesIO {
         ensures exports { self.new.exports ≡ self.old.exports }
         ensures taken { self.new.taken ≡ self.new.file.place - self.old.file.place }
     {
-        self.taken = 0;
-        self.check_open()?;
-        self.check_unlent()?;
+        let written = self.lay(bytes);
+        self.taken = match written {
+            Ok(count) => count as u64,
+            Err(_) => 0,
+        };
+        written
+    }
+
+    /// `write`, but that it doesn't tell how many bytes were taken.
+    fn lay(&mut self, bytes: &[u8]) -> Result<usize, IoFault>
+        ensures answer { AnswersInMemory (is_lent self.old) self.old.file (Write bytes.now) (count_reply result) self.new.file }
+        ensures exports { self.new.exports ≡ self.old.exports }
+    {
+        self.check_resizable()?;
         if bytes.len() as u64 > GREATEST_PLACE - self.place {
             return Err(IoFault::TooFar);
         }
         lay_on(&mut self.bytes, self.place as usize, bytes)?;
         self.place += bytes.len() as u64;
-        self.taken = bytes.len() as u64;
         Ok(bytes.len())
     }
 
@@ -52,8 +62,7 @@ impl BytesIO {
         ensures taken { self.new.taken ≡ self.new.file.place - self.old.file.place }
     {
         self.taken = 0;
-        self.check_open()?;
-        self.check_unlent()?;
+        self.check_resizable()?;
         if end_of_lines(self.place, lines).is_none() {
             return Err(IoFault::TooFar);
         }
@@ -71,8 +80,7 @@ impl BytesIO {
         ensures exports { self.new.exports ≡ self.old.exports }
         ensures taken { self.new.taken ≡ self.old.taken }
     {
-        self.check_open()?;
-        self.check_unlent()?;
+        self.check_resizable()?;
         let size = cut_size(self.place, size)?;
         self.bytes.truncate(size as usize);
         Ok(size)
