@@ -65,20 +65,26 @@ impl Task {
 
 /// Makes short writes of bytes.
 fn write_bytes(count: u32, stream: &mut BytesIO) -> Result<Counts, IoFault> {
-    let mut counts = Counts::new();
+    let mut units = 0u64;
     for _ in 0..count {
-        counts.add(stream.write(SHORT.as_bytes())?);
+        units = units.saturating_add(stream.write(SHORT.as_bytes())? as u64);
     }
-    Ok(counts)
+    Ok(Counts {
+        answers: count as u64,
+        units,
+    })
 }
 
 /// Makes short writes of texts.
 fn write_texts(count: u32, stream: &mut StringIO) -> Result<Counts, IoFault> {
-    let mut counts = Counts::new();
+    let mut units = 0u64;
     for _ in 0..count {
-        counts.add(stream.write(SHORT)?);
+        units = units.saturating_add(stream.write(SHORT)? as u64);
     }
-    Ok(counts)
+    Ok(Counts {
+        answers: count as u64,
+        units,
+    })
 }
 
 /// Reads piece by piece to the end.
