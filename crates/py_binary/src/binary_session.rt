@@ -112,7 +112,7 @@ impl<R: RawStream> BinarySession<R> {
     /// bytes that `ReadInto`, `ReadInto1` and `Peek` give as bytes of the reply, for which these may want memory. The four questions
     /// (`Readable`, `Writable`, `Seekable`, `Closed`) are answered in every life.
     ///
-    /// A call that the stream lacks is refused by the life, else `Unsupported`; so are `Truncate`, and the calls of texts.
+    /// A call that the stream lacks is refused by the life, else `Unsupported`; so are the calls of texts.
     /// `ChunkSize`, `Encoding` and `Errors` are `Unsupported` in every life.
     ///
     /// `Detach` answers `Unwritten`, the bytes that the stream still owed (none of a live one, which passes them on first) and the

@@ -33,6 +33,7 @@ pub(crate) fn answer_unbuffered<R: RawStream>(
         Call::WriteLines(lines) => done_reply(stream.writelines(lines)),
         Call::Seek(offset, whence) => place_reply(stream.seek(*offset, *whence)),
         Call::Tell => place_reply(stream.tell()),
+        Call::Truncate(size) => place_reply(stream.truncate(*size)),
         Call::Flush => done_reply(stream.flush()),
         Call::Close => done_reply(stream.close()),
         Call::ChunkSize | Call::Encoding | Call::Errors => {

@@ -24,6 +24,7 @@ pub(crate) fn answer_writer<R: RawStream>(writer: &mut BufferedWriter<R>, call: 
         Call::WriteLines(lines) => done_reply(writer.writelines(lines)),
         Call::Seek(offset, whence) => place_reply(writer.seek(*offset, *whence)),
         Call::Tell => place_reply(writer.tell()),
+        Call::Truncate(size) => place_reply(writer.truncate(*size)),
         Call::Flush => done_reply(writer.flush()),
         Call::Close => done_reply(writer.close()),
         Call::ChunkSize | Call::Encoding | Call::Errors => {

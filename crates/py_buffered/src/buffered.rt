@@ -2,7 +2,7 @@
 //! over it.
 ghost use Rattle.std.specs.Prelude.{◌≡◌, ◌≢◌, ◌≤◌, ◌-◌, true, false, Some, None, IfOk, length, vec_len, if◌then◌else◌};
 ghost use Rattle.py_flat.specs.Lines.{joined};
-ghost use Rattle.py_flat.specs.Calls.{FileCall, Read, Read1, ReadLine, ReadLines, Peek, ReadInto, ReadInto1, Write, WriteLines, Seek, Tell, Flush, Close, Refused};
+ghost use Rattle.py_flat.specs.Calls.{FileCall, Read, Read1, ReadLine, ReadLines, Peek, ReadInto, ReadInto1, Write, WriteLines, Seek, Tell, Truncate, Flush, Close, Refused};
 ghost use Rattle.py_stream.specs.Access.{can_of, is_able};
 ghost use Rattle.py_stream.specs.Answers.{Answers, RefusesAlone};
 ghost use Rattle.py_stream.specs.Replies.{bytes_reply, into_reply, CountFits, KeepsBuffer, KeepsUnread, look_reply, lines_reply, count_reply, place_reply, done_reply};
@@ -14,7 +14,7 @@ ghost use Rattle.py_engine.specs.Engine.{stream_of};
 
 use py_engine::BufferedData;
 use py_raw::{IoFault, Life, Lines, RawError, RawStream};
-use py_stream::{Access, Detached, NewRefused, first_place, refused_at_first};
+use py_stream::{Access, Detached, NewRefused, first_place, refused_at_first, truncate};
 use std::alloc::Global;
 use std::marker::Model;
 
@@ -322,6 +322,17 @@ impl<R: RawStream> Buffered<R> {
     {
         match &mut self.data {
             Some(data) => data.tell(),
+            None => Err(IoFault::Detached),
+        }
+    }
+
+    /// Cuts the bytes to a size, or lengthens them by zeros; without a size to the place, which is kept.
+    pub fn truncate(&mut self, size: Option<u64>) -> Result<u64, IoFault>
+        ensures answers { Answers (seen_of self.old) (Truncate size) (place_reply result) (seen_of self.new) }
+        ensures taken { self.new.taken ≡ self.old.taken }
+    {
+        match &mut self.data {
+            Some(data) => truncate(data, size),
             None => Err(IoFault::Detached),
         }
     }

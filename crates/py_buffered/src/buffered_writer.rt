@@ -1,7 +1,7 @@
 //! The writer: a buffered stream that is only written.
 ghost use Rattle.std.specs.Prelude.{◌≡◌, Some, IfOk, true, false};
 ghost use Rattle.py_flat.specs.Lines.{joined};
-ghost use Rattle.py_flat.specs.Calls.{FileCall, Write, WriteLines, Seek, Tell, Flush, Close, Refused};
+ghost use Rattle.py_flat.specs.Calls.{FileCall, Write, WriteLines, Seek, Tell, Truncate, Flush, Close, Refused};
 ghost use Rattle.py_flat.specs.ExactStep.{is_closed};
 ghost use Rattle.py_stream.specs.Stream.{writer_can};
 ghost use Rattle.py_stream.specs.Answers.{Answers, RefusesAlone};
@@ -122,6 +122,19 @@ impl<R: RawStream> BufferedWriter<R> {
         ensures taken { self.new.taken ≡ self.old.taken }
     {
         self.inner.tell()
+    }
+
+    /// Cuts the bytes to a size, or lengthens them by zeros, and answers it; without a size to the place. The place is kept, and may lie
+    /// past the end then. What is owed is passed on before; nothing is owed then.
+    ///
+    /// `Unsupported` where the raw can't seek, and of a writer that appends; `TooFar` for a size past 9223372036854775807: all is as
+    /// it was. `WouldBlock { taken: 0 }` and `NoMemory` leave the place, and what isn't passed on yet is still owed. After `RawFault` the
+    /// raw's bytes may have the size, or not.
+    pub fn truncate(&mut self, size: Option<u64>) -> Result<u64, IoFault>
+        ensures answers { Answers self.old.stream (Truncate size) (place_reply result) self.new.stream }
+        ensures taken { self.new.taken ≡ self.old.taken }
+    {
+        self.inner.truncate(size)
     }
 
     /// The refusal of a call that a writer lacks (one that reads, or that moves what can't seek), or that the life doesn't let

@@ -15,7 +15,7 @@ text_call (call.ReadLine limit) = plain.ReadLine limit
 text_call call.Close = plain.Close
 text_call _ = plain.OtherKind
 
--- a call of a binary session; so far it has no `truncate`
+-- a call of a binary session
 abbrev pub file_call : Call → FileCall
 file_call (call.Read size) = file.Read size
 file_call (call.Read1 size) = file.Read1 size
@@ -38,7 +38,7 @@ file_call call.Closed = file.Closed
 file_call call.ChunkSize = file.OtherGetter
 file_call call.Encoding = file.OtherGetter
 file_call call.Errors = file.OtherGetter
-file_call (call.Truncate size) = file.OtherKind
+file_call (call.Truncate size) = file.Truncate size
 file_call (call.WriteText text) = file.OtherKind
 file_call (call.SeekText cookie whence) = file.OtherKind
 file_call (call.SetChunkSize size) = file.OtherKind

@@ -127,7 +127,7 @@ fn settle(
 fn passes_all(call: &Call, reply: &Reply) -> bool {
     match call {
         Call::Flush | Call::Close => *reply == Reply::Done,
-        Call::Seek(_, _) => matches!(reply, Reply::Place(_)),
+        Call::Seek(_, _) | Call::Truncate(_) => matches!(reply, Reply::Place(_)),
         _ => false,
     }
 }
@@ -264,7 +264,7 @@ fn reaches(handed: &Detached<MemRaw>, flat: &Flat, failed: Option<&Call>) -> boo
 
 /// Whether the bytes of the raw with those that are handed back laid at their place are all that was taken from the caller before
 /// a call that failed, and a front of what that call gave; a write that failed owes none of its own. They end where the place says;
-/// at most `unanswered` bytes more may lie after, which the raw laid on without an answer.
+/// at most `unanswered` bytes more may lie after, which the raw laid on without an answer. A truncation that failed may have come about.
 fn holds_all_taken(
     alloc: Global,
     handed: &Detached<MemRaw>,
@@ -301,6 +301,11 @@ fn holds_all_taken(
             break;
         }
         flat.lay(&[*byte])?;
+    }
+    if let Some(Call::Truncate(size)) = failed {
+        if found.bytes != flat.bytes {
+            flat.resize(*size)?;
+        }
     }
     Ok(found.bytes == flat.bytes)
 }

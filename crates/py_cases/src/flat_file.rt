@@ -55,6 +55,7 @@ impl Flat {
             Call::Read1(_) | Call::ReadInto1(_) | Call::Peek => !self.reads || !self.buffered,
             Call::Write(_) | Call::WriteLines(_) => self.reads,
             Call::Seek(_, _) => self.appends,
+            Call::Truncate(_) => self.reads || self.appends,
             Call::Tell | Call::Flush | Call::Close => false,
             _ => true,
         }
@@ -113,6 +114,25 @@ impl Flat {
         Some(base.saturating_add(offset).max(0).unsigned_abs() as usize)
     }
 
+    /// Whether a call may answer a place; goes on by it.
+    fn goes(&mut self, call: &Call, place: u64) -> Result<bool, AllocError> {
+        if let Call::Truncate(size) = call {
+            return Ok(place == self.resize(*size)?);
+        }
+        let Some(moved) = self.moved(call) else {
+            return Ok(false);
+        };
+        self.place = moved;
+        Ok(place == moved as u64)
+    }
+
+    /// Cuts the bytes to a size, or lengthens them by zeros; without a size to the place. Answers the size.
+    pub(crate) fn resize(&mut self, size: Option<u64>) -> Result<u64, AllocError> {
+        let size = size.unwrap_or(self.place as u64);
+        self.bytes.resize(size as usize, 0)?;
+        Ok(size)
+    }
+
     /// Whether a session may answer a call so; goes on by the answer. `short` says whether a wait cut it short.
     pub(crate) fn answers(
         &mut self,
@@ -131,13 +151,7 @@ impl Flat {
                 Some(bytes) => is_lines && self.takes(call, &bytes, short),
                 None => false,
             },
-            Reply::Place(place) => match self.moved(call) {
-                Some(moved) => {
-                    self.place = moved;
-                    *place == moved as u64 && !short
-                }
-                None => false,
-            },
+            Reply::Place(place) => self.goes(call, *place)? && !short,
             Reply::NotReady => short && (self.wanted(call).is_some() || self.is_bare_write(call)),
             _ => self.writes(alloc, call, reply, short)?,
         })

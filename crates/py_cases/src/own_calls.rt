@@ -13,9 +13,7 @@ pub(crate) fn parse_call(alloc: Global, line: &str) -> Result<Option<Call>> {
     }
     let (word, rest) = line.split_once(' ').unwrap_or((line, ""));
     Ok(Some(match (word, rest, rest.parse().ok()) {
-        ("truncate", "", _) => Call::Truncate(None),
-        ("truncate", _, Some(size)) => Call::Truncate(Some(size)),
-        ("setchunksize", _, Some(size)) => Call::SetChunkSize(size as usize),
+        ("setchunksize", _, Some(size)) => Call::SetChunkSize(size),
         ("writetext", _, _) => Call::WriteText(Chars::from_text(alloc, rest)?),
         ("seektext", "", _) => Call::SeekText(Data::new(alloc), 0),
         ("chunksize", "", _) => Call::ChunkSize,

@@ -1,5 +1,5 @@
 -- The calls that give nothing, or bytes, by what the stream is opened for: what holds when a call begins, and what its steps come to.
-use Rattle.std.proofs.Common.{◌≡◌, ℕ, ℤ, ◌+◌, ◌≤◌, Bool, true, false, length, Result, Ok, Err, refl, ap, subst, arith}
+use Rattle.std.proofs.Common.{◌≡◌, ℕ, ℤ, ◌+◌, ◌≤◌, Bool, true, false, [], length, Result, Ok, Err, IfOk, refl, ap, subst, arith}
 use Rattle.py_flat.specs.declared.fault.IoFault.{IoFault}
 use Rattle.py_flat.specs.declared.life.Life.TheVariants as life
 use Rattle.py_flat.specs.Limits.{greatest_place}
@@ -14,6 +14,7 @@ use Rattle.py_stream.specs.Replies.{done_reply}
 use Rattle.py_stream.specs.Answers.{Answers}
 use Rattle.py_stream.specs.Moving.{TargetOutcome, GoOutcome, GoesTo}
 use Rattle.py_stream.specs.Ending.{CloseRawOutcome}
+use Rattle.py_stream.specs.Settling.{SettleOutcome}
 use Rattle.py_stream.proofs.Alone.{Begins}
 use Rattle.py_stream.proofs.Seeking.{MaySeek}
 use Rattle.py_stream.proofs.Giving.{of_both}
@@ -61,11 +62,19 @@ is_writing_live engine is writes live = grind (arith, is_sound, stands_whole, wr
 
 -- Flushing.
 
+-- the raw of a stream that is written stands at the place, once nothing is owed
+pub stands_there : (engine : EngineView) → Stands engine → is_read engine.access ≡ false → (stream_of engine).owed.bytes ≡ [] → engine.raw_place ≡ place_of engine.window
+stands_there engine is writes none = omega (arith, (owes_behind engine is writes).ends, (owes_behind engine is writes).stands, ap length none)
+
+settled_there : (old : Stream) (new : EngineView) (result : Result (Unit {0}) IoFault) → Stands new → is_read new.access ≡ false → SettleOutcome old result (stream_of new) → IfOk result (λ done. new.raw_place ≡ place_of new.window)
+settled_there old new (Ok done) is writes settled = stands_there new is writes settled.2
+settled_there old new (Err why) is writes settled = tt
+
 -- a `flush` answers what passing all on came to
-pub flushes : (opened : Access) (old started new : EngineView) (result : Result (Unit {0}) IoFault) → old.access ≡ opened → Stands old → BeginOutcome old (Ok tt) started → PassesAll opened (stream_of started) result (stream_of new) → Answers (stream_of old) Flush (done_reply result) (stream_of new)
-flushes access.Read old started new result opened is began passed = grind (arith, flush_answers, is_placed, owes_nothing, reads_only, begins)
-flushes other old started new result opened is began passed =
-    flush_passes_on (stream_of old) (stream_of started) (stream_of new) result (is_writing_live old is (ap is_read opened) began.0) (begins old started (Ok tt) began) passed
+pub flushes : (opened : Access) (old started new : EngineView) (result : Result (Unit {0}) IoFault) → old.access ≡ opened → Stands old → BeginOutcome old (Ok tt) started → PassesAll opened (stream_of started) result (stream_of new) → Stands new → new.access ≡ opened → Answers (stream_of old) Flush (done_reply result) (stream_of new)
+flushes access.Read old started new result opened is began passed now same = grind (arith, flush_answers, is_placed, owes_nothing, reads_only, begins)
+flushes other old started new result opened is began passed now same =
+    flush_passes_on (stream_of old) (stream_of started) (stream_of new) result (is_writing_live old is (ap is_read opened) began.0) (begins old started (Ok tt) began) passed (settled_there (stream_of started) new result now (ap is_read same) passed)
 
 -- Closing.
 
@@ -83,7 +92,7 @@ closes other old started mid new result opened is began passed shut =
 -- Moving.
 
 seeks_writing : (old started : EngineView) → Stands old → MaySeek (begun (stream_of old)) → is_read old.access ≡ false → SeeksWriting (begun (stream_of old))
-seeks_writing old started is may writes = grind (arith, owes_behind, stands_whole, writes_only)
+seeks_writing old started is may writes = grind (arith, writes_only)
 
 -- what is known once a seek found where it goes
 pub record SeekFinds (old : EngineView) (offset whence : ℤ) (target : ℕ) (found : EngineView) : Type 0 where

@@ -1,11 +1,13 @@
 -- Passing on what a stream owes, transfer by transfer.
-use Rattle.std.proofs.Common.{◌≡◌, IsTrue, [], Ok, Err, sym, subst, arith}
+use Rattle.std.proofs.Common.{◌≡◌, IsTrue, Bool, true, [], Ok, Err, refl, ap, sym, subst, arith}
 use Rattle.py_flat.specs.declared.fault.IoFault.{IoFault}
 use Rattle.py_flat.specs.declared.fault.IoFault.TheVariants as fault
 use Rattle.py_raw.specs.RawStream.{NoWait}
 use Rattle.py_raw.proofs.ReadingOn.{no_wait_then}
 use Rattle.py_stream.specs.Stream.{Stream}
 use Rattle.py_stream.specs.Taking.{Took, Lacks}
+use Rattle.py_stream.specs.Settling.{LivesOn, SettleOutcome}
+use Rattle.py_stream.proofs.PassingOn.{took_passes, failing_passes}
 use Rattle.py_stream.proofs.Taking.{took_on, fails_on, calm_of, waited_then, waits_once_then}
 use Rattle.py_engine.specs.declared.data.passing_on.Passed.TheVariants as passing
 use Rattle.py_engine.specs.Passing.{DrainOutcome, FlushOutcome}
@@ -32,3 +34,23 @@ pub passes_refused : (old now new : Stream) (why : IoFault) → PassesSoFar old 
 passes_refused old now new fault.RawFault so refused = (fails_on old now new [] (record { took = so.took; calm = calm_of old.buffer old.raw now.raw so.no_wait }) refused.0, no_wait_then old.raw now.raw new.raw so.took.kept.raw so.no_wait refused.1, refused.2)
 passes_refused old now new fault.NoMemory so refused = lacks_so_far old now new so refused.0 refused.1
 passes_refused old now new why so refused = absurd refused
+
+-- Passing on all that is owed, for a call that needs it.
+
+-- a stream that a step took nothing of lives on
+lives_on : (old new : Stream) → Took old [] new → LivesOn old new
+lives_on old new took = record { passes = took_passes old new took; live = took.live; no_fault = took.no_fault }
+
+-- what a passing on of all came to
+pub settles : (old new : Stream) → FlushOutcome old (Ok passing.All) new → SettleOutcome old (Ok tt) new
+settles old new passed = (lives_on old new passed.0, passed.1, passed.2)
+
+-- a wait is remembered
+pub settles_later : (old mid : Stream) → FlushOutcome old (Ok passing.Waits) mid → SettleOutcome old (Err (fault.WouldBlock 0)) (record mid { short = true })
+settles_later old mid waits = (refl, subst (LivesOn old) (ap (λ (short : Bool). record mid { short = short }) waits.0.kept.short) (lives_on old mid waits.0), refl, waits.1, waits.2)
+
+-- a passing on of all that is refused
+pub settling_refused : (old new : Stream) (why : IoFault) → FlushOutcome old (Err why) new → SettleOutcome old (Err why) new
+settling_refused old new fault.RawFault fails = (failing_passes old new fails.0, fails.0.failed, fails.0.cause, fails.1, fails.2)
+settling_refused old new fault.NoMemory lacks = (lacks.0.takes, lives_on old new lacks.0.took, lacks.1)
+settling_refused old new why never = absurd never

@@ -7,7 +7,8 @@ use Rattle.py_raw.specs.RawStream.{NoWait, WaitsOnce}
 use Rattle.py_stream.specs.Stream.{Stream, size_of}
 use Rattle.py_stream.specs.declared.access.Access.{Access}
 use Rattle.py_stream.specs.declared.access.Access.TheVariants as access
-use Rattle.py_stream.specs.Taking.{Took, FailsTaking, Lacks, Starved, PassAllOutcome}
+use Rattle.py_stream.specs.Taking.{Took, FailsTaking, Lacks, Starved}
+use Rattle.py_stream.specs.Settling.{SettleOutcome}
 use Rattle.py_stream.specs.Ending.{ClosingOutcome, BeginDetachIn}
 use Rattle.py_flat.specs.declared.life.Life.{Life}
 use Rattle.py_flat.specs.declared.life.Life.TheVariants as life
@@ -57,14 +58,19 @@ StopOutcome why start old new = new ≡ old
 -- all that is owed is passed on, or the passing on is refused; a stream that is read stays as it is
 abbrev pub PassesAll : Access → Stream → Result (Unit {0}) IoFault → Stream → Type 0
 PassesAll access.Read old result new = (result ≡ Ok tt) × (new ≡ old)
-PassesAll other old result new = PassAllOutcome old result new
+PassesAll other old result new = SettleOutcome old result new
 
 -- all that is owed is passed on for a closing; a stream that is read stays as it is
 abbrev pub PassesToClose : Access → Stream → Result (Unit {0}) IoFault → Stream → Type 0
 PassesToClose access.Read old result new = (result ≡ Ok tt) × (new ≡ old)
 PassesToClose other old result new = ClosingOutcome old result new
 
+-- all that is owed is passed on for a detaching; a stream that is read stays as it is
+abbrev pub PassesToDetach : Access → Stream → Result (Unit {0}) IoFault → Stream → Type 0
+PassesToDetach access.Read old result new = (result ≡ Ok tt) × (new ≡ old)
+PassesToDetach other old result new = BeginDetachIn life.Live old result new
+
 -- a detaching begins where the raw may be handed back
 abbrev pub BeginsDetachIn : Access → Life → Stream → Result (Unit {0}) IoFault → Stream → Type 0
-BeginsDetachIn opened life.Live old result new = PassesAll opened old result new
+BeginsDetachIn opened life.Live old result new = PassesToDetach opened old result new
 BeginsDetachIn opened other old result new = BeginDetachIn other old result new

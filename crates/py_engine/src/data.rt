@@ -13,6 +13,7 @@ mod moving;
 mod passing_on;
 mod reading;
 mod single;
+mod truncating;
 mod writing;
 
 use crate::window::{Filled, Window};

@@ -89,7 +89,7 @@ impl<R: RawStream> Session<R> {
 
     /// Makes one call.
     ///
-    /// A text has `Read`, `ReadLine` and `Close`; a stream of bytes all but `Truncate` and the calls of texts, as far as it reads,
+    /// A text has `Read`, `ReadLine` and `Close`; a stream of bytes all but the calls of texts, as far as it reads,
     /// writes and can be moved, and without a buffer no `Read1`, `ReadInto1`, `Peek` and `Detach`. The four questions `Readable`,
     /// `Writable`, `Seekable` and `Closed` are answered by a `Flag` in every life.
     ///

@@ -3,10 +3,10 @@ use Rattle.std.specs.Prelude.{ℕ, ℤ, pos, List, [], ◌∷◌, Option, Some, 
 use Rattle.std.specs.Option.{option_and_then}
 use Rattle.std.specs.Str.{bytes_eq}
 use Rattle.py_calls.specs.declared.call.Call.{Call}
-use Rattle.py_calls.specs.declared.call.Call.TheVariants.{Read, Read1, ReadLine, ReadLines, Peek, ReadInto, ReadInto1, Write, WriteLines, Seek, Tell, Flush, Close, Detach, Readable, Writable, Seekable, Closed}
+use Rattle.py_calls.specs.declared.call.Call.TheVariants.{Read, Read1, ReadLine, ReadLines, Peek, ReadInto, ReadInto1, Write, WriteLines, Seek, Tell, Truncate, Flush, Close, Detach, Readable, Writable, Seekable, Closed}
 use Rattle.py_script.specs.Words.{decimal_value, integer_value, whence_value, word_bytes, words_bytes}
 
--- the call of a word that stands alone: a reading without a size, and each call that takes nothing
+-- the call of a word that stands alone: a reading or a truncation without a size, and each call that takes nothing
 abbrev pub plain_call : List ℕ → Option Call
 plain_call name =
     if bytes_eq name (codes "read") then Some (Read None)
@@ -15,6 +15,7 @@ plain_call name =
     else if bytes_eq name (codes "readlines") then Some (ReadLines None)
     else if bytes_eq name (codes "peek") then Some Peek
     else if bytes_eq name (codes "tell") then Some Tell
+    else if bytes_eq name (codes "truncate") then Some (Truncate None)
     else if bytes_eq name (codes "flush") then Some Flush
     else if bytes_eq name (codes "close") then Some Close
     else if bytes_eq name (codes "detach") then Some Detach
@@ -24,7 +25,7 @@ plain_call name =
     else if bytes_eq name (codes "closed") then Some Closed
     else None
 
--- the call of a word with a size after it: each reading of so much
+-- the call of a word with a size after it: each reading of so much, and a truncation to it
 abbrev pub sized_call : List ℕ → ℕ → Option Call
 sized_call name size =
     if bytes_eq name (codes "read") then Some (Read (Some size))
@@ -33,6 +34,7 @@ sized_call name size =
     else if bytes_eq name (codes "readlines") then Some (ReadLines (Some size))
     else if bytes_eq name (codes "readinto") then Some (ReadInto size)
     else if bytes_eq name (codes "readinto1") then Some (ReadInto1 size)
+    else if bytes_eq name (codes "truncate") then Some (Truncate (Some size))
     else None
 
 -- the call of a word with at most a size after it

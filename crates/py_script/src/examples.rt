@@ -93,7 +93,6 @@ pub fn examples_of_malformed_lines()
     ensures too_large { script_calls (codes "read 18446744073709551616") ≡ None }
     ensures size_of_close { script_calls (codes "close 1") ≡ None }
     ensures not_utf8 { script_calls (codes "read " ++ 255 ∷ []) ≡ None }
-    ensures truncation { script_calls (codes "truncate") ≡ None }
     ensures text_to_write { script_calls (codes "writetext 61") ≡ None }
     ensures cookie { script_calls (codes "seektext 00") ≡ None }
     ensures chunk { script_calls (codes "chunksize") ≡ None }

@@ -63,7 +63,7 @@ fn reading_call(name: &[u8], words: &[&[u8]]) -> Option<Call>
     }
 }
 
-/// The call of a word that stands alone: a reading without a size, and each call that takes nothing.
+/// The call of a word that stands alone: a reading or a truncation without a size, and each call that takes nothing.
 fn plain_call(name: &[u8]) -> Option<Call>
     ensures { result ≡ plain_call name.now }
 {
@@ -79,6 +79,8 @@ fn plain_call(name: &[u8]) -> Option<Call>
         Some(Call::Peek)
     } else if name == "tell".as_bytes() {
         Some(Call::Tell)
+    } else if name == "truncate".as_bytes() {
+        Some(Call::Truncate(None))
     } else if name == "flush".as_bytes() {
         Some(Call::Flush)
     } else if name == "close".as_bytes() {
@@ -98,7 +100,7 @@ fn plain_call(name: &[u8]) -> Option<Call>
     }
 }
 
-/// The call of a word with a size after it: each reading of so much.
+/// The call of a word with a size after it: each reading of so much, and a truncation to it.
 fn sized_call(name: &[u8], size: usize) -> Option<Call>
     ensures { result ≡ sized_call name.now size }
 {
@@ -114,6 +116,8 @@ fn sized_call(name: &[u8], size: usize) -> Option<Call>
         Some(Call::ReadInto(size))
     } else if name == "readinto1".as_bytes() {
         Some(Call::ReadInto1(size))
+    } else if name == "truncate".as_bytes() {
+        Some(Call::Truncate(Some(size as u64)))
     } else {
         None
     }

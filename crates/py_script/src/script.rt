@@ -38,7 +38,7 @@ fn parse_lines(alloc: Global, lines: &[&[u8]]) -> Result<Option<Vec<Call>>, Allo
 /// The call of a script's line, without its LF, or `None` where the line is malformed; `Err` when out of memory.
 ///
 /// A line is one of these, with one space between its words:
-/// - `read`, `read1`, `readline` or `readlines`, alone or with a size;
+/// - `read`, `read1`, `readline`, `readlines` or `truncate`, alone or with a size;
 /// - `readinto` or `readinto1` with a size;
 /// - `write` with bytes, `writelines` with the bytes of each line, of none too;
 /// - `seek` with an offset, or with an offset and a whence, which is 0 where there is none;

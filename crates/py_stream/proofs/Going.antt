@@ -1,6 +1,5 @@
 -- The answers of `seek`, as its steps come: where it goes, what is passed on before, and the moving.
 use Rattle.std.proofs.Common.{◌≡◌, ℕ, ◌+◌, suc, zero, ℤ, pos, max, nat_eq, Bool, true, false, List, [], length, Option, Some, None, IsSome, Result, Ok, Err, ne_eqb, if◌then◌else◌, refl, sym, ap, ◌∙◌, subst, arith, zero-le, rules, IsTrue}
-use Rattle.std.proofs.lemmas.List.{append-nil}
 use Rattle.py_flat.specs.declared.fault.IoFault.{IoFault}
 use Rattle.py_flat.specs.declared.fault.IoFault.TheVariants as fault
 use Rattle.py_flat.specs.declared.life.Life.{Life}
@@ -14,22 +13,22 @@ use Rattle.py_flat.specs.ExactStep.{seek_target}
 use Rattle.py_flat.specs.AllowedStep.{settled}
 use Rattle.py_flat.specs.BinaryStep.{BinaryStep, SettledBy}
 use Rattle.py_flat.proofs.Laying.{length-lay}
-use Rattle.py_raw.specs.RawStream.{NoFault, WhereTold, NoWait, LeavesCounts}
+use Rattle.py_raw.specs.RawStream.{WhereTold, LeavesCounts}
 use Rattle.py_raw.proofs.Telling.{tells_its_bytes}
 use Rattle.py_raw.proofs.ReadingOn.{no_fault_then, no_wait_then}
 use Rattle.py_stream.specs.Stream.{Span, Stream, file_of, nothing_owed}
-use Rattle.py_stream.specs.Writing.{OwesBehind, LaysFront, Writes}
+use Rattle.py_stream.specs.Writing.{LaysFront, Writes}
 use Rattle.py_stream.specs.Answers.{Answers, Leaves, SeeksTo, SeeksFromEnd, InHandOf, InHand, SparesBytes, IsCounted}
 use Rattle.py_stream.specs.Keeping.{KeepsOn}
-use Rattle.py_stream.specs.Taking.{Took, PassAllOutcome}
+use Rattle.py_stream.specs.Settling.{PassesSome, LivesOn, SettleOutcome}
 use Rattle.py_stream.specs.Moving.{StandsAsBefore, AsksEnd, TargetFromEnd, TargetOutcome, IsHeld, GoesTo, GoOutcome}
 use Rattle.py_stream.proofs.Refused.{lays_nothing}
 use Rattle.py_stream.proofs.Begun.{answers_whole}
 use Rattle.py_stream.proofs.Alone.{Begins}
-use Rattle.py_stream.proofs.Taking.{keeps_then, waits_once_then, waited_then, faulted_then, answers_still, took_on, fails_on, lacks_on, calm_of}
+use Rattle.py_stream.proofs.Taking.{keeps_then, waits_once_then, waited_then, faulted_then, answers_still}
 use Rattle.py_stream.proofs.Flat.{flat_of, file_now}
 use Rattle.py_stream.proofs.Showing.{Asked, Accepts, Beside, beside_writing, shows_answers, passing_writes, seek_moves_none}
-use Rattle.py_stream.proofs.PassingOn.{begun, PassesSome, passes_nothing, FaultLeaves, took_passes, passed_all, passing_front, passing_keeps, passing_file, stays_open, lacking_answers, lacks_refuse, fault_fails, pass_all_refuses}
+use Rattle.py_stream.proofs.PassingOn.{begun, passes_nothing, FaultLeaves, passed_all, passing_front, passing_keeps, passing_file, stays_open, lacking_answers, lacks_refuse, fault_fails, settling_refuses}
 use Rattle.py_stream.proofs.Seeking.{MaySeek, seek_refusal_is, target_why, bad_place_is_own, RefusesPlace, refuses_place, ReachesRaw, end_reaches, AnswersEnd, TargetOf, Goes, goes, seeks_nowhere, argument_refuses}
 
 -- Where the stream ends.
@@ -53,6 +52,10 @@ found_nothing old found may same = subst (FoundOut old) (sym same) (grind arith)
 
 found_end : (old found : Stream) (end : ℕ) → AsksEnd old end found → FoundOut old found
 found_end old found end asks = record { stands = asks.stands; counts = asks.counts; life_is = asks.life_is }
+
+-- nothing was passed on by then, and the stream lives on
+found_on : (old found : Stream) → MaySeek old → FoundOut old found → LivesOn old found
+found_on old found may out = record { passes = passes_nothing old found out.stands; live = out.life_is ∙ may.live; no_fault = out.counts.no_fault }
 
 -- a stream that stands as before, and owed nothing, spares the bytes
 spared : (old new : Stream) (left : Life) → StandsAsBefore old new → old.owed ≡ nothing_owed old.place → SparesBytes old (record new { life = left })
@@ -92,7 +95,7 @@ from_end_refuses old new offset fault.RawFault may fails =
 from_end_refuses old new offset fault.NoMemory may wants =
     let out : FoundOut old new = found_nothing old new may wants.1 in
     lacking_answers old new (Seek offset (pos 2)) (reaching old offset (pos 2) may (end_reaches old offset may)) (record { in_hand = λ has. absurd has.of; spares = λ _. spared old new new.life out.stands }) wants.0
-    (passes_nothing old new out.stands) (out.life_is ∙ may.live) out.counts.no_fault out.counts.no_wait
+    (found_on old new may out) out.counts.no_wait
 from_end_refuses old new offset why may asked = end_refuses old new offset why asked.0 may asked.1 asked.2
 
 target_refuses : (old new : Stream) (offset whence : ℤ) (why : IoFault) → MaySeek old → TargetOutcome old offset whence (Err why) new → Answers old (Seek offset whence) (Refused why) new
@@ -152,22 +155,23 @@ sought_at : (file after : FlatFile) (sought target : ℕ) → sought ≡ target 
 sought_at file after sought target same is = grind arith
 
 -- the stream stands where it was to go
-gone : (old mid new : Stream) (offset whence : ℤ) (target : ℕ) → MaySeek old → Goes old offset whence target → Beside old (Seek offset whence) (Place target) new → PassesSome old mid → mid.owed.bytes ≡ [] → NoFault old.raw mid.raw → NoWait old.raw mid.raw → GoesTo mid target new → Answers old (Seek offset whence) (Place target) new
-gone old mid new offset whence target may to beside passes empty no_fault no_wait goes =
+gone : (old mid new : Stream) (offset whence : ℤ) (target : ℕ) → MaySeek old → Goes old offset whence target → Beside old (Seek offset whence) (Place target) new → SettleOutcome old (Ok tt) mid → GoesTo mid target new → Answers old (Seek offset whence) (Place target) new
+gone old mid new offset whence target may to beside settled_by goes =
     let call : FileCall = Seek offset whence in
     let asked : Asked old call = reaching old offset whence may to.asks in
+    let passes : PassesSome old mid = settled_by.0.passes in
     let kept : KeepsOn old new = keeps_then old mid new passes.kept goes.kept in
     let none : new.owed.bytes ≡ [] = ap (λ (owed : Owed). owed.bytes) goes.owed in
     let at : new.owed.place ≡ new.place = ap (λ (owed : Owed). owed.place) goes.owed ∙ sym goes.place in
     let short : new.short ≡ false = kept.short ∙ may.whole in
     let bytes : WhereTold old.raw (new.raw.bytes ≡ mid.raw.bytes) = λ tells. goes.bytes (passes.kept.raw.tells_bytes ∙ tells_its_bytes old.raw tells) in
-    let counted : IsTrue old.raw.counts_exactly → IsCounted old.buffer old.raw call (Place target) new.raw new.short = λ exact. record { faults = λ _. no_fault_then old.raw mid.raw new.raw passes.kept.raw no_fault goes.counts.no_fault exact; waits = λ _ _. no_wait_then old.raw mid.raw new.raw passes.kept.raw no_wait goes.counts.no_wait exact; once = λ waited. absurd (cc) } in
+    let counted : IsTrue old.raw.counts_exactly → IsCounted old.buffer old.raw call (Place target) new.raw new.short = λ exact. record { faults = λ _. no_fault_then old.raw mid.raw new.raw passes.kept.raw settled_by.0.no_fault goes.counts.no_fault exact; waits = λ _ _. no_wait_then old.raw mid.raw new.raw passes.kept.raw settled_by.1 goes.counts.no_wait exact; once = λ waited. absurd (cc) } in
     let writes : Writes old call (Place target) new = passing_writes old call (Place target) new asked.none (record {
       leaves = record {
         passed = passes.passed;
         most = passes.within;
         answered = answers_still old.raw mid.raw new.raw passes.passed passes.kept.raw passes.answered goes.answered;
-        bytes = none ∙ sym empty ∙ passes.owed;
+        bytes = none ∙ sym settled_by.2 ∙ passes.owed;
         place = λ some. absurd (some none);
       };
       stands = λ _ some. absurd (some none);
@@ -182,7 +186,7 @@ gone old mid new offset whence target may to beside passes empty no_fault no_wai
         let lies : (seek_target (file_of old) offset whence ≡ target) × (refusal (file_of old) call ≡ None) = to.lies (tells_its_bytes old.raw tells) in
         subst (λ (said : Bool). BinaryStep (file_of old) call (Place target) said false (file_of new)) (sym short)
         (settled (subst (λ (refused : Option IoFault). SettledBy (file_of old) call refused (Place target) (file_of new)) (sym lies.1)
-        (sought_at (file_of old) (file_of new) (seek_target (file_of old) offset whence) target lies.0 (gone_file old mid new target may.live passes empty kept goes tells)))) in
+        (sought_at (file_of old) (file_of new) (seek_target (file_of old) offset whence) target lies.0 (gone_file old mid new target may.live passes settled_by.2 kept goes tells)))) in
     shows_answers old call (Place target) new asked.none (search (rules, stays_open))
 
 -- A stream that owes nothing is moved at once.
@@ -202,14 +206,13 @@ going_answers old found new offset whence target may none finds goes =
     answers_whole old new (Seek offset whence) (Place target)
     (gone (begun old) found new offset whence target may finds.to
     (search (rules, goes, reads_still, begun, buffered_still, held_still, answers_still))
-    (passes_nothing (begun old) found out.stands) (ap (λ (owed : Owed). owed.bytes) (out.stands.owed ∙ none)) out.counts.no_fault out.counts.no_wait goes)
+    (found_on (begun old) found may out, out.counts.no_wait, ap (λ (owed : Owed). owed.bytes) (out.stands.owed ∙ none)) goes)
 
--- A stream that owes what lies right before its place passes this on before it is moved.
+-- A stream that writes passes on what it owes before it is moved.
 
 -- a seek of a stream with a buffer that writes, and doesn't read
 pub record SeeksWriting (old : Stream) : Type 0 where
   pub may : MaySeek old
-  pub behind : OwesBehind old
   pub size : ℕ
   pub buffered : old.buffer ≡ Some size
   pub writes : old.can.writable ≡ true
@@ -223,46 +226,47 @@ accepts_seek old offset whence target seeks to = record { asked = reaching old o
 not_held : (old : Stream) (offset whence : ℤ) → SeeksWriting old → InHand old (Seek offset whence) → ⊥
 not_held old offset whence seeks has = grind arith
 
--- the looking took nothing, and passed nothing on
-found_took : (old found : Stream) → SeeksWriting old → FoundOut old found → Took old [] found
-found_took old found seeks out = grind (arith, append-nil, tells_its_bytes)
+-- some was passed on after nothing was
+passes_then : (old mid new : Stream) → StandsAsBefore old mid → PassesSome mid new → PassesSome old new
+passes_then old mid new stands passes = grind arith
 
-passes_all_then : (old mid new : Stream) (result : Result (Unit {0}) IoFault) → Took old [] mid → NoWait old.raw mid.raw → PassAllOutcome mid result new → PassAllOutcome old result new
-passes_all_then old mid new (Ok done) took no_wait passed = (took_on old mid new [] took passed.0, no_wait_then old.raw mid.raw new.raw took.kept.raw no_wait passed.1, passed.2)
-passes_all_then old mid new (Err (fault.WouldBlock taken)) took no_wait waits =
-    let stands : Took old [] (record new { short = old.short }) = subst (λ (short : Bool). Took old [] (record new { short = short })) took.kept.short (took_on old mid (record new { short = mid.short }) [] took waits.1) in
-    (waits.0, stands, waits.2, waited_then old.raw mid.raw new.raw took.kept.raw waits.3, waits_once_then old.raw mid.raw new.raw took.kept.raw no_wait waits.4)
-passes_all_then old mid new (Err fault.RawFault) took no_wait fails = (fails_on old mid new [] (record { took = took; calm = calm_of old.buffer old.raw mid.raw no_wait }) fails.0, no_wait_then old.raw mid.raw new.raw took.kept.raw no_wait fails.1, fails.2)
-passes_all_then old mid new (Err fault.NoMemory) took no_wait lacks = (lacks_on old mid new [] took lacks.0, no_wait_then old.raw mid.raw new.raw took.kept.raw no_wait lacks.1)
-passes_all_then old mid new (Err why) took no_wait never = absurd never
+lives_then : (old mid new : Stream) → FoundOut old mid → LivesOn mid new → LivesOn old new
+lives_then old mid new out goes = record { passes = passes_then old mid new out.stands goes.passes; live = goes.live; no_fault = no_fault_then old.raw mid.raw new.raw out.stands.kept.raw out.counts.no_fault goes.no_fault }
+
+-- all was passed on after what was found out
+settles_then : (old mid new : Stream) (result : Result (Unit {0}) IoFault) → FoundOut old mid → SettleOutcome mid result new → SettleOutcome old result new
+settles_then old mid new (Ok done) out passed = (lives_then old mid new out passed.0, no_wait_then old.raw mid.raw new.raw out.stands.kept.raw out.counts.no_wait passed.1, passed.2)
+settles_then old mid new (Err (fault.WouldBlock taken)) out waits =
+    let goes : LivesOn old (record new { short = old.short }) = subst (λ (short : Bool). LivesOn old (record new { short = short })) out.stands.kept.short (lives_then old mid (record new { short = mid.short }) out waits.1) in
+    (waits.0, goes, waits.2, waited_then old.raw mid.raw new.raw out.stands.kept.raw waits.3, waits_once_then old.raw mid.raw new.raw out.stands.kept.raw out.counts.no_wait waits.4)
+settles_then old mid new (Err fault.RawFault) out fails = (passes_then old mid new out.stands fails.0, fails.1, faulted_then old.raw mid.raw new.raw out.stands.kept.raw fails.2, no_wait_then old.raw mid.raw new.raw out.stands.kept.raw out.counts.no_wait fails.3, fails.4)
+settles_then old mid new (Err fault.NoMemory) out lacks = (sym out.stands.kept.raw.takes_memory ∙ lacks.0, lives_then old mid new out lacks.1, no_wait_then old.raw mid.raw new.raw out.stands.kept.raw out.counts.no_wait lacks.2)
+settles_then old mid new (Err why) out never = absurd never
 
 -- the raw was left alone after some was passed on
 passes_still : (old mid new : Stream) → PassesSome old mid → StandsAsBefore mid new → PassesSome old new
 passes_still old mid new passes stands = grind arith
 
 -- the raw failed to move, or wanted memory
-moving_fails : (old mid new : Stream) (offset whence : ℤ) (target : ℕ) (why : IoFault) → SeeksWriting old → Goes old offset whence target → PassAllOutcome old (Ok tt) mid → GoOutcome mid target (Err why) new → Answers old (Seek offset whence) (Refused why) new
-moving_fails old mid new offset whence target fault.RawFault seeks to passed fails = search (rules, fault_fails, reaching, beside_writing, not_held, fault_fails_seek, passes_still, took_passes, faulted_then, no_wait_then)
+moving_fails : (old mid new : Stream) (offset whence : ℤ) (target : ℕ) (why : IoFault) → SeeksWriting old → Goes old offset whence target → SettleOutcome old (Ok tt) mid → GoOutcome mid target (Err why) new → Answers old (Seek offset whence) (Refused why) new
+moving_fails old mid new offset whence target fault.RawFault seeks to passed fails = search (rules, fault_fails, reaching, beside_writing, not_held, fault_fails_seek, passes_still, faulted_then, no_wait_then)
 moving_fails old mid new offset whence target fault.NoMemory seeks to passed wants =
-    let took : Took old [] mid = passed.0 in
     subst (λ (after : Stream). Answers old (Seek offset whence) (Refused fault.NoMemory) after) (sym wants.1)
-    (lacks_refuse old mid (Seek offset whence) (reaching old offset whence seeks.may to.asks) seeks.writes (not_held old offset whence seeks) (record { takes = sym took.kept.raw.takes_memory ∙ wants.0; took = took }) passed.1)
+    (lacks_refuse old mid (Seek offset whence) (reaching old offset whence seeks.may to.asks) seeks.writes (not_held old offset whence seeks) (sym passed.0.passes.kept.raw.takes_memory ∙ wants.0, passed.0, passed.1))
 moving_fails old mid new offset whence target why seeks to passed never = absurd never
 
 -- As the steps come.
 
 -- a stop of the passing on answers the seek
-pub seek_stops : (old found new : Stream) (offset whence : ℤ) (target : ℕ) (why : IoFault) → SeeksWriting (begun old) → Finds (begun old) offset whence target found → PassAllOutcome found (Err why) new → Answers old (Seek offset whence) (Refused why) new
-seek_stops old found new offset whence target why seeks finds stops = search (rules, answers_whole, pass_all_refuses, accepts_seek, not_held, fault_fails_seek, passes_all_then, found_took)
+pub seek_stops : (old found new : Stream) (offset whence : ℤ) (target : ℕ) (why : IoFault) → SeeksWriting (begun old) → Finds (begun old) offset whence target found → SettleOutcome found (Err why) new → Answers old (Seek offset whence) (Refused why) new
+seek_stops old found new offset whence target why seeks finds stops = search (rules, answers_whole, settling_refuses, accepts_seek, not_held, fault_fails_seek, settles_then)
 
 -- a failing of the moving answers the seek
-pub seek_fails : (old found mid new : Stream) (offset whence : ℤ) (target : ℕ) (why : IoFault) → SeeksWriting (begun old) → Finds (begun old) offset whence target found → PassAllOutcome found (Ok tt) mid → GoOutcome mid target (Err why) new → Answers old (Seek offset whence) (Refused why) new
-seek_fails old found mid new offset whence target why seeks finds passed fails = search (rules, answers_whole, moving_fails, passes_all_then, found_took)
+pub seek_fails : (old found mid new : Stream) (offset whence : ℤ) (target : ℕ) (why : IoFault) → SeeksWriting (begun old) → Finds (begun old) offset whence target found → SettleOutcome found (Ok tt) mid → GoOutcome mid target (Err why) new → Answers old (Seek offset whence) (Refused why) new
+seek_fails old found mid new offset whence target why seeks finds passed fails = search (rules, answers_whole, moving_fails, settles_then)
 
 -- a stream that writes stands where it was to go
-pub seek_answers : (old found mid new : Stream) (offset whence : ℤ) (target : ℕ) → SeeksWriting (begun old) → Finds (begun old) offset whence target found → PassAllOutcome found (Ok tt) mid → GoesTo mid target new → Answers old (Seek offset whence) (Place target) new
+pub seek_answers : (old found mid new : Stream) (offset whence : ℤ) (target : ℕ) → SeeksWriting (begun old) → Finds (begun old) offset whence target found → SettleOutcome found (Ok tt) mid → GoesTo mid target new → Answers old (Seek offset whence) (Place target) new
 seek_answers old found mid new offset whence target seeks finds passed goes =
-    let all : PassAllOutcome (begun old) (Ok tt) mid = passes_all_then (begun old) found mid (Ok tt) (found_took (begun old) found seeks finds.out) finds.out.counts.no_wait passed in
-    let took : Took (begun old) [] mid = all.0 in
     answers_whole old new (Seek offset whence) (Place target)
-    (gone (begun old) mid new offset whence target seeks.may finds.to (beside_writing (begun old) (Seek offset whence) (Place target) new seeks.writes (not_held (begun old) offset whence seeks)) (took_passes (begun old) mid took) all.2 took.no_fault all.1 goes)
+    (gone (begun old) mid new offset whence target seeks.may finds.to (beside_writing (begun old) (Seek offset whence) (Place target) new seeks.writes (not_held (begun old) offset whence seeks)) (settles_then (begun old) found mid (Ok tt) finds.out passed) goes)

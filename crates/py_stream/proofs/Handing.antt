@@ -1,5 +1,5 @@
 -- Handing a stream's raw back.
-use Rattle.std.proofs.Common.{◌≡◌, ℕ, ◌≤◌, ◌⊎◌, inl, inr, Bool, true, false, List, [], length, Option, Some, None, Ok, Err, if◌then◌else◌, refl, sym, ap, ◌∙◌, subst, arith, zero-le, rules, IsTrue}
+use Rattle.std.proofs.Common.{◌≡◌, ℕ, ◌≤◌, ◌⊎◌, inl, inr, Bool, true, false, List, [], Option, Some, None, Ok, Err, if◌then◌else◌, refl, sym, ap, ◌∙◌, subst, arith, zero-le, rules, IsTrue}
 use Rattle.py_flat.specs.declared.fault.IoFault.{IoFault}
 use Rattle.py_flat.specs.declared.fault.IoFault.TheVariants as fault
 use Rattle.py_flat.specs.declared.life.Life.{Life}
@@ -19,13 +19,13 @@ use Rattle.py_raw.proofs.Telling.{keeps_same}
 use Rattle.py_stream.specs.Stream.{Stream, buffering_of, file_of, nothing_owed}
 use Rattle.py_stream.specs.Answers.{Answers, IsCounted}
 use Rattle.py_stream.specs.Handing.{place_handed, handed_over, left_behind, owed_then, HandsOver}
-use Rattle.py_stream.specs.Taking.{Took, PassAllOutcome}
+use Rattle.py_stream.specs.Settling.{PassesSome, LivesOn, SettleOutcome}
 use Rattle.py_stream.specs.Ending.{BeginDetachIn}
 use Rattle.py_stream.proofs.Refused.{lays_nothing}
 use Rattle.py_stream.proofs.Begun.{answers_whole}
 use Rattle.py_stream.proofs.Showing.{Asked, shows_answers, passing_writes, detach_moves_none, IsWriting, detach_asked}
-use Rattle.py_stream.proofs.PassingOn.{begun, none_owed_at, PassesSome, FaultLeaves, took_passes, passed_all, pass_all_refuses}
-use Rattle.py_stream.specs.Writing.{Writes}
+use Rattle.py_stream.proofs.PassingOn.{begun, FaultLeaves, passed_all, settling_refuses}
+use Rattle.py_stream.specs.Writing.{NoneAtPlace, Writes}
 
 -- A detaching that is refused.
 
@@ -37,7 +37,7 @@ fault_fails_detach = record { dead = refl; life_is = λ buffer current. refl; st
 pub detach_refuses : (old new : Stream) (current : Life) (why : IoFault) → old.life ≡ current → (current ≡ life.Live → IsWriting (begun old)) → old.place ≤ greatest_place → BeginDetachIn current (begun old) (Err why) new → Answers old Detach (Refused why) new
 detach_refuses old new life.Live why is writing far stops =
     let may : IsWriting (begun old) = writing refl in
-    answers_whole old new Detach (Refused why) (pass_all_refuses (begun old) new Detach may.size why (detach_asked (begun old) may) may.buffered may.writes (λ has. has.of) fault_fails_detach stops)
+    answers_whole old new Detach (Refused why) (settling_refuses (begun old) new Detach may.size why (detach_asked (begun old) may) may.buffered may.writes (λ has. has.of) fault_fails_detach stops)
 detach_refuses old new life.Failed why is writing far stops = absurd (let wrong : Err why ≡ Ok tt = stops.0 in cc)
 detach_refuses old new life.Closed why is writing far stops = grind (arith, lays_nothing)
 detach_refuses old new life.Detached why is writing far never = absurd never
@@ -94,24 +94,22 @@ hands_at_once old size buffered at_once far at = grind (arith, same_owed, hands_
 -- A live stream that writes, once nothing is owed.
 
 -- the raw stands at the place of the stream
-stands_at_end : (old new : Stream) → Took old [] new → new.owed.bytes ≡ [] → WherePlace old.raw (new.raw.place ≡ old.place)
-stands_at_end old new took none tells =
-    let there : new.raw.place ≡ new.raw_place = (took.kept.sound.near took.live).stands (took.kept.raw.tells_place ∙ tells) in
-    omega (arith, there, took.behind.stands, took.behind.ends, (took_passes old new took).still, ap length none)
+stands_at_end : (old new : Stream) → LivesOn old new → new.raw_place ≡ new.place → WherePlace old.raw (new.raw.place ≡ old.place)
+stands_at_end old new goes stands tells = (goes.passes.kept.sound.near goes.live).stands (goes.passes.kept.raw.tells_place ∙ tells) ∙ stands ∙ goes.passes.still
 
-detached_live : (old new : Stream) → IsWriting old → old.place ≤ greatest_place → PassAllOutcome old (Ok tt) new → Answers old Detach (Unwritten [] (place_handed old (nothing_owed old.place))) (handed_over old new.raw (nothing_owed old.place))
-detached_live old new is far passed =
+detached_live : (old new : Stream) → IsWriting old → old.place ≤ greatest_place → SettleOutcome old (Ok tt) new → new.raw_place ≡ new.place → Answers old Detach (Unwritten [] (place_handed old (nothing_owed old.place))) (handed_over old new.raw (nothing_owed old.place))
+detached_live old new is far passed stands =
     let asked : Asked old Detach = (detach_asked old is).asked in
-    let took : Took old [] new = passed.0 in
-    let passes : PassesSome old new = took_passes old new took in
+    let goes : LivesOn old new = passed.0 in
+    let passes : PassesSome old new = goes.passes in
     let reply : FileReply = Unwritten [] (place_handed old (nothing_owed old.place)) in
     let after : Stream = handed_over old new.raw (nothing_owed old.place) in
-    let counted : IsTrue old.raw.counts_exactly → IsCounted old.buffer old.raw Detach reply new.raw false = λ exact. record { faults = λ _. took.no_fault exact; waits = λ _ _. passed.1 exact; once = λ waited. absurd (cc) } in
+    let counted : IsTrue old.raw.counts_exactly → IsCounted old.buffer old.raw Detach reply new.raw false = λ exact. record { faults = λ _. goes.no_fault exact; waits = λ _ _. passed.1 exact; once = λ waited. absurd (cc) } in
     let writes : Writes old Detach reply after = passing_writes old Detach reply after asked.none (record {
       leaves = record { passed = passes.passed; most = passes.within; answered = passes.answered; bytes = sym passed.2 ∙ passes.owed; place = λ some. absurd (some refl) };
       stands = λ _ some. absurd (some refl);
       lays = passes.lays;
-      passes = λ _. (record { none = refl; holds = passed_all old new passes passed.2 }, refl, stands_at_end old new took passed.2);
+      passes = λ _. (record { none = refl; holds = passed_all old new passes passed.2 }, refl, stands_at_end old new goes stands);
       full = tt;
       settles = λ _ _. refl;
       unclosed = λ some. absurd (some refl);
@@ -122,19 +120,19 @@ detached_live old new is far passed =
         (ap (λ (bytes : List ℕ). let file : FlatFile = record (file_of old) { bytes = bytes; life = life.Detached } in (reply, file)) (passed_all old new passes passed.2 tells)))) in
     shows_answers old Detach reply after asked.none (search rules)
 
-hands_live : (old new : Stream) → old.life ≡ life.Live → IsWriting (begun old) → old.place ≤ greatest_place → PassAllOutcome (begun old) (Ok tt) new → HandsOver old new.raw new.owed.bytes (place_handed old new.owed) (left_behind old)
-hands_live old new live is far passed =
+hands_live : (old new : Stream) → old.life ≡ life.Live → IsWriting (begun old) → old.place ≤ greatest_place → NoneAtPlace old → BeginDetachIn life.Live (begun old) (Ok tt) new → HandsOver old new.raw new.owed.bytes (place_handed old new.owed) (left_behind old)
+hands_live old new live is far at passed =
     let none : Owed = nothing_owed old.place in
-    let took : Took (begun old) [] new = passed.0 in
-    let place : new.owed.place ≡ old.place = (took_passes (begun old) new took).at (none_owed_at (begun old) took.was.ends) passed.2 ∙ (took_passes (begun old) new took).still in
+    let passes : PassesSome (begun old) new = passed.0.0.passes in
+    let place : new.owed.place ≡ old.place = passes.at at passed.0.2 ∙ passes.still in
     let owed : owed_then old.life old ≡ none = ap (λ (current : Life). owed_then current old) live in
     let handed : place_handed old new.owed ≡ place_handed old none = ap (λ (at : ℕ). if old.can.seekable then Some at else None) place in
-    let answers : Answers old Detach (Unwritten [] (place_handed old none)) (handed_over old new.raw none) = answers_whole old (handed_over old new.raw none) Detach _ (detached_live (begun old) new is far passed) in
+    let answers : Answers old Detach (Unwritten [] (place_handed old none)) (handed_over old new.raw none) = answers_whole old (handed_over old new.raw none) Detach _ (detached_live (begun old) new is far passed.0 passed.1) in
     search rules
 
 -- a stream that writes, and that is handed over: a live one or a failed one
 pub hands_over : (old new : Stream) (current : Life) → old.life ≡ current → (current ≡ life.Live → IsWriting (begun old)) → (size : ℕ) → old.buffer ≡ Some size → old.place ≤ greatest_place → (old.owed.bytes ≡ [] → old.owed.place ≡ old.place) → BeginDetachIn current (begun old) (Ok tt) new → HandsOver old new.raw new.owed.bytes (place_handed old new.owed) (left_behind old)
-hands_over old new life.Live is writing size buffered far at passed = hands_live old new is (writing refl) far passed
+hands_over old new life.Live is writing size buffered far at passed = hands_live old new is (writing refl) far at passed
 hands_over old new life.Failed is writing size buffered far at same = subst (λ (after : Stream). HandsOver old after.raw after.owed.bytes (place_handed old after.owed) (left_behind old)) (sym same.1) (hands_at_once old size buffered (inl is) far at)
 hands_over old new life.Closed is writing size buffered far at wrong = absurd (let never : Ok tt ≡ Err fault.Closed = wrong.0 in cc)
 hands_over old new life.Detached is writing size buffered far at never = absurd never

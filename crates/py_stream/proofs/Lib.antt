@@ -20,6 +20,7 @@ pub mod Showing
 pub mod PassingOn
 pub mod Shutting
 pub mod Going
+pub mod Sizing
 pub mod Handing
 pub mod Buffering
 pub mod ReadingCalls

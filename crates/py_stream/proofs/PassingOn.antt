@@ -1,6 +1,6 @@
 -- A call that passes on what is owed, and what stops it.
 use Rattle.py_stream.specs.Moving.{StandsAsBefore}
-use Rattle.std.proofs.Common.{IsTrue, ◌≡◌, ℕ, suc, zero, ◌+◌, ◌≤◌, Bool, true, false, List, [], length, take, drop, Option, Some, Err, refl, sym, ap, ◌∙◌, subst, arith, length-drop, rules}
+use Rattle.std.proofs.Common.{IsTrue, ◌≡◌, ℕ, suc, zero, ◌+◌, Bool, true, false, List, [], length, take, Option, Some, Err, refl, sym, ap, ◌∙◌, subst, arith, length-drop, rules}
 use Rattle.std.proofs.lemmas.List.{append-nil}
 use Rattle.py_flat.specs.declared.fault.IoFault.{IoFault}
 use Rattle.py_flat.specs.declared.fault.IoFault.TheVariants as fault
@@ -14,12 +14,12 @@ use Rattle.py_flat.specs.ExactStep.{is_closed}
 use Rattle.py_flat.specs.AllowedStep.{waited_for, out_of_memory}
 use Rattle.py_flat.specs.BinaryStep.{is_live, Fails, WaitedBy, FaultedBy, StarvedBy, BinaryStep}
 use Rattle.py_flat.proofs.Laying.{lay_resumes}
-use Rattle.py_raw.specs.RawStream.{NoFault, WhereTold, NoWait, WaitsOnce, AnswersFor}
+use Rattle.py_raw.specs.RawStream.{WhereTold, NoWait, WaitsOnce}
 use Rattle.py_stream.specs.Stream.{Stream, file_of}
-use Rattle.py_stream.specs.Writing.{OwesBehind, NoneAtPlace, PassesFront, LaysFront, Writes}
+use Rattle.py_stream.specs.Writing.{NoneAtPlace, PassesFront, LaysFront, Writes}
 use Rattle.py_stream.specs.Answers.{Answers, KeepsStream, ClosedWith, InHand, IsShort, LifeMoves, PlaceMoves, IsReplyTo, IsCounted}
-use Rattle.py_stream.specs.Keeping.{KeepsOn}
-use Rattle.py_stream.specs.Taking.{Took, FailsTaking, Lacks, PassAllOutcome}
+use Rattle.py_stream.specs.Taking.{Took, FailsTaking}
+use Rattle.py_stream.specs.Settling.{PassesSome, LivesOn, SettleOutcome}
 use Rattle.py_stream.proofs.Refused.{nothing_passed, nothing_blocked}
 use Rattle.py_stream.proofs.Stopping.{says_short, needs_no_end, waits_alive, waits_there, waits_with_none, waits_answer, fails_there, fault_answers, starves_alive, starves_there, starve_answers}
 use Rattle.py_stream.proofs.Flat.{flat_of, file_now}
@@ -28,20 +28,6 @@ use Rattle.py_stream.proofs.Showing.{Asked, Accepts, Beside, beside_writing, sho
 -- a stream of which a call was begun
 abbrev pub begun : Stream → Stream
 begun stream = record stream { short = false }
-
--- the first n of the bytes that were owed are passed on, wherever they belong; told, these were laid on, and maybe more of them
-pub record PassesSome (old new : Stream) : Type 0 where
-  pub kept : KeepsOn old new
-  pub passed : ℕ
-  pub within : passed ≤ length old.owed.bytes
-  pub answered : AnswersFor passed old.raw new.raw
-  pub place : new.owed.place ≡ old.owed.place + passed
-  pub owed : new.owed.bytes ≡ drop passed old.owed.bytes
-  pub still : new.place ≡ old.place
-  pub at : NoneAtPlace old → NoneAtPlace new
-  pub stands : OwesBehind old → new.raw_place ≡ new.owed.place
-  pub lays : WhereTold old.raw (LaysFront old [] new.raw.bytes)
-  pub told : WhereTold old.raw ((laid : ℕ) × (passed ≤ laid) × (laid ≤ length old.owed.bytes) × (new.raw.bytes ≡ lay old.raw.bytes old.owed.place (take laid old.owed.bytes)))
 
 -- a stream that stands as it stood passed nothing on
 pub passes_nothing : (old new : Stream) → StandsAsBefore old new → PassesSome old new
@@ -97,14 +83,14 @@ pub stays_open : (old : Stream) (left : Life) → old.life ≡ life.Live → is_
 stays_open old left live alive closed = closed ∙ ap is_closed live ∙ sym alive
 
 -- the raw would have blocked
-pub waiting_answers : (old new : Stream) (call : FileCall) (size : ℕ) → Accepts old call → old.buffer ≡ Some size → old.can.writable ≡ true → (InHand old call → ⊥) → Took old [] (record new { short = old.short }) → new.short ≡ true → Rose old.raw.waits new.raw.waits → WaitsOnce old.raw new.raw → Answers old call (Refused (fault.WouldBlock 0)) new
-waiting_answers old new call size accepts buffered can apart took short rose once =
+pub waiting_answers : (old new : Stream) (call : FileCall) (size : ℕ) → Accepts old call → old.buffer ≡ Some size → old.can.writable ≡ true → (InHand old call → ⊥) → LivesOn old (record new { short = old.short }) → new.short ≡ true → Rose old.raw.waits new.raw.waits → WaitsOnce old.raw new.raw → Answers old call (Refused (fault.WouldBlock 0)) new
+waiting_answers old new call size accepts buffered can apart goes short rose once =
     let asked : Asked old call = accepts.asked in
     let left : Stream = record new { short = old.short } in
-    let passes : PassesSome old left = took_passes old left took in
-    let same : new.life ≡ old.life = took.live ∙ sym asked.live in
+    let passes : PassesSome old left = goes.passes in
+    let same : new.life ≡ old.life = goes.live ∙ sym asked.live in
     let reply : FileReply = Refused (fault.WouldBlock 0) in
-    let counted : IsTrue old.raw.counts_exactly → IsCounted old.buffer old.raw call reply new.raw new.short = λ exact. record { faults = λ _. took.no_fault exact; waits = λ whole. absurd (cc); once = λ _ _. once exact } in
+    let counted : IsTrue old.raw.counts_exactly → IsCounted old.buffer old.raw call reply new.raw new.short = λ exact. record { faults = λ _. goes.no_fault exact; waits = λ whole. absurd (cc); once = λ _ _. once exact } in
     let shorts : IsShort call reply new.short = subst (IsShort call reply) (sym short) (says_short call (fault.WouldBlock 0)) in
     let life_is : LifeMoves old.buffer call reply old.life new.life = subst (LifeMoves old.buffer call reply old.life) (sym same) (waits_alive old.buffer call old.life) in
     let place : PlaceMoves old.buffer call reply new.life old.place new.place = subst (PlaceMoves old.buffer call reply new.life old.place) (sym passes.still) (waits_there old.buffer call new.life old.place asked.none.writing) in
@@ -114,12 +100,13 @@ waiting_answers old new call size accepts buffered can apart took short rose onc
     shows_answers old call reply new asked.none (search (rules, passing_keeps, stays_open, needs_no_end))
 
 -- memory ran out, after some was passed on, or none
-pub lacking_answers : (old new : Stream) (call : FileCall) → Asked old call → Beside old call (Refused fault.NoMemory) new → IsTrue old.raw.takes_memory → PassesSome old new → new.life ≡ life.Live → NoFault old.raw new.raw → NoWait old.raw new.raw → Answers old call (Refused fault.NoMemory) new
-lacking_answers old new call asked beside takes passes live no_fault no_wait =
-    let same : new.life ≡ old.life = live ∙ sym asked.live in
+pub lacking_answers : (old new : Stream) (call : FileCall) → Asked old call → Beside old call (Refused fault.NoMemory) new → IsTrue old.raw.takes_memory → LivesOn old new → NoWait old.raw new.raw → Answers old call (Refused fault.NoMemory) new
+lacking_answers old new call asked beside takes goes no_wait =
+    let passes : PassesSome old new = goes.passes in
+    let same : new.life ≡ old.life = goes.live ∙ sym asked.live in
     let short : new.short ≡ false = passes.kept.short ∙ asked.whole in
     let reply : FileReply = Refused fault.NoMemory in
-    let counted : IsTrue old.raw.counts_exactly → IsCounted old.buffer old.raw call reply new.raw new.short = λ exact. record { faults = λ _. no_fault exact; waits = λ _ _. no_wait exact; once = λ waited. absurd (cc) } in
+    let counted : IsTrue old.raw.counts_exactly → IsCounted old.buffer old.raw call reply new.raw new.short = λ exact. record { faults = λ _. goes.no_fault exact; waits = λ _ _. no_wait exact; once = λ waited. absurd (cc) } in
     let shorts : IsShort call reply new.short = subst (IsShort call reply) (sym short) (says_short call fault.NoMemory) in
     let life_is : LifeMoves old.buffer call reply old.life new.life = subst (LifeMoves old.buffer call reply old.life) (sym same) (starves_alive old.buffer call old.life) in
     let place : PlaceMoves old.buffer call reply new.life old.place new.place = subst (PlaceMoves old.buffer call reply new.life old.place) (sym passes.still) (starves_there old.buffer call new.life old.place) in
@@ -150,19 +137,19 @@ fault_fails old failed call asked beside leaves passes is cause no_wait =
     (failing_answers old failed call life.Failed asked beside leaves passes cause no_wait (λ _. refl))
 
 -- a wait refuses the call, of a stream with a buffer that writes
-pub waits_refuse : (old new : Stream) (call : FileCall) (size taken : ℕ) → Accepts old call → old.buffer ≡ Some size → old.can.writable ≡ true → (InHand old call → ⊥) → PassAllOutcome old (Err (fault.WouldBlock taken)) new → Answers old call (Refused (fault.WouldBlock taken)) new
+pub waits_refuse : (old new : Stream) (call : FileCall) (size taken : ℕ) → Accepts old call → old.buffer ≡ Some size → old.can.writable ≡ true → (InHand old call → ⊥) → SettleOutcome old (Err (fault.WouldBlock taken)) new → Answers old call (Refused (fault.WouldBlock taken)) new
 waits_refuse old new call size taken accepts buffered can apart waits =
     subst (λ (count : ℕ). Answers old call (Refused (fault.WouldBlock count)) new) (sym waits.0)
     (waiting_answers old new call size accepts buffered can apart waits.1 waits.2 waits.3 waits.4)
 
 -- running out of memory refuses a call that passes on, after a step of its stream
-pub lacks_refuse : (old new : Stream) (call : FileCall) → Asked old call → old.can.writable ≡ true → (InHand old call → ⊥) → Lacks old [] new → NoWait old.raw new.raw → Answers old call (Refused fault.NoMemory) new
-lacks_refuse old new call asked can apart lacks no_wait = search (rules, lacking_answers, beside_writing, took_passes)
+pub lacks_refuse : (old new : Stream) (call : FileCall) → Asked old call → old.can.writable ≡ true → (InHand old call → ⊥) → SettleOutcome old (Err fault.NoMemory) new → Answers old call (Refused fault.NoMemory) new
+lacks_refuse old new call asked can apart lacks = lacking_answers old new call asked (beside_writing old call (Refused fault.NoMemory) new can apart) lacks.0 lacks.1 lacks.2
 
 -- whatever stops the passing on refuses the call
-pub pass_all_refuses : (old new : Stream) (call : FileCall) (size : ℕ) (why : IoFault) → Accepts old call → old.buffer ≡ Some size → old.can.writable ≡ true → (InHand old call → ⊥) → FaultLeaves call life.Failed → PassAllOutcome old (Err why) new → Answers old call (Refused why) new
-pass_all_refuses old new call size (fault.WouldBlock taken) accepts buffered can apart leaves waits = waits_refuse old new call size taken accepts buffered can apart waits
-pass_all_refuses old new call size fault.RawFault accepts buffered can apart leaves fails =
-    fault_fails old new call accepts.asked (beside_writing old call (Refused fault.RawFault) (record new { life = life.Failed }) can apart) leaves (failing_passes old new fails.0) fails.0.failed fails.0.cause fails.1
-pass_all_refuses old new call size fault.NoMemory accepts buffered can apart leaves lacks = lacks_refuse old new call accepts.asked can apart lacks.0 lacks.1
-pass_all_refuses old new call size why accepts buffered can apart leaves never = absurd never
+pub settling_refuses : (old new : Stream) (call : FileCall) (size : ℕ) (why : IoFault) → Accepts old call → old.buffer ≡ Some size → old.can.writable ≡ true → (InHand old call → ⊥) → FaultLeaves call life.Failed → SettleOutcome old (Err why) new → Answers old call (Refused why) new
+settling_refuses old new call size (fault.WouldBlock taken) accepts buffered can apart leaves waits = waits_refuse old new call size taken accepts buffered can apart waits
+settling_refuses old new call size fault.RawFault accepts buffered can apart leaves fails =
+    fault_fails old new call accepts.asked (beside_writing old call (Refused fault.RawFault) (record new { life = life.Failed }) can apart) leaves fails.0 fails.1 fails.2 fails.3
+settling_refuses old new call size fault.NoMemory accepts buffered can apart leaves lacks = lacks_refuse old new call accepts.asked can apart lacks
+settling_refuses old new call size why accepts buffered can apart leaves never = absurd never

@@ -10,7 +10,7 @@ use Rattle.py_flat.specs.Causes.{Rose}
 use Rattle.py_flat.specs.Calls.{FileCall, FileReply, NotReady, Refused, Lines, ReadLines}
 use Rattle.py_flat.specs.FlatFile.{FlatFile}
 use Rattle.py_flat.specs.Refusals.{lacks}
-use Rattle.py_flat.specs.ExactStep.{rest, after_read, gives}
+use Rattle.py_flat.specs.ExactStep.{rest, after_read}
 use Rattle.py_flat.specs.AllowedStep.{settled, waited_for}
 use Rattle.py_flat.specs.BinaryStep.{BinaryStep, Accepted, SettledBy, GivesPart, WaitedBy, StarvedBy, does_work}
 use Rattle.py_flat.proofs.Cutting.{joined_lines}

@@ -1,6 +1,6 @@
 -- The answers of `flush` and `close` of a stream with a buffer that writes.
 use Rattle.py_stream.specs.Keeping.{IsSound, KeepsOn}
-use Rattle.std.proofs.Common.{◌≡◌, ℕ, ◌≤◌, IsTrue, Bool, true, false, [], length, Option, Result, Ok, Err, refl, sym, ap, ◌∙◌, subst, arith, zero-le, rules}
+use Rattle.std.proofs.Common.{◌≡◌, ℕ, ◌≤◌, IsTrue, Bool, true, false, [], length, Option, Result, Ok, Err, IfOk, refl, sym, ap, ◌∙◌, subst, arith, zero-le, rules}
 use Rattle.py_flat.specs.declared.fault.IoFault.{IoFault}
 use Rattle.py_flat.specs.declared.fault.IoFault.TheVariants as fault
 use Rattle.py_flat.specs.declared.life.Life.{Life}
@@ -13,7 +13,7 @@ use Rattle.py_flat.specs.FlatFile.{FlatFile}
 use Rattle.py_flat.specs.ExactStep.{in_life}
 use Rattle.py_flat.specs.AllowedStep.{settled, raw_faulted}
 use Rattle.py_flat.specs.BinaryStep.{BinaryStep, SettledBy}
-use Rattle.py_raw.specs.RawStream.{WhereTold, NoWait, NoFault, KeepsReads}
+use Rattle.py_raw.specs.RawStream.{WhereTold, NoWait, KeepsReads}
 use Rattle.py_raw.proofs.Telling.{tells_its_bytes}
 use Rattle.py_raw.proofs.ReadingOn.{Keeps-then, no_fault_then, no_wait_then}
 use Rattle.py_stream.specs.Stream.{Stream, buffering_of, file_of, nothing_owed}
@@ -21,7 +21,7 @@ use Rattle.py_stream.specs.Kinds.{says_fault, says_no_memory}
 use Rattle.py_stream.specs.Replies.{done_reply}
 use Rattle.py_stream.specs.Writing.{NoneAtPlace, PassesFront, LaysFront, PassedOn, PassesOn, BlocksFull, Writes}
 use Rattle.py_stream.specs.Answers.{Answers, KeepsStream, HasCauses, IsCounted, IsShort, LifeMoves, PlaceMoves, IsReplyTo, SparesBytes}
-use Rattle.py_stream.specs.Taking.{Took, PassAllOutcome}
+use Rattle.py_stream.specs.Settling.{PassesSome, LivesOn, SettleOutcome}
 use Rattle.py_stream.specs.Ending.{ClosingOutcome, ClosesRaw, CloseRawOutcome}
 use Rattle.py_stream.proofs.Begun.{answers_whole}
 use Rattle.py_stream.proofs.Alone.{Begins}
@@ -29,7 +29,7 @@ use Rattle.py_stream.proofs.Stopping.{fails_there}
 use Rattle.py_stream.proofs.Taking.{answers_still}
 use Rattle.py_stream.proofs.Flat.{flat_of}
 use Rattle.py_stream.proofs.Showing.{Asked, beside_writing, shows_answers, passing_writes, IsWriting, flush_asked, close_asked}
-use Rattle.py_stream.proofs.PassingOn.{begun, PassesSome, FaultLeaves, took_passes, failing_passes, passed_all, passing_front, passing_keeps, passing_file, stays_open, failing_answers, lacks_refuse, waits_refuse, pass_all_refuses, lacking_answers}
+use Rattle.py_stream.proofs.PassingOn.{begun, FaultLeaves, passed_all, passing_front, passing_keeps, passing_file, stays_open, failing_answers, lacks_refuse, waits_refuse, settling_refuses, lacking_answers}
 
 -- Flushing.
 
@@ -38,35 +38,35 @@ pub fault_fails_flush : FaultLeaves Flush life.Failed
 fault_fails_flush = record { dead = refl; life_is = λ buffer current. refl; step = λ file after fails. (0, zero-le, fails) }
 
 -- a `flush` that passed all on, with the raw at the place
-flushed : (old new : Stream) → IsWriting old → PassAllOutcome old (Ok tt) new → Answers old Flush Done new
-flushed old new is passed =
+flushed : (old new : Stream) → IsWriting old → SettleOutcome old (Ok tt) new → new.raw_place ≡ new.place → Answers old Flush Done new
+flushed old new is passed stands =
     let asked : Asked old Flush = (flush_asked old is).asked in
-    let took : Took old [] new = passed.0 in
-    let passes : PassesSome old new = took_passes old new took in
-    let same : new.life ≡ old.life = took.live ∙ sym is.live in
-    let short : new.short ≡ false = took.kept.short ∙ is.whole in
-    let counted : IsTrue old.raw.counts_exactly → IsCounted old.buffer old.raw Flush Done new.raw new.short = λ exact. record { faults = λ _. took.no_fault exact; waits = λ _ _. passed.1 exact; once = λ waited. absurd (cc) } in
+    let goes : LivesOn old new = passed.0 in
+    let passes : PassesSome old new = goes.passes in
+    let same : new.life ≡ old.life = goes.live ∙ sym is.live in
+    let short : new.short ≡ false = passes.kept.short ∙ is.whole in
+    let counted : IsTrue old.raw.counts_exactly → IsCounted old.buffer old.raw Flush Done new.raw new.short = λ exact. record { faults = λ _. goes.no_fault exact; waits = λ _ _. passed.1 exact; once = λ waited. absurd (cc) } in
     let writes : Writes old Flush Done new = passing_writes old Flush Done new asked.none (record {
       leaves = passing_front old new new.life new.short passes;
       stands = λ behind some. passes.stands behind;
       lays = passes.lays;
-      passes = (record { none = passed.2; holds = passed_all old new passes passed.2 }, omega (arith, took.behind.ends, took.behind.stands, ap length passed.2));
+      passes = (record { none = passed.2; holds = passed_all old new passes passed.2 }, stands);
       full = tt;
       settles = passes.at;
-      unclosed = λ some. took.kept.stays;
+      unclosed = λ some. passes.kept.stays;
       rests = λ dead. absurd (dead is.live);
     }) in
     let told : WhereTold old.raw (BinaryStep (file_of old) Flush Done new.short false (file_of new)) = λ tells. settled (subst (λ (refused : Option IoFault). SettledBy (file_of old) Flush refused Done (file_of new)) (sym asked.passes) (ap (λ (file : FlatFile). (Done, file)) (passing_file old new passes same tells))) in
     shows_answers old Flush Done new asked.none (search (rules, passing_keeps, stays_open))
 
-flush_ends : (old new : Stream) (result : Result (Unit {0}) IoFault) → IsWriting old → PassAllOutcome old result new → Answers old Flush (done_reply result) new
-flush_ends old new (Ok done) is passed = flushed old new is passed
-flush_ends old new (Err why) is stops = pass_all_refuses old new Flush is.size why (flush_asked old is) is.buffered is.writes (λ has. has.of) fault_fails_flush stops
+flush_ends : (old new : Stream) (result : Result (Unit {0}) IoFault) → IsWriting old → SettleOutcome old result new → IfOk result (λ done. new.raw_place ≡ new.place) → Answers old Flush (done_reply result) new
+flush_ends old new (Ok done) is passed stands = flushed old new is passed stands
+flush_ends old new (Err why) is stops none = settling_refuses old new Flush is.size why (flush_asked old is) is.buffered is.writes (λ has. has.of) fault_fails_flush stops
 
--- a `flush` is answered by the passing on of all
-pub flush_passes_on : (old started new : Stream) (result : Result (Unit {0}) IoFault) → IsWriting (begun old) → Begins old (Ok tt) started → PassAllOutcome started result new → Answers old Flush (done_reply result) new
-flush_passes_on old started new result is begins passed =
-    answers_whole old new Flush (done_reply result) (flush_ends (begun old) new result is (subst (λ (stream : Stream). PassAllOutcome stream result new) begins.1 passed))
+-- a `flush` is answered by the passing on of all, after which the raw stands at the place
+pub flush_passes_on : (old started new : Stream) (result : Result (Unit {0}) IoFault) → IsWriting (begun old) → Begins old (Ok tt) started → SettleOutcome started result new → IfOk result (λ done. new.raw_place ≡ new.place) → Answers old Flush (done_reply result) new
+flush_passes_on old started new result is begins passed stands =
+    answers_whole old new Flush (done_reply result) (flush_ends (begun old) new result is (subst (λ (stream : Stream). SettleOutcome stream result new) begins.1 passed) stands)
 
 -- Closing.
 
@@ -78,18 +78,16 @@ fault_closes = record { dead = refl; life_is = λ buffer current. refl; step = �
 closing_refuses : (old new : Stream) (why : IoFault) → IsWriting old → ClosingOutcome old (Err why) new → Answers old Close (Refused why) new
 closing_refuses old new (fault.WouldBlock taken) is waits = waits_refuse old new Close is.size taken (close_asked old is.sound is.live is.whole) is.buffered is.writes (λ has. has.of) waits
 closing_refuses old new fault.RawFault is fails =
-    subst (λ (after : Stream). Answers old Close (Refused fault.RawFault) after) (sym fails.4)
-    (failing_answers old fails.0 Close life.Closed (close_asked old is.sound is.live is.whole).asked (beside_writing old Close (Refused fault.RawFault) (record fails.0 { life = life.Closed }) is.writes (λ has. has.of)) fault_closes (failing_passes old fails.0 fails.1) fails.1.cause fails.2 (λ none. absurd (omega (arith, fails.3, ap length none))))
-closing_refuses old new fault.NoMemory is lacks = lacks_refuse old new Close (close_asked old is.sound is.live is.whole).asked is.writes (λ has. has.of) lacks.0 lacks.1
+    subst (λ (after : Stream). Answers old Close (Refused fault.RawFault) after) (sym fails.2)
+    (failing_answers old fails.0 Close life.Closed (close_asked old is.sound is.live is.whole).asked (beside_writing old Close (Refused fault.RawFault) (record fails.0 { life = life.Closed }) is.writes (λ has. has.of)) fault_closes fails.1.0 fails.1.2 fails.1.3 (λ none. absurd (omega (arith, fails.1.4, ap length none))))
+closing_refuses old new fault.NoMemory is lacks = lacks_refuse old new Close (close_asked old is.sound is.live is.whole).asked is.writes (λ has. has.of) lacks
 closing_refuses old new why is never = absurd never
 
 -- a live stream that is to be closed, once all was passed on, or nothing was owed
 record ReadyToClose (old mid : Stream) : Type 0 where
   pub asked : Asked old Close
-  pub passes : PassesSome old mid
+  pub goes : LivesOn old mid
   pub none : mid.owed.bytes ≡ []
-  pub live : mid.life ≡ life.Live
-  pub no_fault : NoFault old.raw mid.raw
   pub no_wait : NoWait old.raw mid.raw
   pub spares : old.can.writable ≡ false → SparesBytes old mid
 
@@ -112,7 +110,7 @@ record ShutsDown (old new : Stream) : Type 0 where
 
 shuts_down : (old mid new : Stream) → ReadyToClose old mid → ClosesRaw mid new → ShutsDown old new
 shuts_down old mid new ready closes =
-    let passes : PassesSome old mid = ready.passes in
+    let passes : PassesSome old mid = ready.goes.passes in
     let kept : KeepsOn old mid = passes.kept in
     let bytes : WhereTold old.raw (new.raw.bytes ≡ mid.raw.bytes) = λ tells. closes.bytes (kept.raw.tells_bytes ∙ tells_its_bytes old.raw tells) in
     let keeps : KeepsStream old new = grind (arith, Keeps-then) in
@@ -163,20 +161,20 @@ closes_raw old mid new (Ok done) ready closes =
     let shuts : ShutsDown old new = shuts_down old mid new ready closes.0 in
     shut_answers old new Done asked done_shuts shuts (record {
       causes = record { waits = λ waited. absurd (cc (shuts.short)); faults = λ faults. absurd (cc) };
-      counted = λ exact. record { faults = λ _. no_fault_then old.raw mid.raw new.raw ready.passes.kept.raw ready.no_fault closes.1 exact; waits = λ _ _. shuts.no_wait exact; once = λ waited. absurd (cc (shuts.short)) };
+      counted = λ exact. record { faults = λ _. no_fault_then old.raw mid.raw new.raw ready.goes.passes.kept.raw ready.goes.no_fault closes.1 exact; waits = λ _ _. shuts.no_wait exact; once = λ waited. absurd (cc (shuts.short)) };
       told = λ tells. settled (subst (λ (refused : Option IoFault). SettledBy (file_of old) Close refused Done (file_of new)) (sym asked.passes) (ap (λ (file : FlatFile). (Done, file)) (closed_file old new shuts tells)));
     })
 closes_raw old mid new (Err fault.RawFault) ready closes =
     let asked : Asked old Close = ready.asked in
     let shuts : ShutsDown old new = shuts_down old mid new ready closes.0 in
     shut_answers old new (Refused fault.RawFault) asked fault_shuts shuts (record {
-      causes = record { waits = λ waited. absurd (cc (shuts.short)); faults = λ _. omega (arith, ready.passes.kept.raw.faults, closes.1) };
+      causes = record { waits = λ waited. absurd (cc (shuts.short)); faults = λ _. omega (arith, ready.goes.passes.kept.raw.faults, closes.1) };
       counted = λ exact. record { faults = λ sound. absurd (cc); waits = λ _ _. shuts.no_wait exact; once = λ waited. absurd (cc (shuts.short)) };
       told = λ tells. raw_faulted refl refl (asked.reaches, record { life_is = shuts.life_is; bytes_are = shut_bytes old new shuts tells; can = shuts.keeps.can; buffering = ap buffering_of shuts.keeps.buffer });
     })
 closes_raw old mid new (Err fault.NoMemory) ready wants =
     subst (λ (after : Stream). Answers old Close (Refused fault.NoMemory) after) (sym wants.1)
-    (lacking_answers old mid Close ready.asked (record { in_hand = λ has. absurd has.of; spares = λ reads _. ready.spares reads }) (sym ready.passes.kept.raw.takes_memory ∙ wants.0) ready.passes ready.live ready.no_fault ready.no_wait)
+    (lacking_answers old mid Close ready.asked (record { in_hand = λ has. absurd has.of; spares = λ reads _. ready.spares reads }) (sym ready.goes.passes.kept.raw.takes_memory ∙ wants.0) ready.goes ready.no_wait)
 closes_raw old mid new (Err why) ready never = absurd never
 
 -- As the steps of `close` come.
@@ -185,12 +183,12 @@ closes_raw old mid new (Err why) ready never = absurd never
 pub close_stops : (old started new : Stream) (why : IoFault) → IsWriting (begun old) → Begins old (Ok tt) started → ClosingOutcome started (Err why) new → Answers old Close (Refused why) new
 close_stops old started new why is begins stops = answers_whole old new Close (Refused why) (closing_refuses (begun old) new why is (subst (λ (stream : Stream). ClosingOutcome stream (Err why) new) begins.1 stops))
 
-ready_writing : (old mid : Stream) → IsWriting old → PassAllOutcome old (Ok tt) mid → ReadyToClose old mid
-ready_writing old mid is passed = record { asked = (close_asked old is.sound is.live is.whole).asked; passes = took_passes old mid passed.0; none = passed.2; live = passed.0.live; no_fault = passed.0.no_fault; no_wait = passed.1; spares = λ reads. absurd (cc (is.writes)) }
+ready_writing : (old mid : Stream) → IsWriting old → SettleOutcome old (Ok tt) mid → ReadyToClose old mid
+ready_writing old mid is passed = record { asked = (close_asked old is.sound is.live is.whole).asked; goes = passed.0; none = passed.2; no_wait = passed.1; spares = λ reads. absurd (cc (is.writes)) }
 
 -- a `close` is answered by the closing of the raw, once all was passed on
 pub close_answers : (old started mid new : Stream) (result : Result (Unit {0}) IoFault) → IsWriting (begun old) → Begins old (Ok tt) started → ClosingOutcome started (Ok tt) mid → CloseRawOutcome mid result new → Answers old Close (done_reply result) new
-close_answers old started mid new result is begins passed closes = answers_whole old new Close (done_reply result) (closes_raw (begun old) mid new result (ready_writing (begun old) mid is (subst (λ (stream : Stream). PassAllOutcome stream (Ok tt) mid) begins.1 passed)) closes)
+close_answers old started mid new result is begins passed closes = answers_whole old new Close (done_reply result) (closes_raw (begun old) mid new result (ready_writing (begun old) mid is (subst (λ (stream : Stream). SettleOutcome stream (Ok tt) mid) begins.1 passed)) closes)
 
 ready_at_once : (old : Stream) → IsSound old → old.life ≡ life.Live → old.short ≡ false → old.owed ≡ nothing_owed old.place → ReadyToClose old old
 ready_at_once old sound live whole none = grind arith

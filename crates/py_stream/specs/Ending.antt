@@ -1,5 +1,5 @@
 -- The steps of closing a stream, and of handing its raw back.
-use Rattle.std.specs.Prelude.{◌≡◌, ◌<◌, ◌≤◌, false, true, IsTrue, [], length, Result, Ok, Err}
+use Rattle.std.specs.Prelude.{◌≡◌, ◌≤◌, false, true, IsTrue, Result, Ok, Err}
 use Rattle.py_flat.specs.declared.fault.IoFault.{IoFault}
 use Rattle.py_flat.specs.declared.fault.IoFault.TheVariants as fault
 use Rattle.py_flat.specs.declared.life.Life.{Life}
@@ -8,12 +8,12 @@ use Rattle.py_flat.specs.Limits.{greatest_place}
 use Rattle.py_flat.specs.Causes.{Rose}
 use Rattle.py_raw.specs.RawStream.{Keeps, KeepsBytes, NoFault, NoWait, AnswersFor, KeepsReads}
 use Rattle.py_stream.specs.Stream.{Stream}
-use Rattle.py_stream.specs.Taking.{FailsTaking, PassAllOutcome}
+use Rattle.py_stream.specs.Settling.{SettleOutcome}
 
 -- all that is owed is passed on for a closing: a fault leaves the stream closed, and its raw open
 abbrev pub ClosingOutcome : Stream → Result (Unit {0}) IoFault → Stream → Type 0
-ClosingOutcome old (Err fault.RawFault) new = (failed : Stream) × FailsTaking old [] failed × NoWait old.raw failed.raw × (0 < length failed.owed.bytes) × (new ≡ record failed { life = life.Closed })
-ClosingOutcome old result new = PassAllOutcome old result new
+ClosingOutcome old (Err fault.RawFault) new = (failed : Stream) × SettleOutcome old (Err fault.RawFault) failed × (new ≡ record failed { life = life.Closed })
+ClosingOutcome old result new = SettleOutcome old result new
 
 -- the raw was closed, and the stream with it
 pub record ClosesRaw (old new : Stream) : Type 0 where
@@ -38,9 +38,11 @@ CloseRawOutcome old (Err fault.RawFault) new = ClosesRaw old new × Rose old.raw
 CloseRawOutcome old (Err fault.NoMemory) new = IsTrue old.raw.takes_memory × (new ≡ old)
 CloseRawOutcome old (Err other) new = ⊥
 
--- a detaching begins where the raw may be handed back: of a live stream once nothing is owed, and of a failed one
+-- a detaching begins where the raw may be handed back: of a live stream once nothing is owed, and its raw stands at the place; and of a
+-- failed one
 abbrev pub BeginDetachIn : Life → Stream → Result (Unit {0}) IoFault → Stream → Type 0
-BeginDetachIn life.Live old result new = PassAllOutcome old result new
+BeginDetachIn life.Live old (Ok done) new = SettleOutcome old (Ok done) new × (new.raw_place ≡ new.place)
+BeginDetachIn life.Live old (Err why) new = SettleOutcome old (Err why) new
 BeginDetachIn life.Failed old result new = (result ≡ Ok tt) × (new ≡ old)
 BeginDetachIn life.Closed old result new = (result ≡ Err fault.Closed) × (new ≡ old)
 BeginDetachIn life.Detached old result new = ⊥

@@ -5,6 +5,8 @@ pub mod Writing
 pub mod Answers
 pub mod Keeping
 pub mod Taking
+pub mod Settling
+pub mod Truncating
 pub mod Taken
 pub mod Reading
 pub mod LiveRaw

@@ -35,6 +35,10 @@ starved false current = current
 abbrev pub is_movable : Abilities → Bool
 is_movable can = can.seekable && not can.appending
 
+-- whether the bytes of a stream's raw may be given a size: where it writes, and may be moved
+abbrev pub is_truncatable : Abilities → Bool
+is_truncatable can = can.writable && is_movable can
+
 -- what an error of the raw is answered by
 abbrev pub fault_of : RawError → IoFault
 fault_of raw_error.Fault = fault.RawFault

@@ -1,5 +1,5 @@
 -- What the steps of a call that gives bytes do: of a stream that owes what lies right before its place, or nothing.
-use Rattle.std.specs.Prelude.{◌≡◌, ℕ, ◌+◌, ◌-◌, ◌<◌, ◌≤◌, ◌⊎◌, Bool, true, false, IsTrue, List, [], ◌++◌, length, take, drop, Option, Some, None, Result, Ok, Err}
+use Rattle.std.specs.Prelude.{◌≡◌, ℕ, ◌+◌, ◌-◌, ◌<◌, ◌≤◌, ◌⊎◌, Bool, true, false, IsTrue, List, ◌++◌, length, take, drop, Option, Some, None, Result, Ok, Err}
 use Rattle.py_flat.specs.declared.fault.IoFault.{IoFault}
 use Rattle.py_flat.specs.declared.fault.IoFault.TheVariants as fault
 use Rattle.py_flat.specs.declared.life.Life.TheVariants as life
@@ -121,13 +121,3 @@ abbrev pub PutOutcome : Stream → List ℕ → ℕ → Result Bool IoFault → 
 PutOutcome old bytes start (Err fault.RawFault) new = FailsTaking old bytes new × OwesOld old new
 PutOutcome old bytes start (Err fault.NoMemory) new = StarvesTaking old bytes start new × (new.life ≡ life.Failed → OwesOld old new)
 PutOutcome old bytes start result new = PutsOutcome old bytes start result new
-
--- Passing all on, for a call that needs it: the answers of `flush`.
-
--- all that is owed is passed on, or a wait of the raw is remembered
-abbrev pub PassAllOutcome : Stream → Result (Unit {0}) IoFault → Stream → Type 0
-PassAllOutcome old (Ok done) new = Took old [] new × NoWait old.raw new.raw × (new.owed.bytes ≡ [])
-PassAllOutcome old (Err (fault.WouldBlock taken)) new = (taken ≡ 0) × Took old [] (record new { short = old.short }) × (new.short ≡ true) × Rose old.raw.waits new.raw.waits × WaitsOnce old.raw new.raw
-PassAllOutcome old (Err fault.RawFault) new = FailsTaking old [] new × NoWait old.raw new.raw × (0 < length new.owed.bytes)
-PassAllOutcome old (Err fault.NoMemory) new = Lacks old [] new × NoWait old.raw new.raw
-PassAllOutcome old (Err other) new = ⊥

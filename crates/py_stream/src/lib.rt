@@ -12,6 +12,7 @@ mod new_refused;
 mod opening;
 mod reading_on;
 mod stop;
+mod truncating;
 
 pub use access::Access;
 pub use buffered_stream::BufferedStream;
@@ -28,3 +29,4 @@ pub use opening::{first_place, refused_at_first};
 pub use py_flat::Whence;
 pub use reading_on::{ReadsOn, read_line, read_lines, read_rest};
 pub use stop::Stop;
+pub use truncating::{Truncates, truncate};

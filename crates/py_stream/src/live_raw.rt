@@ -1,10 +1,10 @@
 //! A raw stream under the stream that calls it.
 ghost use Rattle.std.specs.Prelude.{◌≡◌, ◌+◌, ◌<◌, ◌≤◌, not, false, length};
 ghost use Rattle.py_flat.specs.Limits.{greatest_place};
-ghost use Rattle.py_raw.specs.RawStream.{Keeps, StaysOpen, WriteFits, SeekOutcome, EndOutcome, CloseOutcome};
+ghost use Rattle.py_raw.specs.RawStream.{Keeps, StaysOpen, WriteFits, SeekOutcome, EndOutcome, TruncateOutcome, CloseOutcome};
 ghost use Rattle.py_stream.specs.Access.{is_read, can_of};
 ghost use Rattle.py_stream.specs.Reading.{is_wait, has_answer};
-ghost use Rattle.py_stream.specs.LiveRaw.{is_movable as movable, LetsBegin, Calls, TransferOutcome, GiveOutcome, starved, fault_of, life_after};
+ghost use Rattle.py_stream.specs.LiveRaw.{is_movable as movable, is_truncatable as truncatable, LetsBegin, Calls, TransferOutcome, GiveOutcome, starved, fault_of, life_after};
 
 use crate::{Access, Stop, life_fault};
 use py_raw::{GREATEST_PLACE, IoFault, Life, RawError, RawStream};
@@ -117,6 +117,13 @@ impl<R: RawStream> LiveRaw<R> {
         self.raw.seekable() && !self.access.appends()
     }
 
+    /// Whether the raw's bytes may be given a size: of a stream that writes, and may be moved.
+    pub fn may_truncate(&self) -> bool
+        ensures { result ≡ truncatable (can_of self.now.access self.now.raw.seekable) }
+    {
+        !self.access.reads() && self.is_movable()
+    }
+
     /// Begins a call: the life refuses it, or it may go on. No answer is short yet.
     pub fn begin(&mut self) -> Result<(), IoFault>
         ensures life { LetsBegin self.old.life result }
@@ -224,6 +231,20 @@ impl<R: RawStream> LiveRaw<R> {
         ensures outcome { Calls (SeekOutcome self.old.raw place) self.old.life Life.Failed self.old.life self.old result self.new }
     {
         match self.raw.seek(place) {
+            Ok(()) => Ok(()),
+            Err(error) => Err(self.refused(error, false)),
+        }
+    }
+
+    /// Cuts the raw's bytes to a size, or lengthens them by zeros.
+    pub fn truncate(&mut self, size: u64) -> Result<(), IoFault>
+        requires open { self.old.raw.closed ≡ false }
+        requires within { size ≤ greatest_place }
+        ensures keeps { Keeps self.old.raw self.new.raw }
+        ensures open { StaysOpen self.old.raw self.new.raw }
+        ensures outcome { Calls (TruncateOutcome self.old.raw size) self.old.life Life.Failed self.old.life self.old result self.new }
+    {
+        match self.raw.truncate(size) {
             Ok(()) => Ok(()),
             Err(error) => Err(self.refused(error, false)),
         }

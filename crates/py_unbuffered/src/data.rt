@@ -6,6 +6,7 @@ ghost use Rattle.py_stream.specs.Access.{can_of};
 mod gathering;
 mod moving;
 mod reading;
+mod truncating;
 mod writing;
 
 use py_raw::{IoFault, Life, RawStream};

@@ -1,6 +1,6 @@
 //! The stream without a buffer.
 ghost use Rattle.std.specs.Prelude.{◌≡◌, false, [], length, IsTrue, IfErr};
-ghost use Rattle.py_flat.specs.Calls.{FileCall, Read, ReadLine, ReadLines, ReadInto, Write, WriteLines, Seek, Tell, Flush, Close, Refused};
+ghost use Rattle.py_flat.specs.Calls.{FileCall, Read, ReadLine, ReadLines, ReadInto, Write, WriteLines, Seek, Tell, Truncate, Flush, Close, Refused};
 ghost use Rattle.py_flat.specs.ExactStep.{is_closed};
 ghost use Rattle.py_stream.specs.Answers.{Answers, RefusesAlone};
 ghost use Rattle.py_stream.specs.Replies.{bytes_reply, into_reply, CountFits, KeepsBuffer, lines_reply, taken_reply, place_reply, done_reply};
@@ -10,7 +10,7 @@ ghost use Rattle.py_stream.specs.Access.{can_of, is_able};
 
 use crate::data::UnbufferedData;
 use py_raw::{IoFault, Life, Lines, RawError, RawStream};
-use py_stream::{Access, Detached, NewRefused, first_place, refused_at_first};
+use py_stream::{Access, Detached, NewRefused, first_place, refused_at_first, truncate};
 use std::alloc::Global;
 use std::marker::Model;
 
@@ -165,6 +165,17 @@ impl<R: RawStream> UnbufferedStream<R> {
         ensures { Answers self.old Tell (place_reply result) self.new }
     {
         self.data.tell()
+    }
+
+    /// Cuts the raw's bytes to a size, or lengthens them by zeros, and answers it; without a size to the place. The place is kept, and may
+    /// lie past the end then.
+    ///
+    /// `Unsupported` of a stream that reads, where the raw can't seek, and of a stream that appends; `TooFar` for a size past
+    /// 9223372036854775807: all is as it was. After `RawFault` the raw's bytes may have the size, or not.
+    pub fn truncate(&mut self, size: Option<u64>) -> Result<u64, IoFault>
+        ensures { Answers self.old (Truncate size) (place_reply result) self.new }
+    {
+        truncate(&mut self.data, size)
     }
 
     /// The refusal of a call that the stream lacks (one that it isn't opened for, or one that needs a buffer), or that the life

@@ -1,0 +1,322 @@
+-- The answers of `truncate`, as its steps come: what refuses it, what is passed on before, and the giving of the size.
+use Rattle.std.proofs.Common.{◌≡◌, ℕ, ◌<◌, ◌≤◌, ◌⊎◌, inl, inr, Bool, true, false, List, [], Option, Some, None, IsSome, Ok, Err, refl, sym, ap, ◌∙◌, subst, arith}
+use Rattle.py_flat.specs.declared.fault.IoFault.{IoFault}
+use Rattle.py_flat.specs.declared.fault.IoFault.TheVariants as fault
+use Rattle.py_flat.specs.declared.life.Life.TheVariants as life
+use Rattle.py_flat.specs.Bytes.{lay, resized}
+use Rattle.py_flat.specs.Limits.{greatest_place}
+use Rattle.py_flat.specs.Owed.{Owed}
+use Rattle.py_flat.specs.Calls.{FileCall, Truncate, Place, Refused}
+use Rattle.py_flat.specs.FlatFile.{FlatFile}
+use Rattle.py_flat.specs.Refusals.{refusal, lacks}
+use Rattle.py_flat.specs.ExactStep.{is_closed, truncated}
+use Rattle.py_flat.specs.AllowedStep.{settled, raw_faulted}
+use Rattle.py_flat.specs.BinaryStep.{BinaryStep, SettledBy, Fails, FaultedBy}
+use Rattle.py_raw.specs.RawStream.{WhereTold, NoWait}
+use Rattle.py_raw.proofs.Telling.{tells_its_bytes}
+use Rattle.py_raw.proofs.ReadingOn.{no_fault_then, no_wait_then}
+use Rattle.py_stream.specs.Stream.{Stream, buffering_of, file_of}
+use Rattle.py_stream.specs.LiveRaw.{is_truncatable}
+use Rattle.py_stream.specs.Writing.{size_asked, NoneAtPlace, PassesFront, LaysThenCuts, Writes}
+use Rattle.py_stream.specs.Answers.{Answers}
+use Rattle.py_stream.specs.Keeping.{IsSound, KeepsOn}
+use Rattle.py_stream.specs.Settling.{LivesOn, SettleOutcome}
+use Rattle.py_stream.specs.Truncating.{MayTruncate, BeginsTruncating, SettlesFirst, KeepsPlace, Resizes, FailsToResize, ResizeOutcome}
+use Rattle.py_stream.proofs.Begun.{answers_whole}
+use Rattle.py_stream.proofs.Alone.{Begins, begins_in_vain}
+use Rattle.py_stream.proofs.Refusing.{IsPlaced, refused_with, refused_by_ability}
+use Rattle.py_stream.proofs.Taking.{keeps_then, faulted_then, answers_still}
+use Rattle.py_stream.proofs.Flat.{flat_of, file_now, failed_file}
+use Rattle.py_stream.proofs.Showing.{MovesNone, Asked, Accepts, shows_answers}
+use Rattle.py_stream.proofs.PassingOn.{begun, FaultLeaves, passed_all, stays_open, lacks_refuse, settling_refuses}
+
+-- What is accepted.
+
+-- a truncation moves no bytes to or from its caller
+pub truncate_moves_none : (size : Option ℕ) → MovesNone (Truncate size)
+truncate_moves_none size = record { writing = refl; reading = refl; telling = refl; one = λ buffer. refl; lays = λ before after is. record { between = after; lays = is; cuts = inl refl }; waits = λ file. (refl, refl); starves = λ file. refl }
+
+-- a size that is asked for lies in the stream
+abbrev pub IsWithin : Stream → Option ℕ → Type 0
+IsWithin old size = size_asked old size ≤ greatest_place
+
+accepted : (old : Stream) (size : Option ℕ) → MayTruncate old → IsWithin old size → refusal (file_of old) (Truncate size) ≡ None
+accepted old None may within = grind arith
+accepted old (Some size) may within = grind arith
+
+-- a truncation of a stream that may be truncated, to such a size, goes to the raw
+truncating : (old : Stream) (size : Option ℕ) → MayTruncate old → IsWithin old size → Accepts old (Truncate size)
+truncating old size may within = grind (arith, accepted, truncate_moves_none)
+
+-- What refuses it before.
+
+-- a truncation begins of a stream that may be truncated, as it was asked once the call had begun
+pub truncates_on : (old started seen : Stream) (may : Bool) → IsSound old → Begins old (Ok tt) started → seen ≡ started → may ≡ is_truncatable seen.can → may ≡ true → BeginsTruncating old (Ok tt) started
+truncates_on old started seen may sound began is asked can = grind arith
+
+lacks_truncation : (stream : Stream) (size : Option ℕ) → is_truncatable stream.can ≡ false → lacks (file_of stream) (Truncate size) ≡ true
+lacks_truncation stream size cannot = grind arith
+
+-- a truncation of a stream that doesn't write, or may not be moved, is refused as unsupported
+pub truncates_not : (old started seen : Stream) (may : Bool) → IsPlaced old → Begins old (Ok tt) started → seen ≡ started → may ≡ is_truncatable seen.can → may ≡ false → BeginsTruncating old (Err fault.Unsupported) started
+truncates_not old started seen may placed began is asked cannot size =
+    let unable : is_truncatable old.can ≡ false = ap (λ (stream : Stream). is_truncatable stream.can) (sym began.1 ∙ sym is) ∙ sym asked ∙ cannot in
+    refused_by_ability old started (Truncate size) placed refl refl began.0 (lacks_truncation old size unable) began.1
+
+-- a truncation that the life refuses
+pub truncates_no_more : (old started : Stream) (why : IoFault) → IsPlaced old → Begins old (Err why) started → BeginsTruncating old (Err why) started
+truncates_no_more old started why placed began size = begins_in_vain old started (Truncate size) why placed refl refl refl refl began
+
+too_large : (old : Stream) (size : Option ℕ) → MayTruncate old → greatest_place < size_asked old size → refusal (file_of old) (Truncate size) ≡ Some fault.TooFar
+too_large old None may beyond = absurd (omega (arith, beyond, may.sound.far))
+too_large old (Some size) may beyond = grind arith
+
+-- a truncation that has begun, and the size that it asks for
+pub record Started (old started : Stream) (size : Option ℕ) (count : ℕ) : Type 0 where
+  pub begins : BeginsTruncating old (Ok tt) started
+  pub asks : count ≡ size_asked started size
+
+may_truncate : (old started : Stream) (size : Option ℕ) (count : ℕ) → Started old started size count → MayTruncate (begun old)
+may_truncate old started size count is = subst MayTruncate is.begins.1 is.begins.0
+
+asked_size : (old started : Stream) (size : Option ℕ) (count : ℕ) → Started old started size count → count ≡ size_asked old size
+asked_size old started size count is = is.asks ∙ ap (λ (stream : Stream). size_asked stream size) is.begins.1
+
+-- a size past the greatest place is refused
+pub truncates_too_far : (old started : Stream) (size : Option ℕ) (count : ℕ) → Started old started size count → greatest_place < count → Answers old (Truncate size) (Refused fault.TooFar) started
+truncates_too_far old started size count is beyond =
+    let may : MayTruncate (begun old) = may_truncate old started size count is in
+    answers_whole old started (Truncate size) (Refused fault.TooFar)
+    (refused_with (begun old) started (Truncate size) fault.TooFar (record { far = may.sound.far; near = may.sound.near })
+    (too_large (begun old) size may (subst (λ (n : ℕ). greatest_place < n) (asked_size old started size count is) beyond)) refl refl refl is.begins.1)
+
+-- What stops the passing on.
+
+fault_fails_truncate : (size : Option ℕ) → FaultLeaves (Truncate size) life.Failed
+fault_fails_truncate None = record { dead = refl; life_is = λ buffer current. refl; step = λ file after fails. inl fails }
+fault_fails_truncate (Some size) = record { dead = refl; life_is = λ buffer current. refl; step = λ file after fails. inl fails }
+
+settling_stops : (old new : Stream) (size : Option ℕ) (buffer : Option ℕ) (why : IoFault) → MayTruncate old → IsWithin old size → old.buffer ≡ buffer → IsSome buffer → SettleOutcome old (Err why) new → Answers old (Truncate size) (Refused why) new
+settling_stops old new size None why may within is buffered stops = absurd (let wrong : false ≡ true = buffered in cc)
+settling_stops old new size (Some room) why may within is buffered stops = settling_refuses old new (Truncate size) room why (truncating old size may within) is may.writes (λ has. has.of) (fault_fails_truncate size) stops
+
+-- what stops the passing on answers a truncation
+pub truncation_stops : (old started new : Stream) (size : Option ℕ) (count : ℕ) (why : IoFault) → Started old started size count → count ≤ greatest_place → SettlesFirst started (Err why) new → Answers old (Truncate size) (Refused why) new
+truncation_stops old started new size count why is within stops =
+    let stopped = subst (λ (stream : Stream). SettlesFirst stream (Err why) new) is.begins.1 stops in
+    answers_whole old new (Truncate size) (Refused why)
+    (settling_stops (begun old) new size old.buffer why (may_truncate old started size count is) (subst (λ (n : ℕ). n ≤ greatest_place) (asked_size old started size count is) within) refl stopped.0 stopped.1)
+
+-- The raw's bytes are given the size, once nothing is owed.
+
+-- what is known of a stream whose raw was asked for the size
+record Asks (old mid new : Stream) : Type 0 where
+  pub may : MayTruncate old
+  pub settled_by : SettleOutcome old (Ok tt) mid
+  pub keeps : KeepsPlace mid new
+
+module _ (old mid new : Stream) (asks : Asks old mid new) where
+  kept : KeepsOn old new
+  kept = keeps_then old mid new asks.settled_by.0.passes.kept asks.keeps.kept
+
+  no_wait : NoWait old.raw new.raw
+  no_wait = no_wait_then old.raw mid.raw new.raw asks.settled_by.0.passes.kept.raw asks.settled_by.1 asks.keeps.no_wait
+
+  none : new.owed.bytes ≡ []
+  none = ap (λ (owed : Owed). owed.bytes) asks.keeps.owed ∙ asks.settled_by.2
+
+  still : new.place ≡ old.place
+  still = asks.keeps.place ∙ asks.settled_by.0.passes.still
+
+  leaves_front : PassesFront old new
+  leaves_front = record {
+    passed = asks.settled_by.0.passes.passed;
+    most = asks.settled_by.0.passes.within;
+    answered = answers_still old.raw mid.raw new.raw asks.settled_by.0.passes.passed asks.settled_by.0.passes.kept.raw asks.settled_by.0.passes.answered asks.keeps.answered;
+    bytes = ap (λ (owed : Owed). owed.bytes) asks.keeps.owed ∙ asks.settled_by.0.passes.owed;
+    place = λ some. absurd (some none);
+  }
+
+  at_place : NoneAtPlace old → new.owed.place ≡ new.place
+  at_place at = ap (λ (owed : Owed). owed.place) asks.keeps.owed ∙ asks.settled_by.0.passes.at at asks.settled_by.2 ∙ sym asks.keeps.place
+
+  flat_now : flat_of new ≡ new.raw.bytes
+  flat_now = ap (lay new.raw.bytes new.owed.place) none
+
+-- what a truncation does with what is owed
+truncation_writes : (old mid new : Stream) (size : Option ℕ) → Asks old mid new → new.life ≡ life.Live → WhereTold old.raw (new.raw.bytes ≡ resized (flat_of old) (size_asked old size)) → Writes old (Truncate size) (Place (size_asked old size)) new
+truncation_writes old mid new size asks lives bytes = record {
+  owes = λ writing. absurd (cc);
+  takes = λ writing. absurd (cc);
+  leaves = λ _. leaves_front old mid new asks;
+  stands = λ _ _ some. absurd (some (none old mid new asks));
+  lays = λ tells. record { between = mid.raw.bytes; lays = asks.settled_by.0.passes.lays tells; cuts = inr (bytes tells ∙ sym (ap (λ (all : List ℕ). resized all (size_asked old size)) (passed_all old mid asks.settled_by.0.passes asks.settled_by.2 tells))) };
+  passes = record { none = none old mid new asks; holds = bytes };
+  full = tt;
+  starves = λ wanting. absurd (cc);
+  straight = tt;
+  settles = λ at _. at_place old mid new asks at;
+  unclosed = λ some. absurd (some (none old mid new asks));
+  rests = λ dead. absurd (dead asks.may.live);
+}
+
+bytes_given : (old mid new : Stream) (size : ℕ) → Asks old mid new → Resizes mid size new → WhereTold old.raw (new.raw.bytes ≡ resized (flat_of old) size)
+bytes_given old mid new size asks resizes tells =
+    resizes.bytes (asks.settled_by.0.passes.kept.raw.tells_bytes ∙ tells_its_bytes old.raw tells)
+    ∙ ap (λ (bytes : List ℕ). resized bytes size) (passed_all old mid asks.settled_by.0.passes asks.settled_by.2 tells)
+
+truncated_is_resized : (buffer : Option ℕ) (bytes : List ℕ) (size : ℕ) → resized bytes size ≡ truncated (buffering_of buffer) bytes size
+truncated_is_resized None bytes size = refl
+truncated_is_resized (Some room) bytes size = refl
+
+-- in the model the bytes have the size, and all else is as it was
+carries_out : (old new : Stream) (size : Option ℕ) → file_of new ≡ record (file_of old) { bytes = resized (flat_of old) (size_asked old size) } → SettledBy (file_of old) (Truncate size) None (Place (size_asked old size)) (file_of new)
+carries_out old new size file = ap (λ (after : FlatFile). (Place (size_asked old size), after)) (file ∙ ap (λ (bytes : List ℕ). record (file_of old) { bytes = bytes }) (truncated_is_resized old.buffer (flat_of old) (size_asked old size)))
+
+-- a stream whose bytes were given the size
+gives_size : (old mid new : Stream) (size : Option ℕ) → IsWithin old size → Asks old mid new → Resizes mid (size_asked old size) new → Answers old (Truncate size) (Place (size_asked old size)) new
+gives_size old mid new size within asks resizes =
+    let call : FileCall = Truncate size in
+    let may : MayTruncate old = asks.may in
+    let asked : Asked old call = (truncating old size may within).asked in
+    let goes : LivesOn old mid = asks.settled_by.0 in
+    let keeps : KeepsOn old new = kept old mid new asks in
+    let lives : new.life ≡ life.Live = resizes.life_is ∙ goes.live in
+    let same : new.life ≡ old.life = lives ∙ sym may.live in
+    let short : new.short ≡ false = keeps.short ∙ may.whole in
+    let bytes : WhereTold old.raw (new.raw.bytes ≡ resized (flat_of old) (size_asked old size)) = bytes_given old mid new (size_asked old size) asks resizes in
+    shows_answers old call (Place (size_asked old size)) new asked.none (record {
+      keeps = record { buffer = keeps.buffer; can = keeps.can; raw = keeps.raw; bare = λ bare _. keeps.sound.bare (keeps.buffer ∙ bare) };
+      passes = asked.passes;
+      again = λ closes. absurd (cc);
+      shut = λ _ none closed. keeps.stays ∙ stays_open old new.life may.live (ap is_closed lives) closed;
+      causes = record { waits = λ waited. absurd (cc); faults = λ faults. absurd (cc) };
+      counted = λ exact. record { faults = λ _. no_fault_then old.raw mid.raw new.raw goes.passes.kept.raw goes.no_fault resizes.counts.no_fault exact; waits = λ _ _. no_wait old mid new asks exact; once = λ waited. absurd (cc) };
+      shorts = short;
+      life_is = same;
+      place = still old mid new asks;
+      far = keeps.sound.far;
+      ends = tt;
+      wants = λ wanting. absurd (cc);
+      idle = λ idle. absurd (cc (asked.busy));
+      reads = keeps.reads;
+      in_hand = λ has. absurd has.of;
+      spares = λ reads. absurd (cc (may.writes));
+      writes = λ _. truncation_writes old mid new size asks lives bytes;
+      at_once = λ failed is. absurd (cc);
+      answer = tt;
+      told = λ tells.
+          let file : file_of new ≡ record (file_of old) { bytes = resized (flat_of old) (size_asked old size) } =
+          file_now old new keeps same
+          ∙ ap (λ (all : List ℕ). record (file_of old) { bytes = all; place = new.place }) (flat_now old mid new asks ∙ bytes tells)
+          ∙ ap (λ (place : ℕ). record (file_of old) { bytes = resized (flat_of old) (size_asked old size); place = place }) (still old mid new asks) in
+          subst (λ (said : Bool). BinaryStep (file_of old) call (Place (size_asked old size)) said false (file_of new)) (sym short)
+          (settled (subst (λ (refused : Option IoFault). SettledBy (file_of old) call refused (Place (size_asked old size)) (file_of new)) (sym asked.passes)
+          (carries_out old new size file)));
+      near = keeps.sound.near;
+    })
+
+-- The raw failed, or wanted memory.
+
+-- what the failing leaves of the raw's bytes: those that were there by then, or of the size
+either_way : (old mid new : Stream) (size : ℕ) → Asks old mid new → FailsToResize mid size new → WhereTold old.raw ((new.raw.bytes ≡ flat_of old) ⊎ (new.raw.bytes ≡ resized (flat_of old) size))
+either_way old mid new size asks fails tells = by (fails.bytes (asks.settled_by.0.passes.kept.raw.tells_bytes ∙ tells_its_bytes old.raw tells))
+    where
+      all : mid.raw.bytes ≡ flat_of old
+      all = passed_all old mid asks.settled_by.0.passes asks.settled_by.2 tells
+
+      by : (new.raw.bytes ≡ mid.raw.bytes) ⊎ (new.raw.bytes ≡ resized mid.raw.bytes size) → (new.raw.bytes ≡ flat_of old) ⊎ (new.raw.bytes ≡ resized (flat_of old) size)
+      by (inl same) = inl (same ∙ all)
+      by (inr given) = inr (given ∙ ap (λ (bytes : List ℕ). resized bytes size) all)
+
+faulted_by : (old mid new : Stream) (size : Option ℕ) → Asks old mid new → FailsToResize mid (size_asked old size) new → WhereTold old.raw (FaultedBy (file_of old) (Truncate size) (file_of new))
+faulted_by old mid new size asks fails tells = in_model size (to_flat (either_way old mid new (size_asked old size) asks fails tells))
+    where
+      Left : List ℕ → Type 0
+      Left bytes = Fails (file_of old) life.Failed bytes (file_of new)
+
+      to_flat : (new.raw.bytes ≡ flat_of old) ⊎ (new.raw.bytes ≡ resized (flat_of old) (size_asked old size)) → Left (flat_of old) ⊎ Left (resized (flat_of old) (size_asked old size))
+      to_flat (inl same) = inl (failed_file old new life.Failed (flat_of old) (kept old mid new asks) fails.failed (flat_now old mid new asks ∙ same))
+      to_flat (inr given) = inr (failed_file old new life.Failed (resized (flat_of old) (size_asked old size)) (kept old mid new asks) fails.failed (flat_now old mid new asks ∙ given))
+
+      in_model : (size : Option ℕ) → Left (flat_of old) ⊎ Left (resized (flat_of old) (size_asked old size)) → FaultedBy (file_of old) (Truncate size) (file_of new)
+      in_model None left = left
+      in_model (Some asked) left = left
+
+-- what a truncation whose raw failed did with what was owed
+failing_writes : (old mid new : Stream) (size : Option ℕ) → Asks old mid new → WhereTold old.raw (LaysThenCuts old (size_asked old size) new.raw.bytes) → Writes old (Truncate size) (Refused fault.RawFault) new
+failing_writes old mid new size asks lays = record {
+  owes = λ writing. absurd (cc);
+  takes = λ writing. absurd (cc);
+  leaves = λ _. leaves_front old mid new asks;
+  stands = λ _ _ some. absurd (some (none old mid new asks));
+  lays = lays;
+  passes = tt;
+  full = tt;
+  starves = λ wanting. absurd (cc);
+  straight = tt;
+  settles = λ at _. at_place old mid new asks at;
+  unclosed = λ some. absurd (some (none old mid new asks));
+  rests = λ dead. absurd (dead asks.may.live);
+}
+
+lays_or_cuts : (old mid new : Stream) (size : ℕ) → Asks old mid new → FailsToResize mid size new → WhereTold old.raw (LaysThenCuts old size new.raw.bytes)
+lays_or_cuts old mid new size asks fails tells = record { between = mid.raw.bytes; lays = asks.settled_by.0.passes.lays tells; cuts = fails.bytes (asks.settled_by.0.passes.kept.raw.tells_bytes ∙ tells_its_bytes old.raw tells) }
+
+size_fails : (old mid new : Stream) (size : Option ℕ) → IsWithin old size → Asks old mid new → FailsToResize mid (size_asked old size) new → Answers old (Truncate size) (Refused fault.RawFault) new
+size_fails old mid new size within asks fails =
+    let call : FileCall = Truncate size in
+    let may : MayTruncate old = asks.may in
+    let asked : Asked old call = (truncating old size may within).asked in
+    let keeps : KeepsOn old new = kept old mid new asks in
+    let short : new.short ≡ false = keeps.short ∙ may.whole in
+    shows_answers old call (Refused fault.RawFault) new asked.none (record {
+      keeps = record { buffer = keeps.buffer; can = keeps.can; raw = keeps.raw; bare = λ bare _. keeps.sound.bare (keeps.buffer ∙ bare) };
+      passes = asked.passes;
+      again = λ closes. absurd (cc);
+      shut = λ _ none closed. keeps.stays ∙ stays_open old new.life may.live (ap is_closed fails.failed) closed;
+      causes = record { waits = λ waited. absurd (cc); faults = λ _. faulted_then old.raw mid.raw new.raw asks.settled_by.0.passes.kept.raw fails.cause };
+      counted = λ exact. record { faults = λ sound. absurd (cc); waits = λ _ _. no_wait old mid new asks exact; once = λ waited. absurd (cc) };
+      shorts = short;
+      life_is = fails.failed;
+      place = still old mid new asks;
+      far = keeps.sound.far;
+      ends = tt;
+      wants = λ wanting. absurd (cc);
+      idle = λ idle. absurd (cc (asked.busy));
+      reads = keeps.reads;
+      in_hand = λ has. absurd has.of;
+      spares = λ reads. absurd (cc (may.writes));
+      writes = λ _. failing_writes old mid new size asks (lays_or_cuts old mid new (size_asked old size) asks fails);
+      at_once = λ failed is. absurd (cc);
+      answer = tt;
+      told = λ tells. raw_faulted refl refl (asked.reaches, faulted_by old mid new size asks fails tells);
+      near = λ lives. absurd (cc (fails.failed));
+    })
+
+resize_fails : (old mid new : Stream) (size : Option ℕ) (why : IoFault) → MayTruncate old → IsWithin old size → SettleOutcome old (Ok tt) mid → ResizeOutcome mid (size_asked old size) (Err why) new → Answers old (Truncate size) (Refused why) new
+resize_fails old mid new size fault.RawFault may within settled_by fails = size_fails old mid new size within (record { may = may; settled_by = settled_by; keeps = fails.keeps }) fails
+resize_fails old mid new size fault.NoMemory may within settled_by wants =
+    subst (λ (after : Stream). Answers old (Truncate size) (Refused fault.NoMemory) after) (sym wants.1)
+    (lacks_refuse old mid (Truncate size) (truncating old size may within).asked may.writes (λ has. has.of) (sym settled_by.0.passes.kept.raw.takes_memory ∙ wants.0, settled_by.0, settled_by.1))
+resize_fails old mid new size why may within settled_by never = absurd never
+
+-- As the steps come.
+
+-- a truncation whose raw failed, or wanted memory
+pub truncation_fails : (old started mid new : Stream) (size : Option ℕ) (count : ℕ) (why : IoFault) → Started old started size count → count ≤ greatest_place → SettleOutcome started (Ok tt) mid → ResizeOutcome mid count (Err why) new → Answers old (Truncate size) (Refused why) new
+truncation_fails old started mid new size count why is within settled_by fails =
+    let asked : count ≡ size_asked old size = asked_size old started size count is in
+    answers_whole old new (Truncate size) (Refused why)
+    (resize_fails (begun old) mid new size why (may_truncate old started size count is) (subst (λ (n : ℕ). n ≤ greatest_place) asked within)
+    (subst (λ (stream : Stream). SettleOutcome stream (Ok tt) mid) is.begins.1 settled_by) (subst (λ (n : ℕ). ResizeOutcome mid n (Err why) new) asked fails))
+
+-- a truncation that came about
+pub truncation_answers : (old started mid new : Stream) (size : Option ℕ) (count : ℕ) → Started old started size count → count ≤ greatest_place → SettleOutcome started (Ok tt) mid → Resizes mid count new → Answers old (Truncate size) (Place count) new
+truncation_answers old started mid new size count is within settled_by resizes =
+    let asked : count ≡ size_asked old size = asked_size old started size count is in
+    let given : Resizes mid (size_asked old size) new = subst (λ (n : ℕ). Resizes mid n new) asked resizes in
+    subst (λ (n : ℕ). Answers old (Truncate size) (Place n) new) (sym asked)
+    (answers_whole old new (Truncate size) (Place (size_asked old size))
+    (gives_size (begun old) mid new size (subst (λ (n : ℕ). n ≤ greatest_place) asked within)
+    (record { may = may_truncate old started size count is; settled_by = subst (λ (stream : Stream). SettleOutcome stream (Ok tt) mid) is.begins.1 settled_by; keeps = given.keeps }) given))

@@ -1,0 +1,40 @@
+-- Passing on all that a stream owes, wherever it belongs, for a call that needs it.
+use Rattle.std.specs.Prelude.{◌≡◌, ℕ, ◌+◌, ◌<◌, ◌≤◌, true, IsTrue, [], length, take, drop, Result, Ok, Err}
+use Rattle.py_flat.specs.declared.fault.IoFault.{IoFault}
+use Rattle.py_flat.specs.declared.fault.IoFault.TheVariants as fault
+use Rattle.py_flat.specs.declared.life.Life.TheVariants as life
+use Rattle.py_flat.specs.Bytes.{lay}
+use Rattle.py_flat.specs.Causes.{Rose}
+use Rattle.py_raw.specs.RawStream.{WhereTold, NoFault, NoWait, WaitsOnce, AnswersFor}
+use Rattle.py_stream.specs.Stream.{Stream}
+use Rattle.py_stream.specs.Writing.{OwesBehind, NoneAtPlace, LaysFront}
+use Rattle.py_stream.specs.Keeping.{KeepsOn}
+
+-- the first n of the bytes that were owed are passed on, wherever they belong; told, these were laid on, and maybe more of them
+pub record PassesSome (old new : Stream) : Type 0 where
+  pub kept : KeepsOn old new
+  pub passed : ℕ
+  pub within : passed ≤ length old.owed.bytes
+  pub answered : AnswersFor passed old.raw new.raw
+  pub place : new.owed.place ≡ old.owed.place + passed
+  pub owed : new.owed.bytes ≡ drop passed old.owed.bytes
+  pub still : new.place ≡ old.place
+  pub at : NoneAtPlace old → NoneAtPlace new
+  pub stands : OwesBehind old → new.raw_place ≡ new.owed.place
+  pub lays : WhereTold old.raw (LaysFront old [] new.raw.bytes)
+  pub told : WhereTold old.raw ((laid : ℕ) × (passed ≤ laid) × (laid ≤ length old.owed.bytes) × (new.raw.bytes ≡ lay old.raw.bytes old.owed.place (take laid old.owed.bytes)))
+
+-- some was passed on, or none, and the stream lives on
+pub record LivesOn (old new : Stream) : Type 0 where
+  pub passes : PassesSome old new
+  pub live : new.life ≡ life.Live
+  pub no_fault : NoFault old.raw new.raw
+
+-- all that is owed was passed on, so that nothing is owed; or a wait of the raw is remembered, the raw failed while some was owed, or it
+-- wanted memory
+abbrev pub SettleOutcome : Stream → Result (Unit {0}) IoFault → Stream → Type 0
+SettleOutcome old (Ok done) new = LivesOn old new × NoWait old.raw new.raw × (new.owed.bytes ≡ [])
+SettleOutcome old (Err (fault.WouldBlock taken)) new = (taken ≡ 0) × LivesOn old (record new { short = old.short }) × (new.short ≡ true) × Rose old.raw.waits new.raw.waits × WaitsOnce old.raw new.raw
+SettleOutcome old (Err fault.RawFault) new = PassesSome old new × (new.life ≡ life.Failed) × Rose old.raw.faults new.raw.faults × NoWait old.raw new.raw × (0 < length new.owed.bytes)
+SettleOutcome old (Err fault.NoMemory) new = IsTrue old.raw.takes_memory × LivesOn old new × NoWait old.raw new.raw
+SettleOutcome old (Err other) new = ⊥
