@@ -13,8 +13,8 @@ use Rattle.py_flat.specs.AllowedStep.{settled, out_of_memory}
 use Rattle.py_flat.specs.BinaryStep.{payload, SettledBy, BinaryStep}
 use Rattle.py_flat.proofs.Settling.{blames, may_blame, refusal_blames_nobody}
 use Rattle.py_stream.specs.Kinds.{is_reading, says_fault}
-use Rattle.py_stream.specs.Answers.{IsAnswerTo, IsReplyTo, IsShort, SeekGoes, Within}
-use Rattle.py_stream.specs.Buffer.{Buffer, taken_by, refusal_lent, refused_here, LeavesBuffer, BufferMoves, BufferPasses, BufferLays, BufferTakes, asks_for, closes_twice, GoesFromEnd, BufferSeeksFromEnd, BufferEndMoves, BufferSeeksByEnd, is_made, AnswersAsBuffer}
+use Rattle.py_stream.specs.Answers.{IsAnswerTo, IsReplyTo, IsShort, SeekGoes, Within, UnlessStopped}
+use Rattle.py_stream.specs.Buffer.{Buffer, taken_by, refusal_lent, refused_here, LeavesBuffer, BufferMoves, BufferPasses, BufferLays, BufferTakes, asks_for, closes_twice, GoesFromEnd, BufferSeeksFromEnd, BufferSeeksByEnd, is_made, AnswersAsBuffer}
 use Rattle.py_memio.specs.InMemory.{file_in_memory, refusal_in_memory, may_lack_memory, CarriedOutInMemory, AnswersWith, AnswersInMemory}
 use Rattle.py_memio.specs.BytesIO.{Exports, BytesView, has_some, is_lent, buffer_with, as_buffer}
 use Rattle.py_stream.specs.Stream.{nothing_owed}
@@ -131,7 +131,7 @@ goes_refused before after (Some target) (Some own) why place current owed whole 
 goes_refused before after None (Some own) why place current owed whole is = let same : own ≡ why = cc in record { says = ap Refused (sym same); place = place; life_is = current; owed = owed; whole = whole }
 goes_refused before after target None why place current owed whole is = absurd (cc)
 
-end_goes : (before after : Buffer) (offset : ℤ) (why : IoFault) → BufferSeeksFromEnd before offset (Refused why) after → BufferEndMoves before offset (Refused why) after
+end_goes : (before after : Buffer) (offset : ℤ) (why : IoFault) → BufferSeeksFromEnd before offset (Refused why) after → UnlessStopped (Refused why) (BufferSeeksFromEnd before offset (Refused why) after)
 end_goes before after offset fault.RawFault goes = tt
 end_goes before after offset fault.NoMemory goes = tt
 end_goes before after offset (fault.WouldBlock taken) goes = tt

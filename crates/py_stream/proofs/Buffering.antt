@@ -10,8 +10,8 @@ use Rattle.py_raw.proofs.Telling.{tells_still, tells_its_bytes}
 use Rattle.py_stream.specs.Stream.{Stream, buffering_of, nothing_owed}
 use Rattle.py_stream.specs.Kinds.{is_writing}
 use Rattle.py_stream.specs.Writing.{OwesRest, PassesFront, PassedOn, OwesBoth, PassesOn, LaysInOrder, BlocksFull, Writes}
-use Rattle.py_stream.specs.Answers.{Answers, Leaves, GivesWithin, SeeksTo, SeeksFromEnd, EndMoves, SeeksByEnd, closes_again}
-use Rattle.py_stream.specs.Buffer.{Buffer, buffer_of, taken_by, size_shown, LeavesBuffer, closes_twice, GivesAsked, GoesFromEnd, BufferSeeksFromEnd, BufferEndMoves, BufferSeeksByEnd, BufferOwes, BufferPassedOn, BufferPasses, BufferLays, BufferBlocksFull, BufferTakes, OwesAsItCan, is_made, AnswersAsBuffer}
+use Rattle.py_stream.specs.Answers.{Answers, Leaves, GivesWithin, SeeksTo, SeeksFromEnd, UnlessStopped, EndMoves, SeeksByEnd, closes_again}
+use Rattle.py_stream.specs.Buffer.{Buffer, buffer_of, taken_by, size_shown, LeavesBuffer, closes_twice, GivesAsked, GoesFromEnd, BufferSeeksFromEnd, BufferSeeksByEnd, BufferOwes, BufferPassedOn, BufferPasses, BufferLays, BufferBlocksFull, BufferTakes, OwesAsItCan, is_made, AnswersAsBuffer}
 
 -- the size that is shown is the stream's own
 size_is : (buffer : Option ℕ) → IsSome buffer → size_shown (buffering_of buffer) ≡ buffer
@@ -36,7 +36,7 @@ goes_so was taken before after target refused reply goes = grind arith
 from_end_so : (was taken : ℕ) (before after : Stream) (offset : ℤ) (reply : FileReply) → SeeksFromEnd before offset reply after → BufferSeeksFromEnd (buffer_of before was) offset reply (buffer_of after taken)
 from_end_so was taken before after offset reply seeks = grind (arith, tells_its_bytes, goes_so)
 
-end_moves_so : (was taken : ℕ) (before after : Stream) (offset : ℤ) (reply : FileReply) → EndMoves before offset reply after → BufferEndMoves (buffer_of before was) offset reply (buffer_of after taken)
+end_moves_so : (was taken : ℕ) (before after : Stream) (offset : ℤ) (reply : FileReply) → EndMoves before offset reply after → UnlessStopped reply (BufferSeeksFromEnd (buffer_of before was) offset reply (buffer_of after taken))
 end_moves_so was taken before after offset reply moves = grind (arith, from_end_so)
 
 by_end_so : (was taken : ℕ) (before after : Stream) (call : FileCall) (reply : FileReply) → SeeksByEnd before call reply after → BufferSeeksByEnd (buffer_of before was) call reply (buffer_of after taken)

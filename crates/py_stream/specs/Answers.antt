@@ -217,12 +217,16 @@ pub record SeeksFromEnd (before : Stream) (offset : ℤ) (reply : FileReply) (af
   pub told : WhereBytes before.raw (end ≡ length (file_of before).bytes)
   pub target : SeeksTo before (moved_by end offset) (target_refusal (moved_by end offset)) reply after
 
+-- a fact, of every reply but those that say that asking the raw failed
+abbrev pub UnlessStopped : FileReply → Type 0 → Type 0
+UnlessStopped (Refused fault.RawFault) Fact = Unit {0}
+UnlessStopped (Refused fault.NoMemory) Fact = Unit {0}
+UnlessStopped (Refused (fault.WouldBlock taken)) Fact = Unit {0}
+UnlessStopped reply Fact = Fact
+
 -- a seek from the end goes by what the raw answered, unless asking the raw failed
 abbrev pub EndMoves : Stream → ℤ → FileReply → Stream → Type 0
-EndMoves before offset (Refused fault.RawFault) after = Unit {0}
-EndMoves before offset (Refused fault.NoMemory) after = Unit {0}
-EndMoves before offset (Refused (fault.WouldBlock taken)) after = Unit {0}
-EndMoves before offset reply after = SeeksFromEnd before offset reply after
+EndMoves before offset reply after = UnlessStopped reply (SeeksFromEnd before offset reply after)
 
 -- where an accepted seek from the end goes, by what the raw answered; of other calls nothing
 abbrev pub SeeksByEnd : Stream → FileCall → FileReply → Stream → Type 0

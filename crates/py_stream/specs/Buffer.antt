@@ -18,7 +18,7 @@ use Rattle.py_raw.specs.RawStream.{tells}
 use Rattle.py_stream.specs.Stream.{Stream, buffering_of, nothing_owed}
 use Rattle.py_stream.specs.Kinds.{is_reading, has_room, outlasts, says_fault, says_no_memory}
 use Rattle.py_stream.specs.Writing.{OwesUpTo, OwesRest, LaysFrontOf}
-use Rattle.py_stream.specs.Answers.{IsAnswerTo, IsReplyTo, IsShort, LifeMoves, PlaceMoves, Within}
+use Rattle.py_stream.specs.Answers.{IsAnswerTo, IsReplyTo, IsShort, LifeMoves, PlaceMoves, Within, UnlessStopped}
 
 -- What a buffered stream shows: whether it tells its content; told, the raw's bytes; where the raw stands, as the stream counts; its
 -- own place; what it can do; its life; how large its buffer is, of 0 bytes in memory; whether a wait cut the last answer short; what
@@ -185,16 +185,9 @@ pub record BufferSeeksFromEnd (before : Buffer) (offset : ℤ) (reply : FileRepl
   pub told : WhereShown before (end ≡ length (flat_of before).bytes)
   pub target : GoesFromEnd before (moved_by end offset) (target_refusal (moved_by end offset)) reply after
 
--- a seek from the end goes by the end that was answered, unless asking for the end failed
-abbrev pub BufferEndMoves : Buffer → ℤ → FileReply → Buffer → Type 0
-BufferEndMoves before offset (Refused fault.RawFault) after = Unit {0}
-BufferEndMoves before offset (Refused fault.NoMemory) after = Unit {0}
-BufferEndMoves before offset (Refused (fault.WouldBlock taken)) after = Unit {0}
-BufferEndMoves before offset reply after = BufferSeeksFromEnd before offset reply after
-
--- an accepted seek from the end goes by the end; of other calls nothing
+-- an accepted seek from the end goes by the end that was answered, unless asking for it failed; of other calls nothing
 abbrev pub BufferSeeksByEnd : Buffer → FileCall → FileReply → Buffer → Type 0
-BufferSeeksByEnd before (Seek offset (pos (suc (suc zero)))) reply after = asks_end (flat_of before) (Seek offset (pos 2)) ≡ true → BufferEndMoves before offset reply after
+BufferSeeksByEnd before (Seek offset (pos (suc (suc zero)))) reply after = asks_end (flat_of before) (Seek offset (pos 2)) ≡ true → UnlessStopped reply (BufferSeeksFromEnd before offset reply after)
 BufferSeeksByEnd before call reply after = Unit {0}
 
 -- What is owed.
