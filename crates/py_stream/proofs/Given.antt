@@ -87,11 +87,11 @@ faults_answers old new call may fails counts one straight =
     let lays = fails_lays old new own fails in
     let answers = fault_answers old.buffer true call (no_tell call may.writing) in
     let told : WhereTold old.raw (BinaryStep (file_of old) call (Refused fault.RawFault) false true (file_of new)) = λ tells.
-        let laid = fails_bytes old new own fails tells in
-        raw_faulted refl refl (
-          work_reaches (file_of old) call (works old call may),
-          is.faulted (file_of new) (laid.count, laid.fits, failed_file old new life.Failed (lay (file_of old).bytes old.place (take laid.count own)) fails.kept fails.failed laid.bytes),
-        ) in
+    let laid = fails_bytes old new own fails tells in
+    raw_faulted refl refl (
+      work_reaches (file_of old) call (works old call may),
+      is.faulted (file_of new) (laid.count, laid.fits, failed_file old new life.Failed (lay (file_of old).bytes old.place (take laid.count own)) fails.kept fails.failed laid.bytes),
+    ) in
     answers_coming old new call (Refused fault.RawFault) false may (search (rules, says_short, nothing_blocked))
 
 -- Memory ran out.
@@ -131,8 +131,8 @@ midway_answers old between call taken may goes fits takes took calm one past str
     let counted : IsTrue old.raw.counts_exactly → IsCounted old.buffer old.raw call (Refused fault.NoMemory) between.raw false = λ exact. record { faults = λ _. took.no_fault exact; waits = λ _ ends. calm_counts old.buffer call old.raw between.raw may.writing calm ends exact; once = λ short. absurd (cc) } in
     let answers = starve_answers old.buffer true call (no_tell call may.writing) in
     let told : WhereTold old.raw (BinaryStep (file_of old) call (Refused fault.NoMemory) false false (file_of new)) = λ tells. out_of_memory refl (
-        work_reaches (file_of old) call (works old call may),
-        is.starved (file_of new) (taken, some, fits, failed_file old new life.Failed (lay (file_of old).bytes old.place (take taken own)) kept refl (took_bytes old between (take taken own) took tells)),
+      work_reaches (file_of old) call (works old call may),
+      is.starved (file_of new) (taken, some, fits, failed_file old new life.Failed (lay (file_of old).bytes old.place (take taken own)) kept refl (took_bytes old between (take taken own) took tells)),
     ) in
     answers_coming old new call (Refused fault.NoMemory) false may (search (rules, nothing_blocked, takes_front, lays_taken, took_own))
 

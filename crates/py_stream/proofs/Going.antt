@@ -183,10 +183,10 @@ gone old mid new offset whence target may to beside settled_by goes =
       rests = λ dead. absurd (dead may.live);
     }) in
     let told : WhereTold old.raw (BinaryStep (file_of old) call (Place target) new.short false (file_of new)) = λ tells.
-        let lies : (seek_target (file_of old) offset whence ≡ target) × (refusal (file_of old) call ≡ None) = to.lies (tells_its_bytes old.raw tells) in
-        subst (λ (said : Bool). BinaryStep (file_of old) call (Place target) said false (file_of new)) (sym short)
-        (settled (subst (λ (refused : Option IoFault). SettledBy (file_of old) call refused (Place target) (file_of new)) (sym lies.1)
-        (sought_at (file_of old) (file_of new) (seek_target (file_of old) offset whence) target lies.0 (gone_file old mid new target may.live passes settled_by.2 kept goes tells)))) in
+    let lies : (seek_target (file_of old) offset whence ≡ target) × (refusal (file_of old) call ≡ None) = to.lies (tells_its_bytes old.raw tells) in
+    subst (λ (said : Bool). BinaryStep (file_of old) call (Place target) said false (file_of new)) (sym short)
+    (settled (subst (λ (refused : Option IoFault). SettledBy (file_of old) call refused (Place target) (file_of new)) (sym lies.1)
+    (sought_at (file_of old) (file_of new) (seek_target (file_of old) offset whence) target lies.0 (gone_file old mid new target may.live passes settled_by.2 kept goes tells)))) in
     shows_answers old call (Place target) new asked.none (search (rules, stays_open))
 
 -- A stream that owes nothing is moved at once.

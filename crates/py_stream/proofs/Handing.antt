@@ -116,8 +116,8 @@ detached_live old new is far passed stands =
       rests = λ dead. absurd (dead is.live);
     }) in
     let told : WhereTold old.raw (BinaryStep (file_of old) Detach reply false false (file_of after)) = λ tells. settled (subst (λ (refused : Option IoFault). SettledBy (file_of old) Detach refused reply (file_of after)) (sym asked.passes)
-        (subst (λ (current : Life). DetachesIn current (file_of old) reply (file_of after)) (sym is.live)
-        (ap (λ (bytes : List ℕ). let file : FlatFile = record (file_of old) { bytes = bytes; life = life.Detached } in (reply, file)) (passed_all old new passes passed.2 tells)))) in
+    (subst (λ (current : Life). DetachesIn current (file_of old) reply (file_of after)) (sym is.live)
+    (ap (λ (bytes : List ℕ). let file : FlatFile = record (file_of old) { bytes = bytes; life = life.Detached } in (reply, file)) (passed_all old new passes passed.2 tells)))) in
     shows_answers old Detach reply after asked.none (search rules)
 
 hands_live : (old new : Stream) → old.life ≡ life.Live → IsWriting (begun old) → old.place ≤ greatest_place → NoneAtPlace old → BeginDetachIn life.Live (begun old) (Ok tt) new → HandsOver old new.raw new.owed.bytes (place_handed old new.owed) (left_behind old)

@@ -148,8 +148,10 @@ told_enough before mid call part several begun given gathered tells =
 told_front : (before mid : Stream) (call : FileCall) (part : List ℕ) → by_several before.buffer call ≡ true → Reads before → Gives before part mid → part ≢ [] → GathersFront (wanted_by call) before part → WhereTold before.raw (BinaryStep (file_of before) call (reply_by call part) true false (file_of mid))
 told_front before mid call part several begun given some gathered tells =
     let on : reads_on call ≡ true = (is_several before.buffer call several).on in
-    waited_for refl (works before call (reading_on call on) (on_suits (file_of before) call on begun.readable) begun.live,
-    part_waited (file_of before) call part (file_of mid) on (record { front = gathered.front tells; some = some; leaves = file_after before mid (length part) begun.bare given.kept (given.live ∙ sym begun.live) given.place tells }))
+    waited_for refl (
+      works before call (reading_on call on) (on_suits (file_of before) call on begun.readable) begun.live,
+      part_waited (file_of before) call part (file_of mid) on (record { front = gathered.front tells; some = some; leaves = file_after before mid (length part) begun.bare given.kept (given.live ∙ sym begun.live) given.place tells }),
+    )
 
 -- what a reading gave, by where it stopped
 given_at : (before mid : Stream) (call : FileCall) (part : List ℕ) (stop : Stop) → by_several before.buffer call ≡ true → Reads before → GatherOutcome (wanted_by call) before (Ok stop) part mid → (IsTrue (is_wait stop) → part ≢ []) → Given before call part (is_wait stop) mid

@@ -113,7 +113,7 @@ answers_once before mid call part once begun gives =
     let brings = gives.one.came in
     let needs : IsTrue (by_several before.buffer call) → AsksNoMore before call (Bytes part) (record mid { short = false }) = λ several. absurd (let never = is.stops in cc) in
     let told : WhereTold before.raw (BinaryStep file call (Bytes part) false false (file_of mid)) = λ tells. settled (subst (λ (refused : Option IoFault). SettledBy file call refused (Bytes part) (file_of mid)) (sym (accepted before call is.reads has begun.live))
-        (once_carried before.buffer file call part (file_of mid) once gives.sized (gives.is tells) (file_after before mid (moves_by call (length part)) begun.bare gives.kept same gives.place tells))) in
+    (once_carried before.buffer file call part (file_of mid) once gives.sized (gives.is tells) (file_after before mid (moves_by call (length part)) begun.bare gives.kept same gives.place tells))) in
     let reach : Reaches before mid = λ tells. front_reaches (take asked (rest file)) part file.bytes before.place mid.place (omega (arith, length-take asked (rest file))) (gives.is tells).front (omega (arith, gives.place, moves_within call (length part))) in
     answers_coming before mid call (Bytes part) false is.reads has begun (search rules)
 
