@@ -1,5 +1,5 @@
 -- The calls that give nothing, or bytes, by what the stream is opened for: what holds when a call begins, and what its steps come to.
-use Rattle.std.proofs.Common.{◌≡◌, ℕ, ℤ, ◌+◌, ◌≤◌, Bool, true, false, [], length, Result, Ok, Err, IfOk, refl, ap, subst, arith}
+use Rattle.std.proofs.Common.{◌≡◌, ℕ, ℤ, ◌+◌, ◌≤◌, Bool, true, false, [], length, Result, Ok, Err, IfOk, refl, sym, ap, subst, arith}
 use Rattle.py_flat.specs.declared.fault.IoFault.{IoFault}
 use Rattle.py_flat.specs.declared.life.Life.TheVariants as life
 use Rattle.py_flat.specs.Limits.{greatest_place}
@@ -66,15 +66,15 @@ is_writing_live engine is writes live = grind (arith, is_sound, stands_whole, wr
 pub stands_there : (engine : EngineView) → Stands engine → is_read engine.access ≡ false → (stream_of engine).owed.bytes ≡ [] → engine.raw_place ≡ place_of engine.window
 stands_there engine is writes none = omega (arith, (owes_behind engine is writes).ends, (owes_behind engine is writes).stands, ap length none)
 
-settled_there : (old : Stream) (new : EngineView) (result : Result (Unit {0}) IoFault) → Stands new → is_read new.access ≡ false → SettleOutcome old result (stream_of new) → IfOk result (λ done. new.raw_place ≡ place_of new.window)
-settled_there old new (Ok done) is writes settled = stands_there new is writes settled.2
-settled_there old new (Err why) is writes settled = tt
+written_there : (opened : Access) (result : Result (Unit {0}) IoFault) (raw_place place : ℕ) → is_read opened ≡ false → IfOk result (λ done. is_read opened ≡ false → raw_place ≡ place) → IfOk result (λ done. raw_place ≡ place)
+written_there opened (Ok done) raw_place place writes stands = stands writes
+written_there opened (Err why) raw_place place writes stands = tt
 
 -- a `flush` answers what passing all on came to
-pub flushes : (opened : Access) (old started new : EngineView) (result : Result (Unit {0}) IoFault) → old.access ≡ opened → Stands old → BeginOutcome old (Ok tt) started → PassesAll opened (stream_of started) result (stream_of new) → Stands new → new.access ≡ opened → Answers (stream_of old) Flush (done_reply result) (stream_of new)
-flushes access.Read old started new result opened is began passed now same = grind (arith, flush_answers, is_placed, owes_nothing, reads_only, begins)
-flushes other old started new result opened is began passed now same =
-    flush_passes_on (stream_of old) (stream_of started) (stream_of new) result (is_writing_live old is (ap is_read opened) began.0) (begins old started (Ok tt) began) passed (settled_there (stream_of started) new result now (ap is_read same) passed)
+pub flushes : (opened : Access) (old started new : EngineView) (result : Result (Unit {0}) IoFault) → old.access ≡ opened → Stands old → BeginOutcome old (Ok tt) started → PassesAll opened (stream_of started) result (stream_of new) → IfOk result (λ done. is_read opened ≡ false → new.raw_place ≡ place_of new.window) → Answers (stream_of old) Flush (done_reply result) (stream_of new)
+flushes access.Read old started new result opened is began passed stands = grind (arith, flush_answers, is_placed, owes_nothing, reads_only, begins)
+flushes other old started new result opened is began passed stands =
+    flush_passes_on (stream_of old) (stream_of started) (stream_of new) result (is_writing_live old is (ap is_read opened) began.0) (begins old started (Ok tt) began) passed (written_there old.access result new.raw_place (place_of new.window) (ap is_read opened) (subst (λ (access : Access). IfOk result (λ done. is_read access ≡ false → new.raw_place ≡ place_of new.window)) (sym opened) stands))
 
 -- Closing.
 

@@ -1,5 +1,5 @@
 -- Passing on what a stream owes, transfer by transfer.
-use Rattle.std.proofs.Common.{◌≡◌, IsTrue, Bool, true, [], Ok, Err, refl, ap, sym, subst, arith}
+use Rattle.std.proofs.Common.{◌≡◌, IsTrue, Bool, true, false, [], Result, Ok, Err, refl, ap, sym, subst, arith}
 use Rattle.py_flat.specs.declared.fault.IoFault.{IoFault}
 use Rattle.py_flat.specs.declared.fault.IoFault.TheVariants as fault
 use Rattle.py_raw.specs.RawStream.{NoWait}
@@ -10,7 +10,10 @@ use Rattle.py_stream.specs.Settling.{LivesOn, SettleOutcome}
 use Rattle.py_stream.proofs.PassingOn.{took_passes, failing_passes}
 use Rattle.py_stream.proofs.Taking.{took_on, fails_on, calm_of, waited_then, waits_once_then}
 use Rattle.py_engine.specs.declared.data.passing_on.Passed.TheVariants as passing
-use Rattle.py_engine.specs.Passing.{DrainOutcome, FlushOutcome}
+use Rattle.py_stream.specs.declared.access.Access.{Access}
+use Rattle.py_stream.specs.declared.access.Access.TheVariants as access
+use Rattle.py_stream.specs.Access.{is_read}
+use Rattle.py_engine.specs.Passing.{DrainOutcome, FlushOutcome, PassesAll}
 
 -- how far a passing on came: no wait was asked for yet
 pub record PassesSoFar (old now : Stream) : Type 0 where
@@ -54,3 +57,9 @@ pub settling_refused : (old new : Stream) (why : IoFault) → FlushOutcome old (
 settling_refused old new fault.RawFault fails = (failing_passes old new fails.0, fails.0.failed, fails.0.cause, fails.1, fails.2)
 settling_refused old new fault.NoMemory lacks = (lacks.0.takes, lives_on old new lacks.0.took, lacks.1)
 settling_refused old new why never = absurd never
+
+-- a stream that is written passes all on
+pub passes_all : (opened : Access) (old new : Stream) (result : Result (Unit {0}) IoFault) → is_read opened ≡ false → SettleOutcome old result new → PassesAll opened old result new
+passes_all access.Read old new result other passed = absurd (cc)
+passes_all access.Write old new result other passed = passed
+passes_all access.Append old new result other passed = passed

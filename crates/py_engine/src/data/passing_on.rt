@@ -1,10 +1,10 @@
 //! Passing on what the raw is owed.
-ghost use Rattle.std.specs.Prelude.{◌≡◌, ◌<◌, false, length};
+ghost use Rattle.std.specs.Prelude.{◌≡◌, ◌<◌, false, length, IfOk};
 ghost use Rattle.py_flat.specs.Calls.{Flush};
 ghost use Rattle.py_stream.specs.Access.{is_read};
 ghost use Rattle.py_stream.specs.Answers.{Answers};
 ghost use Rattle.py_stream.specs.Replies.{done_reply};
-ghost use Rattle.py_engine.specs.Window.{pending_of};
+ghost use Rattle.py_engine.specs.Window.{pending_of, place_of};
 ghost use Rattle.py_engine.specs.Engine.{stream_of};
 ghost use Rattle.py_engine.specs.Passing.{DrainOutcome, FlushOutcome, PassesAll};
 
@@ -70,6 +70,7 @@ impl<R: RawStream> BufferedData<R> {
         requires live { self.old.life ≡ Life.Live }
         requires whole { self.old.short ≡ false }
         ensures outcome { PassesAll self.old.access (stream_of self.old) result (stream_of self.new) }
+        ensures stands { IfOk result (λ done. is_read self.old.access ≡ false → self.new.raw_place ≡ place_of self.new.window) }
         ensures access { self.new.access ≡ self.old.access }
     {
         if self.live.reads() {
