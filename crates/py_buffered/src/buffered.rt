@@ -14,7 +14,9 @@ ghost use Rattle.py_engine.specs.Engine.{stream_of};
 
 use py_engine::BufferedData;
 use py_raw::{IoFault, Life, Lines, RawError, RawStream};
-use py_stream::{Access, Detached, NewRefused, first_place, refused_at_first, truncate};
+use py_stream::{
+    Access, Detached, NewRefused, first_place, read_line, read_lines, refused_at_first, truncate,
+};
 use std::alloc::Global;
 use std::marker::Model;
 
@@ -202,7 +204,7 @@ impl<R: RawStream> Buffered<R> {
         match &mut self.data {
             Some(data) => {
                 data.assured();
-                let answer = data.readline(alloc, limit);
+                let answer = read_line(data, alloc, limit);
                 data.assured();
                 answer
             }
@@ -223,7 +225,7 @@ impl<R: RawStream> Buffered<R> {
         match &mut self.data {
             Some(data) => {
                 data.assured();
-                let answer = data.readlines(alloc, hint);
+                let answer = read_lines(data, alloc, hint);
                 data.assured();
                 answer
             }

@@ -1,25 +1,22 @@
 -- Reading from an engine that reads ahead: nothing is pending, and its raw stands after the bytes held.
-use Rattle.std.specs.Prelude.{◌≡◌, ◌≢◌, ℕ, ◌+◌, ◌^◌, ◌<◌, ◌≤◌, ◌⊎◌, Bool, true, false, if◌then◌else◌, nat_lt, IsTrue, List, [], ◌++◌, length, take, Some, Result, Ok, Err, Vec}
+use Rattle.std.specs.Prelude.{◌≡◌, ◌≢◌, ℕ, ◌+◌, ◌<◌, ◌≤◌, Bool, true, false, if◌then◌else◌, nat_lt, IsTrue, List, [], length, take, Some, Result, Ok, Err, Vec}
 use Rattle.std.specs.declared.alloc.Global.{Global}
 use Rattle.py_flat.specs.declared.fault.IoFault.{IoFault}
 use Rattle.py_flat.specs.declared.fault.IoFault.TheVariants as fault
 use Rattle.py_flat.specs.declared.life.Life.TheVariants as life
 use Rattle.py_flat.specs.Bytes.{left_at}
 use Rattle.py_flat.specs.Causes.{Rose}
-use Rattle.py_flat.specs.ExactStep.{rest}
-use Rattle.py_raw.specs.RawStream.{Keeps, StaysOpen, WhereTold, WherePlace, WhereTransfers, KeepsBytes, NoFault, NoWait, WaitsOnce, LeavesCounts, AnswersFor, KeepsReads}
+use Rattle.py_raw.specs.RawStream.{Keeps, StaysOpen, WhereTold, WherePlace, WhereTransfers, KeepsBytes, NoFault, NoWait, WaitsOnce, AnswersFor, KeepsReads}
 use Rattle.py_stream.specs.Access.{can_of, is_read}
-use Rattle.py_stream.specs.Stream.{Stream, file_of, nothing_owed}
-use Rattle.py_stream.specs.Answers.{OnlyAsked, CameByReads, EachBrings}
-use Rattle.py_stream.specs.Reading.{KeepsReading, Reaches, FailsReading, StopOutcome}
+use Rattle.py_stream.specs.Stream.{Stream, nothing_owed}
+use Rattle.py_stream.specs.Answers.{CameByReads, EachBrings}
 use Rattle.py_stream.specs.LiveRaw.{starved}
 use Rattle.py_stream.specs.declared.stop.Stop.{Stop}
 use Rattle.py_stream.specs.declared.stop.Stop.TheVariants as stop
 use Rattle.py_engine.specs.declared.window.Filled.{Filled}
 use Rattle.py_engine.specs.declared.window.Filled.TheVariants as filled
-use Rattle.py_engine.specs.declared.data.reading.Progress.{Progress}
-use Rattle.py_engine.specs.declared.data.reading.Step.{Step}
-use Rattle.py_engine.specs.declared.data.reading.Step.TheVariants as step
+use Rattle.py_stream.specs.declared.stop.Step.{Step}
+use Rattle.py_stream.specs.declared.stop.Step.TheVariants as step
 use Rattle.py_engine.specs.Window.{IsWindow, place_of, end_of, ahead_of, advanced, emptied_at, HoldsNew}
 use Rattle.py_engine.specs.Engine.{EngineView, ReadsAhead, HoldsBytes}
 
@@ -145,92 +142,11 @@ PassesOutcome old moved (Err other) buffer new = ⊥
 
 -- Into a caller's buffer.
 
--- bytes came after those held, which were all taken, into the front of what is left of a caller's buffer
-pub record StepsOn (old : EngineView) (count : ℕ) (rest : List ℕ) (new : EngineView) : Type 0 where
-  pub kept : KeepsEngine old new
-  pub counts : LeavesCounts old.raw new.raw
-  pub live : new.life ≡ life.Live
-  pub some : 0 < count
-  pub place : end_of old.window ≤ place_of new.window
-  pub told : WhereTold old.raw (take count (left_at old.raw.bytes (end_of old.window)) ≡ take count rest)
-  pub each : EachBrings 0 0 (reading_of old) (reading_of new)
-  pub forth : WherePlace old.raw (old.raw.place < new.raw.place)
-
 -- the step that a transfer makes which brought n bytes of as many as were wanted
 abbrev pub stepped : Filled → ℕ → ℕ → Step
 stepped (filled.More any) count wanted = if nat_lt count wanted then step.On count else step.Stopped count stop.Enough
 stepped filled.End count wanted = step.Stopped 0 stop.End
 stepped filled.Waits count wanted = step.Stopped 0 stop.Waits
-
--- one transfer: it brought less than what is left of the buffer, and the window's end lies after it; or as much, and the
--- place does, among what it brought; or none
-abbrev pub StepOutcome : EngineView → Bool → Result Step IoFault → List ℕ → EngineView → Type 0
-StepOutcome old moved (Ok (step.On count)) rest new = StepsOn old count rest new × (count < length rest) × (end_of new.window ≡ end_of old.window + count)
-StepOutcome old moved (Ok (step.Stopped count stop.Enough)) rest new = StepsOn old count rest new × (count ≡ length rest) × (place_of new.window ≡ end_of old.window + count) × WhereTransfers old.raw (end_of new.window < place_of new.window + new.raw.reads.last)
-StepOutcome old moved (Ok (step.Stopped count stop.End)) rest new = (count ≡ 0) × UsesUp 1 old new × IsLast old × NoWait old.raw new.raw
-StepOutcome old moved (Ok (step.Stopped count stop.Waits)) rest new = (count ≡ 0) × UsesUp 0 old new × Rose old.raw.waits new.raw.waits × WaitsOnce old.raw new.raw
-StepOutcome old moved (Err fault.RawFault) rest new = FailsByRaw old new
-StepOutcome old moved (Err fault.NoMemory) rest new = RawStarves moved old new
-StepOutcome old moved (Err other) rest new = ⊥
-
--- memory ran out in a reading that goes on, where bytes had left the raw in this call, or in the reading before it
-pub record FailsStarved (moved : Bool) (before after : Stream) : Type 0 where
-  pub kept : KeepsReading before after
-  pub counts : LeavesCounts before.raw after.raw
-  pub failed : after.life ≡ life.Failed
-  pub forth : before.place ≤ after.place
-  pub reach : Reaches before after
-  pub raw_forth : before.raw_place ≤ after.raw_place
-  pub further : moved ≡ false → before.raw_place < after.raw_place
-  pub stands : WherePlace before.raw (before.raw.place ≤ after.raw.place)
-  pub stands_further : moved ≡ false → WherePlace before.raw (before.raw.place < after.raw.place)
-  pub some : moved ≡ false → WhereTold before.raw (rest (file_of before) ≢ [])
-  pub each : EachBrings 0 0 before after
-
--- the raw's running out of memory: all is as it was where no byte had moved in this call; else the stream fails
-abbrev pub StarvesIn : EngineView → Bool → EngineView → Type 0
-StarvesIn old moved new = IsTrue old.raw.takes_memory × (((moved ≡ false) × (new ≡ old)) ⊎ FailsStarved moved (reading_of old) (reading_of new))
-
--- a refused reading into a buffer moved the place by no more than that has room for, which is more than was held
-abbrev pub MovesInto : EngineView → List ℕ → EngineView → Type 0
-MovesInto old buffer new = (place_of new.window ≤ place_of old.window + length buffer) × (length (ahead_of old.window) < length buffer)
-
--- n bytes came into the front of the buffer: all of it where there are enough, and else less; for one that the bytes held fill the
--- raw isn't called
-pub record ReadsInto (old : EngineView) (progress : Progress) (buffer : List ℕ) (new : EngineView) : Type 0 where
-  pub fits : progress.count ≤ length buffer
-  pub full : progress.stop ≡ stop.Enough → progress.count ≡ length buffer
-  pub less : progress.stop ≢ stop.Enough → progress.count < length buffer
-  pub idle : length buffer ≤ length (ahead_of old.window) → new.raw ≡ old.raw
-  pub stops : StopOutcome (reading_of old) (take progress.count buffer) (Ok progress.stop) (reading_of new)
-
--- a reading into a buffer came to some bytes, or is refused
-abbrev pub ReadIntoOutcome : EngineView → Bool → Result Progress IoFault → List ℕ → EngineView → Type 0
-ReadIntoOutcome old moved (Ok progress) buffer new = ReadsInto old progress buffer new
-ReadIntoOutcome old moved (Err fault.RawFault) buffer new = FailsReading (reading_of old) (reading_of new) × MovesInto old buffer new
-ReadIntoOutcome old moved (Err fault.NoMemory) buffer new = StarvesIn old moved new × MovesInto old buffer new
-ReadIntoOutcome old moved (Err other) buffer new = ⊥
-
--- a reading of all begins: it asks for more bytes than the window holds, once the raw was asked where it ends, if that can be moved
-abbrev pub FirstOutcome : EngineView → Result ℕ IoFault → EngineView → Type 0
-FirstOutcome old (Ok more) new = OnlyAsked (reading_of old) (reading_of new) × (length (ahead_of old.window) < more) × (more < 2 ^ 64)
-FirstOutcome old (Err fault.RawFault) new = FailsReading (reading_of old) (reading_of new)
-FirstOutcome old (Err fault.NoMemory) new = IsTrue old.raw.takes_memory × (new ≡ old)
-FirstOutcome old (Err other) new = ⊥
-
--- n bytes more were asked for, and some of them came after what a vector had; all of them where there are enough
-pub record ReadsMore (old : EngineView) (before : List ℕ) (more : ℕ) (where_stopped : Stop) (after : List ℕ) (new : EngineView) : Type 0 where
-  pub part : List ℕ
-  pub behind : after ≡ before ++ part
-  pub full : where_stopped ≡ stop.Enough → length part ≡ more
-  pub stops : StopOutcome (reading_of old) part (Ok where_stopped) (reading_of new)
-
--- a reading of n bytes more came to some of them, or is refused
-abbrev pub ReadMoreOutcome : EngineView → Bool → List ℕ → ℕ → Result Stop IoFault → List ℕ → EngineView → Type 0
-ReadMoreOutcome old moved before more (Ok where_stopped) after new = ReadsMore old before more where_stopped after new
-ReadMoreOutcome old moved before more (Err fault.RawFault) after new = FailsReading (reading_of old) (reading_of new)
-ReadMoreOutcome old moved before more (Err fault.NoMemory) after new = StarvesWith moved old new ⊎ FailsStarved moved (reading_of old) (reading_of new)
-ReadMoreOutcome old moved before more (Err other) after new = ⊥
 
 -- By one transfer.
 

@@ -5,7 +5,7 @@ ghost use Rattle.py_raw.specs.RawStream.{WherePlace};
 ghost use Rattle.py_stream.specs.Access.{is_read};
 ghost use Rattle.py_engine.specs.Window.{ahead_of, place_of};
 ghost use Rattle.py_engine.specs.Engine.{stream_of, Stands, BeginOutcome, RawEndOutcome};
-ghost use Rattle.py_engine.specs.Reading.{StarvesWith, FillsOutcome, PassesOutcome};
+ghost use Rattle.py_engine.specs.Reading.{FillsOutcome, PassesOutcome};
 
 mod ending;
 mod gathering;
@@ -105,14 +105,6 @@ impl<R: RawStream> BufferedData<R> {
         ensures { BeginOutcome self.old result self.new }
     {
         self.live.begin()
-    }
-
-    /// Memory was wanting: the stream fails where bytes had moved in this call.
-    fn starve(&mut self, moved: bool) -> IoFault
-        ensures fault { result ≡ IoFault.NoMemory }
-        ensures stream { StarvesWith moved self.old self.new }
-    {
-        self.live.starve(moved)
     }
 
     /// Asks the raw where it ends.

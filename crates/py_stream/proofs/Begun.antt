@@ -31,8 +31,8 @@ module _ (short : Bool) where
   end_moves before after offset (Refused fault.NoMemory) moves = tt
   end_moves before after offset reply moves = from_end before after offset reply moves
 
-  unmoved_seen : (before after : Stream) (call : FileCall) → Unmoved call (seen short before) after → Unmoved call before after
-  unmoved_seen before after call is = grind arith
+  unmoved_seen : (before after : Stream) (asks_end : Bool) → Unmoved asks_end (seen short before) after → Unmoved asks_end before after
+  unmoved_seen before after asks_end is = grind arith
 
   by_end : (before after : Stream) (call : FileCall) (reply : FileReply) → SeeksByEnd (seen short before) call reply after → SeeksByEnd before call reply after
   by_end before after (Seek offset (pos (suc (suc zero)))) reply seeks = λ asks. end_moves before after offset reply (seeks asks)
@@ -91,7 +91,7 @@ module _ (short : Bool) where
     moves = record { life_is = answers.moves.life_is; place = answers.moves.place; far = answers.moves.far; within = answers.moves.within };
     ends = by_end before after call reply answers.ends;
     wants = answers.wants;
-    starves = λ wanting reads. let starved = answers.starves wanting reads in record { unmoved = λ living none. unmoved_seen before after call (starved.unmoved living none); moved = starved.moved; stands = starved.stands };
+    starves = λ wanting reads. let starved = answers.starves wanting reads in record { unmoved = λ living none. unmoved_seen before after _ (starved.unmoved living none); moved = starved.moved; stands = starved.stands };
     first = answers.first;
     nothing = λ asks. let none = answers.nothing asks in record { raw = none.raw; fault = none.fault };
     idle = λ keeps. let still = answers.idle keeps in record { raw = still.raw; fault = still.fault; memory = still.memory };

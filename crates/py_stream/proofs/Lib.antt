@@ -28,6 +28,7 @@ pub mod ReadingSteps
 pub mod ReadingAnswers
 pub mod ReadingStops
 pub mod ReadingOn
+pub mod ReadingInto
 pub mod SingleReading
 pub mod LineReadings
 pub mod Movable

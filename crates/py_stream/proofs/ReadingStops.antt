@@ -199,8 +199,8 @@ answers_faulted before after call reads has begun fails within stays asks_some o
 pub asked_none : (stream : Stream) → stream.short ≡ false → OnlyAsked stream stream
 asked_none stream whole = grind (arith, uncounted, keeps_same)
 
-stays_unmoved : (call : FileCall) (stream : Stream) → stream.short ≡ false → Unmoved call stream stream
-stays_unmoved call stream whole = grind (arith, asked_none)
+stays_unmoved : (asks_end : Bool) (stream : Stream) → stream.short ≡ false → Unmoved asks_end stream stream
+stays_unmoved asks_end stream whole = grind (arith, asked_none)
 
 -- a reading that wanted memory before anything moved: all is as it was
 pub unmoved : (before : Stream) (call : FileCall) → is_reading call ≡ true → lacks (file_of before) call ≡ false → Reads before → (IsTrue (has_room call) → IsTrue before.raw.takes_memory) → Answers before call (Refused fault.NoMemory) before

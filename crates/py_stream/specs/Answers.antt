@@ -14,7 +14,7 @@ use Rattle.py_flat.specs.ExactStep.{is_closed}
 use Rattle.py_flat.specs.BinaryStep.{asks_end, BinaryStep}
 use Rattle.py_raw.specs.RawStream.{Raw, Keeps, WhereTold, WhereBytes, WherePlace, WhereTransfers, KeepsBytes, AnswersFor, KeepsReads, ReadsInAll, StaysOpen, LeavesCounts, KeepsPlace}
 use Rattle.py_stream.specs.Stream.{Span, Stream, size_of, buffering_of, file_of, nothing_owed}
-use Rattle.py_stream.specs.Kinds.{profile, is_reading, reads_on, by_several, has_room, takes_space_first, calls_none, says_wait, says_fault, says_no_memory}
+use Rattle.py_stream.specs.Kinds.{profile, is_reading, reads_on, by_several, has_room, takes_space_first, calls_none, says_wait, says_fault, says_no_memory, looks_ahead}
 use Rattle.py_stream.specs.Writing.{Writes}
 
 -- What every call keeps.
@@ -239,18 +239,14 @@ SeeksByEnd before call reply after = Unit {0}
 abbrev pub WantsMemory : Bool → FileReply → Raw → Type 0
 WantsMemory room reply raw = IsTrue (says_no_memory reply) → IsTrue room → IsTrue raw.takes_memory
 
--- a `read` of all of a stream with a buffer asks a raw that can be moved where it ends, before space is taken
-abbrev pub asks_ahead : Stream → Bool
-asks_ahead stream = is_some stream.buffer && stream.raw.seekable
-
 -- where the raw tells its transfers, none was made, as far as a count can tell
 abbrev pub NoTransfer : Raw → Raw → Type 0
 NoTransfer old new = WhereTransfers old ((new.transfers ≡ old.transfers) ⊎ (new.transfers ≡ counted old.transfers 0))
 
--- at most the raw was asked where it ends: the stream is as it was, and so is all that its raw tells and counts
+-- at most the raw was asked where it ends, if it can be moved: the stream is as it was, and so is all that its raw tells and counts
 pub record OnlyAsked (before after : Stream) : Type 0 where
   pub same : after ≡ record before { raw = after.raw; short = false }
-  pub unasked : asks_ahead before ≡ false → after.raw ≡ before.raw
+  pub unasked : before.raw.seekable ≡ false → after.raw ≡ before.raw
   pub kept : Keeps before.raw after.raw
   pub stays : StaysOpen before.raw after.raw
   pub counts : LeavesCounts before.raw after.raw
@@ -260,15 +256,15 @@ pub record OnlyAsked (before after : Stream) : Type 0 where
   pub place : KeepsPlace before.raw after.raw
   pub transfers : NoTransfer before.raw after.raw
 
--- all is as it was, but that a `read` of all may have asked the raw where it ends
-abbrev pub Unmoved : FileCall → Stream → Stream → Type 0
-Unmoved (Read None) before after = OnlyAsked before after
-Unmoved call before after = after ≡ record before { short = false }
+-- all is as it was, but that a call that asks for the end may have asked the raw where that is
+abbrev pub Unmoved : (asks_end : Bool) → Stream → Stream → Type 0
+Unmoved true before after = OnlyAsked before after
+Unmoved false before after = after ≡ record before { short = false }
 
 -- running out of memory leaves a reading that goes on as it was, or fails it; where nothing was owed it leaves the raw too, and fails the
 -- stream only where bytes left the raw in this call
 pub record Starves (call : FileCall) (before after : Stream) : Type 0 where
-  pub unmoved : after.life ≡ life.Live → before.owed.bytes ≡ [] → Unmoved call before after
+  pub unmoved : after.life ≡ life.Live → before.owed.bytes ≡ [] → Unmoved (looks_ahead call) before after
   pub moved : after.life ≡ life.Failed → before.owed.bytes ≡ [] → before.raw_place < after.raw_place
   pub stands : after.life ≡ life.Failed → before.owed.bytes ≡ [] → WherePlace before.raw (before.raw.place < after.raw.place)
 

@@ -1,5 +1,5 @@
 -- What holds over several calls of any stream, whatever raw is below; and what one call answers where nothing stands in its way.
-use Rattle.std.specs.Prelude.{◌≡◌, ◌≢◌, ℕ, false, IsTrue, List, length, IsSome}
+use Rattle.std.specs.Prelude.{◌≡◌, ◌≢◌, ℕ, false, IsTrue, List, length}
 use Rattle.py_flat.specs.declared.fault.IoFault.TheVariants as fault
 use Rattle.py_flat.specs.declared.life.Life.TheVariants as life
 use Rattle.py_flat.specs.Causes.{rose}
@@ -17,11 +17,10 @@ pub record ComesBack (before : Stream) (told back : ℕ) (after : Stream) : Type
   pub file : WhereTold before.raw (file_of after ≡ file_of before)
   pub left : WhereTold before.raw (rest (file_of after) ≡ rest (file_of before))
 
--- nothing stands in the way of a call of a stream with a buffer: it lives, its raw tells its bytes and its place, no count of that
--- rose, and memory didn't run out
+-- nothing stands in the way of a call of a stream: it lives, its raw tells its bytes and its place, no count of that rose, and memory
+-- didn't run out
 pub record GoesSmoothly (before : Stream) (reply : FileReply) (after : Stream) : Type 0 where
   pub lives : before.life ≡ life.Live
-  pub buffered : IsSome before.buffer
   pub told : IsTrue (tells before.raw)
   pub no_wait : rose before.raw.waits after.raw.waits ≡ false
   pub no_fault : rose before.raw.faults after.raw.faults ≡ false

@@ -27,6 +27,6 @@ pub use moving::{end_of_lines, life_fault, moved_by};
 pub use new_refused::NewRefused;
 pub use opening::{first_place, refused_at_first};
 pub use py_flat::Whence;
-pub use reading_on::{ReadsOn, read_line, read_lines, read_rest};
-pub use stop::Stop;
+pub use reading_on::{ReadsOn, read_into, read_line, read_lines, read_rest};
+pub use stop::{Progress, Step, Stop};
 pub use truncating::{Truncates, truncate};

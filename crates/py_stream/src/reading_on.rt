@@ -1,14 +1,15 @@
 //! Readings that go on until they have all that is wanted, of any stream that can go on so.
-ghost use Rattle.std.specs.Prelude.{◌≡◌, ◌≢◌, ℕ, List, Bool, [], true, false, None, IfOk};
+ghost use Rattle.std.specs.Prelude.{◌≡◌, ◌≢◌, ◌+◌, ◌^◌, ◌<◌, ◌≤◌, ℕ, List, Bool, [], true, false, None, IfOk, length, take, drop, vec_len};
 ghost use Rattle.py_flat.specs.declared.life.Life.TheVariants.{Live};
 ghost use Rattle.py_flat.specs.Calls.{Read, ReadLine, ReadLines};
 ghost use Rattle.py_stream.specs.Stream.{Stream};
 ghost use Rattle.py_stream.specs.Answers.{Answers};
+ghost use Rattle.py_stream.specs.LiveRaw.{starved};
 ghost use Rattle.py_stream.specs.Reading.{GatherOutcome, RestOutcome, answered_at, has_answer};
-ghost use Rattle.py_stream.specs.ReadingOn.{BeginsReading};
+ghost use Rattle.py_stream.specs.ReadingOn.{BeginsReading, MayRead, FirstOutcome, HeldOutcome, StepOutcome, ReadIntoOutcome, ReadMoreOutcome};
 ghost use Rattle.py_stream.specs.Replies.{bytes_reply, lines_reply};
 
-use crate::Stop;
+use crate::{Progress, Step, Stop};
 use py_lines::{Collector, LineCollector, LinesCollector};
 use py_raw::{IoFault, Lines};
 use std::alloc::Global;
@@ -40,18 +41,137 @@ pub trait ReadsOn {
         requires asks { (more : List ℕ) → more ≢ [] → C.wanted collector.old more ≢ [] }
         ensures { GatherOutcome (C.wanted collector.old) (shows self.old) result (C.collected collector.new) (shows self.new) };
 
-    /// Reads all that is left into a vector that has nothing yet.
-    fn read_all(&mut self, bytes: &mut Vec<u8>) -> Result<Stop, IoFault>
+    /// How many bytes a reading of all asks for at first: more than are held, so that bytes leave the raw before space is
+    /// wanted again.
+    fn first_more(&mut self) -> Result<usize, IoFault>
         requires live { (shows self.old).life ≡ Live }
         requires reads { reads self.old ≡ true }
         requires whole { (shows self.old).short ≡ false }
-        requires none { bytes.old.items ≡ [] }
-        ensures { RestOutcome (shows self.old) result bytes.new.items (shows self.new) };
+        ensures outcome { FirstOutcome (shows self.old) result (shows self.new) }
+        ensures reads { IfOk result (λ more. reads self.new ≡ true) };
+
+    /// Copies the front of what is held into the front of a buffer. Where that fills it, the place moves past these bytes.
+    fn read_held(&mut self, buffer: &mut [u8]) -> Step
+        requires live { (shows self.old).life ≡ Live }
+        requires reads { reads self.old ≡ true }
+        ensures outcome { HeldOutcome (shows self.old) result buffer.new (shows self.new) }
+        ensures length { length buffer.new ≡ length buffer.old }
+        ensures reads { reads self.new ≡ true };
+
+    /// One transfer for what is left of a buffer, after the bytes held, which were all taken. `moved` tells whether bytes had
+    /// moved in this call.
+    fn read_on(&mut self, rest: &mut [u8], moved: bool) -> Result<Step, IoFault>
+        requires live { (shows self.old).life ≡ Live }
+        requires reads { reads self.old ≡ true }
+        requires asks { 0 < length rest.old }
+        ensures outcome { StepOutcome (shows self.old) moved result rest.new (shows self.new) }
+        ensures length { length rest.new ≡ length rest.old }
+        ensures reads { IfOk result (λ step. reads self.new ≡ true) };
+
+    /// Memory was wanting: the stream fails where bytes had moved in this call.
+    fn starve(&mut self, moved: bool) -> IoFault
+        ensures fault { result ≡ IoFault.NoMemory }
+        ensures stream { shows self.new ≡ record (shows self.old) { life = starved moved (shows self.old).life } };
 
     /// Whether a reading has an answer: none where the raw would have blocked before anything came. A wait is remembered.
     fn answers(&mut self, stop: Stop, empty: bool) -> bool
         ensures answer { result ≡ has_answer stop empty }
         ensures stream { shows self.new ≡ answered_at stop (shows self.old) };
+}
+
+/// Reads into a buffer until it is full. `moved` tells whether bytes had moved in this call.
+pub fn read_into<S: ReadsOn>(
+    stream: &mut S,
+    buffer: &mut [u8],
+    moved: bool,
+) -> Result<Progress, IoFault>
+    requires may { MayRead (S.shows stream.old) }
+    requires reads { S.reads stream.old ≡ true }
+    ensures outcome { ReadIntoOutcome (S.shows stream.old) moved result buffer.new (S.shows stream.new) }
+    ensures length { length buffer.new ≡ length buffer.old }
+    ensures reads { IfOk result (λ progress. S.reads stream.new ≡ true) }
+{
+    let mut count = match stream.read_held(buffer) {
+        Step::On(held) => held,
+        Step::Stopped { count, stop } => return Ok(Progress { count, stop }),
+    };
+    let mut has_moved = moved;
+    loop {
+        match stream.read_on(&mut buffer[count..], has_moved)? {
+            Step::On(more) => {
+                count += more;
+                has_moved = true;
+            }
+            Step::Stopped { count: more, stop } => {
+                return Ok(Progress {
+                    count: count + more,
+                    stop,
+                });
+            }
+        }
+    }
+}
+
+/// Reads into a buffer after n bytes of it.
+fn read_behind<S: ReadsOn>(
+    stream: &mut S,
+    buffer: &mut [u8],
+    start: usize,
+    moved: bool,
+) -> Result<Progress, IoFault>
+    requires may { MayRead (S.shows stream.old) }
+    requires reads { S.reads stream.old ≡ true }
+    requires within { start ≤ length buffer.old }
+    ensures outcome { ReadIntoOutcome (S.shows stream.old) moved result (drop start buffer.new) (S.shows stream.new) }
+    ensures front { take start buffer.new ≡ take start buffer.old }
+    ensures length { length buffer.new ≡ length buffer.old }
+    ensures reads { IfOk result (λ progress. S.reads stream.new ≡ true) }
+{
+    read_into(stream, &mut buffer[start..], moved)
+}
+
+/// Reads n bytes more after what a vector has, whose space is taken first. `moved` tells whether bytes had moved in this call.
+fn read_more<S: ReadsOn>(
+    stream: &mut S,
+    bytes: &mut Vec<u8>,
+    more: usize,
+    moved: bool,
+) -> Result<Stop, IoFault>
+    requires may { MayRead (S.shows stream.old) }
+    requires reads { S.reads stream.old ≡ true }
+    requires fits { vec_len bytes.old + more < 2 ^ 64 }
+    ensures outcome { ReadMoreOutcome (S.shows stream.old) moved bytes.old.items more result bytes.new.items (S.shows stream.new) }
+    ensures reads { IfOk result (λ stop. S.reads stream.new ≡ true) }
+{
+    let length = bytes.len();
+    if bytes.resize(length + more, 0).is_err() {
+        return Err(stream.starve(moved));
+    }
+    let progress = read_behind(stream, bytes.as_mut_slice(), length, moved)?;
+    bytes.truncate(length + progress.count);
+    Ok(progress.stop)
+}
+
+/// Reads all that is left into a vector that has nothing yet: what the stream asks for at first, and then as much as came, until
+/// the end is met, since where the raw said that it ends was a guess.
+fn read_all<S: ReadsOn>(stream: &mut S, bytes: &mut Vec<u8>) -> Result<Stop, IoFault>
+    requires may { MayRead (S.shows stream.old) }
+    requires reads { S.reads stream.old ≡ true }
+    requires whole { (S.shows stream.old).short ≡ false }
+    requires none { bytes.old.items ≡ [] }
+    ensures { RestOutcome (S.shows stream.old) result bytes.new.items (S.shows stream.new) }
+{
+    let mut moved = false;
+    let mut more = stream.first_more()?;
+    loop {
+        match read_more(stream, bytes, more, moved)? {
+            Stop::Enough => {
+                moved = true;
+                more = bytes.len();
+            }
+            stop => return Ok(stop),
+        }
+    }
 }
 
 /// Reads all that is left.
@@ -61,7 +181,7 @@ pub fn read_rest<S: ReadsOn>(stream: &mut S, alloc: Global) -> Result<Option<Vec
 {
     stream.begin_reading()?;
     let mut bytes = Vec::new(alloc);
-    let stop = stream.read_all(&mut bytes)?;
+    let stop = read_all(stream, &mut bytes)?;
     if stream.answers(stop, bytes.is_empty()) {
         Ok(Some(bytes))
     } else {

@@ -1,7 +1,6 @@
 -- How a reading that goes on comes from one transfer to the next.
-use Rattle.std.proofs.Common.{◌≡◌, ◌≢◌, ℕ, ◌+◌, ◌-◌, ◌<◌, ◌≤◌, max, replicate, inl, inr, Bool, true, false, if◌then◌else◌, nat_lt, IsTrue, List, [], ◌∷◌, ◌++◌, length, take, drop, Option, Some, None, unwrap_or, Ok, Err, refl, sym, ap, ◌∙◌, subst, arith}
-use Rattle.std.proofs.lemmas.Bool.{true≢false, lt-ltb}
-use Rattle.std.proofs.lemmas.List.{append-nil, length-append, length-take, length-take-le, length-drop, length-replicate, take_all, take_at}
+use Rattle.std.proofs.Common.{◌≡◌, ◌≢◌, ℕ, ◌+◌, ◌<◌, ◌≤◌, inl, inr, Bool, true, false, IsTrue, List, [], ◌∷◌, ◌++◌, length, take, Ok, Err, refl, sym, ap, ◌∙◌, subst, arith, add-zero}
+use Rattle.std.proofs.lemmas.List.{length-append, length-take, length-take-le}
 use Rattle.py_flat.specs.declared.fault.IoFault.{IoFault}
 use Rattle.py_flat.specs.declared.fault.IoFault.TheVariants as fault
 use Rattle.py_flat.specs.declared.life.Life.TheVariants as life
@@ -12,9 +11,11 @@ use Rattle.py_raw.proofs.Telling.{tells_its_bytes, tells_still}
 use Rattle.py_stream.specs.declared.stop.Stop.TheVariants as stop
 use Rattle.py_stream.specs.Answers.{EachBrings, LastIsNeeded}
 use Rattle.py_stream.proofs.Coming.{came_unread, came_none, each_still, each_seen, each_then, each_brought, each_but_one, last_brought}
-use Rattle.py_stream.specs.Reading.{KeepsReading, ComesNext, FailsReading, FailsMoved, StarvesReading, StopOutcome, RestOutcome}
+use Rattle.py_stream.specs.declared.stop.Step.TheVariants as step
+use Rattle.py_stream.specs.Reading.{KeepsReading, ComesNext, FailsReading, FailsMoved, StarvesReading, StopOutcome}
+use Rattle.py_stream.specs.ReadingOn.{StepsOn, StepOutcome, ReadsInto, HoldsLess}
 use Rattle.py_stream.proofs.ReadingSteps.{next_behind, next_reaches, keeps_then as keeps_then_reading}
-use Rattle.py_unbuffered.specs.Engine.{EngineView, stream_of, IsEngine, KeepsEngine, Waits, Fails, StarvesWith, Brings, TransferOutcome, FillsWith, FillOutcome}
+use Rattle.py_unbuffered.specs.Engine.{EngineView, stream_of, IsEngine, KeepsEngine, Waits, Fails, StarvesWith, Brings, TransferOutcome}
 use Rattle.py_unbuffered.proofs.Begun.{bufferless}
 use Rattle.py_raw.proofs.ReadingOn.{no_fault_then, no_wait_then, uncounted_then}
 use Rattle.py_unbuffered.proofs.Steps.{keeps_self, keeps_then, keeps_failed, keeps_reading, uncounted, answers_none, answers_none_then}
@@ -133,60 +134,68 @@ module _ (old now : EngineView) (part : List ℕ) (took : Took old part now) whe
   starves_after true new some none starves = inr (subst (λ (engine : EngineView). FailsMoved (stream_of old) (stream_of engine)) (sym starves) (starves_moved (some refl)))
   starves_after false new some none starves = inl (ap stream_of (starves ∙ took.none (none refl)))
 
--- whether something has come, by how much
-some_came : (part : List ℕ) (held : ℕ) → held ≡ length part → (nat_lt 0 held ≡ true → part ≢ []) × (nat_lt 0 held ≡ false → part ≡ [])
-some_came [] held long = (λ some. absurd (true≢false (sym some ∙ ap (nat_lt 0) long)), λ none. refl)
-some_came (byte ∷ part) held long = grind (arith, lt-ltb)
+-- For a caller's buffer.
 
--- a transfer behind a vector was refused, or its space was
-pub rest_refused : (old now : EngineView) (part : List ℕ) (why : IoFault) (any bytes : List ℕ) (new : EngineView) → Took old part now → FillOutcome now part (Err why) any new → RestOutcome (stream_of old) (Err why) bytes (stream_of new)
-rest_refused old now part fault.RawFault any bytes new took outcome = fails_after old now part took new outcome
-rest_refused old now part fault.NoMemory any bytes new took outcome =
-    let came = some_came part (length part) refl in
-    inl (starves_after old now part took (nat_lt 0 (length part)) new came.0 came.1 outcome)
-rest_refused old now part why any bytes new took outcome = absurd outcome
+-- nothing is held, so that a buffer that isn't empty gets nothing of it
+pub holds_none : (engine : EngineView) (buffer : List ℕ) → 0 < length buffer → HoldsLess (stream_of engine) 0 buffer (stream_of engine)
+holds_none engine buffer some = record { same = refl; less = some; all = omega arith; to = sym (add-zero engine.place); told = λ tells. refl }
 
--- a vector that was lengthened: what it had stands in front
-pub record Widened (before : List ℕ) (held more : ℕ) (resized : List ℕ) : Type 0 where
-  pub front : take held resized ≡ before
-  pub whole : length resized ≡ held + more
+-- an empty buffer is full
+pub none_into : (engine : EngineView) (buffer : List ℕ) → IsEngine engine.raw engine.place engine.access engine.life → engine.life ≡ life.Live → length buffer ≡ 0 → ReadsInto (stream_of engine) (record { count = 0; stop = stop.Enough }) buffer (stream_of engine)
+none_into engine buffer is live empty = record {
+  fits = omega arith;
+  full = λ enough. sym empty;
+  less = λ other. absurd (other refl);
+  idle = λ held. refl;
+  to = omega arith;
+  stops = gives_taken engine engine [] (took_none engine is live);
+}
 
--- a vector is widened by what a lengthening ensures
-pub widened : (before resized : List ℕ) (held more size : ℕ) (ok : Bool) → ok ≡ true → held ≡ length before → size ≡ length before → resized ≡ (if ok then take (held + more) before ++ replicate (held + more - size) 0 else before) → Widened before held more resized
-widened before resized held more size ok is long as_long says = grind (arith, take_all, take_at, length-append, length-replicate)
+module _ (old : EngineView) (moved : Bool) (before after : List ℕ) (new : EngineView) (is : IsEngine old.raw old.place old.access old.life) (live : old.life ≡ life.Live) where
+  -- some bytes came
+  steps_on : (count : ℕ) → 0 < count → Brings old before count after new → StepsOn (stream_of old) count after (stream_of new)
+  steps_on count some brings = record {
+    kept = keeps_reading old new brings.kept brings.bytes brings.answered;
+    counts = brings.counts;
+    live = brings.live;
+    some = some;
+    from = omega (arith, brings.place);
+    to = omega arith;
+    told = brings.told;
+    each = each_brought (stream_of old) (stream_of new) count some brings.place brings.transfers brings.reads;
+    forth = λ tells. omega (arith, is.stands tells live, brings.kept.is.stands (brings.kept.raw.tells_place ∙ tells) brings.live, brings.place, some);
+  }
 
--- how much room is left after what a lengthened vector had
-pub room_left : (held more : ℕ) (resized : List ℕ) → length resized ≡ held + more → length (take (length resized - held) (drop held resized)) ≡ more
-room_left held more resized whole = length-take-le (length resized - held) (drop held resized) (omega (arith, length-drop held resized)) ∙ omega arith
+  -- fewer than are wanted
+  pub came_less : (count : ℕ) → 0 < count → count < length after → Brings old before count after new → StepOutcome (stream_of old) moved (Ok (step.On count)) after (stream_of new)
+  came_less count some less brings = (steps_on count some brings, less, brings.place)
 
--- the room that a lengthening left isn't empty
-pub room_for_some : (held came more : ℕ) (resized : List ℕ) → length resized ≡ held + more → more ≡ max came 8192 → take (length resized - held) (drop held resized) ≢ []
-room_for_some held came more resized whole chunk none = absurd (omega (arith, room_left held more resized whole, ap length none))
+  -- as many
+  pub came_all : (count : ℕ) → 0 < count → length after ≤ count → Brings old before count after new → StepOutcome (stream_of old) moved (Ok (step.Stopped count stop.Enough)) after (stream_of new)
+  came_all count some all brings = (steps_on count some brings, omega (arith, all, brings.fits), brings.place, λ tells. omega (arith, last_brought old.raw new.raw count brings.reads tells, some))
 
--- nothing came any more
-pub rest_ends : (old now : EngineView) (part : List ℕ) (count : ℕ) (bytes : List ℕ) (new : EngineView) → Took old part now → count ≡ 0 → FillsWith now part count bytes new → RestOutcome (stream_of old) (Ok stop.End) bytes (stream_of new)
-rest_ends old now part count bytes new took none fills = grind (arith, append-nil, stops_at_end)
+  -- none
+  pub came_end : (count : ℕ) → count ≡ 0 → before ≢ [] → Brings old before count after new → StepOutcome (stream_of old) moved (Ok (step.Stopped 0 stop.End)) after (stream_of new)
+  came_end count none asked brings =
+      let last : Brings old before 0 after new = subst (λ (n : ℕ). Brings old before n after new) none brings in
+      let place : new.place ≡ old.place = omega (arith, last.place) in (
+        refl,
+        record { kept = keeps_reading old new last.kept last.bytes last.answered; no_fault = last.counts.no_fault; live = last.live; place = place; stands = place; each = each_but_one (stream_of old) (stream_of new) 1 place last.transfers (came_none (stream_of old) (stream_of new) place last.reads) },
+        last.end refl asked,
+        last.counts.no_wait,
+      )
 
--- the raw would have blocked
-pub rest_waits : (old now : EngineView) (part bytes : List ℕ) (new : EngineView) → Took old part now → FillOutcome now part (Ok None) bytes new → RestOutcome (stream_of old) (Ok stop.Waits) bytes (stream_of new)
-rest_waits old now part bytes new took waits = subst (λ (xs : List ℕ). RestOutcome (stream_of old) (Ok stop.Waits) xs (stream_of new)) (sym waits.1) (stops_waiting old now part took new waits.0)
+  -- the raw would have blocked
+  pub came_not : Waits old new → StepOutcome (stream_of old) moved (Ok (step.Stopped 0 stop.Waits)) after (stream_of new)
+  came_not waits = (
+    refl,
+    record { kept = keeps_reading old new waits.kept waits.bytes waits.answered; no_fault = waits.no_fault; live = waits.live; place = waits.place; stands = waits.place; each = each_but_one (stream_of old) (stream_of new) 0 waits.place waits.transfers (came_unread (stream_of old) (stream_of new) waits.place waits.reads) },
+    waits.cause,
+    waits.once,
+  )
 
--- some more came
-pub rest_goes_on : (old now : EngineView) (part : List ℕ) (count : ℕ) (bytes : List ℕ) (new : EngineView) → Took old part now → 0 < count → FillsWith now part count bytes new → Took old bytes new
-rest_goes_on old now part count bytes new took some fills = subst (λ (xs : List ℕ). Took old xs new) (sym fills.holds) (took_on old now part took fills.before count fills.after new fills.brings some)
-
--- How a vector is filled.
-
--- no more came than there was room for
-pub came_fits : (old : EngineView) (moved : Bool) (before after : List ℕ) (came : Option ℕ) (count : ℕ) (new : EngineView) → count ≡ unwrap_or came 0 → TransferOutcome old moved before (Ok came) after new → count ≤ length after
-came_fits old moved before after (Some some) count new is brings = omega (arith, is, brings.fits)
-came_fits old moved before after None count new is waits = omega (arith, is)
-
--- a vector was cut to what came
-pub fills : (old : EngineView) (moved : Bool) (held before after bytes : List ℕ) (came : Option ℕ) (count : ℕ) (new : EngineView) → before ≢ [] → count ≡ unwrap_or came 0 → TransferOutcome old moved before (Ok came) after new → bytes ≡ held ++ take count after → FillOutcome old held (Ok came) bytes new
-fills old moved held before after bytes (Some some) count new asked is brings holds = record { before = before; after = after; asked = asked; brings = brings; holds = holds ∙ ap (λ (n : ℕ). held ++ take n after) is }
-fills old moved held before after bytes None count new asked is waits holds = (waits, holds ∙ ap (λ (n : ℕ). held ++ take n after) is ∙ append-nil held)
-
--- the transfer of a filling was refused
-pub fill_refused : (old : EngineView) (held before after bytes : List ℕ) (was : ℕ) (why : IoFault) (new : EngineView) → was ≡ length held → TransferOutcome old (nat_lt 0 was) before (Err why) after new → FillOutcome old held (Err why) bytes new
-fill_refused old held before after bytes was why new long never = grind (arith, nat_lt)
+  -- the transfer was refused
+  pub came_refused : (why : IoFault) → TransferOutcome old moved before (Err why) after new → StepOutcome (stream_of old) moved (Err why) after (stream_of new)
+  came_refused fault.RawFault fails = record { kept = keeps_reading old new fails.kept fails.bytes fails.answered; cause = fails.cause; no_wait = fails.no_wait; failed = fails.failed; place = fails.place; each = each_but_one (stream_of old) (stream_of new) 0 fails.place fails.transfers (came_unread (stream_of old) (stream_of new) fails.place fails.reads) }
+  came_refused fault.NoMemory wants = (wants.0, ap stream_of wants.1)
+  came_refused why never = absurd never

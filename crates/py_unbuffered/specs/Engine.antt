@@ -1,5 +1,5 @@
 -- The engine of the streams without a buffer: what it is seen as, and what its steps do.
-use Rattle.std.specs.Prelude.{◌≡◌, ◌≢◌, ℕ, ◌+◌, ◌≤◌, Bool, true, false, IsTrue, List, [], ◌++◌, length, take, nat_lt, Option, Some, None, Result, Ok, Err}
+use Rattle.std.specs.Prelude.{◌≡◌, ◌≢◌, ℕ, ◌+◌, ◌≤◌, Bool, true, false, IsTrue, List, [], length, take, Option, Some, None, Result, Ok, Err}
 use Rattle.py_flat.specs.declared.fault.IoFault.{IoFault}
 use Rattle.py_flat.specs.declared.fault.IoFault.TheVariants as fault
 use Rattle.py_flat.specs.declared.life.Life.{Life}
@@ -113,22 +113,6 @@ TransferOutcome old moved before (Ok None) after new = Waits old new
 TransferOutcome old moved before (Err fault.RawFault) after new = Fails old new
 TransferOutcome old moved before (Err fault.NoMemory) after new = IsTrue old.raw.takes_memory × StarvesWith moved old new
 TransferOutcome old moved before (Err other) after new = ⊥
-
--- n bytes came by one transfer behind those that a vector held
-pub record FillsWith (old : EngineView) (held : List ℕ) (count : ℕ) (bytes : List ℕ) (new : EngineView) : Type 0 where
-  pub before : List ℕ
-  pub after : List ℕ
-  pub asked : before ≢ []
-  pub brings : Brings old before count after new
-  pub holds : bytes ≡ held ++ take count after
-
--- one transfer behind the bytes that a vector held, or the space for it, which fails the stream where there were some
-abbrev pub FillOutcome : EngineView → List ℕ → Result (Option ℕ) IoFault → List ℕ → EngineView → Type 0
-FillOutcome old held (Ok (Some count)) bytes new = FillsWith old held count bytes new
-FillOutcome old held (Ok None) bytes new = Waits old new × (bytes ≡ held)
-FillOutcome old held (Err fault.RawFault) bytes new = Fails old new
-FillOutcome old held (Err fault.NoMemory) bytes new = StarvesWith (nat_lt 0 (length held)) old new
-FillOutcome old held (Err other) bytes new = ⊥
 
 -- Writing.
 

@@ -1,6 +1,6 @@
 //! The engine of the streams without a buffer: a raw stream, its place, and what became of the stream.
 ghost use Rattle.std.specs.Prelude.{◌≡◌, ◌≢◌, not, false, length};
-ghost use Rattle.py_unbuffered.specs.Engine.{IsEngine, BeginOutcome, StarvesWith, TransferOutcome, live_of};
+ghost use Rattle.py_unbuffered.specs.Engine.{IsEngine, BeginOutcome, TransferOutcome, live_of};
 ghost use Rattle.py_stream.specs.Access.{can_of};
 
 mod gathering;
@@ -71,14 +71,6 @@ impl<R: RawStream> UnbufferedData<R> {
         ensures writable { not result ≡ (can_of self.now.access self.now.raw.seekable).writable }
     {
         self.live.reads()
-    }
-
-    /// Memory was wanting: the stream fails where bytes had moved in this call.
-    fn starve(&mut self, moved: bool) -> IoFault
-        ensures fault { result ≡ IoFault.NoMemory }
-        ensures stream { StarvesWith moved self.old self.new }
-    {
-        self.live.starve(moved)
     }
 
     /// One transfer into a buffer, of no byte past the greatest place. `moved` tells whether bytes had moved in this call.

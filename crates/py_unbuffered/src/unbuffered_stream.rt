@@ -10,7 +10,9 @@ ghost use Rattle.py_stream.specs.Access.{can_of, is_able};
 
 use crate::data::UnbufferedData;
 use py_raw::{IoFault, Life, Lines, RawError, RawStream};
-use py_stream::{Access, Detached, NewRefused, first_place, refused_at_first, truncate};
+use py_stream::{
+    Access, Detached, NewRefused, first_place, read_line, read_lines, refused_at_first, truncate,
+};
 use std::alloc::Global;
 use std::marker::Model;
 
@@ -75,8 +77,9 @@ impl<R: RawStream> UnbufferedStream<R> {
     /// Reads some of the next bytes, at most `size`, by one transfer: none only where `size` is 0 or nothing is left. For
     /// `None` all that are left, or up to a wait.
     ///
-    /// Space for a `size` is taken before the transfer. `NoMemory` leaves the stream as it was, unless bytes had left the raw
-    /// already: then it is failed.
+    /// Space for a `size` is taken before the transfer. For `None` a raw that can seek is asked first where it ends, and the space
+    /// up to there is taken at once. `NoMemory` leaves the stream as it was, but that the raw may have been asked, unless bytes had
+    /// left the raw already: then it is failed.
     pub fn read(&mut self, alloc: Global, size: Option<usize>) -> Result<Option<Vec<u8>>, IoFault>
         ensures { Answers self.old (Read size) (bytes_reply result) self.new }
     {
@@ -108,7 +111,7 @@ impl<R: RawStream> UnbufferedStream<R> {
     ) -> Result<Option<Vec<u8>>, IoFault>
         ensures { Answers self.old (ReadLine limit) (bytes_reply result) self.new }
     {
-        self.data.readline(alloc, limit)
+        read_line(&mut self.data, alloc, limit)
     }
 
     /// Reads lines, each with its LF but for the last, which may lack it, until their total is above `hint`; all that are left
@@ -122,7 +125,7 @@ impl<R: RawStream> UnbufferedStream<R> {
     ) -> Result<Option<Lines>, IoFault>
         ensures { Answers self.old (ReadLines hint) (lines_reply result) self.new }
     {
-        self.data.readlines(alloc, hint)
+        read_lines(&mut self.data, alloc, hint)
     }
 
     /// Writes some front of `bytes` at the place, by one transfer, and answers how many bytes of it: none only of no bytes.

@@ -2,13 +2,15 @@
 ghost use Rattle.std.specs.Prelude.{◌≡◌, true};
 ghost use Rattle.py_stream.specs.Access.{is_read};
 ghost use Rattle.py_stream.specs.Reading.{answered_at, has_answer, is_wait};
-ghost use Rattle.py_engine.specs.Reading.{reading_of};
+ghost use Rattle.py_stream.specs.LiveRaw.{starved};
+ghost use Rattle.py_engine.specs.Reading.{reading_of, StarvesWith};
 
 use super::BufferedData;
+use super::reading::step_by;
 use crate::window::Filled;
 use py_lines::{Collected, Collector};
 use py_raw::{IoFault, RawStream};
-use py_stream::{ReadsOn, Stop};
+use py_stream::{ReadsOn, Step, Stop};
 
 impl<R: RawStream> ReadsOn for BufferedData<R> {
     ghost shows = { reading_of };
@@ -43,21 +45,44 @@ impl<R: RawStream> ReadsOn for BufferedData<R> {
         }
     }
 
-    /// What `read_more` is asked for at first is what `first_more` answers, and then as much as came, until the end is met: where
-    /// the raw said that it ends was a guess.
-    fn read_all(&mut self, bytes: &mut Vec<u8>) -> Result<Stop, IoFault> {
-        let _ = &self.live;
-        let mut moved = false;
-        let mut more = self.first_more()?;
-        loop {
-            match self.read_more(bytes, more, moved)? {
-                Stop::Enough => {
-                    moved = true;
-                    more = bytes.len();
-                }
-                stop => return Ok(stop),
-            }
+    /// Where the end isn't known, the window's size more than it holds.
+    fn first_more(&mut self) -> Result<usize, IoFault> {
+        let ahead = self.window.ahead().len();
+        let unknown = ahead + self.window.size();
+        self.live.first_more(self.window.place(), ahead, unknown)
+    }
+
+    fn read_held(&mut self, buffer: &mut [u8]) -> Step {
+        let held = self.copy_ahead(buffer);
+        if held < buffer.len() {
+            return Step::On(held);
         }
+        self.window.advance(held);
+        Step::Stopped {
+            count: held,
+            stop: Stop::Enough,
+        }
+    }
+
+    /// By way of the window where that is larger than what is left of the buffer, else straight into this.
+    fn read_on(&mut self, rest: &mut [u8], moved: bool) -> Result<Step, IoFault> {
+        if rest.len() < self.window.size() {
+            return self.read_by_window(rest, moved);
+        }
+        let filled = self.pass(rest, moved)?;
+        let count = match filled {
+            Filled::More(count) => count,
+            Filled::End | Filled::Waits => 0,
+        };
+        Ok(step_by(filled, count, rest.len()))
+    }
+
+    fn starve(&mut self, moved: bool) -> IoFault
+        ensures fault { result ≡ IoFault.NoMemory }
+        ensures stream { reading_of self.new ≡ record (reading_of self.old) { life = starved moved (reading_of self.old).life } }
+        ensures engine { StarvesWith moved self.old self.new }
+    {
+        self.live.starve(moved)
     }
 
     fn answers(&mut self, stop: Stop, empty: bool) -> bool

@@ -1,38 +1,23 @@
 //! Readings that go on until they have all that is asked for, or all that is left.
-ghost use Rattle.std.specs.Prelude.{◌≡◌, ◌+◌, ◌^◌, ◌<◌, ◌≤◌, [], false, length, take, drop, min, vec_len, true};
+ghost use Rattle.std.specs.Prelude.{◌≡◌, ◌<◌, IfOk, length, take, drop, min, true};
 ghost use Rattle.py_flat.specs.declared.life.Life.TheVariants.{Live};
-ghost use Rattle.py_flat.specs.Calls.{Read, ReadInto, ReadLine, ReadLines};
+ghost use Rattle.py_flat.specs.Calls.{Read, ReadInto};
 ghost use Rattle.py_stream.specs.Access.{is_read};
 ghost use Rattle.py_stream.specs.Answers.{Answers};
 ghost use Rattle.py_engine.specs.Window.{ahead_of};
 ghost use Rattle.py_engine.specs.Engine.{Stands};
-ghost use Rattle.py_engine.specs.Reading.{reading_of, stepped, FirstOutcome, ReadIntoOutcome, ReadMoreOutcome, StepOutcome};
-ghost use Rattle.py_stream.specs.Replies.{bytes_reply, into_reply, lines_reply, CountFits, KeepsBuffer};
+ghost use Rattle.py_engine.specs.Reading.{reading_of, stepped};
+ghost use Rattle.py_stream.specs.ReadingOn.{StepOutcome};
+ghost use Rattle.py_stream.specs.Replies.{bytes_reply, into_reply, CountFits, KeepsBuffer};
 
 use super::BufferedData;
 use crate::window::Filled;
-use py_raw::{IoFault, Lines, RawStream};
-use py_stream::{ReadsOn, Stop, read_line, read_lines, read_rest};
+use py_raw::{IoFault, RawStream};
+use py_stream::{ReadsOn, Step, Stop, read_into, read_rest};
 use std::alloc::Global;
 
-/// How far a reading into a buffer came, and why it stopped there.
-#[derive(Clone, Copy)]
-struct Progress {
-    count: usize,
-    stop: Stop,
-}
-
-/// What one transfer for a reading into a buffer came to.
-#[derive(Clone, Copy)]
-enum Step {
-    /// As many bytes as counted came, and more are wanted.
-    On(usize),
-    /// As many bytes as counted came, and no more are read.
-    Stopped { count: usize, stop: Stop },
-}
-
 /// The step that a transfer makes which brought n bytes of as many as were wanted.
-fn step_by(filled: Filled, count: usize, wanted: usize) -> Step
+pub(super) fn step_by(filled: Filled, count: usize, wanted: usize) -> Step
     ensures { result ≡ stepped filled count wanted }
 {
     match filled {
@@ -64,30 +49,6 @@ impl<R: RawStream> BufferedData<R> {
         }
     }
 
-    /// Reads a line with its end, at most n bytes of it.
-    pub fn readline(
-        &mut self,
-        alloc: Global,
-        limit: Option<usize>,
-    ) -> Result<Option<Vec<u8>>, IoFault>
-        requires reads { is_read self.old.access ≡ true }
-        ensures { Answers (reading_of self.old) (ReadLine limit) (bytes_reply result) (reading_of self.new) }
-    {
-        read_line(self, alloc, limit)
-    }
-
-    /// Reads lines until their total is above the hint, or all.
-    pub fn readlines(
-        &mut self,
-        alloc: Global,
-        hint: Option<usize>,
-    ) -> Result<Option<Lines>, IoFault>
-        requires reads { is_read self.old.access ≡ true }
-        ensures { Answers (reading_of self.old) (ReadLines hint) (lines_reply result) (reading_of self.new) }
-    {
-        read_lines(self, alloc, hint)
-    }
-
     /// Reads into a buffer until it is full.
     pub fn readinto(&mut self, buffer: &mut [u8]) -> Result<Option<usize>, IoFault>
         requires reads { is_read self.old.access ≡ true }
@@ -98,7 +59,7 @@ impl<R: RawStream> BufferedData<R> {
     {
         let _ = &self.live;
         self.begin_reading()?;
-        let progress = self.read_into(buffer, false)?;
+        let progress = read_into(self, buffer, false)?;
         if self.answers(progress.stop, progress.count == 0) {
             Ok(Some(progress.count))
         } else {
@@ -117,107 +78,12 @@ impl<R: RawStream> BufferedData<R> {
             return Err(IoFault::NoMemory);
         };
         let mut bytes = bytes;
-        let progress = self.read_into(&mut bytes, false)?;
+        let progress = read_into(self, &mut bytes, false)?;
         bytes.truncate(progress.count);
         if self.answers(progress.stop, progress.count == 0) {
             Ok(Some(bytes))
         } else {
             Ok(None)
-        }
-    }
-
-    /// How many bytes a reading of all asks for at first: more than the window holds, so that bytes leave the raw before
-    /// space is wanted again. Of a raw that can be moved, and says that it ends after the place, these are all up to that
-    /// end, and one more, by which the end is met.
-    pub(super) fn first_more(&mut self) -> Result<usize, IoFault>
-        requires live { self.old.life ≡ Live }
-        requires reads { is_read self.old.access ≡ true }
-        requires whole { self.old.short ≡ false }
-        ensures { FirstOutcome self.old result self.new }
-    {
-        let ahead = self.window.ahead().len();
-        let unknown = ahead + self.window.size();
-        if !self.live.seekable() {
-            return Ok(unknown);
-        }
-        let end = self.raw_end()?;
-        let place = self.window.place();
-        if end <= place {
-            return Ok(unknown);
-        }
-        let left = (end - place) as usize;
-        Ok(left.max(ahead) + 1)
-    }
-
-    /// Reads n bytes more after what a vector has, whose space is taken first. `moved` tells whether bytes had moved
-    /// in this call.
-    pub(super) fn read_more(
-        &mut self,
-        bytes: &mut Vec<u8>,
-        more: usize,
-        moved: bool,
-    ) -> Result<Stop, IoFault>
-        requires live { self.old.life ≡ Live }
-        requires reads { is_read self.old.access ≡ true }
-        requires fits { vec_len bytes.old + more < 2 ^ 64 }
-        ensures { ReadMoreOutcome self.old moved bytes.old.items more result bytes.new.items self.new }
-    {
-        let length = bytes.len();
-        if bytes.resize(length + more, 0).is_err() {
-            return Err(self.starve(moved));
-        }
-        let progress = self.read_behind(bytes.as_mut_slice(), length, moved)?;
-        bytes.truncate(length + progress.count);
-        Ok(progress.stop)
-    }
-
-    /// Reads into a buffer after n bytes of it.
-    fn read_behind(
-        &mut self,
-        buffer: &mut [u8],
-        start: usize,
-        moved: bool,
-    ) -> Result<Progress, IoFault>
-        requires live { self.old.life ≡ Live }
-        requires reads { is_read self.old.access ≡ true }
-        requires within { start ≤ length buffer.old }
-        ensures outcome { ReadIntoOutcome self.old moved result (drop start buffer.new) self.new }
-        ensures front { take start buffer.new ≡ take start buffer.old }
-        ensures length { length buffer.new ≡ length buffer.old }
-    {
-        self.read_into(&mut buffer[start..], moved)
-    }
-
-    /// Reads into a buffer until it is full. `moved` tells whether bytes had moved in this call.
-    fn read_into(&mut self, buffer: &mut [u8], moved: bool) -> Result<Progress, IoFault>
-        requires live { self.old.life ≡ Live }
-        requires reads { is_read self.old.access ≡ true }
-        ensures outcome { ReadIntoOutcome self.old moved result buffer.new self.new }
-        ensures length { length buffer.new ≡ length buffer.old }
-    {
-        let held = self.copy_ahead(buffer);
-        if held == buffer.len() {
-            self.window.advance(held);
-            return Ok(Progress {
-                count: held,
-                stop: Stop::Enough,
-            });
-        }
-        let mut count = held;
-        let mut has_moved = moved;
-        loop {
-            match self.read_on(&mut buffer[count..], has_moved)? {
-                Step::On(more) => {
-                    count += more;
-                    has_moved = true;
-                }
-                Step::Stopped { count: more, stop } => {
-                    return Ok(Progress {
-                        count: count + more,
-                        stop,
-                    });
-                }
-            }
         }
     }
 
@@ -235,49 +101,24 @@ impl<R: RawStream> BufferedData<R> {
         count
     }
 
-    /// One transfer for what is left of a buffer, after the bytes held, which were all taken: by way of the window where
-    /// that is larger, else straight into the buffer. `moved` tells whether bytes had moved in this call.
-    fn read_on(&mut self, rest: &mut [u8], moved: bool) -> Result<Step, IoFault>
+    /// One transfer for what is left of a buffer that is smaller than the window, by way of that.
+    pub(super) fn read_by_window(
+        &mut self,
+        rest: &mut [u8],
+        moved: bool,
+    ) -> Result<Step, IoFault>
         requires live { self.old.life ≡ Live }
         requires reads { is_read self.old.access ≡ true }
         requires asks { 0 < length rest.old }
-        ensures outcome { StepOutcome self.old moved result rest.new self.new }
+        ensures outcome { StepOutcome (reading_of self.old) moved result rest.new (reading_of self.new) }
         ensures length { length rest.new ≡ length rest.old }
-    {
-        if rest.len() < self.window.size() {
-            self.read_by_window(rest, moved)
-        } else {
-            self.read_past_window(rest, moved)
-        }
-    }
-
-    fn read_by_window(&mut self, rest: &mut [u8], moved: bool) -> Result<Step, IoFault>
-        requires live { self.old.life ≡ Live }
-        requires reads { is_read self.old.access ≡ true }
-        requires asks { 0 < length rest.old }
-        ensures outcome { StepOutcome self.old moved result rest.new self.new }
-        ensures length { length rest.new ≡ length rest.old }
+        ensures reads { IfOk result (λ step. is_read self.new.access ≡ true) }
     {
         let filled = self.fill(moved)?;
         let count = self.copy_ahead(rest);
         if count == rest.len() {
             self.window.advance(count);
         }
-        Ok(step_by(filled, count, rest.len()))
-    }
-
-    fn read_past_window(&mut self, rest: &mut [u8], moved: bool) -> Result<Step, IoFault>
-        requires live { self.old.life ≡ Live }
-        requires reads { is_read self.old.access ≡ true }
-        requires asks { 0 < length rest.old }
-        ensures outcome { StepOutcome self.old moved result rest.new self.new }
-        ensures length { length rest.new ≡ length rest.old }
-    {
-        let filled = self.pass(rest, moved)?;
-        let count = match filled {
-            Filled::More(count) => count,
-            Filled::End | Filled::Waits => 0,
-        };
         Ok(step_by(filled, count, rest.len()))
     }
 }

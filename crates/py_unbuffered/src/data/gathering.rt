@@ -1,11 +1,16 @@
 //! Readings of lines, byte by byte, as nothing may be held after them, and of all that is left.
+ghost use Rattle.std.specs.Prelude.{◌≡◌};
 ghost use Rattle.py_stream.specs.Access.{is_read};
-ghost use Rattle.py_unbuffered.specs.Engine.{stream_of};
+ghost use Rattle.py_stream.specs.LiveRaw.{starved};
+ghost use Rattle.py_unbuffered.specs.Engine.{stream_of, StarvesWith};
 
 use super::UnbufferedData;
 use py_lines::{Collected, Collector};
 use py_raw::{IoFault, RawStream};
-use py_stream::{ReadsOn, Stop};
+use py_stream::{ReadsOn, Step, Stop};
+
+/// How many bytes a reading of all asks for at first, where the raw doesn't say that it ends after the place.
+const FIRST_CHUNK: usize = 8192;
 
 impl<R: RawStream> ReadsOn for UnbufferedData<R> {
     ghost shows = { stream_of };
@@ -42,15 +47,40 @@ impl<R: RawStream> ReadsOn for UnbufferedData<R> {
         }
     }
 
-    fn read_all(&mut self, bytes: &mut Vec<u8>) -> Result<Stop, IoFault> {
+    fn first_more(&mut self) -> Result<usize, IoFault> {
+        self.live.first_more(self.place, 0, FIRST_CHUNK)
+    }
+
+    /// Nothing is held.
+    fn read_held(&mut self, buffer: &mut [u8]) -> Step {
         let _ = &self.live;
-        loop {
-            match self.fill(bytes)? {
-                Some(0) => return Ok(Stop::End),
-                Some(_) => {}
-                None => return Ok(Stop::Waits),
+        if buffer.is_empty() {
+            Step::Stopped {
+                count: 0,
+                stop: Stop::Enough,
             }
+        } else {
+            Step::On(0)
         }
+    }
+
+    fn read_on(&mut self, rest: &mut [u8], moved: bool) -> Result<Step, IoFault> {
+        let _ = &self.live;
+        let (count, stop) = match self.transfer(rest, moved)? {
+            Some(0) => (0, Stop::End),
+            Some(count) if count < rest.len() => return Ok(Step::On(count)),
+            Some(count) => (count, Stop::Enough),
+            None => (0, Stop::Waits),
+        };
+        Ok(Step::Stopped { count, stop })
+    }
+
+    fn starve(&mut self, moved: bool) -> IoFault
+        ensures fault { result ≡ IoFault.NoMemory }
+        ensures stream { stream_of self.new ≡ record (stream_of self.old) { life = starved moved (stream_of self.old).life } }
+        ensures engine { StarvesWith moved self.old self.new }
+    {
+        self.live.starve(moved)
     }
 
     fn answers(&mut self, stop: Stop, empty: bool) -> bool {

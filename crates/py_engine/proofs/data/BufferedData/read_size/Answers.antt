@@ -10,7 +10,7 @@ use Rattle.py_stream.proofs.ReadingStops.{unmoved}
 use Rattle.py_stream.proofs.ReadingAnswers.{answers_begun}
 use Rattle.py_stream.proofs.LineReadings.{begun}
 use Rattle.py_stream.proofs.ReadingOn.{none_counted, some_counted, answered_from, unready_from, cut_to}
-use Rattle.py_engine.proofs.Reading.{refused_into, gathers_into}
+use Rattle.py_stream.proofs.ReadingInto.{refused_into, gathers_into}
 use Rattle.py_engine.proofs.data.BufferedData.read_size.Goals as goal
 
 pub returns-in_err-begin_reading : goal.returns-in_err-begin_reading
@@ -26,8 +26,8 @@ returns-in_err-progress g c =
     let call : FileCall = Read (Some c.args.size) in
     let left = err_from_is_err_and c.from_residual-in_err-progress.result c.from_residual-in_err-progress.ensures.1 in
     let begins = begun (reading_of c.args.self.now) (reading_of c.begin_reading.new.self) c.in_ok-begin_reading.ensures.begins in
-    rw (left.1, left.2) (answers_begun (reading_of c.args.self.now) (reading_of c.begin_reading.new.self) call (Refused c.in_err-progress.field-0.0) (reading_of c.read_into.new.self) begins.from
-    (refused_into c.begin_reading.new.self c.read_into.new.self call c.args.size c.read_into.new.buffer c.in_err-progress.field-0.0 refl (λ left. refl) (c.in_err-progress.ensures.length ∙ c.deref_mut.ensures.len ∙ c.in-Ok.ensures.len) begins.reads c.in_err-progress.ensures.outcome))
+    rw (left.1, left.2) (answers_begun (reading_of c.args.self.now) (reading_of c.begin_reading.new.self) call (Refused c.in_err-progress.field-0.0) (reading_of c.read_into.new.stream) begins.from
+    (refused_into (reading_of c.begin_reading.new.self) (reading_of c.read_into.new.stream) call c.args.size c.read_into.new.buffer c.in_err-progress.field-0.0 refl (λ left. refl) (c.in_err-progress.ensures.length ∙ c.deref_mut.ensures.len ∙ c.in-Ok.ensures.len) begins.reads c.in_err-progress.ensures.outcome))
 
 pub returns-then-answers : goal.returns-then-answers
 returns-then-answers g c =
@@ -40,9 +40,9 @@ returns-then-answers g c =
     let long : length buffer ≡ size = c.in_ok-progress.ensures.length ∙ c.deref_mut.ensures.len ∙ c.in-Ok.ensures.len in
     let cut : c.truncate.new.self.items ≡ part = ◌∙◌ {A = List ℕ} c.truncate.ensures.items (cut_to buffer (drop (length buffer) c.in-Ok.bytes.items) progress.count c.in-Ok.bytes.len (long ∙ sym c.in-Ok.ensures.len)) in
     subst (λ (bytes : List ℕ). Answers (reading_of c.args.self.now) (Read (Some size)) (Bytes bytes) (reading_of c.answers.new.self)) (sym cut)
-    (answered_from (reading_of c.args.self.now) (reading_of old) (reading_of c.read_into.new.self) (reading_of c.answers.new.self) (Read (Some size)) part progress.stop (progress.count == 0) refl
+    (answered_from (reading_of c.args.self.now) (reading_of old) (reading_of c.read_into.new.stream) (reading_of c.answers.new.self) (Read (Some size)) part progress.stop (progress.count == 0) refl
     (begun (reading_of c.args.self.now) (reading_of old) c.in_ok-begin_reading.ensures.begins)
-    (gathers_into old c.read_into.new.self (Read (Some size)) size progress buffer (λ left. refl) long read)
+    (gathers_into (reading_of old) (reading_of c.read_into.new.stream) (Read (Some size)) size progress buffer (λ left. refl) long read)
     (some_counted part progress.count (progress.count == 0) (sym (length-take-le progress.count buffer read.fits)) refl)
     (sym c.answers.ensures.answer ∙ c.if-answers.true) c.answers.ensures.stream)
 
@@ -51,8 +51,8 @@ returns-else-answers g c =
     let old : EngineView = c.begin_reading.new.self in
     let progress = c.in_ok-progress.progress in
     let part : List ℕ = take progress.count c.read_into.new.buffer in
-    unready_from (reading_of c.args.self.now) (reading_of old) (reading_of c.read_into.new.self) (reading_of c.answers.new.self) (Read (Some c.args.size)) part progress.stop (progress.count == 0) refl
+    unready_from (reading_of c.args.self.now) (reading_of old) (reading_of c.read_into.new.stream) (reading_of c.answers.new.self) (Read (Some c.args.size)) part progress.stop (progress.count == 0) refl
     (begun (reading_of c.args.self.now) (reading_of old) c.in_ok-begin_reading.ensures.begins)
-    (gathers_into old c.read_into.new.self (Read (Some c.args.size)) c.args.size progress c.read_into.new.buffer (λ left. refl) (c.in_ok-progress.ensures.length ∙ c.deref_mut.ensures.len ∙ c.in-Ok.ensures.len) c.in_ok-progress.ensures.outcome)
+    (gathers_into (reading_of old) (reading_of c.read_into.new.stream) (Read (Some c.args.size)) c.args.size progress c.read_into.new.buffer (λ left. refl) (c.in_ok-progress.ensures.length ∙ c.deref_mut.ensures.len ∙ c.in-Ok.ensures.len) c.in_ok-progress.ensures.outcome)
     (none_counted part progress.count (progress.count == 0) (sym (length-take-le progress.count c.read_into.new.buffer c.in_ok-progress.ensures.outcome.fits)) refl)
     (sym c.answers.ensures.answer ∙ c.if-answers.false) c.answers.ensures.stream

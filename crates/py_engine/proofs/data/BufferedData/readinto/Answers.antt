@@ -7,7 +7,7 @@ use Rattle.py_engine.specs.Reading.{reading_of}
 use Rattle.py_stream.proofs.ReadingAnswers.{answers_begun}
 use Rattle.py_stream.proofs.LineReadings.{begun}
 use Rattle.py_stream.proofs.ReadingOn.{none_counted, some_counted, answered_from, unready_from}
-use Rattle.py_engine.proofs.Reading.{refused_into, gathers_into}
+use Rattle.py_stream.proofs.ReadingInto.{refused_into, gathers_into}
 use Rattle.py_engine.proofs.data.BufferedData.readinto.Goals as goal
 
 pub returns-in_err-begin_reading-clause-answers : goal.returns-in_err-begin_reading-clause-answers
@@ -20,17 +20,17 @@ returns-in_err-progress-clause-answers g c =
     let call = ReadInto (length c.args.buffer.now) in
     let left = err_from_is_err_and c.from_residual-in_err-progress.result c.from_residual-in_err-progress.ensures.1 in
     let begins = begun (reading_of c.args.self.now) (reading_of c.begin_reading.new.self) c.in_ok-begin_reading.ensures.begins in
-    rw (left.1, left.2) (answers_begun (reading_of c.args.self.now) (reading_of c.begin_reading.new.self) call (Refused c.in_err-progress.field-0.0) (reading_of c.read_into.new.self) begins.from
-    (refused_into c.begin_reading.new.self c.read_into.new.self call (length c.args.buffer.now) c.read_into.new.buffer c.in_err-progress.field-0.0 refl (λ left. refl) c.in_err-progress.ensures.length begins.reads c.in_err-progress.ensures.outcome))
+    rw (left.1, left.2) (answers_begun (reading_of c.args.self.now) (reading_of c.begin_reading.new.self) call (Refused c.in_err-progress.field-0.0) (reading_of c.read_into.new.stream) begins.from
+    (refused_into (reading_of c.begin_reading.new.self) (reading_of c.read_into.new.stream) call (length c.args.buffer.now) c.read_into.new.buffer c.in_err-progress.field-0.0 refl (λ left. refl) c.in_err-progress.ensures.length begins.reads c.in_err-progress.ensures.outcome))
 
 pub returns-then-answers-clause-answers : goal.returns-then-answers-clause-answers
 returns-then-answers-clause-answers g c =
     let call = ReadInto (length c.args.buffer.now) in
     let progress = c.in_ok-progress.progress in
     let part : List ℕ = take progress.count c.read_into.new.buffer in
-    answered_from (reading_of c.args.self.now) (reading_of c.begin_reading.new.self) (reading_of c.read_into.new.self) (reading_of c.answers.new.self) call part progress.stop (progress.count == 0) refl
+    answered_from (reading_of c.args.self.now) (reading_of c.begin_reading.new.self) (reading_of c.read_into.new.stream) (reading_of c.answers.new.self) call part progress.stop (progress.count == 0) refl
     (begun (reading_of c.args.self.now) (reading_of c.begin_reading.new.self) c.in_ok-begin_reading.ensures.begins)
-    (gathers_into c.begin_reading.new.self c.read_into.new.self call (length c.args.buffer.now) progress c.read_into.new.buffer (λ left. refl) c.in_ok-progress.ensures.length c.in_ok-progress.ensures.outcome)
+    (gathers_into (reading_of c.begin_reading.new.self) (reading_of c.read_into.new.stream) call (length c.args.buffer.now) progress c.read_into.new.buffer (λ left. refl) c.in_ok-progress.ensures.length c.in_ok-progress.ensures.outcome)
     (some_counted part progress.count (progress.count == 0) (sym (length-take-le progress.count c.read_into.new.buffer c.in_ok-progress.ensures.outcome.fits)) refl)
     (sym c.answers.ensures.answer ∙ c.if-answers.true) c.answers.ensures.stream
 
@@ -39,8 +39,8 @@ returns-else-answers-clause-answers g c =
     let call = ReadInto (length c.args.buffer.now) in
     let progress = c.in_ok-progress.progress in
     let part : List ℕ = take progress.count c.read_into.new.buffer in
-    unready_from (reading_of c.args.self.now) (reading_of c.begin_reading.new.self) (reading_of c.read_into.new.self) (reading_of c.answers.new.self) call part progress.stop (progress.count == 0) refl
+    unready_from (reading_of c.args.self.now) (reading_of c.begin_reading.new.self) (reading_of c.read_into.new.stream) (reading_of c.answers.new.self) call part progress.stop (progress.count == 0) refl
     (begun (reading_of c.args.self.now) (reading_of c.begin_reading.new.self) c.in_ok-begin_reading.ensures.begins)
-    (gathers_into c.begin_reading.new.self c.read_into.new.self call (length c.args.buffer.now) progress c.read_into.new.buffer (λ left. refl) c.in_ok-progress.ensures.length c.in_ok-progress.ensures.outcome)
+    (gathers_into (reading_of c.begin_reading.new.self) (reading_of c.read_into.new.stream) call (length c.args.buffer.now) progress c.read_into.new.buffer (λ left. refl) c.in_ok-progress.ensures.length c.in_ok-progress.ensures.outcome)
     (none_counted part progress.count (progress.count == 0) (sym (length-take-le progress.count c.read_into.new.buffer c.in_ok-progress.ensures.outcome.fits)) refl)
     (sym c.answers.ensures.answer ∙ c.if-answers.false) c.answers.ensures.stream

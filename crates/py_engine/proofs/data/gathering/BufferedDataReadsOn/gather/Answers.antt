@@ -47,7 +47,7 @@ returns-in-Err g c =
     let first : List ℕ → List ℕ = g.C.Collector.wanted c.args.collector.now in
     let after : List ℕ = g.C.Collector.collected c.collect.new.self in
     subst (λ (why : IoFault). GatherOutcome first (reading_of c.args.self.now) (Err why) after (reading_of c.starve.new.self)) (sym c.starve.ensures.fault)
-    (starves_so_far c.args.self.now c.loop-used.self c.starve.new.self _ after c.loop-used.moved first c.loop-used.invariant.gathered c.loop-used.invariant.some c.starve.ensures.stream)
+    (starves_so_far c.args.self.now c.loop-used.self c.starve.new.self _ after c.loop-used.moved first c.loop-used.invariant.gathered c.loop-used.invariant.some c.starve.ensures.engine)
 
 pub returns-in_err-fill : goal.returns-in_err-fill
 returns-in_err-fill g c =

@@ -58,4 +58,4 @@ pub returns-in-Err : goal.returns-in-Err
 returns-in-Err g c =
     let brings : Brings c.loop-moved.self (0 ∷ []) c.in-Some.field-0 c.transfer.new.buffer c.transfer.new.self = rw c.in-Some.is at c.in_ok-transfer.ensures.outcome in
     let some : 0 < c.in-Some.field-0 = grind (arith, c.in-Some.field-0-test) in
-    gather_starves (g.C.Collector.wanted c.args.collector.now) c.args.self.now c.loop-moved.self (g.C.Collector.collected c.loop-moved.collector) c.loop-moved.moved c.loop-moved.invariant.gathered (0 ∷ []) c.in-Some.field-0 c.transfer.new.buffer c.transfer.new.self brings some c.transfer.auto.buffer c.starve.new.self c.starve.result (g.C.Collector.collected c.collect.new.self) c.starve.ensures.fault c.starve.ensures.stream
+    gather_starves (g.C.Collector.wanted c.args.collector.now) c.args.self.now c.loop-moved.self (g.C.Collector.collected c.loop-moved.collector) c.loop-moved.moved c.loop-moved.invariant.gathered (0 ∷ []) c.in-Some.field-0 c.transfer.new.buffer c.transfer.new.self brings some c.transfer.auto.buffer c.starve.new.self c.starve.result (g.C.Collector.collected c.collect.new.self) c.starve.ensures.fault c.starve.ensures.engine

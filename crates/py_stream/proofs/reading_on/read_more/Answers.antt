@@ -1,10 +1,10 @@
 use Rattle.std.proofs.Common.{rules, arith, ◌≡◌, ◌+◌, ℕ, List, length, take, drop, ap, ◌∙◌}
 use Rattle.std.proofs.lemmas.List.{length-take-le, length-drop}
-use Rattle.py_engine.proofs.ReadingSteps.{lengthened, length-lengthened, vector_read}
-use Rattle.py_engine.proofs.data.BufferedData.read_more.Goals as goal
+use Rattle.py_stream.proofs.ReadingInto.{lengthened, length-lengthened, vector_read}
+use Rattle.py_stream.proofs.reading_on.read_more.Goals as goal
 
-pub returns : goal.returns
-returns g c =
+pub returns-clause-outcome : goal.returns-clause-outcome
+returns-clause-outcome g c =
     let start : ℕ = c.len-length.result in
     let before : List ℕ = c.args.bytes.now.items in
     let buffer : List ℕ = c.read_behind.new.buffer in
@@ -18,5 +18,6 @@ returns g c =
       part = take progress.count (drop start buffer);
       behind = vector_read before c.resize.new.self.items buffer c.truncate.new.self.items start c.args.more progress.count c.resize.new.self.len size resized long (c.read_behind.ensures.front ∙ ap (take start) c.as_mut_slice.ensures.value) (omega (arith, c.resize.new.self.ok.0)) read.fits c.truncate.ensures.items;
       full = λ enough. omega (arith, length-take-le progress.count (drop start buffer) read.fits, read.full enough, length-drop start buffer);
+      to = read.to;
       stops = read.stops;
     }

@@ -1,0 +1,414 @@
+-- How a reading into a buffer comes from one transfer to the next, and one of all that is left from one buffer to the next.
+use Rattle.std.proofs.Common.{◌≡◌, ◌≢◌, ℕ, ◌+◌, ◌-◌, ◌^◌, ◌<◌, ◌≤◌, ◌⊎◌, replicate, inl, inr, ⊎_elim, Bool, true, false, List, [], ◌++◌, length, take, drop, max, Ok, Err, refl, sym, ap, ◌∙◌, subst, arith}
+use Rattle.std.proofs.lemmas.Bool.{true≢false}
+use Rattle.std.proofs.lemmas.List.{append-nil, take-take, take-append-le, take-append-drop, take_all, length-replicate, length-take, length-take-le, length-append, drop_all, length-drop, take_at}
+use borrow.Rule.Slice.PartMut.{put_mid}
+use Rattle.py_flat.specs.declared.fault.IoFault.{IoFault}
+use Rattle.py_flat.specs.declared.fault.IoFault.TheVariants as fault
+use Rattle.py_flat.specs.declared.life.Life.TheVariants as life
+use Rattle.py_flat.specs.Bytes.{left_at}
+use Rattle.py_flat.specs.FlatFile.{Abilities}
+use Rattle.py_flat.specs.ExactStep.{rest}
+use Rattle.py_raw.specs.RawStream.{WhereTold, WherePlace, WhereTransfers, NoWait, LeavesCounts}
+use Rattle.py_raw.proofs.Telling.{keeps_same}
+use Rattle.py_raw.proofs.ReadingOn.{no_fault_then, no_wait_then, uncounted_then}
+use Rattle.py_stream.specs.declared.stop.Stop.{Stop}
+use Rattle.py_stream.specs.declared.stop.Stop.TheVariants as stop
+use Rattle.py_stream.specs.declared.stop.Progress.{Progress}
+use Rattle.py_stream.specs.declared.stop.Step.TheVariants as step
+use Rattle.py_flat.specs.Calls.{FileCall, Refused}
+use Rattle.py_stream.specs.Kinds.{by_several}
+use Rattle.py_stream.specs.Stream.{Stream, file_of, nothing_owed}
+use Rattle.py_stream.specs.Answers.{Answers, OnlyAsked, EachBrings, ahead}
+use Rattle.py_stream.specs.Reading.{KeepsReading, Reaches, Gives, FailsReading, FailsMoved, StarvesReading, StopOutcome, RestOutcome, wanted_by, GatherOutcome}
+use Rattle.py_stream.specs.ReadingOn.{MayRead, StepsOn, StepsNone, StepFails, StarvesWith, StepOutcome, ReadsInto, HoldsLess, FailsStarved, StarvesIn, ReadIntoOutcome, FirstOutcome, ReadsMore, ReadMoreOutcome}
+use Rattle.py_stream.proofs.Coming.{each_still, each_seen, each_then}
+use Rattle.py_stream.proofs.ReadingSteps.{more_taken, next_behind, within_end, next_reaches, same_bytes, gives_then, waits_once_then, still_tells, uncounted, keeps_then, keeps_failed}
+use Rattle.py_stream.proofs.ReadingAnswers.{Reads}
+use Rattle.py_stream.proofs.ReadingOn.{WantsSize, gathers_size, refuses_size, refused_stop, asked_gives, asked_each}
+
+-- a buffer after what is left of it was written
+pub end_written : (count : ℕ) (buffer left : List ℕ) → count < length buffer → length left ≡ length (take (length buffer - count) (drop count buffer)) → put_mid count (length buffer - count) buffer left ≡ take count buffer ++ left
+end_written count buffer left fits long = grind (arith, drop_all, length-drop, append-nil)
+
+-- a list that was lengthened by zeros
+abbrev pub lengthened : ℕ → ℕ → List ℕ → List ℕ
+lengthened start more before = take (start + more) before ++ replicate (start + more - start) 0
+
+-- a list that was lengthened by zeros is as much longer
+pub length-lengthened : (start more : ℕ) (before : List ℕ) → length before ≡ start → length (lengthened start more before) ≡ start + more
+length-lengthened start more before size = length-append (take (start + more) before) (replicate (start + more - start) 0) ∙ omega (arith, ap length (take_all (start + more) before (omega arith)), length-replicate {A = ℕ} (start + more - start) 0)
+
+-- a vector that was lengthened, read into and cut after the bytes that came has what it had, then these
+pub vector_read : (before resized buffer after : List ℕ) (start more count long : ℕ) → length before ≡ start → resized ≡ lengthened start more before → length buffer ≡ length resized → take start buffer ≡ take start resized → long ≡ length resized → count ≤ length (drop start buffer) → after ≡ take (start + count) (take long (buffer ++ drop (length buffer) resized)) → after ≡ before ++ take count (drop start buffer)
+vector_read before resized buffer after start more count long size is same front whole fits cut =
+    let all : length resized ≡ start + more = ap length is ∙ length-lengthened start more before size in
+    let zeros : List ℕ = replicate (start + more - start) 0 in
+    let begins : take start buffer ≡ before = front ∙ (ap (take start) (is ∙ ap (λ (xs : List ℕ). xs ++ zeros) (take_all (start + more) before (omega arith))) ∙ take_at before zeros start size) in
+    cut
+    ∙ (take-take (start + count) long (buffer ++ drop (length buffer) resized) (omega (arith, length-drop start buffer))
+    ∙ (take-append-le (start + count) buffer (drop (length buffer) resized) (omega (arith, length-drop start buffer))
+    ∙ (ap (take (start + count)) (sym (take-append-drop start buffer))
+    ∙ (more_taken start count (take start buffer) (drop start buffer) (length-take-le start buffer (omega arith))
+    ∙ ap (λ (xs : List ℕ). xs ++ take count (drop start buffer)) begins))))
+
+-- a stream that is as it was keeps all
+keeps_self : (stream : Stream) → MayRead stream → KeepsReading stream stream
+keeps_self stream may = record { raw = keeps_same stream.raw; stays = refl; bytes = λ tells. refl; written = λ tells. refl; can = refl; buffer = refl; short = refl; owed = may.bare; far = may.far; near = λ live. may.near }
+
+-- a stream that reads on may still be read
+pub still_may : (before now : Stream) → MayRead before → KeepsReading before now → now.life ≡ life.Live → now.place ≤ now.raw_place → MayRead now
+still_may before now may kept live to = record { live = live; readable = ap (λ (can : Abilities). can.readable) kept.can ∙ may.readable; bare = kept.owed; far = kept.far; near = kept.near live; to = to }
+
+-- n bytes have come into the front of a buffer that isn't full: all that were held, and those of the transfers since
+pub record ReadsTo (old : Stream) (was : Bool) (count : ℕ) (buffer : List ℕ) (moved : Bool) (now : Stream) : Type 0 where
+  pub may : MayRead old
+  pub kept : KeepsReading old now
+  pub counts : LeavesCounts old.raw now.raw
+  pub live : now.life ≡ life.Live
+  pub less : count < length buffer
+  pub from : old.place ≤ now.place
+  pub to : now.place ≤ now.raw_place
+  pub stands : now.raw_place ≡ old.place + count
+  pub told : WhereTold old.raw (take count (left_at (file_of old).bytes old.place) ≡ take count buffer)
+  pub all : ahead old ≤ count
+  pub each : EachBrings 0 0 old now
+  pub stepped : ((moved ≡ was) × (now ≡ old)) ⊎ ((moved ≡ true) × (0 < count) × (old.raw_place < now.raw_place) × WherePlace old.raw (old.raw.place < now.raw.place))
+
+-- how far a reading is before its first transfer
+pub reads_first : (old now : Stream) (was : Bool) (count : ℕ) (buffer : List ℕ) → MayRead old → HoldsLess old count buffer now → ReadsTo old was count buffer was now
+reads_first old now was count buffer may holds = subst (ReadsTo old was count buffer was) (sym holds.same) (record {
+  may = may;
+  kept = keeps_self old may;
+  counts = uncounted old.raw old.raw refl;
+  live = may.live;
+  less = holds.less;
+  from = omega arith;
+  to = omega (arith, holds.to);
+  stands = holds.to;
+  told = holds.told;
+  all = holds.all;
+  each = each_still old old 0 0 refl refl;
+  stepped = inl (refl, refl);
+})
+
+module _ (old : Stream) (was : Bool) (count : ℕ) (buffer : List ℕ) (moved : Bool) (now : Stream) (reads : ReadsTo old was count buffer moved now) where
+  -- the raw doesn't go back
+  not_back : WherePlace old.raw (old.raw.place ≤ now.raw.place)
+  not_back tells = ⊎_elim (λ same. omega (arith, ap (λ (stream : Stream). stream.raw.place) same.1)) (λ forth. omega (arith, forth.3 tells)) reads.stepped
+
+  -- nor does it by the stream's own count
+  count_not_back : old.raw_place ≤ now.raw_place
+  count_not_back = ⊎_elim (λ same. omega (arith, ap (λ (stream : Stream). stream.raw_place) same.1)) (λ forth. omega (arith, forth.2)) reads.stepped
+
+  -- what came is as long as was counted
+  came_length : length (take count buffer) ≡ count
+  came_length = length-take-le count buffer (omega (arith, reads.less))
+
+  -- told, what came lies before the end
+  came_within : WhereTold old.raw (old.place + count ≤ max old.place (length (file_of old).bytes))
+  came_within tells = within_end (file_of old).bytes (take count buffer) old.place count (reads.told tells) came_length
+
+  -- a place of what came, or before it, reaches no further than the end
+  reaches_come : (new : Stream) → new.place ≤ old.place + count → Reaches old new
+  reaches_come new within tells = omega (arith, within, came_within tells)
+
+  -- what one more transfer brings, after what came
+  behind_told : (more : ℕ) (left : List ℕ) (new : Stream) → StepsOn now more left new → WhereTold old.raw (take (count + more) (left_at (file_of old).bytes old.place) ≡ take (count + more) (take count buffer ++ left))
+  behind_told more left new steps tells =
+      let next : take more (left_at (file_of old).bytes (old.place + count)) ≡ take more left = subst (λ (place : ℕ). take more (left_at (file_of old).bytes place) ≡ take more left) reads.stands (subst (λ (bytes : List ℕ). take more (left_at bytes now.raw_place) ≡ take more left) (same_bytes old now reads.may.bare reads.kept tells) (steps.told (still_tells old now reads.kept tells))) in
+      next_behind (file_of old).bytes (take count buffer) left old.place count more came_length (reads.told tells) next ∙ sym (more_taken count more (take count buffer) left came_length)
+
+  -- how far a reading is after one more transfer
+  pub reads_on : (more : ℕ) (left : List ℕ) (new : Stream) → StepOutcome now moved (Ok (step.On more)) left new → ReadsTo old was (count + more) (take count buffer ++ left) true new
+  reads_on more left new outcome =
+      let steps : StepsOn now more left new = outcome.0 in
+      record {
+        may = reads.may;
+        kept = keeps_then old now new reads.kept steps.kept;
+        counts = uncounted_then old.raw now.raw new.raw reads.kept.raw reads.counts steps.counts;
+        live = steps.live;
+        less = omega (arith, outcome.1, length-append (take count buffer) left, came_length);
+        from = omega (arith, reads.from, reads.to, steps.from);
+        to = steps.to;
+        stands = omega (arith, outcome.2, reads.stands);
+        told = behind_told more left new steps;
+        all = omega (arith, reads.all);
+        each = each_then old now new 0 0 reads.kept.raw reads.each steps.each;
+        stepped = inr (refl, omega (arith, steps.some), omega (arith, count_not_back, outcome.2, steps.some), λ tells. omega (arith, not_back tells, steps.forth (reads.kept.raw.tells_place ∙ tells)));
+      }
+
+  -- the last transfer filled the buffer
+  reads_enough : (more : ℕ) (left : List ℕ) (new : Stream) → StepsOn now more left new → more ≡ length left → new.place ≡ now.raw_place + more → WhereTransfers now.raw (new.raw_place < new.place + new.raw.reads.last) → ReadsInto old (record { count = count + more; stop = stop.Enough }) (take count buffer ++ left) new
+  reads_enough more left new steps all place last =
+      let long : length (take count buffer ++ left) ≡ count + more = length-append (take count buffer) left ∙ omega (arith, came_length) in
+      let whole : take (count + more) (take count buffer ++ left) ≡ take count buffer ++ left = take_all (count + more) (take count buffer ++ left) (omega (arith, long)) in
+      record {
+        fits = omega (arith, long);
+        full = λ enough. sym long;
+        less = λ other. absurd (other refl);
+        idle = λ held. absurd (omega (arith, held, long, reads.all, steps.some));
+        to = steps.to;
+        stops = (
+          record {
+            kept = keeps_then old now new reads.kept steps.kept;
+            no_fault = no_fault_then old.raw now.raw new.raw reads.kept.raw reads.counts.no_fault steps.counts.no_fault;
+            live = steps.live;
+            place = omega (arith, place, reads.stands, ap length whole, long);
+            told = λ tells. subst (λ (n : ℕ). take n (left_at (file_of old).bytes old.place) ≡ take (count + more) (take count buffer ++ left)) (sym (ap length whole ∙ long)) (behind_told more left new steps tells);
+          },
+          no_wait_then old.raw now.raw new.raw reads.kept.raw reads.counts.no_wait steps.counts.no_wait,
+          each_then old now new 0 0 reads.kept.raw reads.each steps.each,
+          record {
+            held = λ _ within. absurd (omega (arith, within, place, reads.stands, reads.all, steps.some));
+            last = inr (λ tells. last (reads.kept.raw.tells_transfers ∙ tells));
+          },
+        );
+      }
+
+  -- no more came: what came is given
+  reads_given : (left : List ℕ) (new : Stream) (empties : ℕ) → StepsNone empties now new → Gives old (take count (take count buffer ++ left)) new
+  reads_given left new empties none =
+      let same : take count (take count buffer ++ left) ≡ take count buffer = take_at (take count buffer) left count came_length in
+      subst (λ (part : List ℕ). Gives old part new) (sym same) (record {
+        kept = keeps_then old now new reads.kept none.kept;
+        no_fault = no_fault_then old.raw now.raw new.raw reads.kept.raw reads.counts.no_fault none.no_fault;
+        live = none.live;
+        place = omega (arith, none.place, reads.stands, came_length);
+        told = λ tells. subst (λ (n : ℕ). take n (left_at (file_of old).bytes old.place) ≡ take count buffer) (sym came_length) (reads.told tells);
+      })
+
+  -- a reading into a buffer that isn't full stops
+  stops_less : (left : List ℕ) (new : Stream) (why : Stop) → why ≢ stop.Enough → 0 < length left → new.place ≤ new.raw_place → StopOutcome old (take count (take count buffer ++ left)) (Ok why) new → ReadsInto old (record { count = count; stop = why }) (take count buffer ++ left) new
+  stops_less left new why other some to outcome =
+      let long : length (take count buffer ++ left) ≡ count + length left = length-append (take count buffer) left ∙ omega (arith, came_length) in
+      record {
+        fits = omega (arith, long);
+        full = λ enough. absurd (other enough);
+        less = λ before. omega (arith, some, long);
+        idle = λ held. absurd (omega (arith, held, some, reads.all, long));
+        to = to;
+        stops = outcome;
+      }
+
+  -- the last transfer brought nothing
+  reads_none : (left : List ℕ) (new : Stream) (why : Stop) → why ≢ stop.Enough → 0 < length left → StepOutcome now moved (Ok (step.Stopped 0 why)) left new → ReadsInto old (record { count = count; stop = why }) (take count buffer ++ left) new
+  reads_none left new stop.Enough other some outcome = absurd (other refl)
+  reads_none left new stop.End other some outcome = stops_less left new stop.End other some (omega (arith, outcome.1.place, outcome.1.stands)) (
+    reads_given left new 1 outcome.1,
+    no_wait_then old.raw now.raw new.raw reads.kept.raw reads.counts.no_wait outcome.3,
+    λ tells. let end = outcome.2 (still_tells old now reads.kept tells) in let place = outcome.1.place in omega (arith, end, place, ap length (same_bytes old now reads.may.bare reads.kept tells)),
+    each_then old now new 1 1 reads.kept.raw reads.each outcome.1.each,
+  )
+  reads_none left new stop.Waits other some outcome = stops_less left new stop.Waits other some (omega (arith, outcome.1.place, outcome.1.stands)) (
+    reads_given left new 0 outcome.1,
+    omega (arith, reads.kept.raw.waits, outcome.2),
+    outcome.1.stands ∙ sym outcome.1.place,
+    waits_once_then old now new reads.kept reads.counts.no_wait outcome.3,
+    each_then old now new 1 0 reads.kept.raw reads.each outcome.1.each,
+  )
+
+  stopped_none : (more : ℕ) (left : List ℕ) (new : Stream) (why : Stop) → more ≡ 0 → ReadsInto old (record { count = count; stop = why }) (take count buffer ++ left) new → ReadsInto old (record { count = count + more; stop = why }) (take count buffer ++ left) new
+  stopped_none more left new why none reads_so = subst (λ (n : ℕ). ReadsInto old (record { count = n; stop = why }) (take count buffer ++ left) new) (omega (arith, none)) reads_so
+
+  -- the reading stops
+  pub reads_stopped : (more : ℕ) (why : Stop) (left : List ℕ) (new : Stream) → 0 < length left → StepOutcome now moved (Ok (step.Stopped more why)) left new → ReadsInto old (record { count = count + more; stop = why }) (take count buffer ++ left) new
+  reads_stopped more stop.Enough left new some outcome = reads_enough more left new outcome.0 outcome.1 outcome.2 outcome.3
+  reads_stopped more stop.End left new some outcome = stopped_none more left new stop.End outcome.0 (reads_none left new stop.End (λ (e : stop.End ≡ stop.Enough). cc) some (refl, outcome.1, outcome.2, outcome.3))
+  reads_stopped more stop.Waits left new some outcome = stopped_none more left new stop.Waits outcome.0 (reads_none left new stop.Waits (λ (e : stop.Waits ≡ stop.Enough). cc) some (refl, outcome.1, outcome.2, outcome.3))
+
+  -- the transfer failed
+  reads_failed : (new : Stream) → StepFails now new → FailsReading old new
+  reads_failed new fails = record {
+    kept = keeps_then old now new reads.kept fails.kept;
+    cause = omega (arith, reads.kept.raw.faults, fails.cause);
+    no_wait = no_wait_then old.raw now.raw new.raw reads.kept.raw reads.counts.no_wait fails.no_wait;
+    failed = fails.failed;
+    forth = omega (arith, fails.place, reads.stands);
+    reach = reaches_come new (omega (arith, fails.place, reads.stands));
+    each = each_then old now new 1 0 reads.kept.raw reads.each fails.each;
+  }
+
+  -- memory ran out once bytes had moved
+  reads_starved : moved ≡ true → FailsStarved was old (record now { life = life.Failed })
+  reads_starved on =
+      let left : was ≡ false → (0 < count) × (old.raw_place < now.raw_place) × WherePlace old.raw (old.raw.place < now.raw.place) = λ none. ⊎_elim (λ same. absurd (true≢false (sym on ∙ same.0 ∙ none))) (λ forth. (forth.1, forth.2, forth.3)) reads.stepped in
+      record {
+        kept = keeps_then old now (record now { life = life.Failed }) reads.kept (keeps_failed now reads.kept.owed (record { far = reads.kept.far; near = reads.kept.near }));
+        counts = reads.counts;
+        failed = refl;
+        forth = reads.from;
+        reach = reaches_come (record now { life = life.Failed }) (omega (arith, reads.to, reads.stands));
+        raw_forth = count_not_back;
+        further = λ none. (left none).1;
+        stands = not_back;
+        stands_further = λ none. (left none).2;
+        some = λ none tells nothing. absurd (omega (arith, (left none).0, ap length (reads.told tells), ap (λ (bytes : List ℕ). length (take count bytes)) nothing, length-take {A = ℕ} count [], came_length));
+        each = each_seen old old now (record now { life = life.Failed }) 0 0 refl refl refl refl reads.each;
+      }
+
+-- running out of memory, by whether bytes had moved
+reads_wanting : (old : Stream) (was : Bool) (count : ℕ) (buffer : List ℕ) (moved : Bool) (now new : Stream) → ReadsTo old was count buffer moved now → StarvesWith moved now new → ((was ≡ false) × (new ≡ old)) ⊎ FailsStarved was old new
+reads_wanting old was count buffer false now new reads starves = ⊎_elim (λ same. inl (sym same.0, starves ∙ same.1)) (λ forth. absurd (true≢false (sym forth.0))) reads.stepped
+reads_wanting old was count buffer true now new reads starves = inr (subst (FailsStarved was old) (sym starves) (reads_starved old was count buffer true now reads refl))
+
+-- a reading into a buffer whose last transfer was refused is refused
+pub reads_refused : (old : Stream) (was : Bool) (count : ℕ) (buffer : List ℕ) (moved : Bool) (now : Stream) (why : IoFault) (left : List ℕ) (new : Stream) → 0 < length left → ReadsTo old was count buffer moved now → StepOutcome now moved (Err why) left new → ReadIntoOutcome old was (Err why) (take count buffer ++ left) new
+reads_refused old was count buffer moved now fault.RawFault left new some reads fails =
+    let long : length (take count buffer ++ left) ≡ count + length left = length-append (take count buffer) left ∙ omega (arith, length-take-le count buffer (omega (arith, reads.less))) in
+    (reads_failed old was count buffer moved now reads new fails, (omega (arith, fails.place, reads.stands, long), omega (arith, reads.all, some, long)))
+reads_refused old was count buffer moved now fault.NoMemory left new some reads wants =
+    let long : length (take count buffer ++ left) ≡ count + length left = length-append (take count buffer) left ∙ omega (arith, length-take-le count buffer (omega (arith, reads.less))) in (
+      (sym reads.kept.raw.takes_memory ∙ wants.0, reads_wanting old was count buffer moved now new reads wants.1),
+      (omega (arith, ap (λ (stream : Stream). stream.place) wants.1, reads.to, reads.stands, long), omega (arith, reads.all, some, long)),
+    )
+reads_refused old was count buffer moved now why left new some reads never = absurd never
+
+-- Into a buffer.
+
+-- a reading into a buffer gathers as one of the buffer's size
+pub gathers_into : (old new : Stream) (call : FileCall) (size : ℕ) (progress : Progress) (buffer : List ℕ) → WantsSize call size → length buffer ≡ size → ReadsInto old progress buffer new → GatherOutcome (wanted_by call) old (Ok progress.stop) (take progress.count buffer) new
+gathers_into old new call size progress buffer wants long read =
+    let taken : length (take progress.count buffer) ≡ progress.count = length-take-le progress.count buffer read.fits in
+    gathers_size old new call size (take progress.count buffer) progress.stop wants (omega (arith, taken, read.fits, long)) (λ enough. omega (arith, taken, read.full enough, long)) (λ other. omega (arith, taken, read.less other, long)) read.stops (λ held. read.idle (omega (arith, held, long)))
+
+starves_into : (old new : Stream) → StarvesIn false old new → StarvesReading old new
+starves_into old new starves = grind arith
+
+-- a reading into a buffer that was refused moved no further than the buffer's size
+pub refused_into : (old new : Stream) (call : FileCall) (size : ℕ) (buffer : List ℕ) (why : IoFault) → by_several old.buffer call ≡ true → WantsSize call size → length buffer ≡ size → Reads old → ReadIntoOutcome old false (Err why) buffer new → Answers old call (Refused why) new
+refused_into old new call size buffer fault.RawFault several wants long begun outcome =
+    refused_stop old new call [] fault.RawFault several begun (refuses_size old new call size [] fault.RawFault wants (omega (arith, outcome.1.1, long)) begun.live (omega (arith, outcome.1.0, long)) outcome.0) (λ wanting. absurd (cc))
+refused_into old new call size buffer fault.NoMemory several wants long begun outcome =
+    refused_stop old new call [] fault.NoMemory several begun (refuses_size old new call size [] fault.NoMemory wants (omega (arith, outcome.1.1, long)) begun.live (omega (arith, outcome.1.0, long)) (starves_into old new outcome.0)) (λ wanting takes. outcome.0.0)
+refused_into old new call size buffer why several wants long begun outcome = absurd outcome
+
+-- Readings of all that is left.
+
+-- all that was asked for so far has come: nothing was, at first, but that the raw may have been asked where it ends; then as much as is
+-- asked for next
+pub record ReadsAll (before : Stream) (bytes : List ℕ) (more : ℕ) (moved : Bool) (now : Stream) : Type 0 where
+  pub may : MayRead before
+  pub gives : Gives before bytes now
+  pub to : now.place ≤ now.raw_place
+  pub no_wait : NoWait before.raw now.raw
+  pub each : EachBrings 0 0 before now
+  pub some : 0 < more
+  pub fits : more < 2 ^ 64
+  pub first : moved ≡ false → OnlyAsked before now × (before.raw_place < before.place + more)
+  pub later : moved ≡ true → (more ≡ length bytes) × (before.raw_place < now.place)
+
+-- a reading of all begins, once the raw was asked where it ends
+pub all_begins : (old now : Stream) (bytes : List ℕ) (more : ℕ) → bytes ≡ [] → MayRead old → old.short ≡ false → FirstOutcome old (Ok more) now → ReadsAll old bytes more false now
+all_begins old now bytes more none may whole asked =
+    let reads : Reads old = record { live = may.live; whole = whole; readable = may.readable; bare = may.bare; placed = record { far = may.far; near = λ _. may.near } } in
+    record {
+      may = may;
+      gives = subst (λ (part : List ℕ). Gives old part now) (sym none) (asked_gives old now reads asked.0);
+      to = omega (arith, may.to, ap (λ (stream : Stream). stream.place) asked.0.same, ap (λ (stream : Stream). stream.raw_place) asked.0.same);
+      no_wait = asked.0.counts.no_wait;
+      each = asked_each old now asked.0;
+      some = omega (arith, asked.1, may.to);
+      fits = asked.2;
+      first = λ _. (asked.0, asked.1);
+      later = λ on. absurd (true≢false (sym on));
+    }
+
+module _ (before : Stream) (bytes : List ℕ) (more : ℕ) (moved : Bool) (now new : Stream) (reads : ReadsAll before bytes more moved now) where
+  -- the stream may be read between two turns
+  pub may_on : MayRead now
+  may_on = still_may before now reads.may reads.gives.kept reads.gives.live reads.to
+
+  -- told, a place that lies before the end after what was given lies before it at first
+  reaches_on : Reaches now new → Reaches before new
+  reaches_on reach tells = omega (arith, next_reaches before now bytes reads.gives.place reads.gives.told tells, reach (still_tells before now reads.gives.kept tells), ap length (same_bytes before now reads.may.bare reads.gives.kept tells))
+
+  -- what is asked for reaches after the bytes that were held at first
+  past_held : (is : Bool) → moved ≡ is → before.raw_place < now.place + more
+  past_held false is = omega (arith, ap (λ (stream : Stream). stream.place) (reads.first is).0.same, (reads.first is).1)
+  past_held true is = omega (arith, (reads.later is).1)
+
+  -- a turn of a reading brought all that it asked for
+  pub all_on : (after : List ℕ) (next : ℕ) → ReadsMore now bytes more stop.Enough after new → next ≡ length after → next < 2 ^ 64 → ReadsAll before after next true new
+  all_on after next brings size fits =
+      let long : length after ≡ length bytes + more = ap length brings.behind ∙ (length-append bytes brings.part ∙ ap (λ (n : ℕ). length bytes + n) (brings.full refl)) in
+      let place : new.place ≡ now.place + more = brings.stops.0.place ∙ ap (λ (n : ℕ). now.place + n) (brings.full refl) in
+      record {
+        may = reads.may;
+        gives = subst (λ (xs : List ℕ). Gives before xs new) (sym brings.behind) (gives_then before now new bytes brings.part reads.may.bare reads.gives brings.stops.0);
+        to = brings.to;
+        no_wait = no_wait_then before.raw now.raw new.raw reads.gives.kept.raw reads.no_wait brings.stops.1;
+        each = each_then before now new 0 0 reads.gives.kept.raw reads.each brings.stops.2;
+        some = omega (arith, reads.some, size, long);
+        fits = fits;
+        first = λ none. absurd (true≢false none);
+        later = λ some. (size, omega (arith, past_held moved refl, place));
+      }
+
+  -- a turn of a reading brought the last bytes
+  pub all_read : (why : Stop) (after : List ℕ) → why ≢ stop.Enough → ReadsMore now bytes more why after new → RestOutcome before (Ok why) after new
+  all_read stop.Enough after other brings = absurd (other refl)
+  all_read stop.End after other brings = (
+    subst (λ (xs : List ℕ). Gives before xs new) (sym brings.behind) (gives_then before now new bytes brings.part reads.may.bare reads.gives brings.stops.0),
+    no_wait_then before.raw now.raw new.raw reads.gives.kept.raw reads.no_wait brings.stops.1,
+    λ tells. subst (λ (xs : List ℕ). length xs ≤ new.place) (same_bytes before now reads.may.bare reads.gives.kept tells) (brings.stops.2 (still_tells before now reads.gives.kept tells)),
+    each_then before now new 1 1 reads.gives.kept.raw reads.each brings.stops.3,
+  )
+  all_read stop.Waits after other brings = (
+    subst (λ (xs : List ℕ). Gives before xs new) (sym brings.behind) (gives_then before now new bytes brings.part reads.may.bare reads.gives brings.stops.0),
+    omega (arith, reads.gives.kept.raw.waits, brings.stops.1),
+    brings.stops.2,
+    waits_once_then before now new reads.gives.kept reads.no_wait brings.stops.3,
+    each_then before now new 1 0 reads.gives.kept.raw reads.each brings.stops.4,
+  )
+
+  -- a turn found no memory, once bytes had left the raw
+  fails_on : (was : Bool) → FailsStarved was now new → before.raw_place < new.raw_place → WherePlace before.raw (before.raw.place < new.raw.place) → WhereTold before.raw (rest (file_of before) ≢ []) → FailsMoved before new
+  fails_on was fails further stands some = record {
+    kept = keeps_then before now new reads.gives.kept fails.kept;
+    counts = uncounted_then before.raw now.raw new.raw reads.gives.kept.raw (record { no_fault = reads.gives.no_fault; no_wait = reads.no_wait }) fails.counts;
+    failed = fails.failed;
+    forth = omega (arith, reads.gives.place, fails.forth);
+    reach = reaches_on fails.reach;
+    further = further;
+    stands = stands;
+    some = some;
+    each = each_then before now new 0 0 reads.gives.kept.raw reads.each fails.each;
+  }
+
+  -- in a turn after the first
+  all_moved : moved ≡ true → FailsStarved true now new → FailsMoved before new
+  all_moved is fails =
+      let later = reads.later is in
+      fails_on true fails (omega (arith, later.1, reads.to, fails.raw_forth))
+      (λ tells.
+      let told = reads.gives.kept.raw.tells_place ∙ tells in
+      omega (arith, reads.may.near.stands tells, later.1, reads.to, (reads.gives.kept.near reads.gives.live).stands told, fails.stands told))
+      (λ tells none. absurd (omega (arith, later.0, reads.some, ap length (reads.gives.told tells), ap (λ (left : List ℕ). length (take (length bytes) left)) none, length-take {A = ℕ} (length bytes) [])))
+
+  -- in the first
+  first_moved : moved ≡ false → FailsStarved false now new → FailsMoved before new
+  first_moved is fails =
+      let asked = (reads.first is).0 in
+      let place : now.place ≡ before.place = ap (λ (stream : Stream). stream.place) asked.same in
+      fails_on false fails (omega (arith, ap (λ (stream : Stream). stream.raw_place) asked.same, fails.further refl))
+      (λ tells. omega (arith, asked.place tells, fails.stands_further refl (reads.gives.kept.raw.tells_place ∙ tells)))
+      (λ tells none. fails.some refl (still_tells before now reads.gives.kept tells) (ap (λ (at : ℕ). left_at (file_of now).bytes at) place ∙ (ap (λ (all : List ℕ). left_at all before.place) (same_bytes before now reads.may.bare reads.gives.kept tells) ∙ none)))
+
+-- a stream that memory failed between two turns
+fails_between : (before : Stream) (bytes : List ℕ) (more : ℕ) (now : Stream) → ReadsAll before bytes more true now → FailsStarved true now (record now { life = life.Failed })
+fails_between before bytes more now reads = grind (arith, keeps_failed)
+
+all_wanting : (before : Stream) (bytes : List ℕ) (more : ℕ) (moved : Bool) (now new : Stream) → ReadsAll before bytes more moved now → StarvesWith moved now new ⊎ FailsStarved moved now new → RestOutcome before (Err fault.NoMemory) bytes new
+all_wanting before bytes more false now new reads (inl same) = inr (subst (OnlyAsked before) (sym same) (reads.first refl).0)
+all_wanting before bytes more false now new reads (inr fails) = inl (inr (first_moved before bytes more false now new reads refl fails))
+all_wanting before bytes more true now new reads (inl same) =
+    let failed : Stream = record now { life = life.Failed } in
+    subst (RestOutcome before (Err fault.NoMemory) bytes) (sym same) (inl (inr (all_moved before bytes more true now failed reads refl (fails_between before bytes more now reads))))
+all_wanting before bytes more true now new reads (inr fails) = inl (inr (all_moved before bytes more true now new reads refl fails))
+
+-- a turn was refused
+pub all_refused : (before : Stream) (bytes : List ℕ) (more : ℕ) (moved : Bool) (now new : Stream) (why : IoFault) (after : List ℕ) → ReadsAll before bytes more moved now → ReadMoreOutcome now moved bytes more (Err why) after new → RestOutcome before (Err why) after new
+all_refused before bytes more moved now new fault.RawFault after reads fails = grind (arith, keeps_then before now new reads.gives.kept fails.kept, reads.gives.kept.raw.faults, fails.cause, no_wait_then before.raw now.raw new.raw reads.gives.kept.raw reads.no_wait fails.no_wait, reads.gives.place, fails.forth, reaches_on before bytes more moved now new reads fails.reach, each_then before now new 1 0 reads.gives.kept.raw reads.each fails.each)
+all_refused before bytes more moved now new fault.NoMemory after reads wants = all_wanting before bytes more moved now new reads wants
+all_refused before bytes more moved now new why after reads never = absurd never

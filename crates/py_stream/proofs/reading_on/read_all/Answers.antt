@@ -1,0 +1,42 @@
+use Rattle.std.proofs.Common.{rules, ◌≡◌, Result, Err, arith, sym, subst}
+use Rattle.py_stream.specs.declared.stop.Stop.{Stop}
+use Rattle.py_stream.specs.Reading.{RestOutcome}
+use Rattle.py_stream.specs.ReadingOn.{ReadsMore}
+use Rattle.py_stream.proofs.ReadingInto.{all_begins, all_on, all_read, all_refused, may_on}
+use Rattle.py_stream.proofs.reading_on.read_all.Goals as goal
+
+pub loop-moved-init : goal.loop-moved-init
+loop-moved-init g c = record {
+  came = all_begins (g.S.ReadsOn.shows c.args.stream.now) (g.S.ReadsOn.shows c.first_more.new.self) c.args.bytes.now.items c.in_ok-more.more c.requires.none c.requires.may c.requires.whole c.in_ok-more.ensures.outcome;
+  reads = c.in_ok-more.ensures.reads;
+}
+
+pub loop-moved-preserved : goal.loop-moved-preserved
+loop-moved-preserved g c =
+    let loop = c.loop-moved in
+    let now = c.read_more.new in
+    let shown = g.S.ReadsOn.shows loop.stream in
+    let new = g.S.ReadsOn.shows now.stream in
+    record {
+      came = all_on (g.S.ReadsOn.shows c.args.stream.now) loop.bytes.items loop.more loop.moved shown new loop.invariant.came now.bytes.items c.len-more.result
+      (subst (λ (why : Stop). ReadsMore shown loop.bytes.items loop.more why now.bytes.items new) c.in-Enough.is c.in_ok-stop.ensures.outcome)
+      (omega (arith, now.bytes.ok.0)) (omega (arith, now.bytes.small));
+      reads = c.in_ok-stop.ensures.reads;
+    }
+
+pub read_more-requires-clause-may : goal.read_more-requires-clause-may
+read_more-requires-clause-may g c =
+    let loop = c.loop-moved in
+    may_on (g.S.ReadsOn.shows c.args.stream.now) loop.bytes.items loop.more loop.moved (g.S.ReadsOn.shows loop.stream) (g.S.ReadsOn.shows loop.stream) loop.invariant.came
+
+pub returns-in_default : goal.returns-in_default
+returns-in_default g c =
+    let loop = c.loop-moved in
+    all_read (g.S.ReadsOn.shows c.args.stream.now) loop.bytes.items loop.more loop.moved (g.S.ReadsOn.shows loop.stream) (g.S.ReadsOn.shows c.read_more.new.stream) loop.invariant.came c.in_ok-stop.stop c.read_more.new.bytes.items c.in_default.not-Enough c.in_ok-stop.ensures.outcome
+
+pub returns-in_err-stop : goal.returns-in_err-stop
+returns-in_err-stop g c =
+    let loop = c.loop-moved in
+    let says : c.from_residual-in_err-stop.result ≡ Err c.in_err-stop.field-0.0 = search rules in
+    subst (λ (result : Result Stop _). RestOutcome (g.S.ReadsOn.shows c.args.stream.now) result c.read_more.new.bytes.items (g.S.ReadsOn.shows c.read_more.new.stream)) (sym says)
+    (all_refused (g.S.ReadsOn.shows c.args.stream.now) loop.bytes.items loop.more loop.moved (g.S.ReadsOn.shows loop.stream) (g.S.ReadsOn.shows c.read_more.new.stream) c.in_err-stop.field-0.0 c.read_more.new.bytes.items loop.invariant.came c.in_err-stop.ensures.outcome)
