@@ -53,7 +53,7 @@ pub begins : (old new : EngineView) (result : Result (Unit {0}) IoFault) → Beg
 begins old new result began = grind arith
 
 -- an engine that forgot a wait stands as it stood
-stands_whole : (engine : EngineView) → Stands engine → Stands (record engine { short = false })
+pub stands_whole : (engine : EngineView) → Stands engine → Stands (record engine { short = false })
 stands_whole engine is = is
 
 -- a live stream that is written

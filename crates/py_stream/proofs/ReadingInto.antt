@@ -1,5 +1,6 @@
 -- How a reading into a buffer comes from one transfer to the next, and one of all that is left from one buffer to the next.
 use Rattle.std.proofs.Common.{◌≡◌, ◌≢◌, ℕ, ◌+◌, ◌-◌, ◌^◌, ◌<◌, ◌≤◌, ◌⊎◌, replicate, inl, inr, ⊎_elim, Bool, true, false, List, [], ◌++◌, length, take, drop, max, Ok, Err, refl, sym, ap, ◌∙◌, subst, arith}
+use Rattle.std.specs.Bool.{◌==◌}
 use Rattle.std.proofs.lemmas.Bool.{true≢false}
 use Rattle.std.proofs.lemmas.List.{append-nil, take-take, take-append-le, take-append-drop, take_all, length-replicate, length-take, length-take-le, length-append, drop_all, length-drop, take_at}
 use borrow.Rule.Slice.PartMut.{put_mid}
@@ -16,16 +17,16 @@ use Rattle.py_stream.specs.declared.stop.Stop.{Stop}
 use Rattle.py_stream.specs.declared.stop.Stop.TheVariants as stop
 use Rattle.py_stream.specs.declared.stop.Progress.{Progress}
 use Rattle.py_stream.specs.declared.stop.Step.TheVariants as step
-use Rattle.py_flat.specs.Calls.{FileCall, Refused}
+use Rattle.py_flat.specs.Calls.{FileCall, NotReady, Refused}
 use Rattle.py_stream.specs.Kinds.{by_several}
 use Rattle.py_stream.specs.Stream.{Stream, file_of, nothing_owed}
 use Rattle.py_stream.specs.Answers.{Answers, OnlyAsked, EachBrings, ahead}
-use Rattle.py_stream.specs.Reading.{KeepsReading, Reaches, Gives, FailsReading, FailsMoved, StarvesReading, StopOutcome, RestOutcome, wanted_by, GatherOutcome}
+use Rattle.py_stream.specs.Reading.{KeepsReading, Reaches, Gives, FailsReading, FailsMoved, StarvesReading, StopOutcome, RestOutcome, wanted_by, reply_by, has_answer, answered_at, GatherOutcome}
 use Rattle.py_stream.specs.ReadingOn.{MayRead, StepsOn, StepsNone, StepFails, StarvesWith, StepOutcome, ReadsInto, HoldsLess, FailsStarved, StarvesIn, ReadIntoOutcome, FirstOutcome, ReadsMore, ReadMoreOutcome}
 use Rattle.py_stream.proofs.Coming.{each_still, each_seen, each_then}
 use Rattle.py_stream.proofs.ReadingSteps.{more_taken, next_behind, within_end, next_reaches, same_bytes, gives_then, waits_once_then, still_tells, uncounted, keeps_then, keeps_failed}
-use Rattle.py_stream.proofs.ReadingAnswers.{Reads}
-use Rattle.py_stream.proofs.ReadingOn.{WantsSize, gathers_size, refuses_size, refused_stop, asked_gives, asked_each}
+use Rattle.py_stream.proofs.ReadingAnswers.{Reads, ReadingBegins}
+use Rattle.py_stream.proofs.ReadingOn.{none_counted, some_counted, answered_from, unready_from, WantsSize, gathers_size, refuses_size, refused_stop, asked_gives, asked_each}
 
 -- a buffer after what is left of it was written
 pub end_written : (count : ℕ) (buffer left : List ℕ) → count < length buffer → length left ≡ length (take (length buffer - count) (drop count buffer)) → put_mid count (length buffer - count) buffer left ≡ take count buffer ++ left
@@ -267,10 +268,23 @@ reads_refused old was count buffer moved now why left new some reads never = abs
 -- Into a buffer.
 
 -- a reading into a buffer gathers as one of the buffer's size
-pub gathers_into : (old new : Stream) (call : FileCall) (size : ℕ) (progress : Progress) (buffer : List ℕ) → WantsSize call size → length buffer ≡ size → ReadsInto old progress buffer new → GatherOutcome (wanted_by call) old (Ok progress.stop) (take progress.count buffer) new
+gathers_into : (old new : Stream) (call : FileCall) (size : ℕ) (progress : Progress) (buffer : List ℕ) → WantsSize call size → length buffer ≡ size → ReadsInto old progress buffer new → GatherOutcome (wanted_by call) old (Ok progress.stop) (take progress.count buffer) new
 gathers_into old new call size progress buffer wants long read =
     let taken : length (take progress.count buffer) ≡ progress.count = length-take-le progress.count buffer read.fits in
     gathers_size old new call size (take progress.count buffer) progress.stop wants (omega (arith, taken, read.fits, long)) (λ enough. omega (arith, taken, read.full enough, long)) (λ other. omega (arith, taken, read.less other, long)) read.stops (λ held. read.idle (omega (arith, held, long)))
+
+module _ (first old mid new : Stream) (call : FileCall) (size : ℕ) (progress : Progress) (buffer : List ℕ) (several : by_several old.buffer call ≡ true) (wants : WantsSize call size) (long : length buffer ≡ size) (begun : ReadingBegins first old) (read : ReadsInto old progress buffer mid) where
+  -- a reading into a buffer that has an answer gives what came into its front
+  pub into_answered : has_answer progress.stop (progress.count == 0) ≡ true → new ≡ answered_at progress.stop mid → Answers first call (reply_by call (take progress.count buffer)) new
+  into_answered has is =
+      answered_from first old mid new call (take progress.count buffer) progress.stop (progress.count == 0) several begun (gathers_into old mid call size progress buffer wants long read)
+      (some_counted (take progress.count buffer) progress.count (progress.count == 0) (sym (length-take-le progress.count buffer read.fits)) refl) has is
+
+  -- one that has none isn't ready
+  pub into_unready : has_answer progress.stop (progress.count == 0) ≡ false → new ≡ answered_at progress.stop mid → Answers first call NotReady new
+  into_unready none is =
+      unready_from first old mid new call (take progress.count buffer) progress.stop (progress.count == 0) several begun (gathers_into old mid call size progress buffer wants long read)
+      (none_counted (take progress.count buffer) progress.count (progress.count == 0) (sym (length-take-le progress.count buffer read.fits)) refl) none is
 
 starves_into : (old new : Stream) → StarvesIn false old new → StarvesReading old new
 starves_into old new starves = grind arith

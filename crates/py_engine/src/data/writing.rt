@@ -1,12 +1,11 @@
 //! Taking bytes.
 ghost use Rattle.std.specs.Prelude.{◌≡◌, ◌+◌, ◌-◌, ◌<◌, ◌≤◌, true, false, [], length};
 ghost use Rattle.py_flat.specs.Limits.{greatest_place};
-ghost use Rattle.py_flat.specs.Lines.{joined};
 ghost use Rattle.py_flat.specs.Calls.{Write, WriteLines};
 ghost use Rattle.py_stream.specs.Answers.{Answers};
 ghost use Rattle.py_stream.specs.Replies.{count_reply, done_reply};
 ghost use Rattle.py_stream.specs.Access.{is_read};
-ghost use Rattle.py_stream.specs.Taking.{Took, PutOutcome, PutsOutcome};
+ghost use Rattle.py_stream.specs.Taking.{Took, PutOutcome};
 ghost use Rattle.py_engine.specs.Window.{place_of, pending_of};
 ghost use Rattle.py_engine.specs.Engine.{stream_of};
 ghost use Rattle.py_engine.specs.Passing.{room_behind, HandOnOutcome, FitOutcome, StopOutcome};
@@ -14,7 +13,15 @@ ghost use Rattle.py_engine.specs.Passing.{room_behind, HandOnOutcome, FitOutcome
 use super::BufferedData;
 use super::passing_on::Passed;
 use py_raw::{GREATEST_PLACE, IoFault, Life, Lines, RawStream};
-use py_stream::end_of_lines;
+use py_stream::{TakesPieces, end_of_lines, take_lines};
+
+impl<R: RawStream> TakesPieces for BufferedData<R> {
+    ghost shows = { stream_of };
+
+    fn take_piece(&mut self, piece: &[u8], start: u64) -> Result<bool, IoFault> {
+        self.put(piece, start)
+    }
+}
 
 impl<R: RawStream> BufferedData<R> {
     /// Takes bytes, and passes on what the buffer has no room for.
@@ -46,7 +53,7 @@ impl<R: RawStream> BufferedData<R> {
         if end_of_lines(start, lines).is_none() {
             return Err(IoFault::TooFar);
         }
-        if self.put_lines(lines, start)? {
+        if take_lines(self, lines, start)? {
             Ok(())
         } else {
             Err(self.blocked(start))
@@ -63,24 +70,6 @@ impl<R: RawStream> BufferedData<R> {
         IoFault::WouldBlock {
             taken: self.window.place() - start,
         }
-    }
-
-    /// Takes each line; false where some of them couldn't be taken.
-    fn put_lines(&mut self, lines: &Lines, start: u64) -> Result<bool, IoFault>
-        requires live { self.old.life ≡ Life.Live }
-        requires writes { is_read self.old.access ≡ false }
-        requires start { start ≡ place_of self.old.window }
-        requires within { start + length (joined lines.now) ≤ greatest_place }
-        ensures outcome { PutsOutcome (stream_of self.old) (joined lines.now) start result (stream_of self.new) }
-        ensures access { self.new.access ≡ self.old.access }
-    {
-        let _ = &self.live;
-        for line in lines.as_slice() {
-            if !self.put(line.as_slice(), start)? {
-                return Ok(false);
-            }
-        }
-        Ok(true)
     }
 
     /// Takes bytes for a call that began at a place; false where some of them couldn't be taken.

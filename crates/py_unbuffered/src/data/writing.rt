@@ -2,17 +2,32 @@
 ghost use Rattle.std.specs.Prelude.{◌≡◌, ◌+◌, ◌≤◌, true, false, length};
 ghost use Rattle.py_flat.specs.declared.life.Life.TheVariants.{Live};
 ghost use Rattle.py_flat.specs.Limits.{greatest_place};
-ghost use Rattle.py_flat.specs.Lines.{joined};
 ghost use Rattle.py_flat.specs.Calls.{Write, WriteLines};
 ghost use Rattle.py_stream.specs.Answers.{Answers};
 ghost use Rattle.py_stream.specs.Replies.{taken_reply, done_reply};
-ghost use Rattle.py_stream.specs.Taking.{PutsOutcome};
 ghost use Rattle.py_unbuffered.specs.Engine.{stream_of, PutOutcome};
 ghost use Rattle.py_stream.specs.Access.{can_of};
 
 use super::UnbufferedData;
 use py_raw::{GREATEST_PLACE, IoFault, Lines, RawStream};
-use py_stream::end_of_lines;
+use py_stream::{TakesPieces, end_of_lines, take_lines};
+
+impl<R: RawStream> TakesPieces for UnbufferedData<R> {
+    ghost shows = { stream_of };
+
+    /// Hands all of a piece to the raw.
+    fn take_piece(&mut self, piece: &[u8], start: u64) -> Result<bool, IoFault> {
+        let _ = &self.live;
+        let mut taken = 0;
+        while taken < piece.len() {
+            match self.put(&piece[taken..], self.place > start)? {
+                Some(count) => taken += count,
+                None => return Ok(false),
+            }
+        }
+        Ok(true)
+    }
+}
 
 impl<R: RawStream> UnbufferedData<R> {
     /// Hands bytes to the raw, by one transfer.
@@ -45,49 +60,13 @@ impl<R: RawStream> UnbufferedData<R> {
         if end_of_lines(start, lines).is_none() {
             return Err(IoFault::TooFar);
         }
-        if self.write_lines(lines, start)? {
+        if take_lines(self, lines, start)? {
             return Ok(());
         }
         self.note_wait(true);
         Err(IoFault::WouldBlock {
             taken: self.place - start,
         })
-    }
-
-    /// Hands each line to the raw, for a call that began at a place; false where the raw would have blocked.
-    fn write_lines(&mut self, lines: &Lines, start: u64) -> Result<bool, IoFault>
-        requires live { self.old.life ≡ Live }
-        requires writes { (can_of self.old.access self.old.raw.seekable).writable ≡ true }
-        requires start { start ≡ self.old.place }
-        requires within { start + length (joined lines.now) ≤ greatest_place }
-        ensures { PutsOutcome (stream_of self.old) (joined lines.now) start result (stream_of self.new) }
-    {
-        let _ = &self.live;
-        for line in lines.as_slice() {
-            if !self.write_line(line.as_slice(), start)? {
-                return Ok(false);
-            }
-        }
-        Ok(true)
-    }
-
-    /// Hands all of a line to the raw, for a call that began at a place; false where the raw would have blocked.
-    fn write_line(&mut self, line: &[u8], start: u64) -> Result<bool, IoFault>
-        requires live { self.old.life ≡ Live }
-        requires writes { (can_of self.old.access self.old.raw.seekable).writable ≡ true }
-        requires start { start ≤ self.old.place }
-        requires within { self.old.place + length line.now ≤ greatest_place }
-        ensures { PutsOutcome (stream_of self.old) line.now start result (stream_of self.new) }
-    {
-        let _ = &self.live;
-        let mut taken = 0;
-        while taken < line.len() {
-            match self.put(&line[taken..], self.place > start)? {
-                Some(count) => taken += count,
-                None => return Ok(false),
-            }
-        }
-        Ok(true)
     }
 
     /// One transfer to the raw. `moved` tells whether bytes had moved in this call.

@@ -1,7 +1,5 @@
 use Rattle.std.proofs.Common.{◌≡◌, ℕ, List, length, take, drop, Some, refl, sym, ◌∙◌, subst, arith}
 use Rattle.std.proofs.lemmas.Result.{err_from_is_err_and}
-use Rattle.std.proofs.lemmas.List.{length-take-le}
-use Rattle.std.specs.Bool.{◌==◌}
 use Rattle.py_flat.specs.Calls.{FileCall, Bytes, Read, Refused}
 use Rattle.py_stream.specs.Answers.{Answers}
 use Rattle.py_engine.specs.Engine.{EngineView}
@@ -9,8 +7,8 @@ use Rattle.py_engine.specs.Reading.{reading_of}
 use Rattle.py_stream.proofs.ReadingStops.{unmoved}
 use Rattle.py_stream.proofs.ReadingAnswers.{answers_begun}
 use Rattle.py_stream.proofs.LineReadings.{begun}
-use Rattle.py_stream.proofs.ReadingOn.{none_counted, some_counted, answered_from, unready_from, cut_to}
-use Rattle.py_stream.proofs.ReadingInto.{refused_into, gathers_into}
+use Rattle.py_stream.proofs.ReadingOn.{cut_to}
+use Rattle.py_stream.proofs.ReadingInto.{refused_into, into_answered, into_unready}
 use Rattle.py_engine.proofs.data.BufferedData.read_size.Goals as goal
 
 pub returns-in_err-begin_reading : goal.returns-in_err-begin_reading
@@ -35,24 +33,13 @@ returns-then-answers g c =
     let size : ℕ = c.args.size in
     let buffer : List ℕ = c.read_into.new.buffer in
     let progress = c.in_ok-progress.progress in
-    let read = c.in_ok-progress.ensures.outcome in
-    let part : List ℕ = take progress.count buffer in
     let long : length buffer ≡ size = c.in_ok-progress.ensures.length ∙ c.deref_mut.ensures.len ∙ c.in-Ok.ensures.len in
-    let cut : c.truncate.new.self.items ≡ part = ◌∙◌ {A = List ℕ} c.truncate.ensures.items (cut_to buffer (drop (length buffer) c.in-Ok.bytes.items) progress.count c.in-Ok.bytes.len (long ∙ sym c.in-Ok.ensures.len)) in
+    let cut : c.truncate.new.self.items ≡ take progress.count buffer = ◌∙◌ {A = List ℕ} c.truncate.ensures.items (cut_to buffer (drop (length buffer) c.in-Ok.bytes.items) progress.count c.in-Ok.bytes.len (long ∙ sym c.in-Ok.ensures.len)) in
     subst (λ (bytes : List ℕ). Answers (reading_of c.args.self.now) (Read (Some size)) (Bytes bytes) (reading_of c.answers.new.self)) (sym cut)
-    (answered_from (reading_of c.args.self.now) (reading_of old) (reading_of c.read_into.new.stream) (reading_of c.answers.new.self) (Read (Some size)) part progress.stop (progress.count == 0) refl
-    (begun (reading_of c.args.self.now) (reading_of old) c.in_ok-begin_reading.ensures.begins)
-    (gathers_into (reading_of old) (reading_of c.read_into.new.stream) (Read (Some size)) size progress buffer (λ left. refl) long read)
-    (some_counted part progress.count (progress.count == 0) (sym (length-take-le progress.count buffer read.fits)) refl)
-    (sym c.answers.ensures.answer ∙ c.if-answers.true) c.answers.ensures.stream)
+    (into_answered (reading_of c.args.self.now) (reading_of old) (reading_of c.read_into.new.stream) (reading_of c.answers.new.self) (Read (Some size)) size progress buffer refl (λ left. refl) long
+    (begun (reading_of c.args.self.now) (reading_of old) c.in_ok-begin_reading.ensures.begins) c.in_ok-progress.ensures.outcome (sym c.answers.ensures.answer ∙ c.if-answers.true) c.answers.ensures.stream)
 
 pub returns-else-answers : goal.returns-else-answers
 returns-else-answers g c =
-    let old : EngineView = c.begin_reading.new.self in
-    let progress = c.in_ok-progress.progress in
-    let part : List ℕ = take progress.count c.read_into.new.buffer in
-    unready_from (reading_of c.args.self.now) (reading_of old) (reading_of c.read_into.new.stream) (reading_of c.answers.new.self) (Read (Some c.args.size)) part progress.stop (progress.count == 0) refl
-    (begun (reading_of c.args.self.now) (reading_of old) c.in_ok-begin_reading.ensures.begins)
-    (gathers_into (reading_of old) (reading_of c.read_into.new.stream) (Read (Some c.args.size)) c.args.size progress c.read_into.new.buffer (λ left. refl) (c.in_ok-progress.ensures.length ∙ c.deref_mut.ensures.len ∙ c.in-Ok.ensures.len) c.in_ok-progress.ensures.outcome)
-    (none_counted part progress.count (progress.count == 0) (sym (length-take-le progress.count c.read_into.new.buffer c.in_ok-progress.ensures.outcome.fits)) refl)
-    (sym c.answers.ensures.answer ∙ c.if-answers.false) c.answers.ensures.stream
+    into_unready (reading_of c.args.self.now) (reading_of c.begin_reading.new.self) (reading_of c.read_into.new.stream) (reading_of c.answers.new.self) (Read (Some c.args.size)) c.args.size c.in_ok-progress.progress c.read_into.new.buffer refl (λ left. refl) (c.in_ok-progress.ensures.length ∙ c.deref_mut.ensures.len ∙ c.in-Ok.ensures.len)
+    (begun (reading_of c.args.self.now) (reading_of c.begin_reading.new.self) c.in_ok-begin_reading.ensures.begins) c.in_ok-progress.ensures.outcome (sym c.answers.ensures.answer ∙ c.if-answers.false) c.answers.ensures.stream

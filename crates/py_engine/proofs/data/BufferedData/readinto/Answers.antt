@@ -1,13 +1,10 @@
-use Rattle.std.proofs.Common.{List, ℕ, length, take, refl, sym, ◌∙◌}
+use Rattle.std.proofs.Common.{length, refl, sym, ◌∙◌}
 use Rattle.std.proofs.lemmas.Result.{err_from_is_err_and}
-use Rattle.std.proofs.lemmas.List.{length-take-le}
-use Rattle.std.specs.Bool.{◌==◌}
 use Rattle.py_flat.specs.Calls.{Refused, ReadInto}
 use Rattle.py_engine.specs.Reading.{reading_of}
 use Rattle.py_stream.proofs.ReadingAnswers.{answers_begun}
 use Rattle.py_stream.proofs.LineReadings.{begun}
-use Rattle.py_stream.proofs.ReadingOn.{none_counted, some_counted, answered_from, unready_from}
-use Rattle.py_stream.proofs.ReadingInto.{refused_into, gathers_into}
+use Rattle.py_stream.proofs.ReadingInto.{refused_into, into_answered, into_unready}
 use Rattle.py_engine.proofs.data.BufferedData.readinto.Goals as goal
 
 pub returns-in_err-begin_reading-clause-answers : goal.returns-in_err-begin_reading-clause-answers
@@ -25,22 +22,10 @@ returns-in_err-progress-clause-answers g c =
 
 pub returns-then-answers-clause-answers : goal.returns-then-answers-clause-answers
 returns-then-answers-clause-answers g c =
-    let call = ReadInto (length c.args.buffer.now) in
-    let progress = c.in_ok-progress.progress in
-    let part : List ℕ = take progress.count c.read_into.new.buffer in
-    answered_from (reading_of c.args.self.now) (reading_of c.begin_reading.new.self) (reading_of c.read_into.new.stream) (reading_of c.answers.new.self) call part progress.stop (progress.count == 0) refl
-    (begun (reading_of c.args.self.now) (reading_of c.begin_reading.new.self) c.in_ok-begin_reading.ensures.begins)
-    (gathers_into (reading_of c.begin_reading.new.self) (reading_of c.read_into.new.stream) call (length c.args.buffer.now) progress c.read_into.new.buffer (λ left. refl) c.in_ok-progress.ensures.length c.in_ok-progress.ensures.outcome)
-    (some_counted part progress.count (progress.count == 0) (sym (length-take-le progress.count c.read_into.new.buffer c.in_ok-progress.ensures.outcome.fits)) refl)
-    (sym c.answers.ensures.answer ∙ c.if-answers.true) c.answers.ensures.stream
+    into_answered (reading_of c.args.self.now) (reading_of c.begin_reading.new.self) (reading_of c.read_into.new.stream) (reading_of c.answers.new.self) (ReadInto (length c.args.buffer.now)) (length c.args.buffer.now) c.in_ok-progress.progress c.read_into.new.buffer refl (λ left. refl) c.in_ok-progress.ensures.length
+    (begun (reading_of c.args.self.now) (reading_of c.begin_reading.new.self) c.in_ok-begin_reading.ensures.begins) c.in_ok-progress.ensures.outcome (sym c.answers.ensures.answer ∙ c.if-answers.true) c.answers.ensures.stream
 
 pub returns-else-answers-clause-answers : goal.returns-else-answers-clause-answers
 returns-else-answers-clause-answers g c =
-    let call = ReadInto (length c.args.buffer.now) in
-    let progress = c.in_ok-progress.progress in
-    let part : List ℕ = take progress.count c.read_into.new.buffer in
-    unready_from (reading_of c.args.self.now) (reading_of c.begin_reading.new.self) (reading_of c.read_into.new.stream) (reading_of c.answers.new.self) call part progress.stop (progress.count == 0) refl
-    (begun (reading_of c.args.self.now) (reading_of c.begin_reading.new.self) c.in_ok-begin_reading.ensures.begins)
-    (gathers_into (reading_of c.begin_reading.new.self) (reading_of c.read_into.new.stream) call (length c.args.buffer.now) progress c.read_into.new.buffer (λ left. refl) c.in_ok-progress.ensures.length c.in_ok-progress.ensures.outcome)
-    (none_counted part progress.count (progress.count == 0) (sym (length-take-le progress.count c.read_into.new.buffer c.in_ok-progress.ensures.outcome.fits)) refl)
-    (sym c.answers.ensures.answer ∙ c.if-answers.false) c.answers.ensures.stream
+    into_unready (reading_of c.args.self.now) (reading_of c.begin_reading.new.self) (reading_of c.read_into.new.stream) (reading_of c.answers.new.self) (ReadInto (length c.args.buffer.now)) (length c.args.buffer.now) c.in_ok-progress.progress c.read_into.new.buffer refl (λ left. refl) c.in_ok-progress.ensures.length
+    (begun (reading_of c.args.self.now) (reading_of c.begin_reading.new.self) c.in_ok-begin_reading.ensures.begins) c.in_ok-progress.ensures.outcome (sym c.answers.ensures.answer ∙ c.if-answers.false) c.answers.ensures.stream

@@ -7,7 +7,7 @@ use Rattle.py_stream.proofs.Putting.{takes_nothing, takes_more, put_rest, rest_w
 use Rattle.py_unbuffered.specs.Engine.{EngineView, stream_of, PutOutcome}
 use Rattle.py_unbuffered.proofs.Begun.{Stands, is_sound, owes_behind}
 use Rattle.py_unbuffered.proofs.Putting.{puts_took, waits_full, put_refused, put_some, piece_is}
-use Rattle.py_unbuffered.proofs.data.UnbufferedData.write_line.Goals as goal
+use Rattle.py_unbuffered.proofs.data.writing.UnbufferedDataTakesPieces.take_piece.Goals as goal
 
 pub loop-taken-init : goal.loop-taken-init
 loop-taken-init g c = record { fits = omega arith; took = takes_nothing (stream_of c.args.self.now) (is_sound c.args.self.now (subst Stands c.self.view_is c.self.invariant)) (owes_behind c.args.self.now) c.requires.live }
@@ -23,7 +23,7 @@ put-requires-clause-within g c = search (rules, rest_within, piece_is)
 
 pub returns-in_err-count : goal.returns-in_err-count
 returns-in_err-count g c =
-    let line : List ℕ = c.args.line.now in
+    let line : List ℕ = c.args.piece.now in
     let taken : ℕ = c.loop-taken.taken in
     let now : EngineView = c.loop-taken.self in
     let new : EngineView = c.put-in-loop-taken.new.self in
@@ -45,4 +45,4 @@ pub returns-in-None : goal.returns-in-None
 returns-in-None g c = grind (arith, put_rest, waits_full, length-drop)
 
 pub returns : goal.returns
-returns g c = subst (λ (bytes : List ℕ). TookAll (stream_of c.args.self.now) bytes (stream_of c.loop-taken.self)) (take_all c.loop-taken.taken c.args.line.now c.loop-taken-test.false) c.loop-taken.invariant.took
+returns g c = subst (λ (bytes : List ℕ). TookAll (stream_of c.args.self.now) bytes (stream_of c.loop-taken.self)) (take_all c.loop-taken.taken c.args.piece.now c.loop-taken-test.false) c.loop-taken.invariant.took

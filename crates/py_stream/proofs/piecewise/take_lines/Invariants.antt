@@ -1,0 +1,8 @@
+use Rattle.std.proofs.Common.{take}
+use Rattle.py_flat.specs.Lines.{joined}
+use Rattle.py_stream.specs.Taking.{TookAll}
+use Rattle.py_stream.proofs.piecewise.take_lines.Given as goal
+
+-- the lines so far were taken
+abbrev pub invariant-loop-line : goal.invariant-loop-line
+invariant-loop-line g l = TookAll (g.S.TakesPieces.shows l.fn.stream) (joined (take l.line-index l.line-items)) (g.S.TakesPieces.shows l.stream)
