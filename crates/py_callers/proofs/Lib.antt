@@ -1,3 +1,4 @@
 mod LineRun
+mod OneByte
 mod Replacing
 mod ThreeCalls

@@ -2,6 +2,7 @@
 ghost use Rattle.std.specs.Prelude.{◌≡◌, ◌*◌, length, IfOk};
 
 use py_buffer::{BufferDescriptor, PyBuffer, contiguous_bytes_are_the_first};
+use py_callers::{buffer_of_stream, mark_first};
 use py_flat::IoFault;
 use py_memio::BytesIO;
 use std::alloc::Global;
@@ -50,15 +51,6 @@ fn front_columns_of_a_matrix_are_joined(rt: HostRuntime) -> Result<(), Fail> {
     Ok(())
 }
 
-/// Writes a mark over the first byte of a stream. Its bytes are lent out for as long, so that nothing may change how many there are.
-fn mark_first(stream: &mut BytesIO, mark: u8) -> Result<(), IoFault> {
-    let export = stream.getbuffer()?;
-    if let Some(first) = stream.export_bytes_mut(export)?.as_mut_slice().first_mut() {
-        *first = mark;
-    }
-    stream.release(export)
-}
-
 #[test]
 fn the_first_byte_of_a_stream_is_edited_in_place(rt: HostRuntime) -> Result<(), Fail> {
     let alloc = rt.alloc();
@@ -67,5 +59,19 @@ fn the_first_byte_of_a_stream_is_edited_in_place(rt: HostRuntime) -> Result<(), 
     let bytes = stream.getvalue(alloc)?;
     assert_eq!(rt; bytes.as_slice(), &b"xbc"[..]);
     assert_eq!(rt; stream.write(b"yz"), Ok(2)); // the bytes are lent no more
+    Ok(())
+}
+
+#[test]
+fn lent_bytes_of_a_stream_are_a_buffer(rt: HostRuntime) -> Result<(), Fail> {
+    let alloc = rt.alloc();
+    let mut stream = BytesIO::new(alloc, b"abc".to_vec(alloc)?);
+    let export = stream.getbuffer()?;
+    let mut bytes = Vec::new(alloc);
+    buffer_of_stream(alloc, &stream, export)?.append_to(&mut bytes)?;
+    assert_eq!(rt; bytes.as_slice(), &b"abc"[..]);
+    stream.release(export)?;
+    let refused = buffer_of_stream(alloc, &stream, export); // that number isn't out any more
+    assert_eq!(rt; refused.err(), Some(IoFault::BadArgument));
     Ok(())
 }

@@ -1,8 +1,8 @@
 //! The calls of a `BytesIO`.
 use crate::answers;
-use crate::lent::mark_first;
 use crate::words::{bytes_of, hex_of, place_of, size_of, split};
 use anyhow::{Result, anyhow};
+use py_callers::mark_first;
 use py_memio::{BytesIO, Data, Export, IoFault, Lines};
 use std::alloc::Global;
 
@@ -103,6 +103,7 @@ pub(crate) fn answer(alloc: Global, stream: &mut BytesIO, call: &str) -> Result<
         "readinto1" => read_into(alloc, stream, words.parse::<usize>()?, true),
         "write" => answers::count(alloc, stream.write(&bytes_of(alloc, words)?)),
         "resize" => resize(alloc, stream, words),
+        "resizable" => answers::flag(alloc, stream.try_resizable_opt().is_some()),
         "writelines" => {
             let lines = lines_of(alloc, words)?;
             answers::done(alloc, stream.writelines(alloc, &lines))

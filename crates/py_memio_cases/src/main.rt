@@ -6,7 +6,6 @@
 
 mod answers;
 mod bytes_calls;
-mod lent;
 mod lists;
 mod text_calls;
 mod words;
