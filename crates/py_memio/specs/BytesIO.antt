@@ -1,7 +1,6 @@
 -- A stream of bytes in memory, and the exports of its bytes.
 use Rattle.std.specs.Prelude.{◌≡◌, ℕ, ◌+◌, ◌<◌, ◌≤◌, Bool, true, false, not, ⊤, IsTrue, List, [], ◌∷◌, ◌++◌, nat_eq, nat_lt, length, take, drop, if◌then◌else◌, Option, Some, None, Result, Ok, Err, Vec}
 use denote.Bor.{Bor}
-use Rattle.std.specs.Borrow.{MutBor}
 use Rattle.std.specs.List.{IsDistinct, list_any, remove}
 use Rattle.std.specs.declared.alloc.Global.{Global}
 use Rattle.py_flat.specs.declared.fault.IoFault.{IoFault}
