@@ -1,4 +1,5 @@
-//! What is said on standard error where the program doesn't end with 0: one line, for a person who has to act on it.
+//! What is said on standard error where the program doesn't end with 0, or the system failed a call of the file: one line, for a person
+//! who has to act on it.
 
 use crate::noting::Noting;
 use py_program::Status;
@@ -8,7 +9,7 @@ use py_script::{parse_line, parse_words};
 use std::alloc::{AllocError, Global};
 use std::fs::Files;
 
-/// The line of a status; nothing for 0.
+/// The line of a status; for 0 nothing, unless the system said why a call of the file failed.
 pub fn complaint<R: Files, S: Source>(
     alloc: Global,
     code: u8,
@@ -21,10 +22,20 @@ where
 {
     let path = words.get(1).map_or("", |word| word.as_str());
     match code {
-        0 => String::from_str(alloc, ""),
+        0 => match opener.last_file_error() {
+            Some(kind) => format!(in alloc; "a call of {path:?} failed: {kind}"),
+            None => String::from_str(alloc, ""),
+        },
         2 => words_complaint(alloc, words),
         3 => script_complaint(alloc, script.seen()),
-        4 => format!(in alloc; "the opening of {path:?} is refused, by the name that was printed"),
+        4 => match opener.last_file_error() {
+            Some(kind) => format!(in alloc; "the opening of {path:?} is refused: {kind}"),
+            None => {
+                format!(in alloc;
+                    "the opening of {path:?} is refused, by the name that was printed"
+                )
+            }
+        },
         5 => String::from_str(alloc, "the script can't be read from standard input"),
         6 => String::from_str(alloc, "standard output can't be written"),
         8 => match opener.last_error() {

@@ -23,9 +23,11 @@ pub struct FileOpener<'a, R: Files> {
     raw_waits: u64,
     /// What the system said of the last fault.
     last_error: Option<ErrorKind>,
+    /// What the system said of the last fault of the file that was put away last.
+    last_file_error: Option<ErrorKind>,
 }
 
-// Only what it counted and the last error, since few handles of the system can be shown.
+// Only what it counted and the last errors, since few handles of the system can be shown.
 impl<'a, R: Files> fmt::Debug for FileOpener<'a, R> {
     fn fmt<W: fmt::Write>(&self, f: &mut fmt::Formatter<W>) -> fmt::Result {
         f.debug_struct("FileOpener")
@@ -33,6 +35,7 @@ impl<'a, R: Files> fmt::Debug for FileOpener<'a, R> {
             .field("raw_faults", &self.raw_faults)
             .field("raw_waits", &self.raw_waits)
             .field("last_error", &self.last_error)
+            .field("last_file_error", &self.last_file_error)
             .finish_non_exhaustive()
     }
 }
@@ -51,6 +54,7 @@ impl<'a, R: Files> FileOpener<'a, R> {
             raw_faults: 0,
             raw_waits: 0,
             last_error: None,
+            last_file_error: None,
         }
     }
 
@@ -58,6 +62,12 @@ impl<'a, R: Files> FileOpener<'a, R> {
     /// directory, and so on. `None` before the first fault. It is for a person who has to act on it; nothing is claimed of it.
     pub fn last_error(&self) -> Option<ErrorKind> {
         self.last_error
+    }
+
+    /// What the system said of the last fault of the file that was put away last: that the disk is full, and so on. `None` where that had
+    /// no fault, and where the system didn't see its last one. It is for a person who has to act on it; nothing is claimed of it.
+    pub fn last_file_error(&self) -> Option<ErrorKind> {
+        self.last_file_error
     }
 }
 
@@ -158,6 +168,7 @@ where
         ensures faults { (shown_file_opener self.new).faults ≡ (shown_file_opener self.old).faults }
         ensures always { IsOk result }
     {
+        self.last_file_error = raw.last_error();
         let counts = raw.counts();
         self.raw_faults = self.raw_faults.saturating_add(counts.faults);
         self.raw_waits = self.raw_waits.saturating_add(counts.waits);
