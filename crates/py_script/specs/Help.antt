@@ -39,8 +39,7 @@ script_help =
     codes "  readlines [N], read1 [N], peek, readinto N, readinto1 N     read as in Python" ∷
     codes "  write HEX          writes bytes, and writelines [HEX ..] any number of lines" ∷
     codes "  seek I [WHENCE]    I from the start (0, or none), the place (1), the end (2)" ∷
-    codes "  truncate [N]       cuts or lengthens to N bytes, or to the place" ∷
-    codes "  tell, flush, close, detach, readable, writable, seekable, closed" ∷
+    codes "  truncate [N], tell, flush, close, detach, readable, writable, seekable, closed" ∷
     codes "N and I are decimal, I also behind a -; HEX has two digits a byte, - for none." ∷
     codes "Lines that are empty or begin with # are skipped. A close is added at the end." ∷
     [] ∷

@@ -23,8 +23,7 @@ A script has a call a line, one space between words, and 1048576 bytes at most:
   readlines [N], read1 [N], peek, readinto N, readinto1 N     read as in Python
   write HEX          writes bytes, and writelines [HEX ..] any number of lines
   seek I [WHENCE]    I from the start (0, or none), the place (1), the end (2)
-  truncate [N]       cuts or lengthens to N bytes, or to the place
-  tell, flush, close, detach, readable, writable, seekable, closed
+  truncate [N], tell, flush, close, detach, readable, writable, seekable, closed
 N and I are decimal, I also behind a -; HEX has two digits a byte, - for none.
 Lines that are empty or begin with # are skipped. A close is added at the end.
 
