@@ -14,7 +14,7 @@ use Rattle.py_stream.proofs.PassingOn.{begun}
 use Rattle.py_stream.proofs.Refused.{detached_answers}
 use Rattle.py_stream.proofs.Handing.{AtOnce, detach_refuses, hands_at_once, hands_over}
 use Rattle.py_engine.specs.Engine.{EngineView, stream_of, Stands}
-use Rattle.py_engine.specs.Passing.{PassesAll, BeginsDetachIn}
+use Rattle.py_engine.specs.Passing.{PassesToDetach, BeginsDetachIn}
 use Rattle.py_buffered.specs.Buffered.{seen_as, IsBuffered, BeginsDetach}
 use Rattle.py_engine.proofs.Standing.{is_far, owes_behind, owes_nothing}
 use Rattle.py_engine.proofs.Calls.{reads_only, can_seek, is_writing_live}
@@ -26,7 +26,7 @@ begins_written : (opened : Access) (current : Life) (old new : Stream) (result :
 begins_written opened current old new result writes begins = grind arith
 
 -- a live stream that is read is left as it is
-begins_read : (opened : Access) (old new : Stream) (result : Result (Unit {0}) IoFault) → is_read opened ≡ true → PassesAll opened old result new → (result ≡ Ok tt) × (new ≡ old)
+begins_read : (opened : Access) (old new : Stream) (result : Result (Unit {0}) IoFault) → is_read opened ≡ true → PassesToDetach opened old result new → (result ≡ Ok tt) × (new ≡ old)
 begins_read opened old new result reads begins = grind arith
 
 -- A detaching that is refused.

@@ -14,7 +14,6 @@ use Rattle.py_stream.specs.Replies.{done_reply}
 use Rattle.py_stream.specs.Answers.{Answers}
 use Rattle.py_stream.specs.Moving.{TargetOutcome, GoOutcome, GoesTo}
 use Rattle.py_stream.specs.Ending.{CloseRawOutcome}
-use Rattle.py_stream.specs.Settling.{SettleOutcome}
 use Rattle.py_stream.proofs.Alone.{Begins}
 use Rattle.py_stream.proofs.Seeking.{MaySeek}
 use Rattle.py_stream.proofs.Giving.{of_both}

@@ -19,7 +19,7 @@ use Rattle.py_stream.specs.declared.stop.Progress.{Progress}
 use Rattle.py_stream.specs.declared.stop.Step.TheVariants as step
 use Rattle.py_flat.specs.Calls.{FileCall, NotReady, Refused}
 use Rattle.py_stream.specs.Kinds.{by_several}
-use Rattle.py_stream.specs.Stream.{Stream, file_of, nothing_owed}
+use Rattle.py_stream.specs.Stream.{Stream, file_of}
 use Rattle.py_stream.specs.Answers.{Answers, OnlyAsked, EachBrings, ahead}
 use Rattle.py_stream.specs.Reading.{KeepsReading, Reaches, Gives, FailsReading, FailsMoved, StarvesReading, StopOutcome, RestOutcome, wanted_by, reply_by, has_answer, answered_at, GatherOutcome}
 use Rattle.py_stream.specs.ReadingOn.{MayRead, StepsOn, StepsNone, StepFails, StarvesWith, StepOutcome, ReadsInto, HoldsLess, FailsStarved, StarvesIn, ReadIntoOutcome, FirstOutcome, ReadsMore, ReadMoreOutcome}

@@ -1,4 +1,4 @@
-use Rattle.std.proofs.Common.{arith, ◌+◌, ◌-◌, ◌<◌, ℕ, List, length, take, drop, true, Ok, subst, sym}
+use Rattle.std.proofs.Common.{arith, ◌+◌, ◌-◌, ◌<◌, ℕ, List, length, drop, true, Ok, subst, sym}
 use Rattle.std.proofs.lemmas.List.{length-drop, length-take-le}
 use Rattle.py_stream.specs.declared.stop.Step.{Step}
 use Rattle.py_stream.specs.ReadingOn.{ReadsInto, StepOutcome}
