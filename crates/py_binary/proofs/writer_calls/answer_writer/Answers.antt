@@ -16,4 +16,4 @@ returns-in-Seek g c = rw c.in-Seek.is (with_said _ _ (place_reply c.seek.result)
 
 pub returns-in_default : goal.returns-in_default
 returns-in_default g c =
-    with_reply_room _ _ _ _ (c.refuse.ensures.answers (file_call c.args.call.now) (writer_refuses c.args.writer.now.stream c.args.call.now c.requires.served.reads c.requires.asks c.requires.stays c.in_default.not-Write c.in_default.not-WriteLines c.in_default.not-Seek c.in_default.not-Tell c.in_default.not-Flush c.in_default.not-Close c.in_default.not-ChunkSize c.in_default.not-Encoding c.in_default.not-Errors))
+    with_reply_room _ _ _ _ (c.refuse.ensures.answers (file_call c.args.call.now) (writer_refuses c.args.writer.now.stream c.args.call.now c.requires.served.reads c.requires.asks c.requires.stays c.in_default.not-Write c.in_default.not-WriteLines c.in_default.not-Seek c.in_default.not-Tell c.in_default.not-Truncate c.in_default.not-Flush c.in_default.not-Close c.in_default.not-ChunkSize c.in_default.not-Encoding c.in_default.not-Errors))
