@@ -221,27 +221,27 @@ gives_size old mid new size within asks resizes =
 -- what the failing leaves of the raw's bytes: those that were there by then, or of the size
 either_way : (old mid new : Stream) (size : ℕ) → Asks old mid new → FailsToResize mid size new → WhereTold old.raw ((new.raw.bytes ≡ flat_of old) ⊎ (new.raw.bytes ≡ resized (flat_of old) size))
 either_way old mid new size asks fails tells = by (fails.bytes (asks.settled_by.0.passes.kept.raw.tells_bytes ∙ tells_its_bytes old.raw tells))
-    where
-      all : mid.raw.bytes ≡ flat_of old
-      all = passed_all old mid asks.settled_by.0.passes asks.settled_by.2 tells
+  where
+    all : mid.raw.bytes ≡ flat_of old
+    all = passed_all old mid asks.settled_by.0.passes asks.settled_by.2 tells
 
-      by : (new.raw.bytes ≡ mid.raw.bytes) ⊎ (new.raw.bytes ≡ resized mid.raw.bytes size) → (new.raw.bytes ≡ flat_of old) ⊎ (new.raw.bytes ≡ resized (flat_of old) size)
-      by (inl same) = inl (same ∙ all)
-      by (inr given) = inr (given ∙ ap (λ (bytes : List ℕ). resized bytes size) all)
+    by : (new.raw.bytes ≡ mid.raw.bytes) ⊎ (new.raw.bytes ≡ resized mid.raw.bytes size) → (new.raw.bytes ≡ flat_of old) ⊎ (new.raw.bytes ≡ resized (flat_of old) size)
+    by (inl same) = inl (same ∙ all)
+    by (inr given) = inr (given ∙ ap (λ (bytes : List ℕ). resized bytes size) all)
 
 faulted_by : (old mid new : Stream) (size : Option ℕ) → Asks old mid new → FailsToResize mid (size_asked old size) new → WhereTold old.raw (FaultedBy (file_of old) (Truncate size) (file_of new))
 faulted_by old mid new size asks fails tells = in_model size (to_flat (either_way old mid new (size_asked old size) asks fails tells))
-    where
-      Left : List ℕ → Type 0
-      Left bytes = Fails (file_of old) life.Failed bytes (file_of new)
+  where
+    Left : List ℕ → Type 0
+    Left bytes = Fails (file_of old) life.Failed bytes (file_of new)
 
-      to_flat : (new.raw.bytes ≡ flat_of old) ⊎ (new.raw.bytes ≡ resized (flat_of old) (size_asked old size)) → Left (flat_of old) ⊎ Left (resized (flat_of old) (size_asked old size))
-      to_flat (inl same) = inl (failed_file old new life.Failed (flat_of old) (kept old mid new asks) fails.failed (flat_now old mid new asks ∙ same))
-      to_flat (inr given) = inr (failed_file old new life.Failed (resized (flat_of old) (size_asked old size)) (kept old mid new asks) fails.failed (flat_now old mid new asks ∙ given))
+    to_flat : (new.raw.bytes ≡ flat_of old) ⊎ (new.raw.bytes ≡ resized (flat_of old) (size_asked old size)) → Left (flat_of old) ⊎ Left (resized (flat_of old) (size_asked old size))
+    to_flat (inl same) = inl (failed_file old new life.Failed (flat_of old) (kept old mid new asks) fails.failed (flat_now old mid new asks ∙ same))
+    to_flat (inr given) = inr (failed_file old new life.Failed (resized (flat_of old) (size_asked old size)) (kept old mid new asks) fails.failed (flat_now old mid new asks ∙ given))
 
-      in_model : (size : Option ℕ) → Left (flat_of old) ⊎ Left (resized (flat_of old) (size_asked old size)) → FaultedBy (file_of old) (Truncate size) (file_of new)
-      in_model None left = left
-      in_model (Some asked) left = left
+    in_model : (size : Option ℕ) → Left (flat_of old) ⊎ Left (resized (flat_of old) (size_asked old size)) → FaultedBy (file_of old) (Truncate size) (file_of new)
+    in_model None left = left
+    in_model (Some asked) left = left
 
 -- what a truncation whose raw failed did with what was owed
 failing_writes : (old mid new : Stream) (size : Option ℕ) → Asks old mid new → WhereTold old.raw (LaysThenCuts old (size_asked old size) new.raw.bytes) → Writes old (Truncate size) (Refused fault.RawFault) new

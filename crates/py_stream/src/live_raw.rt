@@ -225,12 +225,7 @@ impl<R: RawStream> LiveRaw<R> {
     /// How many bytes a reading of all asks for at first, of a stream that holds n bytes after its place: of a raw that can be
     /// moved, and says that it ends after the place, all up to that end, at least those held, and one more, by which the end is
     /// met; else as many as are asked for where the end is unknown.
-    pub fn first_more(
-        &mut self,
-        place: u64,
-        ahead: usize,
-        unknown: usize,
-    ) -> Result<usize, IoFault>
+    pub fn first_more(&mut self, place: u64, ahead: usize, unknown: usize) -> Result<usize, IoFault>
         requires open { self.old.raw.closed ≡ false }
         requires more { ahead < unknown }
         ensures keeps { Keeps self.old.raw self.new.raw }

@@ -102,11 +102,7 @@ impl<R: RawStream> BufferedData<R> {
     }
 
     /// One transfer for what is left of a buffer that is smaller than the window, by way of that.
-    pub(super) fn read_by_window(
-        &mut self,
-        rest: &mut [u8],
-        moved: bool,
-    ) -> Result<Step, IoFault>
+    pub(super) fn read_by_window(&mut self, rest: &mut [u8], moved: bool) -> Result<Step, IoFault>
         requires live { self.old.life ≡ Live }
         requires reads { is_read self.old.access ≡ true }
         requires asks { 0 < length rest.old }

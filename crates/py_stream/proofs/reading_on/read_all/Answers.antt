@@ -19,8 +19,8 @@ loop-moved-preserved g c =
     let new = g.S.ReadsOn.shows now.stream in
     record {
       came = all_on (g.S.ReadsOn.shows c.args.stream.now) loop.bytes.items loop.more loop.moved shown new loop.invariant.came now.bytes.items c.len-more.result
-      (subst (λ (why : Stop). ReadsMore shown loop.bytes.items loop.more why now.bytes.items new) c.in-Enough.is c.in_ok-stop.ensures.outcome)
-      (omega (arith, now.bytes.ok.0)) (omega (arith, now.bytes.small));
+          (subst (λ (why : Stop). ReadsMore shown loop.bytes.items loop.more why now.bytes.items new) c.in-Enough.is c.in_ok-stop.ensures.outcome)
+          (omega (arith, now.bytes.ok.0)) (omega (arith, now.bytes.small));
       reads = c.in_ok-stop.ensures.reads;
     }
 

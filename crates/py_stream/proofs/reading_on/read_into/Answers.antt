@@ -13,9 +13,9 @@ loop-more-preserved g c =
     let new = g.S.ReadsOn.shows c.read_on.new.self in
     record {
       came = subst (λ (after : List ℕ). ReadsTo old c.args.moved (loop.count + c.in-On-2.more) after true new)
-      (sym (end_written loop.count loop.buffer c.read_on.new.rest loop.invariant.came.less c.read_on.ensures.length))
-      (reads_on old c.args.moved loop.count loop.buffer loop.has_moved now loop.invariant.came c.in-On-2.more c.read_on.new.rest new
-      (subst (λ (step : Step). StepOutcome now loop.has_moved (Ok step) c.read_on.new.rest new) c.in-On-2.is c.in_ok-more.ensures.outcome));
+          (sym (end_written loop.count loop.buffer c.read_on.new.rest loop.invariant.came.less c.read_on.ensures.length))
+          (reads_on old c.args.moved loop.count loop.buffer loop.has_moved now loop.invariant.came c.in-On-2.more c.read_on.new.rest new
+          (subst (λ (step : Step). StepOutcome now loop.has_moved (Ok step) c.read_on.new.rest new) c.in-On-2.is c.in_ok-more.ensures.outcome));
       reads = c.in_ok-more.ensures.reads;
     }
 

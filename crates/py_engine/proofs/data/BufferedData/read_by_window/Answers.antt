@@ -14,9 +14,9 @@ returns-clause-outcome g c =
     let asks : 0 < length rest = omega (arith, c.requires.asks, c.in_ok-filled.ensures, c.copy_ahead-count.ensures.length) in
     elim c.if-count-rest.branch [
       | then-count-rest w ↦ rw (c.step_by.ensures, w.self-is)
-        (subst (λ (engine : EngineView). StepOutcome (reading_of c.args.self.now) c.args.moved (Ok (stepped c.in_ok-filled.filled count (length rest))) rest (reading_of engine))
-        (made_advanced c.fill.new.self c.self.inside.live.raw c.self.inside.raw_place c.self.inside.window w.advance.new.self c.self.inside.live.access c.self.inside.live.life c.self.inside.live.short count c.self.view_is w.advance.ensures)
-        (window_full c.args.self.now c.fill.new.self c.args.moved c.in_ok-filled.filled count rest asks c.in_ok-filled.ensures (omega (arith, c.copy_ahead-count.ensures.count, c.copy_ahead-count.ensures.length)) (omega (arith)) c.copy_ahead-count.ensures.front))
+          (subst (λ (engine : EngineView). StepOutcome (reading_of c.args.self.now) c.args.moved (Ok (stepped c.in_ok-filled.filled count (length rest))) rest (reading_of engine))
+          (made_advanced c.fill.new.self c.self.inside.live.raw c.self.inside.raw_place c.self.inside.window w.advance.new.self c.self.inside.live.access c.self.inside.live.life c.self.inside.live.short count c.self.view_is w.advance.ensures)
+          (window_full c.args.self.now c.fill.new.self c.args.moved c.in_ok-filled.filled count rest asks c.in_ok-filled.ensures (omega (arith, c.copy_ahead-count.ensures.count, c.copy_ahead-count.ensures.length)) (omega (arith)) c.copy_ahead-count.ensures.front))
       | else-count-rest w ↦ rw (c.step_by.ensures, w.self-is)
-        (window_on c.args.self.now c.fill.new.self c.args.moved c.in_ok-filled.filled count rest asks c.in_ok-filled.ensures (omega (arith, c.copy_ahead-count.ensures.count, c.copy_ahead-count.ensures.length)) (omega (arith)) c.copy_ahead-count.ensures.front)
+          (window_on c.args.self.now c.fill.new.self c.args.moved c.in_ok-filled.filled count rest asks c.in_ok-filled.ensures (omega (arith, c.copy_ahead-count.ensures.count, c.copy_ahead-count.ensures.length)) (omega (arith)) c.copy_ahead-count.ensures.front)
     ]
