@@ -252,14 +252,17 @@ fn unanswered(case: &SessionCase<'_>) -> u32 {
 }
 
 /// Whether a stream that is read stands where it came to. A call that failed moved it by no more than it was asked for, and not at
-/// all where it is a single transfer, or reads nothing.
+/// all where it is a single transfer, or reads nothing. Where the raw can't be moved no place is handed back.
 fn reaches(handed: &Detached<MemRaw>, flat: &Flat, failed: Option<&Call>) -> bool {
     let most = match failed {
         Some(call) if !flat.is_single(call) => flat.wanted(call).map_or(0, |bytes| bytes.len()),
         _ => 0,
     };
     let begun = flat.place as u64;
-    handed.place.is_some_and(|place| begun <= place && place <= begun.saturating_add(most as u64))
+    match handed.place {
+        Some(place) => begun <= place && place <= begun.saturating_add(most as u64),
+        None => !handed.raw.seekable(),
+    }
 }
 
 /// Whether the bytes of the raw with those that are handed back laid at their place are all that was taken from the caller before
