@@ -157,7 +157,7 @@ fn openers_sources_and_sinks_show_counts_and_no_bytes(rt: HostRuntime) -> Result
     let files = FileOpener::new(&rt);
     assert_eq!(rt;
         format!(in alloc; "{files:?}")?.as_str(),
-        "FileOpener { faults: 0, raw_faults: 0, raw_waits: 0, last_error: None, .. }"
+        "FileOpener { faults: 0, raw_faults: 0, raw_waits: 0, last_error: None, last_file_error: None, .. }"
     );
     let source = ReadSource::new(rt.stdin());
     assert_eq!(rt;
