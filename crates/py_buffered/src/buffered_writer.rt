@@ -128,8 +128,9 @@ impl<R: RawStream> BufferedWriter<R> {
     /// past the end then. What is owed is passed on before; nothing is owed then.
     ///
     /// `Unsupported` where the raw can't seek, and of a writer that appends; `TooFar` for a size past 9223372036854775807: all is as
-    /// it was. `WouldBlock { taken: 0 }` and `NoMemory` leave the place, and what isn't passed on yet is still owed. After `RawFault` the
-    /// raw's bytes may have the size, or not.
+    /// it was. `WouldBlock { taken: 0 }` and `NoMemory` leave the writer live and its place as it was, and what isn't passed on yet is
+    /// still owed. After `RawFault` the writer is failed: what isn't passed on yet is still owed, or, where all was, the raw's bytes may
+    /// have the size, or not. It takes no memory: `NoMemory` comes only of a raw that takes some.
     pub fn truncate(&mut self, size: Option<u64>) -> Result<u64, IoFault>
         ensures answers { Answers self.old.stream (Truncate size) (place_reply result) self.new.stream }
         ensures taken { self.new.taken ≡ self.old.taken }

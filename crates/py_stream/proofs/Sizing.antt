@@ -1,5 +1,5 @@
 -- The answers of `truncate`, as its steps come: what refuses it, what is passed on before, and the giving of the size.
-use Rattle.std.proofs.Common.{◌≡◌, ℕ, ◌<◌, ◌≤◌, ◌⊎◌, inl, inr, Bool, true, false, List, [], Option, Some, None, IsSome, Ok, Err, refl, sym, ap, ◌∙◌, subst, arith}
+use Rattle.std.proofs.Common.{◌≡◌, ℕ, ◌<◌, ◌≤◌, ◌⊎◌, inl, inr, Bool, true, false, List, [], Option, Some, None, IsSome, Result, Ok, Err, refl, sym, ap, ◌∙◌, subst, arith}
 use Rattle.py_flat.specs.declared.fault.IoFault.{IoFault}
 use Rattle.py_flat.specs.declared.fault.IoFault.TheVariants as fault
 use Rattle.py_flat.specs.declared.life.Life.TheVariants as life
@@ -16,15 +16,15 @@ use Rattle.py_raw.specs.RawStream.{WhereTold, NoWait}
 use Rattle.py_raw.proofs.Telling.{tells_its_bytes}
 use Rattle.py_raw.proofs.ReadingOn.{no_fault_then, no_wait_then}
 use Rattle.py_stream.specs.Stream.{Stream, buffering_of, file_of}
-use Rattle.py_stream.specs.LiveRaw.{is_truncatable}
+use Rattle.py_stream.specs.LiveRaw.{is_truncatable, LetsTruncate}
 use Rattle.py_stream.specs.Writing.{size_asked, NoneAtPlace, PassesFront, LaysThenCuts, Writes}
 use Rattle.py_stream.specs.Answers.{Answers}
 use Rattle.py_stream.specs.Keeping.{IsSound, KeepsOn}
 use Rattle.py_stream.specs.Settling.{LivesOn, SettleOutcome}
 use Rattle.py_stream.specs.Truncating.{MayTruncate, BeginsTruncating, SettlesFirst, KeepsPlace, Resizes, FailsToResize, ResizeOutcome}
 use Rattle.py_stream.proofs.Begun.{answers_whole}
-use Rattle.py_stream.proofs.Alone.{Begins, begins_in_vain}
-use Rattle.py_stream.proofs.Refusing.{IsPlaced, refused_with, refused_by_ability}
+use Rattle.py_stream.proofs.Alone.{begins_in_vain}
+use Rattle.py_stream.proofs.Refusing.{refused_with, refused_by_ability}
 use Rattle.py_stream.proofs.Taking.{keeps_then, faulted_then, answers_still}
 use Rattle.py_stream.proofs.Flat.{flat_of, file_now, failed_file}
 use Rattle.py_stream.proofs.Showing.{MovesNone, Asked, Accepts, shows_answers}
@@ -50,22 +50,14 @@ truncating old size may within = grind (arith, accepted, truncate_moves_none)
 
 -- What refuses it before.
 
--- a truncation begins of a stream that may be truncated, as it was asked once the call had begun
-pub truncates_on : (old started seen : Stream) (may : Bool) → IsSound old → Begins old (Ok tt) started → seen ≡ started → may ≡ is_truncatable seen.can → may ≡ true → BeginsTruncating old (Ok tt) started
-truncates_on old started seen may sound began is asked can = grind arith
-
 lacks_truncation : (stream : Stream) (size : Option ℕ) → is_truncatable stream.can ≡ false → lacks (file_of stream) (Truncate size) ≡ true
 lacks_truncation stream size cannot = grind arith
 
--- a truncation of a stream that doesn't write, or may not be moved, is refused as unsupported
-pub truncates_not : (old started seen : Stream) (may : Bool) → IsPlaced old → Begins old (Ok tt) started → seen ≡ started → may ≡ is_truncatable seen.can → may ≡ false → BeginsTruncating old (Err fault.Unsupported) started
-truncates_not old started seen may placed began is asked cannot size =
-    let unable : is_truncatable old.can ≡ false = ap (λ (stream : Stream). is_truncatable stream.can) (sym began.1 ∙ sym is) ∙ sym asked ∙ cannot in
-    refused_by_ability old started (Truncate size) placed refl refl began.0 (lacks_truncation old size unable) began.1
-
--- a truncation that the life refuses
-pub truncates_no_more : (old started : Stream) (why : IoFault) → IsPlaced old → Begins old (Err why) started → BeginsTruncating old (Err why) started
-truncates_no_more old started why placed began size = begins_in_vain old started (Truncate size) why placed refl refl refl refl began
+-- a truncation begins, or the life refuses it, or it is unsupported of a stream that doesn't write, or may not be moved
+pub truncating_begins : (old new : Stream) (result : Result (Unit {0}) IoFault) → IsSound old → LetsTruncate old.life old.can result → new ≡ begun old → BeginsTruncating old result new
+truncating_begins old new (Ok done) sound lets is = grind arith
+truncating_begins old new (Err why) sound (inl dead) is = λ size. begins_in_vain old new (Truncate size) why (record { far = sound.far; near = sound.near }) refl refl refl refl (dead, is)
+truncating_begins old new (Err why) sound (inr unable) is = λ size. subst (λ (fault : IoFault). Answers old (Truncate size) (Refused fault) new) (sym unable.2) (refused_by_ability old new (Truncate size) (record { far = sound.far; near = sound.near }) refl refl unable.0 (lacks_truncation old size unable.1) is)
 
 too_large : (old : Stream) (size : Option ℕ) → MayTruncate old → greatest_place < size_asked old size → refusal (file_of old) (Truncate size) ≡ Some fault.TooFar
 too_large old None may beyond = absurd (omega (arith, beyond, may.sound.far))
@@ -194,7 +186,7 @@ gives_size old mid new size within asks resizes =
       counted = λ exact. record { faults = λ _. no_fault_then old.raw mid.raw new.raw goes.passes.kept.raw goes.no_fault resizes.counts.no_fault exact; waits = λ _ _. no_wait old mid new asks exact; once = λ waited. absurd (cc) };
       shorts = short;
       life_is = same;
-      place = still old mid new asks;
+      place = (refl, still old mid new asks);
       far = keeps.sound.far;
       ends = tt;
       wants = λ wanting. absurd (cc);

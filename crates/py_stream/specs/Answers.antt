@@ -1,5 +1,5 @@
 -- The one clause of all calls of a binary stream: what a call may answer and leave, over any raw.
-use Rattle.std.specs.Prelude.{◌≡◌, ◌≢◌, ℕ, ◌+◌, ◌-◌, ◌<◌, ◌≤◌, ◌⊎◌, ℤ, pos, suc, zero, Bool, true, false, ◌&&◌, not, IsTrue, List, [], ◌++◌, length, max, Option, Some, None, IsSome, is_some, if◌then◌else◌}
+use Rattle.std.specs.Prelude.{◌≡◌, ◌≢◌, ℕ, ◌+◌, ◌-◌, ◌<◌, ◌≤◌, ◌⊎◌, ℤ, pos, suc, zero, Bool, true, false, ◌&&◌, not, IsTrue, List, [], ◌++◌, length, max, Option, Some, None, IsSome, is_some, unwrap_or, if◌then◌else◌}
 use Rattle.py_flat.specs.declared.fault.IoFault.{IoFault}
 use Rattle.py_flat.specs.declared.fault.IoFault.TheVariants as fault
 use Rattle.py_flat.specs.declared.life.Life.{Life}
@@ -162,6 +162,7 @@ PlaceMoves buffer call (Bytes part) current before after = after ≡ before + le
 PlaceMoves buffer call (Lines lines) current before after = after ≡ before + length (joined lines)
 PlaceMoves buffer (Seek offset whence) (Place place) current before after = (after ≡ place) × SeekGoes before offset whence place
 PlaceMoves buffer Tell (Place place) current before after = (place ≡ before) × (after ≡ before)
+PlaceMoves buffer (Truncate size) (Place place) current before after = (place ≡ unwrap_or size before) × (after ≡ before)
 PlaceMoves buffer call (Refused fault.RawFault) current before after = PlaceFails (profile buffer call).many (moves_most call) before after
 PlaceMoves buffer call (Refused fault.NoMemory) current before after = PlaceStarves current (moves_most call) before after
 PlaceMoves buffer (Write bytes) (Count count) current before after = TakesOf buffer bytes count × (after ≡ before + count)

@@ -46,7 +46,3 @@ BeginDetachIn life.Live old (Err why) new = SettleOutcome old (Err why) new
 BeginDetachIn life.Failed old result new = (result ≡ Ok tt) × (new ≡ old)
 BeginDetachIn life.Closed old result new = (result ≡ Err fault.Closed) × (new ≡ old)
 BeginDetachIn life.Detached old result new = ⊥
-
--- a detaching begins: no answer is short yet
-abbrev pub BeginDetach : Stream → Result (Unit {0}) IoFault → Stream → Type 0
-BeginDetach old result new = BeginDetachIn old.life (record old { short = false }) result new

@@ -1,5 +1,5 @@
 -- A raw stream under the stream that calls it, and what each of its calls makes of that stream.
-use Rattle.std.specs.Prelude.{◌≡◌, ◌≢◌, ℕ, ◌+◌, ◌<◌, ◌≤◌, Bool, true, false, ◌&&◌, not, IsTrue, List, [], length, take, Option, Some, None, Result, Ok, Err}
+use Rattle.std.specs.Prelude.{◌≡◌, ◌≢◌, ℕ, ◌+◌, ◌<◌, ◌≤◌, ◌⊎◌, Bool, true, false, ◌&&◌, not, IsTrue, List, [], length, take, Option, Some, None, Result, Ok, Err}
 use Rattle.py_flat.specs.declared.fault.IoFault.{IoFault}
 use Rattle.py_flat.specs.declared.fault.IoFault.TheVariants as fault
 use Rattle.py_flat.specs.declared.life.Life.{Life}
@@ -39,6 +39,11 @@ is_movable can = can.seekable && not can.appending
 -- whether the bytes of a stream's raw may be given a size: where it writes, and may be moved
 abbrev pub is_truncatable : Abilities → Bool
 is_truncatable can = can.writable && is_movable can
+
+-- whether a life and abilities let a truncation begin: the life is asked first
+abbrev pub LetsTruncate : Life → Abilities → Result (Unit {0}) IoFault → Type 0
+LetsTruncate current can (Ok done) = (current ≡ life.Live) × (is_truncatable can ≡ true)
+LetsTruncate current can (Err why) = (life_fault current ≡ Some why) ⊎ ((current ≡ life.Live) × (is_truncatable can ≡ false) × (why ≡ fault.Unsupported))
 
 -- what an error of the raw is answered by
 abbrev pub fault_of : RawError → IoFault

@@ -4,7 +4,7 @@ ghost use Rattle.py_flat.specs.Limits.{greatest_place};
 ghost use Rattle.py_raw.specs.RawStream.{Keeps, StaysOpen, WriteFits, SeekOutcome, EndOutcome, TruncateOutcome, CloseOutcome};
 ghost use Rattle.py_stream.specs.Access.{is_read, can_of};
 ghost use Rattle.py_stream.specs.Reading.{is_wait, has_answer};
-ghost use Rattle.py_stream.specs.LiveRaw.{is_movable as movable, is_truncatable as truncatable, LetsBegin, Calls, TransferOutcome, GiveOutcome, FirstOutcome, starved, fault_of, life_after};
+ghost use Rattle.py_stream.specs.LiveRaw.{is_movable as movable, LetsBegin, LetsTruncate, Calls, TransferOutcome, GiveOutcome, FirstOutcome, starved, fault_of, life_after};
 
 use crate::{Access, Stop, life_fault};
 use py_raw::{GREATEST_PLACE, IoFault, Life, RawError, RawStream};
@@ -117,13 +117,6 @@ impl<R: RawStream> LiveRaw<R> {
         self.raw.seekable() && !self.access.appends()
     }
 
-    /// Whether the raw's bytes may be given a size: of a stream that writes, and may be moved.
-    pub fn may_truncate(&self) -> bool
-        ensures { result ≡ truncatable (can_of self.now.access self.now.raw.seekable) }
-    {
-        !self.access.reads() && self.is_movable()
-    }
-
     /// Begins a call: the life refuses it, or it may go on. No answer is short yet.
     pub fn begin(&mut self) -> Result<(), IoFault>
         ensures life { LetsBegin self.old.life result }
@@ -134,6 +127,19 @@ impl<R: RawStream> LiveRaw<R> {
             None => Ok(()),
             Some(fault) => Err(fault),
         }
+    }
+
+    /// Begins a truncation: the life refuses it, or it is `Unsupported` of a stream that doesn't write, or may not be moved; else it
+    /// may go on. No answer is short yet, and nothing else changes.
+    pub fn begin_truncating(&mut self) -> Result<(), IoFault>
+        ensures begins { LetsTruncate self.old.life (can_of self.old.access self.old.raw.seekable) result }
+        ensures whole { self.new ≡ record self.old { short = false } }
+    {
+        self.begin()?;
+        if self.access.reads() || !self.is_movable() {
+            return Err(IoFault::Unsupported);
+        }
+        Ok(())
     }
 
     /// Whether a reading has an answer: none where the raw would have blocked before anything came. A wait is remembered.
@@ -257,7 +263,9 @@ impl<R: RawStream> LiveRaw<R> {
         }
     }
 
-    /// Cuts the raw's bytes to a size, or lengthens them by zeros.
+    /// Cuts the raw's bytes to a size in bytes, from 0 to the greatest place, or lengthens them by zeros; the raw's place stays.
+    /// `RawFault`: the raw failed, its bytes are as they were or have the size, and the stream is failed. `NoMemory`: of a raw that
+    /// takes memory, with all as it was.
     pub fn truncate(&mut self, size: u64) -> Result<(), IoFault>
         requires open { self.old.raw.closed ≡ false }
         requires within { size ≤ greatest_place }

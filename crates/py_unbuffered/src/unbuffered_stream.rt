@@ -174,7 +174,8 @@ impl<R: RawStream> UnbufferedStream<R> {
     /// lie past the end then.
     ///
     /// `Unsupported` of a stream that reads, where the raw can't seek, and of a stream that appends; `TooFar` for a size past
-    /// 9223372036854775807: all is as it was. After `RawFault` the raw's bytes may have the size, or not.
+    /// 9223372036854775807: all is as it was. After `RawFault` the stream is failed, and the raw's bytes may have the size, or not. It
+    /// takes no memory: `NoMemory` comes only of a raw that takes some, and leaves the stream as it was.
     pub fn truncate(&mut self, size: Option<u64>) -> Result<u64, IoFault>
         ensures { Answers self.old (Truncate size) (place_reply result) self.new }
     {

@@ -10,11 +10,7 @@ impl<R: RawStream> Truncates for UnbufferedData<R> {
 
     fn begin_truncating(&mut self) -> Result<(), IoFault> {
         let _ = &self.live;
-        self.begin()?;
-        if !self.live.may_truncate() {
-            return Err(IoFault::Unsupported);
-        }
-        Ok(())
+        self.live.begin_truncating()
     }
 
     fn standing(&self) -> u64 {
