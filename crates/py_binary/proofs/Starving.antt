@@ -73,7 +73,7 @@ starved_into stream size is live reads = record {
     needed = λ whole. inl refl;
     last = each_still stream (record stream { short = false }) 1 1 refl refl;
   };
-  spares = λ reading none. record { bytes = λ tells. refl; written = λ tells. refl; owed = none };
+  spares = λ reading none. record { bytes = λ tells. refl; written = λ tells. refl; owed = none; still = λ moves. refl };
   writes = λ writing. writes_none stream size live;
   answer = λ accepted. tt;
   at_once = λ failed is. absurd (cc);

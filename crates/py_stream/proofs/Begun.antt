@@ -100,7 +100,7 @@ module _ (short : Bool) where
     brings = λ reads none. came_seen (seen short before) before after after 1 refl refl refl refl (answers.brings reads none);
     unread = answers.unread;
     needs = λ reads none. let asks = answers.needs reads none in record { enough = λ whole within buffered. let idle = asks.enough whole within buffered in record { raw = idle.raw; fault = idle.fault }; whole = λ whole. each_seen (seen short before) before after after 0 0 refl refl refl refl (asks.whole whole); needed = asks.needed; last = each_seen (seen short before) before after after 1 1 refl refl refl refl asks.last };
-    spares = λ reads none. let spared = answers.spares reads none in record { bytes = spared.bytes; written = spared.written; owed = spared.owed };
+    spares = λ reads none. let spared = answers.spares reads none in record { bytes = spared.bytes; written = spared.written; owed = spared.owed; still = spared.still };
     writes = λ can. writes_seen before after call reply (answers.writes can);
     answer = answers.answer;
     at_once = answers.at_once;

@@ -11,9 +11,9 @@ use Rattle.py_stream.specs.Reading.{OneTransfer}
 pub none_brought : (reads : Reads) (empties : ℕ) → BringInAll 0 empties reads reads
 none_brought reads empties = record { brought = refl; empty = omega arith }
 
--- reads in two steps, of which none of the first brought none
-pub brought_then : (old mid new : Reads) (one two empties : ℕ) → BringInAll one 0 old mid → BringInAll two empties mid new → BringInAll (one + two) empties old new
-brought_then old mid new one two empties before behind = record { brought = omega (arith, before.brought, behind.brought); empty = omega (arith, before.empty, behind.empty) }
+-- reads in two steps
+pub brought_then : (old mid new : Reads) (one two few many : ℕ) → BringInAll one few old mid → BringInAll two many mid new → BringInAll (one + two) (few + many) old new
+brought_then old mid new one two few many before behind = record { brought = omega (arith, before.brought, behind.brought); empty = omega (arith, before.empty, behind.empty) }
 
 -- reads of which more might have brought none
 pub brought_more : (old new : Reads) (count less more : ℕ) → less ≤ more → BringInAll count less old new → BringInAll count more old new
@@ -28,8 +28,8 @@ pub came_unread : (before after : Stream) → after.raw_place ≡ before.raw_pla
 came_unread before after place same = record { forth = omega (arith, place); reads = λ tells. rw (same tells, let none : after.raw_place - before.raw_place ≡ 0 = omega (arith, place) in none) (none_brought before.raw.reads 0) }
 
 -- in two steps
-pub came_then : (before mid after : Stream) (empties : ℕ) → Keeps before.raw mid.raw → CameByReads 0 before mid → CameByReads empties mid after → CameByReads empties before after
-came_then before mid after empties kept one two = grind (arith, brought_then)
+pub came_then : (before mid after : Stream) (few many : ℕ) → Keeps before.raw mid.raw → CameByReads few before mid → CameByReads many mid after → CameByReads (few + many) before after
+came_then before mid after few many kept one two = grind (arith, brought_then)
 
 -- streams that differ in nothing that says how far their raws came
 pub came_seen : (was before now after : Stream) (empties : ℕ) → was.raw ≡ before.raw → was.raw_place ≡ before.raw_place → now.raw ≡ after.raw → now.raw_place ≡ after.raw_place → CameByReads empties was now → CameByReads empties before after

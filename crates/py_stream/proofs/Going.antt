@@ -58,8 +58,8 @@ found_on : (old found : Stream) → MaySeek old → FoundOut old found → Lives
 found_on old found may out = record { passes = passes_nothing old found out.stands; live = out.life_is ∙ may.live; no_fault = out.counts.no_fault }
 
 -- a stream that stands as before, and owed nothing, spares the bytes
-spared : (old new : Stream) (left : Life) → StandsAsBefore old new → old.owed ≡ nothing_owed old.place → SparesBytes old (record new { life = left })
-spared old new left stands bare = record { bytes = stands.bytes; written = stands.answered; owed = stands.owed ∙ bare ∙ ap nothing_owed (sym stands.place) }
+spared : (old new : Stream) (call : FileCall) (left : Life) → StandsAsBefore old new → old.owed ≡ nothing_owed old.place → SparesBytes old call (record new { life = left })
+spared old new call left stands bare = record { bytes = stands.bytes; written = stands.answered; owed = stands.owed ∙ bare ∙ ap nothing_owed (sym stands.place); still = λ _. stands.raw_place }
 
 -- a seek that goes to the raw is asked of it
 reaching : (old : Stream) (offset whence : ℤ) → MaySeek old → ReachesRaw old offset whence → Asked old (Seek offset whence)
@@ -90,11 +90,11 @@ end_refuses old new offset why end may asks refuses =
 
 from_end_refuses : (old new : Stream) (offset : ℤ) (why : IoFault) → MaySeek old → TargetFromEnd offset old (Err why) new → Answers old (Seek offset (pos 2)) (Refused why) new
 from_end_refuses old new offset fault.RawFault may fails =
-    fault_fails old new (Seek offset (pos 2)) (reaching old offset (pos 2) may (end_reaches old offset may)) (record { in_hand = λ has. absurd has.of; spares = λ _. spared old new life.Failed fails.stands })
+    fault_fails old new (Seek offset (pos 2)) (reaching old offset (pos 2) may (end_reaches old offset may)) (record { in_hand = λ has. absurd has.of; spares = λ _. spared old new (Seek offset (pos 2)) life.Failed fails.stands })
     (fault_fails_seek offset (pos 2)) (passes_nothing old new fails.stands) fails.failed fails.cause fails.no_wait
 from_end_refuses old new offset fault.NoMemory may wants =
     let out : FoundOut old new = found_nothing old new may wants.1 in
-    lacking_answers old new (Seek offset (pos 2)) (reaching old offset (pos 2) may (end_reaches old offset may)) (record { in_hand = λ has. absurd has.of; spares = λ _. spared old new new.life out.stands }) wants.0
+    lacking_answers old new (Seek offset (pos 2)) (reaching old offset (pos 2) may (end_reaches old offset may)) (record { in_hand = λ has. absurd has.of; spares = λ _. spared old new (Seek offset (pos 2)) new.life out.stands }) wants.0
     (found_on old new may out) out.counts.no_wait
 from_end_refuses old new offset why may asked = end_refuses old new offset why asked.0 may asked.1 asked.2
 

@@ -55,7 +55,7 @@ pub record Shows (before : Stream) (call : FileCall) (reply : FileReply) (after 
   pub idle : IsTrue (calls_none before.buffer before.can.writable call) → IsIdle before reply after
   pub reads : KeepsReads before.raw after.raw
   pub in_hand : InHand before call → AsksNothing before reply after
-  pub spares : before.can.writable ≡ false → before.owed ≡ nothing_owed before.place → SparesBytes before after
+  pub spares : before.can.writable ≡ false → before.owed ≡ nothing_owed before.place → SparesBytes before call after
   pub writes : before.can.writable ≡ true → Writes before call reply after
   pub at_once : before.life ≡ life.Failed → call ≡ Detach → (bytes : List ℕ) × (place : Option ℕ) × (reply ≡ Unwritten bytes place)
   pub answer : IsReplyTo before.buffer before.can.writable call reply
@@ -108,7 +108,7 @@ pub record Accepts (old : Stream) (call : FileCall) : Type 0 where
 -- what an answer says of a stream that reads, or that doesn't write
 pub record Beside (old : Stream) (call : FileCall) (reply : FileReply) (new : Stream) : Type 0 where
   pub in_hand : InHand old call → AsksNothing old reply new
-  pub spares : old.can.writable ≡ false → old.owed ≡ nothing_owed old.place → SparesBytes old new
+  pub spares : old.can.writable ≡ false → old.owed ≡ nothing_owed old.place → SparesBytes old call new
 
 -- an answer has nothing more to say of a stream that writes, where the bytes held don't answer the call
 pub beside_writing : (old : Stream) (call : FileCall) (reply : FileReply) (new : Stream) → old.can.writable ≡ true → (InHand old call → ⊥) → Beside old call reply new

@@ -89,7 +89,7 @@ record ReadyToClose (old mid : Stream) : Type 0 where
   pub goes : LivesOn old mid
   pub none : mid.owed.bytes ≡ []
   pub no_wait : NoWait old.raw mid.raw
-  pub spares : old.can.writable ≡ false → SparesBytes old mid
+  pub spares : old.can.writable ≡ false → SparesBytes old Close mid
 
 -- a stream whose raw was closed once nothing was owed
 record ShutsDown (old new : Stream) : Type 0 where
@@ -106,7 +106,7 @@ record ShutsDown (old new : Stream) : Type 0 where
   pub leaves : PassesFront old new
   pub lays : WhereTold old.raw (LaysFront old [] new.raw.bytes)
   pub holds : WhereTold old.raw (new.raw.bytes ≡ flat_of old)
-  pub spares : old.can.writable ≡ false → SparesBytes old new
+  pub spares : old.can.writable ≡ false → SparesBytes old Close new
 
 shuts_down : (old mid new : Stream) → ReadyToClose old mid → ClosesRaw mid new → ShutsDown old new
 shuts_down old mid new ready closes =
@@ -120,7 +120,7 @@ shuts_down old mid new ready closes =
     let lays : WhereTold old.raw (LaysFront old [] new.raw.bytes) = λ tells. subst (LaysFront old []) (sym (bytes tells)) (passes.lays tells) in
     let holds : WhereTold old.raw (new.raw.bytes ≡ flat_of old) = λ tells. bytes tells ∙ passed_all old mid passes ready.none tells in
     let reads : KeepsReads old.raw new.raw = λ tells. closes.reads (kept.raw.tells_transfers ∙ tells) ∙ kept.reads tells in
-    let spares : old.can.writable ≡ false → SparesBytes old new = λ reads. let spared : SparesBytes old mid = ready.spares reads in grind (arith, answers_still) in
+    let spares : old.can.writable ≡ false → SparesBytes old Close new = λ reads. let spared : SparesBytes old Close mid = ready.spares reads in grind (arith, answers_still) in
     search (rules, no_wait_then)
 
 -- the flat bytes of a stream that was shut down

@@ -14,7 +14,7 @@ use Rattle.py_flat.specs.ExactStep.{is_closed}
 use Rattle.py_flat.specs.BinaryStep.{asks_end, BinaryStep}
 use Rattle.py_raw.specs.RawStream.{Raw, Keeps, WhereTold, WhereBytes, WherePlace, WhereTransfers, KeepsBytes, AnswersFor, KeepsReads, ReadsInAll, StaysOpen, LeavesCounts, KeepsPlace}
 use Rattle.py_stream.specs.Stream.{Span, Stream, size_of, buffering_of, file_of, nothing_owed}
-use Rattle.py_stream.specs.Kinds.{profile, is_reading, reads_on, by_several, has_room, takes_space_first, calls_none, says_wait, says_fault, says_no_memory, looks_ahead}
+use Rattle.py_stream.specs.Kinds.{profile, is_reading, moves_raw, reads_on, by_several, has_room, takes_space_first, calls_none, says_wait, says_fault, says_no_memory, looks_ahead}
 use Rattle.py_stream.specs.Writing.{Writes}
 
 -- What every call keeps.
@@ -368,11 +368,13 @@ pub record IsNear (stream : Stream) : Type 0 where
   pub behind : stream.place ≤ stream.raw_place + size_of stream
   pub stands : WherePlace stream.raw (stream.raw.place ≡ stream.raw_place)
 
--- the raw's bytes are as they were, its writes answered for none, and nothing is owed, at the place
-pub record SparesBytes (before after : Stream) : Type 0 where
+-- the raw's bytes are as they were, its writes answered for none, and nothing is owed, at the place; the raw stands where it stood, as the
+-- stream counts, but after a reading or a seek
+pub record SparesBytes (before : Stream) (call : FileCall) (after : Stream) : Type 0 where
   pub bytes : KeepsBytes before.raw after.raw
   pub written : AnswersFor 0 before.raw after.raw
   pub owed : after.owed ≡ nothing_owed after.place
+  pub still : moves_raw call ≡ false → after.raw_place ≡ before.raw_place
 
 -- One call of a stream over any raw; `room` says which calls have their room, so that they need no memory of their own.
 pub record AnswersWith (room : FileCall → Bool) (before : Stream) (call : FileCall) (reply : FileReply) (after : Stream) : Type 0 where
@@ -414,8 +416,8 @@ pub record AnswersWith (room : FileCall → Bool) (before : Stream) (call : File
   pub in_hand : InHand before call → AsksNothing before reply after
   -- a reading that goes on asks for no more than it answers with
   pub needs : IsTrue (by_several before.buffer call) → before.owed.bytes ≡ [] → AsksNoMore before call reply after
-  -- a stream that doesn't write leaves the raw's bytes, and owes nothing
-  pub spares : before.can.writable ≡ false → before.owed ≡ nothing_owed before.place → SparesBytes before after
+  -- a stream that doesn't write leaves the raw's bytes, and owes nothing; only its readings and seeks move the raw
+  pub spares : before.can.writable ≡ false → before.owed ≡ nothing_owed before.place → SparesBytes before call after
   -- what a stream that writes does with the bytes that it took
   pub writes : before.can.writable ≡ true → Writes before call reply after
   -- which replies an accepted call may have

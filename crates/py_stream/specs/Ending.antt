@@ -28,6 +28,7 @@ pub record ClosesRaw (old new : Stream) : Type 0 where
   pub can : new.can ≡ old.can
   pub short : new.short ≡ old.short
   pub place : new.place ≡ old.place
+  pub raw_place : new.raw_place ≡ old.raw_place
   pub owed : new.owed ≡ old.owed
   pub far : new.place ≤ greatest_place
 

@@ -76,6 +76,15 @@ profile buffer call = by_buffer (is_some buffer) call
 abbrev pub is_reading : FileCall → Bool
 is_reading call = (by_buffer true call).gives
 
+-- calls that move a stream to a place
+abbrev pub is_seek : FileCall → Bool
+is_seek (Seek offset whence) = true
+is_seek call = false
+
+-- calls that may move the raw of a stream that owes nothing: readings, and seeks
+abbrev pub moves_raw : FileCall → Bool
+moves_raw call = is_reading call || is_seek call
+
 -- calls that give bytes to the stream
 abbrev pub is_writing : FileCall → Bool
 is_writing call = (by_buffer true call).takes

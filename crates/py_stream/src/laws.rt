@@ -3,17 +3,17 @@
 //! then.
 //!
 //! No function here does anything; what each ensures is the law.
-ghost use Rattle.std.specs.Prelude.{◌≡◌, ◌+◌, ◌≤◌, ℕ, pos, true, IsTrue, List, length, Option, Some, None, IsSome};
+ghost use Rattle.std.specs.Prelude.{◌≡◌, ◌+◌, ◌≤◌, ℕ, pos, true, false, IsTrue, List, length, Option, Some, None, IsSome};
 ghost use Rattle.py_flat.specs.Limits.{greatest_place};
 ghost use Rattle.py_flat.specs.Bytes.{first_of};
 ghost use Rattle.py_flat.specs.Lines.{Lf, first_line, lines_within, joined};
 ghost use Rattle.py_flat.specs.Calls.{FileCall, Read, Read1, ReadLine, ReadLines, Peek, ReadInto, ReadInto1, Write, WriteLines, Seek, Tell, FileReply, Count, Done, Place};
 ghost use Rattle.py_flat.specs.ExactStep.{rest, one_transfer, buffer_full};
 ghost use Rattle.py_flat.specs.BinaryStep.{Transfers};
-ghost use Rattle.py_stream.specs.Stream.{Stream, file_of};
-ghost use Rattle.py_stream.specs.Answers.{Answers};
+ghost use Rattle.py_stream.specs.Stream.{Stream, file_of, nothing_owed};
+ghost use Rattle.py_stream.specs.Answers.{Answers, CameByReads};
 ghost use Rattle.py_stream.specs.Buffer.{buffer_of, taken_by, OwesAsItCan, is_made, AnswersAsBuffer};
-ghost use Rattle.py_stream.specs.Laws.{ComesBack, GoesSmoothly, GivesJust, GivesJustLines, TakesJust};
+ghost use Rattle.py_stream.specs.Laws.{ComesBack, GoesSmoothly, GivesJust, GivesJustLines, TakesJust, AnswersEach, none_seeks};
 
 /// A stream that told its place, and was then moved there from its start, stands where it stood. Over a raw that tells, its
 /// flat file is what it was, and so is what is left to read of it.
@@ -73,4 +73,11 @@ pub fn a_smooth_write_takes_all()
 /// how many bytes of its last write were taken.
 pub fn a_stream_answers_as_a_buffered_one()
     ensures { (before : Stream) (was : ℕ) (call : FileCall) (reply : FileReply) (after : Stream) (taken : ℕ) → Answers before call reply after → taken ≡ taken_by call before.place after.place was → IsTrue (is_made call) → IsSome before.buffer → OwesAsItCan (buffer_of before was) → AnswersAsBuffer (buffer_of before was) call reply (buffer_of after taken) }
+{}
+
+/// Over a list of calls without a seek, a stream that doesn't write moves its raw, as the stream counts, by exactly as many bytes as
+/// the raw's reads brought; at most one read in each call brought none. It is said of every raw that tells its transfers, as files do,
+/// whatever faults and waits there were.
+pub fn a_reader_stands_where_its_reads_brought_it()
+    ensures { (before : Stream) (calls : List FileCall) (replies : List FileReply) (after : Stream) → before.can.writable ≡ false → before.owed ≡ nothing_owed before.place → none_seeks calls ≡ true → AnswersEach before calls replies after → CameByReads (length calls) before after }
 {}
