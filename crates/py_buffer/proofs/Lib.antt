@@ -5,3 +5,4 @@ pub mod Furthest
 pub mod Rows
 pub mod Gathering
 pub mod Simple
+pub mod Written

@@ -34,9 +34,12 @@ AsciiOutcome (Buf buffer) result = result ≡ Ok (Buffer buffer)
 AsciiOutcome (Str text) (Ok taken) = (taken ≡ String text) × IsAscii text.now
 AsciiOutcome (Str text) (Err refused) = (refused ≡ arg_fault.NotAscii) × (IsAscii text.now → ⊥)
 
--- bytes to be written: a contiguous buffer, which isn't readonly; or why not, contiguity first
-abbrev pub MemoryOutcome : MutBor (List ℕ) → BufferDescriptor → Result ArgMemoryBuffer ArgFault → Type 0
-MemoryOutcome bytes descriptor (Ok argument) = (argument.borrow ≡ bytes) × (argument.desc ≡ descriptor) × IsContiguous descriptor × (descriptor.readonly ≡ false)
-MemoryOutcome bytes descriptor (Err arg_fault.NotContiguous) = IsContiguous descriptor → ⊥
-MemoryOutcome bytes descriptor (Err arg_fault.ReadOnly) = IsContiguous descriptor × (descriptor.readonly ≡ true)
-MemoryOutcome bytes descriptor (Err arg_fault.NotAscii) = ⊥
+-- an argument of bytes to be written has these bytes, of which there are as many, with that descriptor: it is contiguous and isn't readonly
+abbrev pub HoldsMemory : MutBor (List ℕ) → BufferDescriptor → ArgMemoryBuffer → Type 0
+HoldsMemory bytes descriptor argument = (argument.borrow ≡ bytes) × (argument.size ≡ length bytes.now) × (argument.desc ≡ descriptor) × IsContiguous descriptor × (descriptor.readonly ≡ false)
+
+-- why bytes to be written are refused, contiguity first
+abbrev pub RefusesMemory : BufferDescriptor → ArgFault → Type 0
+RefusesMemory descriptor arg_fault.NotContiguous = IsContiguous descriptor → ⊥
+RefusesMemory descriptor arg_fault.ReadOnly = IsContiguous descriptor × (descriptor.readonly ≡ true)
+RefusesMemory descriptor arg_fault.NotAscii = ⊥

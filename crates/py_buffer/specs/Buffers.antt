@@ -1,5 +1,5 @@
 -- Buffers: bytes with a descriptor that doesn't leave them.
-use Rattle.std.specs.Prelude.{◌≡◌, ℕ, pos, Bool, List, [], ◌∷◌, ◌++◌, length, take, drop}
+use Rattle.std.specs.Prelude.{◌≡◌, ℕ, pos, Bool, false, List, [], ◌∷◌, ◌++◌, length, take, drop}
 use Rattle.std.specs.Borrow.{MutBor}
 use Rattle.py_buffer.specs.declared.descriptor.BufferDescriptor.{BufferDescriptor}
 use Rattle.py_buffer.specs.Descriptor.{IsValid}
@@ -19,6 +19,10 @@ pub record IsOver (descriptor : BufferDescriptor) (bytes : List ℕ) : Type 0 wh
 abbrev pub items_of : BufferView → List ℕ
 items_of buffer = bytes_of buffer.desc buffer.bytes
 
+-- a buffer with these bytes in place of its own, which keep their number: more are cut, and of fewer the old ones behind stay
+abbrev pub refilled : BufferView → List ℕ → BufferView
+refilled buffer bytes = record buffer { bytes = take (length buffer.bytes) (bytes ++ drop (length bytes) buffer.bytes) }
+
 -- the descriptor of so many bytes one by one
 pub record IsSimple (descriptor : BufferDescriptor) (n : ℕ) (readonly : Bool) : Type 0 where
   pub len : descriptor.len ≡ n
@@ -29,10 +33,17 @@ pub record IsSimple (descriptor : BufferDescriptor) (n : ℕ) (readonly : Bool) 
 
 -- A buffer that is written.
 
--- as contracts see it: the borrow of its bytes, by which a caller tells whose they are, and what they hold
+-- as contracts see it: the borrow of its bytes, by which a caller tells whose they are; how many were lent; and what they hold
 pub record WrittenView : Type 0 where
   pub borrow : MutBor (List ℕ)
+  pub size : ℕ
   pub desc : BufferDescriptor
+
+-- a descriptor of bytes that are written: valid, its segments within so many bytes, and not readonly
+pub record IsWritable (descriptor : BufferDescriptor) (size : ℕ) : Type 0 where
+  pub valid : IsValid descriptor
+  pub covers : Covers descriptor size
+  pub writable : descriptor.readonly ≡ false
 
 -- the buffer as one that is read
 abbrev pub as_read : WrittenView → BufferView

@@ -7,3 +7,4 @@ pub mod Calls
 pub mod Buffers
 pub mod Arguments
 pub mod Lending
+pub mod Owned

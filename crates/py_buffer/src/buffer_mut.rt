@@ -1,9 +1,9 @@
 //! Bytes that are lent to be read and written.
-ghost use Rattle.std.specs.Prelude.{◌≡◌, ◌++◌, ℕ, List, take, false, is_ok, IfOk, MatchOption, OnErr, if◌then◌else◌};
+ghost use Rattle.std.specs.Prelude.{◌≡◌, ◌++◌, ℕ, List, length, take, false, is_ok, IfOk, MatchOption, MatchResult, OnErr, if◌then◌else◌};
 ghost use Rattle.std.specs.Fn.{FnOnceReturnsAt, FnOnceReturnsAtMut};
 ghost use Rattle.py_flat.specs.declared.fault.IoFault.TheVariants as fault;
-ghost use Rattle.py_buffer.specs.Descriptor.{IsValid, IsContiguous};
-ghost use Rattle.py_buffer.specs.Buffers.{IsOver, LeavesFront, as_read, items_of};
+ghost use Rattle.py_buffer.specs.Descriptor.{IsContiguous};
+ghost use Rattle.py_buffer.specs.Buffers.{IsOver, IsWritable, LeavesFront, as_read, items_of};
 ghost use Rattle.py_buffer.specs.Lending.{WritesAll};
 ghost use Rattle.std.specs.Borrow.{sem};
 
@@ -17,51 +17,58 @@ use std::marker::Model;
 /// Lent bytes that may be written, with a descriptor whose segments lie within them.
 ///
 /// Bytes that are written keep their number, so the descriptor still doesn't leave them (docs/DECISIONS.md). Contracts see the borrow of
-/// the bytes, by which a caller tells whose they are.
-#[derive(Drop)]
+/// the bytes, by which a caller tells whose they are, and how many were lent (`size`).
+#[derive(Debug, Drop)]
 pub struct PyBufferMut<'a> {
     bytes: &'a mut [u8],
+    size: usize,
     desc: BufferDescriptor,
 }
 
 impl<'a> Model for PyBufferMut<'a> {
-    ghost use Rattle.std.specs.Prelude.{◌≡◌, false};
-    ghost use Rattle.py_buffer.specs.Descriptor.{IsValid};
-    ghost use Rattle.py_buffer.specs.Buffers.{WrittenView};
+    ghost use Rattle.py_buffer.specs.Buffers.{WrittenView, IsWritable};
 
     ghost Value = { WrittenView };
 
-    ghost view = { λ b. record { borrow = b.bytes; desc = b.desc } };
+    ghost view = { λ b. record { borrow = b.bytes; size = b.size; desc = b.desc } };
 
-    ghost invariant = { λ b. IsValid b.desc × (b.desc.readonly ≡ false) };
+    ghost invariant = { λ b. IsWritable b.desc b.size };
 }
 
 impl<'a> PyBufferMut<'a> {
-    /// A buffer of these bytes with that descriptor, or `None` where `PyBuffer::new` would give none, or the descriptor is readonly.
+    /// A buffer of these bytes with that descriptor, or `None` where `PyBuffer::new` would give none, or the descriptor is readonly. The
+    /// bytes then stay as they were.
     pub fn new(bytes: &'a mut [u8], desc: BufferDescriptor) -> Option<Self>
-        ensures { MatchOption result (IsOver desc bytes.old → desc.readonly ≡ false → ⊥) (λ b. (b.borrow ≡ bytes.entry) × (b.desc ≡ desc) × IsOver desc bytes.old × (desc.readonly ≡ false)) }
+        ensures { MatchOption result (IsOver desc bytes.old → desc.readonly ≡ false → ⊥) (λ b. (b.borrow ≡ bytes.entry) × (b.size ≡ length bytes.old) × (b.desc ≡ desc) × IsOver desc bytes.old × (desc.readonly ≡ false)) }
     {
-        if !desc.readonly && desc.is_valid() && desc.covers(bytes.len()) {
-            Some(PyBufferMut { bytes, desc })
+        PyBufferMut::try_new(bytes, desc).ok()
+    }
+
+    /// As `new`, but that it gives the bytes back as they were where `new` gives `None`.
+    pub fn try_new(bytes: &'a mut [u8], desc: BufferDescriptor) -> Result<Self, &'a mut [u8]>
+        ensures { MatchResult result (λ b. (b.borrow ≡ bytes.entry) × (b.size ≡ length bytes.old) × (b.desc ≡ desc) × IsOver desc bytes.old × (desc.readonly ≡ false))
+            (λ back. (back ≡ bytes.entry) × (IsOver desc bytes.old → desc.readonly ≡ false → ⊥)) }
+    {
+        let size = bytes.len();
+        if !desc.readonly && desc.is_valid() && desc.covers(size) {
+            Ok(PyBufferMut { bytes, size, desc })
         } else {
-            None
+            Err(bytes)
         }
     }
 
-    /// A buffer of these bytes with that descriptor, which isn't readonly.
-    pub(crate) fn over(bytes: &'a mut [u8], desc: BufferDescriptor) -> Self
-        requires valid { IsValid desc }
-        requires writable { desc.readonly ≡ false }
-        ensures { result ≡ record { borrow = bytes.entry; desc = desc } }
+    /// A buffer of these bytes, of which so many were lent, with that descriptor.
+    pub(crate) fn over(bytes: &'a mut [u8], size: usize, desc: BufferDescriptor) -> Self
+        requires { IsWritable desc size }
+        ensures { result ≡ record { borrow = bytes.entry; size = size; desc = desc } }
     {
-        PyBufferMut { bytes, desc }
+        PyBufferMut { bytes, size, desc }
     }
 
     /// What the bytes hold.
     pub fn desc(&self) -> &BufferDescriptor
         ensures value { result.now ≡ self.now.desc }
-        ensures valid { IsValid self.now.desc }
-        ensures writable { self.now.desc.readonly ≡ false }
+        ensures writable { IsWritable self.now.desc self.now.size }
     {
         &self.desc
     }
@@ -113,8 +120,8 @@ impl<'a> PyBufferMut<'a> {
         ensures items { buf.new.items ≡ (if is_ok result then buf.old.items ++ items_of (as_read self.now) else buf.old.items) }
         ensures err { OnErr result (result ≡ Err fault.NoMemory) }
     {
-        if !self.desc.covers(self.bytes.len()) {
-            return Err(IoFault::NoMemory); // never so: `new` refused it, and bytes keep their number
+        if self.bytes.len() != self.size {
+            return Err(IoFault::NoMemory); // never so: bytes that were lent keep their number
         }
         append(&self.bytes[..], &self.desc, buf)
     }
@@ -129,7 +136,7 @@ impl<'a> PyBufferMut<'a> {
         ensures answer { IfOk result (λ r. FnOnceReturnsAt F.FnOnce f (items_of (as_read self.now)) r) }
         ensures err { OnErr result (result ≡ Err fault.NoMemory) }
     {
-        if !self.desc.covers(self.bytes.len()) {
+        if self.bytes.len() != self.size {
             return Err(IoFault::NoMemory); // never so, as in `append_to`
         }
         collected(&self.bytes[..], &self.desc, alloc, f)

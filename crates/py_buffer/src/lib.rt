@@ -24,7 +24,10 @@ pub use arguments::{ArgAsciiBuffer, ArgBytesLike, ArgFault, ArgStrOrBytesLike, t
 pub use buffer::PyBuffer;
 pub use buffer_mut::PyBufferMut;
 pub use descriptor::BufferDescriptor;
-pub use laws::{contiguous_bytes_are_the_first, joined_rows_have_the_bytes_of_their_items};
-pub use memory_argument::{ArgMemoryBuffer, try_rw_bytes_like};
-pub use owned::{OwnedBuffer, VecBuffer};
+pub use laws::{
+    contiguous_bytes_are_the_first, joined_rows_have_the_bytes_of_their_items,
+    written_bytes_keep_their_number,
+};
+pub use memory_argument::{ArgMemoryBuffer, ArgRefused, try_rw_bytes_like};
+pub use owned::{OwnedBuffer, OwnedBytes, VecBuffer};
 pub use segments::Segments;

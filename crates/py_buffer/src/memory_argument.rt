@@ -4,7 +4,7 @@ ghost use Rattle.std.specs.Fn.{FnOnceReturnsAtMut};
 ghost use Rattle.py_buffer.specs.declared.arguments.ArgFault.TheVariants as arg_fault;
 ghost use Rattle.py_buffer.specs.Descriptor.{IsValid, IsContiguous};
 ghost use Rattle.py_buffer.specs.Segments.{Covers};
-ghost use Rattle.py_buffer.specs.Arguments.{MemoryOutcome};
+ghost use Rattle.py_buffer.specs.Arguments.{HoldsMemory, RefusesMemory};
 ghost use Rattle.py_buffer.specs.Buffers.{LeavesFront};
 
 use crate::writing::called_on_front;
@@ -12,38 +12,67 @@ use crate::{ArgFault, BufferDescriptor, PyBufferMut};
 use std::marker::Model;
 
 /// A contiguous buffer that is written. Contracts see the buffer.
-#[derive(Drop)]
+#[derive(Debug, Drop)]
 pub struct ArgMemoryBuffer<'a> {
     bytes: &'a mut [u8],
+    size: usize,
     desc: BufferDescriptor,
 }
 
 impl<'a> Model for ArgMemoryBuffer<'a> {
-    ghost use Rattle.std.specs.Prelude.{◌≡◌, false};
-    ghost use Rattle.py_buffer.specs.Descriptor.{IsValid, IsContiguous};
-    ghost use Rattle.py_buffer.specs.Buffers.{WrittenView};
+    ghost use Rattle.py_buffer.specs.Descriptor.{IsContiguous};
+    ghost use Rattle.py_buffer.specs.Buffers.{WrittenView, IsWritable};
 
     ghost Value = { WrittenView };
 
-    ghost view = { λ a. record { borrow = a.bytes; desc = a.desc } };
+    ghost view = { λ a. record { borrow = a.bytes; size = a.size; desc = a.desc } };
 
-    ghost invariant = { λ a. IsValid a.desc × IsContiguous a.desc × (a.desc.readonly ≡ false) };
+    ghost invariant = { λ a. IsWritable a.desc a.size × IsContiguous a.desc };
+}
+
+/// Bytes that were to be written, as they were, and why they were refused.
+#[derive(Debug, Drop)]
+pub struct ArgRefused<'a> {
+    /// The bytes.
+    pub bytes: &'a mut [u8],
+    /// Why they were refused.
+    pub fault: ArgFault,
 }
 
 impl<'a> ArgMemoryBuffer<'a> {
-    /// A buffer of these bytes; or NotContiguous where the descriptor isn't contiguous, or else ReadOnly where it is readonly.
+    /// A buffer of these bytes; or NotContiguous where the descriptor isn't contiguous, or else ReadOnly where it is readonly. The bytes
+    /// then stay as they were.
     pub fn new(bytes: &'a mut [u8], desc: BufferDescriptor) -> Result<Self, ArgFault>
         requires valid { IsValid desc }
         requires covers { Covers desc (length bytes.old) }
-        ensures { MemoryOutcome bytes.entry desc result }
+        ensures { MatchResult result (λ argument. HoldsMemory bytes.entry desc argument) (λ fault. RefusesMemory desc fault) }
+    {
+        match ArgMemoryBuffer::try_new(bytes, desc) {
+            Ok(argument) => Ok(argument),
+            Err(refused) => Err(refused.fault),
+        }
+    }
+
+    /// As `new`, but that a refusal gives the bytes back as they were.
+    pub fn try_new(bytes: &'a mut [u8], desc: BufferDescriptor) -> Result<Self, ArgRefused<'a>>
+        requires valid { IsValid desc }
+        requires covers { Covers desc (length bytes.old) }
+        ensures { MatchResult result (λ argument. HoldsMemory bytes.entry desc argument) (λ refused. RefusesMemory desc refused.fault × (refused.bytes ≡ bytes.entry)) }
     {
         if !desc.is_contiguous() {
-            return Err(ArgFault::NotContiguous);
+            return Err(ArgRefused {
+                bytes,
+                fault: ArgFault::NotContiguous,
+            });
         }
         if desc.readonly {
-            return Err(ArgFault::ReadOnly);
+            return Err(ArgRefused {
+                bytes,
+                fault: ArgFault::ReadOnly,
+            });
         }
-        Ok(ArgMemoryBuffer { bytes, desc })
+        let size = bytes.len();
+        Ok(ArgMemoryBuffer { bytes, size, desc })
     }
 
     /// The bytes of all items, lent to be written.
@@ -81,8 +110,8 @@ impl<'a> From<ArgMemoryBuffer<'a>> for PyBufferMut<'a> {
     ghost from_gives = { λ argument buffer. buffer ≡ argument };
 
     fn from(argument: ArgMemoryBuffer<'a>) -> PyBufferMut<'a> {
-        let ArgMemoryBuffer { bytes, desc } = argument;
-        PyBufferMut::over(bytes, desc)
+        let ArgMemoryBuffer { bytes, size, desc } = argument;
+        PyBufferMut::over(bytes, size, desc)
     }
 }
 

@@ -1,6 +1,9 @@
 //! Bytes that a buffer owns.
-ghost use Rattle.std.specs.Prelude.{◌≡◌, [], true, false, length, MatchOption, MatchResult};
+ghost use Rattle.std.specs.Borrow.{sem};
+ghost use Rattle.std.specs.Prelude.{◌≡◌, [], true, length, MatchResult};
 ghost use Rattle.py_buffer.specs.Buffers.{IsOver, IsSimple};
+ghost use Rattle.py_buffer.specs.Lending.{WritesOwned};
+ghost use Rattle.py_buffer.specs.Owned.{own_bytes, MayWrite, StaysIfNone, WritesBytes};
 
 use crate::BufferDescriptor;
 use std::marker::Model;
@@ -106,15 +109,23 @@ impl OwnedBuffer {
         self.data.as_slice()
     }
 
-    /// All bytes, lent to be written, or `None` where the buffer is readonly.
-    pub fn view_mut(&mut self) -> Option<&mut [u8]>
-        ensures { MatchOption result (self.old.desc.readonly ≡ true) (λ view. (view.now ≡ self.old.bytes) × (self.old.desc.readonly ≡ false)) }
+    /// All bytes, lent to be written; they keep their number. `None` where the buffer is readonly, which then stays as it was.
+    pub fn view_mut(&mut self) -> Option<OwnedBytes<'_>>
+        ensures* unchanged { sem 𝓛 (StaysIfNone self.entry result) }
+        ensures answer { MayWrite self.old.desc.readonly self.entry result }
     {
         if self.desc.readonly {
-            None
-        } else {
-            Some(self.data.as_mut_slice())
+            return None;
         }
+        Some(OwnedBytes { buffer: self })
+    }
+
+    /// All bytes, to be written; they keep their number.
+    fn bytes_mut(&mut self) -> &mut [u8]
+        ensures* writes_back { sem 𝓛 (WritesOwned self.entry result) }
+        ensures value { result.now ≡ self.old.bytes }
+    {
+        self.data.as_mut_slice()
     }
 
     /// The bytes as a vector. It takes no memory.
@@ -123,5 +134,29 @@ impl OwnedBuffer {
     {
         let OwnedBuffer { data, desc: _ } = self;
         data
+    }
+}
+
+/// The bytes of an owned buffer that isn't readonly, to be written: as many as it has. What is written there is in the buffer once they
+/// come back, of which nothing else changes. Contracts see the borrowed buffer (`buffer_of`).
+#[derive(Debug, Drop)]
+pub struct OwnedBytes<'a> {
+    buffer: &'a mut OwnedBuffer,
+}
+
+impl OwnedBytes<'_> {
+    /// The bytes.
+    pub fn as_slice(&self) -> &[u8]
+        ensures { result.now ≡ own_bytes self.now }
+    {
+        self.buffer.view()
+    }
+
+    /// The bytes, to be written.
+    pub fn as_mut_slice(&mut self) -> &mut [u8]
+        ensures* writes_back { sem 𝓛 (WritesBytes self.entry result) }
+        ensures value { result.now ≡ own_bytes self.old }
+    {
+        self.buffer.bytes_mut()
     }
 }

@@ -1,4 +1,6 @@
 //! Worked examples, whose answers stand in `stdout`.
+ghost use Rattle.std.specs.Prelude.{◌≡◌, pos, ◌∷◌, [], IfOk};
+
 use anyhow::{Result, bail};
 use py_buffer::{
     ArgAsciiBuffer, ArgBytesLike, ArgMemoryBuffer, ArgStrOrBytesLike, BufferDescriptor, PyBuffer,
@@ -22,6 +24,43 @@ pub(crate) fn two_rows(
         format: "B",
         dim_desc,
     })
+}
+
+/// So many items of one byte, each two bytes after the one before.
+pub(crate) fn every_second(alloc: Global, items: usize) -> Result<BufferDescriptor, AllocError>
+    ensures { IfOk result (λ made. made.dim_desc.items ≡ (items, pos 2, pos 0) ∷ []) }
+{
+    let mut dim_desc = Vec::new(alloc);
+    dim_desc.push((items, 2, 0))?;
+    Ok(BufferDescriptor {
+        len: items,
+        readonly: false,
+        itemsize: 1,
+        format: "B",
+        dim_desc,
+    })
+}
+
+/// Prints the segments of two descriptors of the same shapes side by side, of which the second alone has a row to join.
+pub(crate) fn print_pairs(rt: &HostRuntime) -> Result<()> {
+    let alloc = rt.alloc();
+    let Some(apart) = every_second(alloc, 3)?.validate() else {
+        bail!("items apart are refused");
+    };
+    let Some(row) = BufferDescriptor::simple(alloc, 3, true)?.validate() else {
+        bail!("a row is refused");
+    };
+    for start in [4, 6] {
+        let stopped = apart.zip_eq(&row, true, |one, other| {
+            one.start == start && other.start == 2
+        });
+        println!(rt; "a pair at {start} {stopped}")?;
+    }
+    let wide = apart.zip_eq(&row, true, |_, other| other.start == 0 && other.end == 3);
+    println!(rt; "a row beside single items {wide}")?;
+    let joined = row.zip_eq(&row, true, |one, other| one.end == 3 && other.end == 3);
+    println!(rt; "a row beside itself {joined}")?;
+    Ok(())
 }
 
 /// Prints the segments, joined and one by one.
@@ -95,6 +134,32 @@ pub(crate) fn print_owned(rt: &HostRuntime) -> Result<()> {
             println!(rt; "taken {:?}", buffer.take())?;
         }
         Err(_) => println!(rt; "out of memory")?,
+    }
+    Ok(())
+}
+
+/// Prints the bytes of arguments that are texts or buffers.
+pub(crate) fn print_borrowed(rt: &HostRuntime) -> Result<()> {
+    let alloc = rt.alloc();
+    println!(rt;
+        "bytes of a text {:?}",
+        ArgStrOrBytesLike::Str("\u{e9}").borrow_bytes()
+    )?;
+    if let Some(buffer) = PyBuffer::new(b"abc", BufferDescriptor::simple(alloc, 2, true)?) {
+        if let Ok(argument) = ArgBytesLike::new(buffer) {
+            println!(rt;
+                "of a buffer {:?}",
+                ArgStrOrBytesLike::Buf(argument).borrow_bytes()
+            )?;
+        }
+    }
+    if let Ok(argument) = ArgAsciiBuffer::new(ArgStrOrBytesLike::Str("abc")) {
+        println!(rt;
+            "of ASCII {}, {}, {}",
+            argument.with_ref(|b| b == b"abc".as_slice()),
+            argument.len(),
+            argument.is_empty()
+        )?;
     }
     Ok(())
 }

@@ -15,16 +15,24 @@ use sweep::Kind;
 
 fn main(rt: HostRuntime) -> Result<()> {
     examples::print_segments(&rt)?;
+    examples::print_pairs(&rt)?;
     examples::print_positions(&rt)?;
     examples::print_buffers(&rt)?;
     examples::print_owned(&rt)?;
+    examples::print_borrowed(&rt)?;
     examples::print_arguments(&rt)?;
     writable::print_buffer(&rt)?;
     writable::print_contiguous(&rt)?;
     writable::print_refused(&rt)?;
     writable::print_argument(&rt)?;
+    writable::print_argument_apart(&rt)?;
+    writable::print_argument_back(&rt)?;
+    writable::print_apart(&rt)?;
+    writable::print_given_back(&rt)?;
     writable::print_lent(&rt)?;
     writable::print_owned(&rt)?;
+    writable::print_readonly(&rt)?;
+    writable::print_described(&rt)?;
     for kind in [Kind::Strides, Kind::Suboffsets] {
         for itemsize in 1..3 {
             for dimensions in 1..4 {

@@ -1,5 +1,5 @@
 //! Buffers that are written, with the bytes that stand afterwards; the answers stand in `stdout`.
-use crate::examples::two_rows;
+use crate::examples::{every_second, two_rows};
 use anyhow::Result;
 use py_buffer::{
     ArgBytesLike, ArgMemoryBuffer, BufferDescriptor, OwnedBuffer, PyBuffer, PyBufferMut, VecBuffer,
@@ -22,6 +22,7 @@ pub(crate) fn print_buffer(rt: &HostRuntime) -> Result<()> {
             "rows lent to be written {}",
             buffer.as_contiguous_mut().is_some()
         )?;
+        print_bytes(rt, "after rows weren't lent", buffer.obj_bytes())?;
         buffer.obj_bytes_mut().fill(b'z');
         buffer.append_to(&mut appended)?;
         let all = buffer.contiguous_or_collect(alloc, |b| b == b"zzzz".as_slice())?;
@@ -72,6 +73,15 @@ pub(crate) fn print_refused(rt: &HostRuntime) -> Result<()> {
         "outside {}",
         PyBufferMut::new(&mut bytes, outside).is_some()
     )?;
+    let rowless = two_rows(alloc, 3, 4)?;
+    println!(rt;
+        "of a wrong length {}",
+        PyBufferMut::new(&mut bytes, rowless).is_some()
+    )?;
+    let again = BufferDescriptor::simple(alloc, 4, false)?;
+    if let Err(back) = PyBufferMut::try_new(&mut bytes, again) {
+        print_bytes(rt, "given back", back)?;
+    }
     print_bytes(rt, "after refusals", &bytes)
 }
 
@@ -99,6 +109,79 @@ pub(crate) fn print_argument(rt: &HostRuntime) -> Result<()> {
         ArgMemoryBuffer::new(&mut bytes, readonly).is_err()
     )?;
     print_bytes(rt, "after the refusal", &bytes)
+}
+
+/// Prints what stands after an argument was refused, as its items don't lie one after the other.
+pub(crate) fn print_argument_apart(rt: &HostRuntime) -> Result<()> {
+    let alloc = rt.alloc();
+    let mut bytes = *b"abcd";
+    if let Some(apart) = every_second(alloc, 2)?.validate() {
+        if apart.covers(bytes.len()) {
+            let refused = ArgMemoryBuffer::new(&mut bytes, apart).err();
+            println!(rt; "apart {refused:?}")?;
+        }
+    }
+    print_bytes(rt, "after it", &bytes)
+}
+
+/// Prints what an argument gives back where it is refused.
+pub(crate) fn print_argument_back(rt: &HostRuntime) -> Result<()> {
+    let alloc = rt.alloc();
+    let mut bytes = *b"abcd";
+    if let Some(apart) = every_second(alloc, 2)?.validate() {
+        if apart.covers(bytes.len()) {
+            if let Err(refused) = ArgMemoryBuffer::try_new(&mut bytes, apart) {
+                println!(rt; "given back {:?} {:?}", refused.fault, refused.bytes)?;
+            }
+        }
+    }
+    Ok(())
+}
+
+/// Prints what a function over the bytes of a buffer, whose items don't lie one after the other, is refused by, and what that leaves.
+pub(crate) fn print_apart(rt: &HostRuntime) -> Result<()> {
+    let alloc = rt.alloc();
+    let mut bytes = *b"abcd";
+    if let Some(buffer) = PyBuffer::new(b"abcd", every_second(alloc, 2)?) {
+        println!(rt; "read apart {:?}", try_bytes_like(&buffer, |b| b.len()))?;
+    }
+    if let Some(mut buffer) = PyBufferMut::new(&mut bytes, every_second(alloc, 2)?) {
+        println!(rt;
+            "written apart {:?}",
+            try_rw_bytes_like(&mut buffer, |b| b.fill(b'w'))
+        )?;
+        print_bytes(rt, "of all", buffer.obj_bytes())?;
+    }
+    print_bytes(rt, "after apart", &bytes)
+}
+
+/// Prints what buffers are that arguments give back.
+pub(crate) fn print_given_back(rt: &HostRuntime) -> Result<()> {
+    let alloc = rt.alloc();
+    let mut bytes = *b"abcd";
+    if let Ok(argument) = ArgMemoryBuffer::new(
+        &mut bytes,
+        BufferDescriptor::simple(alloc, 3, false)?,
+    ) {
+        let buffer = PyBufferMut::from(argument);
+        println!(rt;
+            "wrapped to be written {}, of {}",
+            buffer.desc().len,
+            buffer.obj_bytes().len()
+        )?;
+    }
+    print_bytes(rt, "after it", &bytes)?;
+    if let Some(buffer) = PyBuffer::new(b"abcd", BufferDescriptor::simple(alloc, 3, true)?) {
+        if let Ok(argument) = ArgBytesLike::new(buffer) {
+            let buffer = PyBuffer::from(argument);
+            println!(rt;
+                "wrapped to be read {}, of {}",
+                buffer.desc().len,
+                buffer.obj_bytes().len()
+            )?;
+        }
+    }
+    Ok(())
 }
 
 /// Prints what functions over lent bytes answer, and what they leave.
@@ -138,14 +221,44 @@ pub(crate) fn print_owned(rt: &HostRuntime) -> Result<()> {
     }
     let bytes = VecBuffer::from(Vec::from_slice(alloc, b"abc")?);
     if let Ok(mut buffer) = bytes.into_pybuffer(false) {
-        if let Some(all) = buffer.view_mut() {
-            all.fill(b'v');
+        if let Some(mut all) = buffer.view_mut() {
+            all.as_mut_slice().fill(b'v');
+            println!(rt; "lent {}", all.as_slice().len())?;
         }
         println!(rt;
             "written {:?}, readonly {}",
             buffer.view(),
             buffer.desc().readonly
         )?;
+    }
+    Ok(())
+}
+
+/// Prints what an owned buffer has whose bytes aren't lent to be written, as it is readonly.
+pub(crate) fn print_readonly(rt: &HostRuntime) -> Result<()> {
+    let alloc = rt.alloc();
+    if let Ok(mut buffer) = OwnedBuffer::from_byte_vector(Vec::from_slice(alloc, b"abc")?) {
+        println!(rt; "lent to be written {}", buffer.view_mut().is_some())?;
+        print_bytes(rt, "after it wasn't lent", buffer.view())?;
+    }
+    Ok(())
+}
+
+/// Prints what becomes of a vector by a descriptor of one's own: a buffer, or the bytes back.
+pub(crate) fn print_described(rt: &HostRuntime) -> Result<()> {
+    let alloc = rt.alloc();
+    let bytes = VecBuffer::from(Vec::from_slice(alloc, b"abcdef")?);
+    match bytes.into_pybuffer_with_descriptor(two_rows(alloc, 3, 6)?) {
+        Ok(_) => println!(rt; "a third row is owned")?,
+        Err(mut back) => {
+            print_bytes(rt, "a vector back", &back.take())?;
+            println!(rt; "left {}", back.take().len())?;
+        }
+    }
+    let bytes = VecBuffer::from(Vec::from_slice(alloc, b"abcdef")?);
+    if let Ok(buffer) = bytes.into_pybuffer_with_descriptor(two_rows(alloc, 2, 4)?) {
+        println!(rt; "owned rows {:?}", buffer.desc().dim_desc)?;
+        print_bytes(rt, "owned", &buffer.take())?;
     }
     Ok(())
 }
