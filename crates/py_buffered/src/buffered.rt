@@ -13,9 +13,10 @@ ghost use Rattle.py_buffered.specs.Buffered.{seen_of, held_of, opened_as, Begins
 ghost use Rattle.py_engine.specs.Engine.{stream_of};
 
 use py_engine::BufferedData;
-use py_raw::{IoFault, Life, Lines, RawError, RawStream};
+use py_raw::{IoFault, Life, Lines, RawStream};
 use py_stream::{
-    Access, Detached, NewRefused, first_place, read_line, read_lines, refused_at_first, truncate,
+    Access, Detached, NewRefused, first_place, read_line, read_lines, refuse, refused_at_first,
+    refused_by, seek, tell, truncate,
 };
 use std::alloc::Global;
 use std::marker::Model;
@@ -79,14 +80,7 @@ impl<R: RawStream> Buffered<R> {
                 size,
                 taken: 0,
             }),
-            Err(RawError::Fault) => Err(NewRefused {
-                raw,
-                fault: IoFault::RawFault,
-            }),
-            Err(RawError::Memory) => Err(NewRefused {
-                raw,
-                fault: IoFault::NoMemory,
-            }),
+            Err(error) => Err(refused_by(raw, error)),
         }
     }
 
@@ -312,7 +306,7 @@ impl<R: RawStream> Buffered<R> {
         ensures taken { self.new.taken ≡ self.old.taken }
     {
         match &mut self.data {
-            Some(data) => data.seek(offset, whence),
+            Some(data) => seek(data, offset, whence),
             None => Err(IoFault::Detached),
         }
     }
@@ -323,7 +317,7 @@ impl<R: RawStream> Buffered<R> {
         ensures taken { self.new.taken ≡ self.old.taken }
     {
         match &mut self.data {
-            Some(data) => data.tell(),
+            Some(data) => tell(data),
             None => Err(IoFault::Detached),
         }
     }
@@ -345,7 +339,7 @@ impl<R: RawStream> Buffered<R> {
         ensures taken { self.new.taken ≡ self.old.taken }
     {
         match &mut self.data {
-            Some(data) => data.refuse(),
+            Some(data) => refuse(data),
             None => IoFault::Detached,
         }
     }

@@ -1,9 +1,9 @@
 -- The calls that give nothing, or bytes, by what the stream is opened for: what holds when a call begins, and what its steps come to.
-use Rattle.std.proofs.Common.{◌≡◌, ℕ, ℤ, ◌+◌, ◌≤◌, Bool, true, false, [], length, Result, Ok, Err, IfOk, refl, sym, ap, subst, arith}
+use Rattle.std.proofs.Common.{◌≡◌, ℕ, ◌+◌, ◌≤◌, Bool, true, false, [], length, Result, Ok, Err, IfOk, refl, sym, ap, subst, arith}
 use Rattle.py_flat.specs.declared.fault.IoFault.{IoFault}
 use Rattle.py_flat.specs.declared.life.Life.TheVariants as life
 use Rattle.py_flat.specs.Limits.{greatest_place}
-use Rattle.py_flat.specs.Calls.{FileCall, Flush, Close, Seek, Place, Refused}
+use Rattle.py_flat.specs.Calls.{FileCall, Flush, Close, Refused}
 use Rattle.py_flat.specs.BinaryStep.{payload}
 use Rattle.py_stream.specs.declared.access.Access.{Access}
 use Rattle.py_stream.specs.declared.access.Access.TheVariants as access
@@ -12,17 +12,14 @@ use Rattle.py_stream.specs.Stream.{Stream}
 use Rattle.py_stream.specs.Kinds.{is_writing}
 use Rattle.py_stream.specs.Replies.{done_reply}
 use Rattle.py_stream.specs.Answers.{Answers}
-use Rattle.py_stream.specs.Moving.{TargetOutcome, GoOutcome, GoesTo}
+use Rattle.py_stream.specs.Moving.{Begins, keeps_pending, OwesBy, SettlesBy}
 use Rattle.py_stream.specs.Ending.{CloseRawOutcome}
-use Rattle.py_stream.proofs.Alone.{Begins}
-use Rattle.py_stream.proofs.Seeking.{MaySeek}
 use Rattle.py_stream.proofs.Giving.{of_both}
 use Rattle.py_stream.proofs.Given.{Begun}
 use Rattle.py_stream.proofs.Showing.{IsWriting}
 use Rattle.py_stream.proofs.PassingOn.{begun}
 use Rattle.py_stream.proofs.Flushing.{flush_answers}
 use Rattle.py_stream.proofs.Shutting.{flush_passes_on, close_stops, close_answers, close_answers_at_once}
-use Rattle.py_stream.proofs.Going.{SeeksWriting, Finds, seek_finds, seek_stops, seek_fails, seek_answers, going_fails, going_answers}
 use Rattle.py_engine.specs.Window.{place_of}
 use Rattle.py_engine.specs.Engine.{EngineView, stream_of, Stands, BeginOutcome}
 use Rattle.py_engine.specs.Passing.{PassesAll, PassesToClose}
@@ -90,37 +87,17 @@ closes other old started mid new result opened is began passed shut =
 
 -- Moving.
 
-seeks_writing : (old started : EngineView) → Stands old → MaySeek (begun (stream_of old)) → is_read old.access ≡ false → SeeksWriting (begun (stream_of old))
-seeks_writing old started is may writes = grind (arith, writes_only)
+owes_in : (opened : Access) (engine : EngineView) → engine.access ≡ opened → Stands engine → OwesBy (keeps_pending (stream_of engine)) (stream_of engine)
+owes_in access.Read engine opened is = grind (arith, owes_nothing)
+owes_in other engine opened is = grind arith
 
--- what is known once a seek found where it goes
-pub record SeekFinds (old : EngineView) (offset whence : ℤ) (target : ℕ) (found : EngineView) : Type 0 where
-  pub is : Stands old
-  pub may : MaySeek (begun (stream_of old))
-  pub finds : Finds (begun (stream_of old)) offset whence target (stream_of found)
-  pub same : found.access ≡ old.access
+-- a stream that is written doesn't read, and another owes nothing
+pub owes_by : (engine : EngineView) → Stands engine → OwesBy (keeps_pending (stream_of engine)) (stream_of engine)
+owes_by engine is = owes_in engine.access engine refl is
 
--- a seek of a stream that may be moved found its target
-pub seek_found : (old started found : EngineView) (offset whence : ℤ) (target : ℕ) → Stands old → BeginOutcome old (Ok tt) started → MaySeek (begun (stream_of old)) → TargetOutcome (stream_of started) offset whence (Ok target) (stream_of found) → found.access ≡ started.access → SeekFinds old offset whence target found
-seek_found old started found offset whence target is began may found_is same = grind (arith, seek_finds (stream_of old) (stream_of started) (stream_of found) offset whence target may (begins old started (Ok tt) began) found_is)
-
--- a seek that passing all on refused answers that refusal
-pub seeking_stops : (opened : Access) (old found new : EngineView) (offset whence : ℤ) (target : ℕ) (why : IoFault) → old.access ≡ opened → SeekFinds old offset whence target found → PassesAll opened (stream_of found) (Err why) (stream_of new) → Answers (stream_of old) (Seek offset whence) (Refused why) (stream_of new)
-seeking_stops access.Read old found new offset whence target why opened seek stops = let never : Err why ≡ Ok tt = stops.0 in absurd (cc)
-seeking_stops other old found new offset whence target why opened seek stops = seek_stops (stream_of old) (stream_of found) (stream_of new) offset whence target why (seeks_writing old found seek.is seek.may (ap is_read opened)) seek.finds stops
-
--- a seek whose moving failed answers that failure
-pub seeking_fails : (opened : Access) (old found mid new : EngineView) (offset whence : ℤ) (target : ℕ) (why : IoFault) → old.access ≡ opened → SeekFinds old offset whence target found → PassesAll opened (stream_of found) (Ok tt) (stream_of mid) → GoOutcome (stream_of mid) target (Err why) (stream_of new) → Answers (stream_of old) (Seek offset whence) (Refused why) (stream_of new)
-seeking_fails access.Read old found mid new offset whence target why opened seek passed fails = grind (arith, going_fails)
-seeking_fails other old found mid new offset whence target why opened seek passed fails =
-    seek_fails (stream_of old) (stream_of found) (stream_of mid) (stream_of new) offset whence target why (seeks_writing old found seek.is seek.may (ap is_read opened)) seek.finds passed fails
-
--- a seek that moved the stream answers its target
-pub seeking_arrives : (opened : Access) (old found mid new : EngineView) (offset whence : ℤ) (target : ℕ) → old.access ≡ opened → SeekFinds old offset whence target found → PassesAll opened (stream_of found) (Ok tt) (stream_of mid) → GoesTo (stream_of mid) target (stream_of new) → Answers (stream_of old) (Seek offset whence) (Place target) (stream_of new)
-seeking_arrives access.Read old found mid new offset whence target opened seek passed goes =
-    going_answers (stream_of old) (stream_of found) (stream_of new) offset whence target seek.may (owes_nothing old seek.is (ap is_read opened)) seek.finds (subst (λ (stream : Stream). GoesTo stream target (stream_of new)) passed.1 goes)
-seeking_arrives other old found mid new offset whence target opened seek passed goes =
-    seek_answers (stream_of old) (stream_of found) (stream_of mid) (stream_of new) offset whence target (seeks_writing old found seek.is seek.may (ap is_read opened)) seek.finds passed goes
+-- passing all on, by what the stream is opened for, is what a seek goes by
+pub settles_by : (opened : Access) (old new : EngineView) (result : Result (Unit {0}) IoFault) → old.access ≡ opened → PassesAll opened (stream_of old) result (stream_of new) → SettlesBy (keeps_pending (stream_of old)) (stream_of old) result (stream_of new)
+settles_by opened old new result is passed = grind arith
 
 -- Giving bytes.
 

@@ -67,10 +67,6 @@ put_behind old mid new bytes start (Err fault.RawFault) first put = (fails_then 
 put_behind old mid new bytes start (Err fault.NoMemory) first put = (starves_then old mid new [] bytes start first put.0, λ failed. owes_then old mid new first.took (put.1 failed))
 put_behind old mid new bytes start result first put = put_then old mid new [] bytes start result first put
 
--- what one piece answers is what several do
-pub puts_one : (old new : Stream) (bytes : List ℕ) (start : ℕ) (result : Result Bool IoFault) → PutOutcome old bytes start result new → PutsOutcome old bytes start result new
-puts_one old new bytes start result put = grind arith
-
 -- after a wait what fits was taken
 pub fits_then : (size : ℕ) (old mid new : Stream) (front more : List ℕ) (start : ℕ) (all : Bool) → old.buffer ≡ Some size → Took old front mid → Rose old.raw.waits mid.raw.waits → FitOutcome mid more all new → PutOutcome old (front ++ more) start (Ok all) new
 fits_then size old mid new front more start true buffered first waited fit = all_taken size old new (front ++ more) buffered (took_then old mid new front more first fit.0)

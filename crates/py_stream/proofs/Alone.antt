@@ -1,5 +1,5 @@
 -- What a stream refuses without a look at the argument, whatever is below it: by its life, or since it lacks what the call needs.
-use Rattle.std.proofs.Common.{◌≡◌, ◌≢◌, ◌⊎◌, inl, inr, Bool, true, false, ◌&&◌, Some, Result, Ok, Err, sym, ap, ◌∙◌, arith}
+use Rattle.std.proofs.Common.{◌≡◌, ◌≢◌, ◌⊎◌, inl, inr, Bool, true, false, ◌&&◌, Some, Ok, Err, sym, ap, ◌∙◌, arith}
 use Rattle.py_flat.specs.declared.fault.IoFault.{IoFault}
 use Rattle.py_flat.specs.declared.fault.IoFault.TheVariants as fault
 use Rattle.py_flat.specs.declared.life.Life.{Life}
@@ -9,6 +9,7 @@ use Rattle.py_flat.specs.FlatFile.{FlatFile, Buffering}
 use Rattle.py_flat.specs.Refusals.{is_getter, is_other_getter, is_buffered, is_close, is_detach, life_fault, lets_through, lacks}
 use Rattle.py_stream.specs.Stream.{Stream, buffering_of, file_of}
 use Rattle.py_stream.specs.Answers.{RefusesAlone, Answers}
+use Rattle.py_stream.specs.Moving.{Begins}
 use Rattle.py_stream.proofs.Refusing.{IsPlaced, refused_by_life, refused_by_ability}
 
 -- By the life.
@@ -56,11 +57,6 @@ pub alone_by_ability : (before after : Stream) (call : FileCall) → IsPlaced be
 alone_by_ability before after call is alone live same = refused_by_ability before after call is alone.0 alone.1 live (live_lacks before call live alone.2) same
 
 -- How a call begins.
-
--- a call begins: the life refuses it, or lets it go on, and no answer is short yet
-abbrev pub Begins : Stream → Result (Unit {0}) IoFault → Stream → Type 0
-Begins before (Ok done) after = (before.life ≡ life.Live) × (after ≡ record before { short = false })
-Begins before (Err why) after = (life_fault before.life ≡ Some why) × (after ≡ record before { short = false })
 
 -- a call that a stream refuses as it begins is answered by that refusal
 pub begins_in_vain : (before after : Stream) (call : FileCall) (why : IoFault) → IsPlaced before → is_getter call ≡ false → is_other_getter call ≡ false → is_close call ≡ false → detaches (buffering_of before.buffer) call ≡ false → Begins before (Err why) after → Answers before call (Refused why) after

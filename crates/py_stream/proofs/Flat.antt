@@ -40,9 +40,7 @@ laid_within raw place owed own count within = grind (arith, take-append-le)
 laid_beyond : (raw : List ℕ) (place : ℕ) (owed own : List ℕ) (count : ℕ) → length owed ≤ count → lay raw place (take count (owed ++ own)) ≡ lay (lay raw place owed) (place + length owed) (take (count - length owed) own)
 laid_beyond raw place owed own count beyond =
     let parts : length owed + (count - length owed) ≡ count = omega arith in
-    ap (λ (n : ℕ). lay raw place (take n (owed ++ own))) (sym parts)
-    ∙ ap (lay raw place) (take-append-add owed own (count - length owed))
-    ∙ sym (lay_behind raw place owed (take (count - length owed) own))
+    grind (arith, take-append-add, lay_behind)
 
 -- a front of all, laid on: first what was owed, then the call's own
 pub laid_in_order : (raw : List ℕ) (place : ℕ) (owed own : List ℕ) (count : ℕ) → lay raw place (take count (owed ++ own)) ≡ lay (lay raw place (take count owed)) (place + length owed) (take (count - length owed) own)

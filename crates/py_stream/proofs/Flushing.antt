@@ -7,7 +7,7 @@ use Rattle.py_stream.specs.Answers.{Answers}
 use Rattle.py_stream.specs.Replies.{done_reply}
 use Rattle.py_stream.proofs.Refused.{lays_nothing}
 use Rattle.py_stream.proofs.Refusing.{IsPlaced}
-use Rattle.py_stream.proofs.Alone.{Begins}
+use Rattle.py_stream.specs.Moving.{Begins}
 
 -- a `flush`, by what begins it
 pub flush_answers : (before after : Stream) (result : Result (Unit {0}) IoFault) → IsPlaced before → before.owed ≡ nothing_owed before.place → (before.can.writable ≡ true → before.raw_place ≡ before.place) → Begins before result after → Answers before Flush (done_reply result) after

@@ -19,7 +19,7 @@ use Rattle.py_stream.specs.Answers.{Answers, LifeMoves, PlaceMoves, HasCauses, I
 use Rattle.py_stream.specs.Keeping.{KeepsOn}
 use Rattle.py_stream.specs.Taking.{Took, TookAll, FailsTaking, Calm, WaitsAsOne, CutsBack, Starved, StarvesTaking, FillsUp, PutOutcome, PutsOutcome}
 use Rattle.py_stream.proofs.Begun.{answers_whole}
-use Rattle.py_stream.proofs.Alone.{Begins}
+use Rattle.py_stream.specs.Moving.{Begins}
 use Rattle.py_stream.proofs.Refused.{nothing_blocked}
 use Rattle.py_stream.proofs.Stopping.{says_short, fault_answers, starves_alive, starves_there, starve_answers, work_reaches}
 use Rattle.py_stream.proofs.Taking.{fails_sound}

@@ -12,14 +12,13 @@ use Rattle.py_flat.specs.ExactStep.{is_closed, after_write}
 use Rattle.py_flat.specs.BinaryStep.{BinaryStep, payload, asks_end, does_work, is_tell, Accepted, WaitedBy, FaultedBy, StarvedBy, FailsWriting, FailsMidway}
 use Rattle.py_raw.specs.RawStream.{Raw, WhereTold, WhereTransfers, NoWait, WaitsOnce}
 use Rattle.py_stream.specs.Stream.{Stream, size_of, file_of}
-use Rattle.py_stream.specs.Moving.{EndsWithin}
+use Rattle.py_stream.specs.Moving.{EndsWithin, Begins}
 use Rattle.py_stream.specs.Kinds.{is_reading, is_writing, goes_on, asks_none, calls_none, makes_one, outlasts, says_fault, says_no_memory}
 use Rattle.py_stream.specs.Writing.{OwesBehind, Takes, LaysFront, LaysInOrder, PassesOn, BlocksFull, OwesNoneOfIts, TookOwn, Writes}
 use Rattle.py_stream.specs.Answers.{Answers, HasCauses, IsCounted, InHandOf, IsShort, LifeMoves, PlaceMoves, SeeksByEnd, IsReplyTo, closes_again, refused_by}
 use Rattle.py_stream.specs.Keeping.{IsSound, KeepsOn}
 use Rattle.py_stream.specs.Taking.{Calm, WaitsAsOne}
 use Rattle.py_stream.proofs.Completing.{completes}
-use Rattle.py_stream.proofs.Alone.{Begins}
 use Rattle.py_stream.proofs.Stopping.{GivesNone, gives_none}
 use Rattle.py_stream.proofs.Owing.{owes_both}
 use Rattle.py_stream.proofs.Refusing.{IsPlaced, refused_alone, refused_with}

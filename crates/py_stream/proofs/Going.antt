@@ -21,10 +21,9 @@ use Rattle.py_stream.specs.Writing.{LaysFront, Writes}
 use Rattle.py_stream.specs.Answers.{Answers, Leaves, SeeksTo, SeeksFromEnd, InHandOf, InHand, SparesBytes, IsCounted}
 use Rattle.py_stream.specs.Keeping.{KeepsOn}
 use Rattle.py_stream.specs.Settling.{PassesSome, LivesOn, SettleOutcome}
-use Rattle.py_stream.specs.Moving.{StandsAsBefore, AsksEnd, TargetFromEnd, TargetOutcome, IsHeld, GoesTo, GoOutcome}
+use Rattle.py_stream.specs.Moving.{StandsAsBefore, AsksEnd, TargetFromEnd, TargetOutcome, IsHeld, GoesTo, GoOutcome, Begins}
 use Rattle.py_stream.proofs.Refused.{lays_nothing}
 use Rattle.py_stream.proofs.Begun.{answers_whole}
-use Rattle.py_stream.proofs.Alone.{Begins}
 use Rattle.py_stream.proofs.Taking.{keeps_then, waits_once_then, waited_then, faulted_then, answers_still}
 use Rattle.py_stream.proofs.Flat.{flat_of, file_now}
 use Rattle.py_stream.proofs.Showing.{Asked, Accepts, Beside, beside_writing, shows_answers, passing_writes, seek_moves_none}
@@ -166,22 +165,7 @@ gone old mid new offset whence target may to beside settled_by goes =
     let short : new.short ≡ false = kept.short ∙ may.whole in
     let bytes : WhereTold old.raw (new.raw.bytes ≡ mid.raw.bytes) = λ tells. goes.bytes (passes.kept.raw.tells_bytes ∙ tells_its_bytes old.raw tells) in
     let counted : IsTrue old.raw.counts_exactly → IsCounted old.buffer old.raw call (Place target) new.raw new.short = λ exact. record { faults = λ _. no_fault_then old.raw mid.raw new.raw passes.kept.raw settled_by.0.no_fault goes.counts.no_fault exact; waits = λ _ _. no_wait_then old.raw mid.raw new.raw passes.kept.raw settled_by.1 goes.counts.no_wait exact; once = λ waited. absurd (cc) } in
-    let writes : Writes old call (Place target) new = passing_writes old call (Place target) new asked.none (record {
-      leaves = record {
-        passed = passes.passed;
-        most = passes.within;
-        answered = answers_still old.raw mid.raw new.raw passes.passed passes.kept.raw passes.answered goes.answered;
-        bytes = none ∙ sym settled_by.2 ∙ passes.owed;
-        place = λ some. absurd (some none);
-      };
-      stands = λ _ some. absurd (some none);
-      lays = λ tells. subst (LaysFront old []) (sym (bytes tells)) (passes.lays tells);
-      passes = λ _. none;
-      full = tt;
-      settles = λ _ _. at;
-      unclosed = λ some. absurd (some none);
-      rests = λ dead. absurd (dead may.live);
-    }) in
+    let writes : Writes old call (Place target) new = passing_writes old call (Place target) new asked.none (grind (arith, answers_still)) in
     let told : WhereTold old.raw (BinaryStep (file_of old) call (Place target) new.short false (file_of new)) = λ tells.
     let lies : (seek_target (file_of old) offset whence ≡ target) × (refusal (file_of old) call ≡ None) = to.lies (tells_its_bytes old.raw tells) in
     subst (λ (said : Bool). BinaryStep (file_of old) call (Place target) said false (file_of new)) (sym short)
@@ -236,9 +220,7 @@ lives_then old mid new out goes = record { passes = passes_then old mid new out.
 -- all was passed on after what was found out
 settles_then : (old mid new : Stream) (result : Result (Unit {0}) IoFault) → FoundOut old mid → SettleOutcome mid result new → SettleOutcome old result new
 settles_then old mid new (Ok done) out passed = (lives_then old mid new out passed.0, no_wait_then old.raw mid.raw new.raw out.stands.kept.raw out.counts.no_wait passed.1, passed.2)
-settles_then old mid new (Err (fault.WouldBlock taken)) out waits =
-    let goes : LivesOn old (record new { short = old.short }) = subst (λ (short : Bool). LivesOn old (record new { short = short })) out.stands.kept.short (lives_then old mid (record new { short = mid.short }) out waits.1) in
-    (waits.0, goes, waits.2, waited_then old.raw mid.raw new.raw out.stands.kept.raw waits.3, waits_once_then old.raw mid.raw new.raw out.stands.kept.raw out.counts.no_wait waits.4)
+settles_then old mid new (Err (fault.WouldBlock taken)) out waits = grind (arith, lives_then, waited_then, waits_once_then)
 settles_then old mid new (Err fault.RawFault) out fails = (passes_then old mid new out.stands fails.0, fails.1, faulted_then old.raw mid.raw new.raw out.stands.kept.raw fails.2, no_wait_then old.raw mid.raw new.raw out.stands.kept.raw out.counts.no_wait fails.3, fails.4)
 settles_then old mid new (Err fault.NoMemory) out lacks = (sym out.stands.kept.raw.takes_memory ∙ lacks.0, lives_then old mid new out lacks.1, no_wait_then old.raw mid.raw new.raw out.stands.kept.raw out.counts.no_wait lacks.2)
 settles_then old mid new (Err why) out never = absurd never
@@ -267,6 +249,4 @@ seek_fails old found mid new offset whence target why seeks finds passed fails =
 
 -- a stream that writes stands where it was to go
 pub seek_answers : (old found mid new : Stream) (offset whence : ℤ) (target : ℕ) → SeeksWriting (begun old) → Finds (begun old) offset whence target found → SettleOutcome found (Ok tt) mid → GoesTo mid target new → Answers old (Seek offset whence) (Place target) new
-seek_answers old found mid new offset whence target seeks finds passed goes =
-    answers_whole old new (Seek offset whence) (Place target)
-    (gone (begun old) mid new offset whence target seeks.may finds.to (beside_writing (begun old) (Seek offset whence) (Place target) new seeks.writes (not_held (begun old) offset whence seeks)) (settles_then (begun old) found mid (Ok tt) finds.out passed) goes)
+seek_answers old found mid new offset whence target seeks finds passed goes = search (rules, answers_whole, gone, begun, beside_writing, not_held, settles_then)

@@ -33,3 +33,4 @@ pub mod SingleReading
 pub mod LineReadings
 pub mod Movable
 pub mod Pieces
+pub mod Seeks

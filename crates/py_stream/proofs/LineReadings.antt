@@ -13,10 +13,7 @@ use Rattle.py_stream.proofs.ReadingAnswers.{ReadingBegins}
 
 -- what is known of a stream with which a reading begins
 pub begun : (first before : Stream) → BeginsReading first (Ok tt) before → ReadingBegins first before
-begun first before began = record {
-  reads = record { live = began.0.live; whole = ap (λ (stream : Stream). stream.short) began.1; readable = began.0.readable; bare = began.0.bare; placed = record { far = began.0.far; near = λ _. began.0.near } };
-  from = began.1;
-}
+begun first before began = grind arith
 
 -- a reading of all that is left makes as many transfers as it takes, with a buffer or without one
 pub all_by_several : (buffer : Option ℕ) → by_several buffer (Read None) ≡ true

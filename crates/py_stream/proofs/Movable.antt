@@ -7,7 +7,7 @@ use Rattle.py_stream.specs.Stream.{Stream, file_of}
 use Rattle.py_stream.specs.Answers.{Answers}
 use Rattle.py_stream.specs.Keeping.{IsSound}
 use Rattle.py_stream.specs.LiveRaw.{is_movable}
-use Rattle.py_stream.proofs.Alone.{Begins}
+use Rattle.py_stream.specs.Moving.{Begins}
 use Rattle.py_stream.proofs.PassingOn.{begun}
 use Rattle.py_stream.proofs.Refusing.{IsPlaced, refused_by_ability}
 use Rattle.py_stream.proofs.Seeking.{MaySeek}

@@ -122,8 +122,7 @@ pub record FaultLeaves (call : FileCall) (left : Life) : Type 0 where
 
 -- the raw failed
 pub failing_answers : (old failed : Stream) (call : FileCall) (left : Life) → Asked old call → Beside old call (Refused fault.RawFault) (record failed { life = left }) → FaultLeaves call left → PassesSome old failed → Rose old.raw.faults failed.raw.faults → NoWait old.raw failed.raw → (failed.owed.bytes ≡ [] → is_closed left ≡ false) → Answers old call (Refused fault.RawFault) (record failed { life = left })
-failing_answers old failed call left asked beside leaves passes cause no_wait alive =
-    shows_answers old call (Refused fault.RawFault) (record failed { life = left }) asked.none (grind (arith, passing_keeps, stays_open, says_short, fails_there, needs_no_end, passing_writes, passing_front, nothing_passed, nothing_blocked, fault_answers, passing_keeps_bytes))
+failing_answers old failed call left asked beside leaves passes cause no_wait alive = search (rules, shows_answers, passing_keeps, stays_open, says_short, fails_there, needs_no_end, passing_writes, passing_front, nothing_passed, nothing_blocked, fault_answers, passing_keeps_bytes)
 
 -- What stops a passing on of all stops the call.
 
@@ -149,7 +148,6 @@ lacks_refuse old new call asked can apart lacks = lacking_answers old new call a
 -- whatever stops the passing on refuses the call
 pub settling_refuses : (old new : Stream) (call : FileCall) (size : ℕ) (why : IoFault) → Accepts old call → old.buffer ≡ Some size → old.can.writable ≡ true → (InHand old call → ⊥) → FaultLeaves call life.Failed → SettleOutcome old (Err why) new → Answers old call (Refused why) new
 settling_refuses old new call size (fault.WouldBlock taken) accepts buffered can apart leaves waits = waits_refuse old new call size taken accepts buffered can apart waits
-settling_refuses old new call size fault.RawFault accepts buffered can apart leaves fails =
-    fault_fails old new call accepts.asked (beside_writing old call (Refused fault.RawFault) (record new { life = life.Failed }) can apart) leaves fails.0 fails.1 fails.2 fails.3
+settling_refuses old new call size fault.RawFault accepts buffered can apart leaves fails = search (rules, fault_fails, beside_writing)
 settling_refuses old new call size fault.NoMemory accepts buffered can apart leaves lacks = lacks_refuse old new call accepts.asked can apart lacks
 settling_refuses old new call size why accepts buffered can apart leaves never = absurd never

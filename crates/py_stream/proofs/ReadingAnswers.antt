@@ -15,7 +15,8 @@ use Rattle.py_stream.specs.Reading.{KeepsReading, OneTransfer, Reaches}
 use Rattle.py_stream.proofs.Begun.{answers_whole}
 use Rattle.py_stream.proofs.Completing.{completes}
 use Rattle.py_stream.proofs.Refusing.{IsPlaced, refused_alone}
-use Rattle.py_stream.proofs.Alone.{Begins, begins_in_vain}
+use Rattle.py_stream.specs.Moving.{Begins}
+use Rattle.py_stream.proofs.Alone.{begins_in_vain}
 use Rattle.py_stream.proofs.ReadingCalls.{IsReadingCall, reading_call}
 use Rattle.py_stream.proofs.Coming.{came_seen}
 use Rattle.py_stream.proofs.ReadingSteps.{near_seen}

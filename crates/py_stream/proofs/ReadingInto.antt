@@ -53,10 +53,6 @@ vector_read before resized buffer after start more count long size is same front
     ∙ (more_taken start count (take start buffer) (drop start buffer) (length-take-le start buffer (omega arith))
     ∙ ap (λ (xs : List ℕ). xs ++ take count (drop start buffer)) begins))))
 
--- a stream that is as it was keeps all
-keeps_self : (stream : Stream) → MayRead stream → KeepsReading stream stream
-keeps_self stream may = record { raw = keeps_same stream.raw; stays = refl; bytes = λ tells. refl; written = λ tells. refl; can = refl; buffer = refl; short = refl; owed = may.bare; far = may.far; near = λ live. may.near }
-
 -- a stream that reads on may still be read
 pub still_may : (before now : Stream) → MayRead before → KeepsReading before now → now.life ≡ life.Live → now.place ≤ now.raw_place → MayRead now
 still_may before now may kept live to = record { live = live; readable = ap (λ (can : Abilities). can.readable) kept.can ∙ may.readable; bare = kept.owed; far = kept.far; near = kept.near live; to = to }
@@ -75,23 +71,6 @@ pub record ReadsTo (old : Stream) (was : Bool) (count : ℕ) (buffer : List ℕ)
   pub all : ahead old ≤ count
   pub each : EachBrings 0 0 old now
   pub stepped : ((moved ≡ was) × (now ≡ old)) ⊎ ((moved ≡ true) × (0 < count) × (old.raw_place < now.raw_place) × WherePlace old.raw (old.raw.place < now.raw.place))
-
--- how far a reading is before its first transfer
-pub reads_first : (old now : Stream) (was : Bool) (count : ℕ) (buffer : List ℕ) → MayRead old → HoldsLess old count buffer now → ReadsTo old was count buffer was now
-reads_first old now was count buffer may holds = subst (ReadsTo old was count buffer was) (sym holds.same) (record {
-  may = may;
-  kept = keeps_self old may;
-  counts = uncounted old.raw old.raw refl;
-  live = may.live;
-  less = holds.less;
-  from = omega arith;
-  to = omega (arith, holds.to);
-  stands = holds.to;
-  told = holds.told;
-  all = holds.all;
-  each = each_still old old 0 0 refl refl;
-  stepped = inl (refl, refl);
-})
 
 module _ (old : Stream) (was : Bool) (count : ℕ) (buffer : List ℕ) (moved : Bool) (now : Stream) (reads : ReadsTo old was count buffer moved now) where
   -- the raw doesn't go back
@@ -116,81 +95,26 @@ module _ (old : Stream) (was : Bool) (count : ℕ) (buffer : List ℕ) (moved : 
 
   -- what one more transfer brings, after what came
   behind_told : (more : ℕ) (left : List ℕ) (new : Stream) → StepsOn now more left new → WhereTold old.raw (take (count + more) (left_at (file_of old).bytes old.place) ≡ take (count + more) (take count buffer ++ left))
-  behind_told more left new steps tells =
-      let next : take more (left_at (file_of old).bytes (old.place + count)) ≡ take more left = subst (λ (place : ℕ). take more (left_at (file_of old).bytes place) ≡ take more left) reads.stands (subst (λ (bytes : List ℕ). take more (left_at bytes now.raw_place) ≡ take more left) (same_bytes old now reads.may.bare reads.kept tells) (steps.told (still_tells old now reads.kept tells))) in
-      next_behind (file_of old).bytes (take count buffer) left old.place count more came_length (reads.told tells) next ∙ sym (more_taken count more (take count buffer) left came_length)
+  behind_told more left new steps tells = grind (arith, same_bytes, still_tells, next_behind, came_length, more_taken)
 
   -- how far a reading is after one more transfer
   pub reads_on : (more : ℕ) (left : List ℕ) (new : Stream) → StepOutcome now moved (Ok (step.On more)) left new → ReadsTo old was (count + more) (take count buffer ++ left) true new
-  reads_on more left new outcome =
-      let steps : StepsOn now more left new = outcome.0 in
-      record {
-        may = reads.may;
-        kept = keeps_then old now new reads.kept steps.kept;
-        counts = uncounted_then old.raw now.raw new.raw reads.kept.raw reads.counts steps.counts;
-        live = steps.live;
-        less = omega (arith, outcome.1, length-append (take count buffer) left, came_length);
-        from = omega (arith, reads.from, reads.to, steps.from);
-        to = steps.to;
-        stands = omega (arith, outcome.2, reads.stands);
-        told = behind_told more left new steps;
-        all = omega (arith, reads.all);
-        each = each_then old now new 0 0 reads.kept.raw reads.each steps.each;
-        stepped = inr (refl, omega (arith, steps.some), omega (arith, count_not_back, outcome.2, steps.some), λ tells. omega (arith, not_back tells, steps.forth (reads.kept.raw.tells_place ∙ tells)));
-      }
+  reads_on more left new outcome = grind (arith, keeps_then, uncounted_then, length-append, came_length, behind_told, each_then, count_not_back, not_back)
 
   -- the last transfer filled the buffer
   reads_enough : (more : ℕ) (left : List ℕ) (new : Stream) → StepsOn now more left new → more ≡ length left → new.place ≡ now.raw_place + more → WhereTransfers now.raw (new.raw_place < new.place + new.raw.reads.last) → ReadsInto old (record { count = count + more; stop = stop.Enough }) (take count buffer ++ left) new
   reads_enough more left new steps all place last =
       let long : length (take count buffer ++ left) ≡ count + more = length-append (take count buffer) left ∙ omega (arith, came_length) in
       let whole : take (count + more) (take count buffer ++ left) ≡ take count buffer ++ left = take_all (count + more) (take count buffer ++ left) (omega (arith, long)) in
-      record {
-        fits = omega (arith, long);
-        full = λ enough. sym long;
-        less = λ other. absurd (other refl);
-        idle = λ held. absurd (omega (arith, held, long, reads.all, steps.some));
-        to = steps.to;
-        stops = (
-          record {
-            kept = keeps_then old now new reads.kept steps.kept;
-            no_fault = no_fault_then old.raw now.raw new.raw reads.kept.raw reads.counts.no_fault steps.counts.no_fault;
-            live = steps.live;
-            place = omega (arith, place, reads.stands, ap length whole, long);
-            told = λ tells. subst (λ (n : ℕ). take n (left_at (file_of old).bytes old.place) ≡ take (count + more) (take count buffer ++ left)) (sym (ap length whole ∙ long)) (behind_told more left new steps tells);
-          },
-          no_wait_then old.raw now.raw new.raw reads.kept.raw reads.counts.no_wait steps.counts.no_wait,
-          each_then old now new 0 0 reads.kept.raw reads.each steps.each,
-          record {
-            held = λ _ within. absurd (omega (arith, within, place, reads.stands, reads.all, steps.some));
-            last = inr (λ tells. last (reads.kept.raw.tells_transfers ∙ tells));
-          },
-        );
-      }
+      grind (arith, keeps_then, no_fault_then, behind_told, no_wait_then, each_then)
 
   -- no more came: what came is given
   reads_given : (left : List ℕ) (new : Stream) (empties : ℕ) → StepsNone empties now new → Gives old (take count (take count buffer ++ left)) new
-  reads_given left new empties none =
-      let same : take count (take count buffer ++ left) ≡ take count buffer = take_at (take count buffer) left count came_length in
-      subst (λ (part : List ℕ). Gives old part new) (sym same) (record {
-        kept = keeps_then old now new reads.kept none.kept;
-        no_fault = no_fault_then old.raw now.raw new.raw reads.kept.raw reads.counts.no_fault none.no_fault;
-        live = none.live;
-        place = omega (arith, none.place, reads.stands, came_length);
-        told = λ tells. subst (λ (n : ℕ). take n (left_at (file_of old).bytes old.place) ≡ take count buffer) (sym came_length) (reads.told tells);
-      })
+  reads_given left new empties none = grind (arith, take_at, came_length, keeps_then, no_fault_then)
 
   -- a reading into a buffer that isn't full stops
   stops_less : (left : List ℕ) (new : Stream) (why : Stop) → why ≢ stop.Enough → 0 < length left → new.place ≤ new.raw_place → StopOutcome old (take count (take count buffer ++ left)) (Ok why) new → ReadsInto old (record { count = count; stop = why }) (take count buffer ++ left) new
-  stops_less left new why other some to outcome =
-      let long : length (take count buffer ++ left) ≡ count + length left = length-append (take count buffer) left ∙ omega (arith, came_length) in
-      record {
-        fits = omega (arith, long);
-        full = λ enough. absurd (other enough);
-        less = λ before. omega (arith, some, long);
-        idle = λ held. absurd (omega (arith, held, some, reads.all, long));
-        to = to;
-        stops = outcome;
-      }
+  stops_less left new why other some to outcome = grind (arith, length-append, came_length)
 
   -- the last transfer brought nothing
   reads_none : (left : List ℕ) (new : Stream) (why : Stop) → why ≢ stop.Enough → 0 < length left → StepOutcome now moved (Ok (step.Stopped 0 why)) left new → ReadsInto old (record { count = count; stop = why }) (take count buffer ++ left) new
@@ -314,19 +238,7 @@ pub record ReadsAll (before : Stream) (bytes : List ℕ) (more : ℕ) (moved : B
 
 -- a reading of all begins, once the raw was asked where it ends
 pub all_begins : (old now : Stream) (bytes : List ℕ) (more : ℕ) → bytes ≡ [] → MayRead old → old.short ≡ false → FirstOutcome old (Ok more) now → ReadsAll old bytes more false now
-all_begins old now bytes more none may whole asked =
-    let reads : Reads old = record { live = may.live; whole = whole; readable = may.readable; bare = may.bare; placed = record { far = may.far; near = λ _. may.near } } in
-    record {
-      may = may;
-      gives = subst (λ (part : List ℕ). Gives old part now) (sym none) (asked_gives old now reads asked.0);
-      to = omega (arith, may.to, ap (λ (stream : Stream). stream.place) asked.0.same, ap (λ (stream : Stream). stream.raw_place) asked.0.same);
-      no_wait = asked.0.counts.no_wait;
-      each = asked_each old now asked.0;
-      some = omega (arith, asked.1, may.to);
-      fits = asked.2;
-      first = λ _. (asked.0, asked.1);
-      later = λ on. absurd (true≢false (sym on));
-    }
+all_begins old now bytes more none may whole asked = grind (arith, asked_gives, asked_each, true≢false)
 
 module _ (before : Stream) (bytes : List ℕ) (more : ℕ) (moved : Bool) (now new : Stream) (reads : ReadsAll before bytes more moved now) where
   -- the stream may be read between two turns
@@ -344,51 +256,17 @@ module _ (before : Stream) (bytes : List ℕ) (more : ℕ) (moved : Bool) (now n
 
   -- a turn of a reading brought all that it asked for
   pub all_on : (after : List ℕ) (next : ℕ) → ReadsMore now bytes more stop.Enough after new → next ≡ length after → next < 2 ^ 64 → ReadsAll before after next true new
-  all_on after next brings size fits =
-      let long : length after ≡ length bytes + more = ap length brings.behind ∙ (length-append bytes brings.part ∙ ap (λ (n : ℕ). length bytes + n) (brings.full refl)) in
-      let place : new.place ≡ now.place + more = brings.stops.0.place ∙ ap (λ (n : ℕ). now.place + n) (brings.full refl) in
-      record {
-        may = reads.may;
-        gives = subst (λ (xs : List ℕ). Gives before xs new) (sym brings.behind) (gives_then before now new bytes brings.part reads.may.bare reads.gives brings.stops.0);
-        to = brings.to;
-        no_wait = no_wait_then before.raw now.raw new.raw reads.gives.kept.raw reads.no_wait brings.stops.1;
-        each = each_then before now new 0 0 reads.gives.kept.raw reads.each brings.stops.2;
-        some = omega (arith, reads.some, size, long);
-        fits = fits;
-        first = λ none. absurd (true≢false none);
-        later = λ some. (size, omega (arith, past_held moved refl, place));
-      }
+  all_on after next brings size fits = grind (arith, length-append, gives_then, no_wait_then, each_then, true≢false, past_held)
 
   -- a turn of a reading brought the last bytes
   pub all_read : (why : Stop) (after : List ℕ) → why ≢ stop.Enough → ReadsMore now bytes more why after new → RestOutcome before (Ok why) after new
   all_read stop.Enough after other brings = absurd (other refl)
-  all_read stop.End after other brings = (
-    subst (λ (xs : List ℕ). Gives before xs new) (sym brings.behind) (gives_then before now new bytes brings.part reads.may.bare reads.gives brings.stops.0),
-    no_wait_then before.raw now.raw new.raw reads.gives.kept.raw reads.no_wait brings.stops.1,
-    λ tells. subst (λ (xs : List ℕ). length xs ≤ new.place) (same_bytes before now reads.may.bare reads.gives.kept tells) (brings.stops.2 (still_tells before now reads.gives.kept tells)),
-    each_then before now new 1 1 reads.gives.kept.raw reads.each brings.stops.3,
-  )
-  all_read stop.Waits after other brings = (
-    subst (λ (xs : List ℕ). Gives before xs new) (sym brings.behind) (gives_then before now new bytes brings.part reads.may.bare reads.gives brings.stops.0),
-    omega (arith, reads.gives.kept.raw.waits, brings.stops.1),
-    brings.stops.2,
-    waits_once_then before now new reads.gives.kept reads.no_wait brings.stops.3,
-    each_then before now new 1 0 reads.gives.kept.raw reads.each brings.stops.4,
-  )
+  all_read stop.End after other brings = grind (arith, gives_then, no_wait_then, same_bytes, still_tells, each_then)
+  all_read stop.Waits after other brings = grind (arith, gives_then, waits_once_then, each_then)
 
   -- a turn found no memory, once bytes had left the raw
   fails_on : (was : Bool) → FailsStarved was now new → before.raw_place < new.raw_place → WherePlace before.raw (before.raw.place < new.raw.place) → WhereTold before.raw (rest (file_of before) ≢ []) → FailsMoved before new
-  fails_on was fails further stands some = record {
-    kept = keeps_then before now new reads.gives.kept fails.kept;
-    counts = uncounted_then before.raw now.raw new.raw reads.gives.kept.raw (record { no_fault = reads.gives.no_fault; no_wait = reads.no_wait }) fails.counts;
-    failed = fails.failed;
-    forth = omega (arith, reads.gives.place, fails.forth);
-    reach = reaches_on fails.reach;
-    further = further;
-    stands = stands;
-    some = some;
-    each = each_then before now new 0 0 reads.gives.kept.raw reads.each fails.each;
-  }
+  fails_on was fails further stands some = grind (arith, keeps_then, uncounted_then, reaches_on, each_then)
 
   -- in a turn after the first
   all_moved : moved ≡ true → FailsStarved true now new → FailsMoved before new
@@ -402,12 +280,7 @@ module _ (before : Stream) (bytes : List ℕ) (more : ℕ) (moved : Bool) (now n
 
   -- in the first
   first_moved : moved ≡ false → FailsStarved false now new → FailsMoved before new
-  first_moved is fails =
-      let asked = (reads.first is).0 in
-      let place : now.place ≡ before.place = ap (λ (stream : Stream). stream.place) asked.same in
-      fails_on false fails (omega (arith, ap (λ (stream : Stream). stream.raw_place) asked.same, fails.further refl))
-      (λ tells. omega (arith, asked.place tells, fails.stands_further refl (reads.gives.kept.raw.tells_place ∙ tells)))
-      (λ tells none. fails.some refl (still_tells before now reads.gives.kept tells) (ap (λ (at : ℕ). left_at (file_of now).bytes at) place ∙ (ap (λ (all : List ℕ). left_at all before.place) (same_bytes before now reads.may.bare reads.gives.kept tells) ∙ none)))
+  first_moved is fails = grind (arith, fails_on, still_tells, same_bytes)
 
 -- a stream that memory failed between two turns
 fails_between : (before : Stream) (bytes : List ℕ) (more : ℕ) (now : Stream) → ReadsAll before bytes more true now → FailsStarved true now (record now { life = life.Failed })

@@ -165,10 +165,7 @@ asked_each before after is = grind (arith, asked_transfers, came_unread)
 
 -- where memory ran out before any byte came, of a stream whose raw was asked where it ends
 starved_asked : (before : Stream) (raw : Raw) → Reads before → OnlyAsked before (record before { raw = raw; short = false }) → Answers before (Read None) (Refused fault.NoMemory) (record before { raw = raw; short = false })
-starved_asked before raw begun is =
-    let mid : Stream = record before { raw = raw } in
-    let kept : KeepsReading before mid = asked_keeps before raw begun is in
-    answers_coming before mid (Read None) (Refused fault.NoMemory) false refl (on_suits (file_of before) (Read None) refl begun.readable) begun (grind (arith, came_more, came_unread, each_more, asked_each, asked_file, works))
+starved_asked before raw begun is = grind (arith, asked_keeps, answers_coming, on_suits, came_more, came_unread, each_more, asked_each, asked_file, works)
 
 starves_wanting_rest : (before after : Stream) → before.life ≡ life.Live → StarvesReading before after → after.life ≡ life.Failed → WhereTold before.raw (rest (file_of before) ≢ [])
 starves_wanting_rest before after live starves failed = grind arith

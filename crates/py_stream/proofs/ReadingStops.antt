@@ -146,12 +146,7 @@ told_enough before mid call part several begun given gathered tells =
     (carried before.buffer (file_of before) call part (file_of mid) refl several (gathered.exact tells) (file_after before mid (length part) begun.bare given.kept (given.live ∙ sym begun.live) given.place tells)))
 
 told_front : (before mid : Stream) (call : FileCall) (part : List ℕ) → by_several before.buffer call ≡ true → Reads before → Gives before part mid → part ≢ [] → GathersFront (wanted_by call) before part → WhereTold before.raw (BinaryStep (file_of before) call (reply_by call part) true false (file_of mid))
-told_front before mid call part several begun given some gathered tells =
-    let on : reads_on call ≡ true = (is_several before.buffer call several).on in
-    waited_for refl (
-      works before call (reading_on call on) (on_suits (file_of before) call on begun.readable) begun.live,
-      part_waited (file_of before) call part (file_of mid) on (record { front = gathered.front tells; some = some; leaves = file_after before mid (length part) begun.bare given.kept (given.live ∙ sym begun.live) given.place tells }),
-    )
+told_front before mid call part several begun given some gathered tells = grind (arith, is_several, works, reading_on, on_suits, part_waited, file_after)
 
 -- what a reading gave, by where it stopped
 given_at : (before mid : Stream) (call : FileCall) (part : List ℕ) (stop : Stop) → by_several before.buffer call ≡ true → Reads before → GatherOutcome (wanted_by call) before (Ok stop) part mid → (IsTrue (is_wait stop) → part ≢ []) → Given before call part (is_wait stop) mid
@@ -189,11 +184,7 @@ starves_where most current before after same forth = grind arith
 
 -- a reading that the raw failed
 pub answers_faulted : (before after : Stream) (call : FileCall) → is_reading call ≡ true → lacks (file_of before) call ≡ false → Reads before → FailsReading before after → ((bound : ℕ) → moves_most call ≡ Some bound → after.place ≤ before.place + bound) → (goes_on before.buffer call ≡ false → after.place ≡ before.place) → asks_none before.buffer call ≡ false → (IsTrue (makes_one before.buffer call) → OneTransfer before after) → (IsSome before.buffer → InHandOf before call → ⊥) → Answers before call (Refused fault.RawFault) after
-answers_faulted before after call reads has begun fails within stays asks_some one apart =
-    let is : IsReadingCall call = reading_call call reads in
-    let each : EachBrings 1 1 before (record after { short = false }) = each_seen before before after (record after { short = false }) 1 1 refl refl refl refl (each_more before after 1 1 0 1 (omega arith) (omega arith) fails.each) in
-    let brings : CameByReads 1 before after = came_more before after 0 1 (omega arith) fails.each.came in
-    unshortened before after call (Refused fault.RawFault) begun fails.kept (answers_coming before after call (Refused fault.RawFault) false reads has begun (grind arith))
+answers_faulted before after call reads has begun fails within stays asks_some one apart = grind (arith, reading_call, each_seen, each_more, came_more, unshortened, answers_coming)
 
 -- a stream that is as it was, and not even asked where its raw ends
 pub asked_none : (stream : Stream) → stream.short ≡ false → OnlyAsked stream stream

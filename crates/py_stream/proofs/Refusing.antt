@@ -12,6 +12,7 @@ use Rattle.py_flat.specs.BinaryStep.{asks_end, is_live, SettledBy, BinaryStep}
 use Rattle.py_flat.specs.AllowedStep.{settled}
 use Rattle.py_stream.specs.Stream.{Stream, buffering_of, file_of}
 use Rattle.py_stream.specs.Kinds.{says_fault, says_no_memory}
+use Rattle.py_stream.specs.Keeping.{IsSound}
 use Rattle.py_stream.specs.Writing.{Writes}
 use Rattle.py_stream.specs.Answers.{Answers, LifeMoves, PlaceMoves, IsShort, IsNear, SeeksByEnd, GivesWithin, closes_again, refused_by, IsIdle, Leaves}
 use Rattle.py_raw.proofs.Telling.{keeps_same}
@@ -49,6 +50,10 @@ refused_alone before call none = ap (λ (asks : Bool). if asks then None else re
 pub record IsPlaced (stream : Stream) : Type 0 where
   pub far : stream.place ≤ greatest_place
   pub near : stream.life ≡ life.Live → IsNear stream
+
+-- what holds of every stream over a raw says where it is placed
+pub sound_placed : (stream : Stream) → IsSound stream → IsPlaced stream
+sound_placed stream sound = record { far = sound.far; near = sound.near }
 
 -- A refusal of the stream's own leaves all as it was.
 pub refused_with : (before after : Stream) (call : FileCall) (why : IoFault) → IsPlaced before → refusal (file_of before) call ≡ Some why → asks_end (file_of before) call ≡ false → is_own why ≡ true → closes_again before call ≡ false → after ≡ record before { short = false } → Answers before call (Refused why) after

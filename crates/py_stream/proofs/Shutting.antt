@@ -24,7 +24,7 @@ use Rattle.py_stream.specs.Answers.{Answers, KeepsStream, HasCauses, IsCounted, 
 use Rattle.py_stream.specs.Settling.{PassesSome, LivesOn, SettleOutcome}
 use Rattle.py_stream.specs.Ending.{ClosingOutcome, ClosesRaw, CloseRawOutcome}
 use Rattle.py_stream.proofs.Begun.{answers_whole}
-use Rattle.py_stream.proofs.Alone.{Begins}
+use Rattle.py_stream.specs.Moving.{Begins}
 use Rattle.py_stream.proofs.Stopping.{fails_there}
 use Rattle.py_stream.proofs.Taking.{answers_still}
 use Rattle.py_stream.proofs.Flat.{flat_of}
@@ -159,19 +159,11 @@ closes_raw : (old mid new : Stream) (result : Result (Unit {0}) IoFault) → Rea
 closes_raw old mid new (Ok done) ready closes =
     let asked : Asked old Close = ready.asked in
     let shuts : ShutsDown old new = shuts_down old mid new ready closes.0 in
-    shut_answers old new Done asked done_shuts shuts (record {
-      causes = record { waits = λ waited. absurd (cc (shuts.short)); faults = λ faults. absurd (cc) };
-      counted = λ exact. record { faults = λ _. no_fault_then old.raw mid.raw new.raw ready.goes.passes.kept.raw ready.goes.no_fault closes.1 exact; waits = λ _ _. shuts.no_wait exact; once = λ waited. absurd (cc (shuts.short)) };
-      told = λ tells. settled (subst (λ (refused : Option IoFault). SettledBy (file_of old) Close refused Done (file_of new)) (sym asked.passes) (ap (λ (file : FlatFile). (Done, file)) (closed_file old new shuts tells)));
-    })
+    shut_answers old new Done asked done_shuts shuts (grind (arith, no_fault_then, closed_file))
 closes_raw old mid new (Err fault.RawFault) ready closes =
     let asked : Asked old Close = ready.asked in
     let shuts : ShutsDown old new = shuts_down old mid new ready closes.0 in
-    shut_answers old new (Refused fault.RawFault) asked fault_shuts shuts (record {
-      causes = record { waits = λ waited. absurd (cc (shuts.short)); faults = λ _. omega (arith, ready.goes.passes.kept.raw.faults, closes.1) };
-      counted = λ exact. record { faults = λ sound. absurd (cc); waits = λ _ _. shuts.no_wait exact; once = λ waited. absurd (cc (shuts.short)) };
-      told = λ tells. raw_faulted refl refl (asked.reaches, record { life_is = shuts.life_is; bytes_are = shut_bytes old new shuts tells; can = shuts.keeps.can; buffering = ap buffering_of shuts.keeps.buffer });
-    })
+    shut_answers old new (Refused fault.RawFault) asked fault_shuts shuts (grind (arith, shut_bytes))
 closes_raw old mid new (Err fault.NoMemory) ready wants =
     subst (λ (after : Stream). Answers old Close (Refused fault.NoMemory) after) (sym wants.1)
     (lacking_answers old mid Close ready.asked (record { in_hand = λ has. absurd has.of; spares = λ reads _. ready.spares reads }) (sym ready.goes.passes.kept.raw.takes_memory ∙ wants.0) ready.goes ready.no_wait)

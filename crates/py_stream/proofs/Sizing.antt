@@ -121,13 +121,7 @@ module _ (old mid new : Stream) (asks : Asks old mid new) where
   still = asks.keeps.place ∙ asks.settled_by.0.passes.still
 
   leaves_front : PassesFront old new
-  leaves_front = record {
-    passed = asks.settled_by.0.passes.passed;
-    most = asks.settled_by.0.passes.within;
-    answered = answers_still old.raw mid.raw new.raw asks.settled_by.0.passes.passed asks.settled_by.0.passes.kept.raw asks.settled_by.0.passes.answered asks.keeps.answered;
-    bytes = ap (λ (owed : Owed). owed.bytes) asks.keeps.owed ∙ asks.settled_by.0.passes.owed;
-    place = λ some. absurd (some none);
-  }
+  leaves_front = grind (arith, answers_still, kept, none)
 
   at_place : NoneAtPlace old → new.owed.place ≡ new.place
   at_place at = ap (λ (owed : Owed). owed.place) asks.keeps.owed ∙ asks.settled_by.0.passes.at at asks.settled_by.2 ∙ sym asks.keeps.place
@@ -177,36 +171,7 @@ gives_size old mid new size within asks resizes =
     let same : new.life ≡ old.life = lives ∙ sym may.live in
     let short : new.short ≡ false = keeps.short ∙ may.whole in
     let bytes : WhereTold old.raw (new.raw.bytes ≡ resized (flat_of old) (size_asked old size)) = bytes_given old mid new (size_asked old size) asks resizes in
-    shows_answers old call (Place (size_asked old size)) new asked.none (record {
-      keeps = record { buffer = keeps.buffer; can = keeps.can; raw = keeps.raw; bare = λ bare _. keeps.sound.bare (keeps.buffer ∙ bare) };
-      passes = asked.passes;
-      again = λ closes. absurd (cc);
-      shut = λ _ none closed. keeps.stays ∙ stays_open old new.life may.live (ap is_closed lives) closed;
-      causes = record { waits = λ waited. absurd (cc); faults = λ faults. absurd (cc) };
-      counted = λ exact. record { faults = λ _. no_fault_then old.raw mid.raw new.raw goes.passes.kept.raw goes.no_fault resizes.counts.no_fault exact; waits = λ _ _. no_wait old mid new asks exact; once = λ waited. absurd (cc) };
-      shorts = short;
-      life_is = same;
-      place = (refl, still old mid new asks);
-      far = keeps.sound.far;
-      ends = tt;
-      wants = λ wanting. absurd (cc);
-      idle = λ idle. absurd (cc (asked.busy));
-      reads = keeps.reads;
-      in_hand = λ has. absurd has.of;
-      spares = λ reads. absurd (cc (may.writes));
-      writes = λ _. truncation_writes old mid new size asks lives bytes;
-      at_once = λ failed is. absurd (cc);
-      answer = tt;
-      told = λ tells.
-          let file : file_of new ≡ record (file_of old) { bytes = resized (flat_of old) (size_asked old size) } =
-          file_now old new keeps same
-          ∙ ap (λ (all : List ℕ). record (file_of old) { bytes = all; place = new.place }) (flat_now old mid new asks ∙ bytes tells)
-          ∙ ap (λ (place : ℕ). record (file_of old) { bytes = resized (flat_of old) (size_asked old size); place = place }) (still old mid new asks) in
-          subst (λ (said : Bool). BinaryStep (file_of old) call (Place (size_asked old size)) said false (file_of new)) (sym short)
-          (settled (subst (λ (refused : Option IoFault). SettledBy (file_of old) call refused (Place (size_asked old size)) (file_of new)) (sym asked.passes)
-          (carries_out old new size file)));
-      near = keeps.sound.near;
-    })
+    shows_answers old call (Place (size_asked old size)) new asked.none (grind (arith, none, stays_open, no_fault_then, kept, no_wait, still, truncation_writes, flat_of, file_now, flat_now, carries_out))
 
 -- The raw failed, or wanted memory.
 
@@ -237,20 +202,7 @@ faulted_by old mid new size asks fails tells = in_model size (to_flat (either_wa
 
 -- what a truncation whose raw failed did with what was owed
 failing_writes : (old mid new : Stream) (size : Option ℕ) → Asks old mid new → WhereTold old.raw (LaysThenCuts old (size_asked old size) new.raw.bytes) → Writes old (Truncate size) (Refused fault.RawFault) new
-failing_writes old mid new size asks lays = record {
-  owes = λ writing. absurd (cc);
-  takes = λ writing. absurd (cc);
-  leaves = λ _. leaves_front old mid new asks;
-  stands = λ _ _ some. absurd (some (none old mid new asks));
-  lays = lays;
-  passes = tt;
-  full = tt;
-  starves = λ wanting. absurd (cc);
-  straight = tt;
-  settles = λ at _. at_place old mid new asks at;
-  unclosed = λ some. absurd (some (none old mid new asks));
-  rests = λ dead. absurd (dead asks.may.live);
-}
+failing_writes old mid new size asks lays = grind (arith, leaves_front, none, at_place)
 
 lays_or_cuts : (old mid new : Stream) (size : ℕ) → Asks old mid new → FailsToResize mid size new → WhereTold old.raw (LaysThenCuts old size new.raw.bytes)
 lays_or_cuts old mid new size asks fails tells = record { between = mid.raw.bytes; lays = asks.settled_by.0.passes.lays tells; cuts = fails.bytes (asks.settled_by.0.passes.kept.raw.tells_bytes ∙ tells_its_bytes old.raw tells) }

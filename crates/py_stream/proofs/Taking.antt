@@ -31,11 +31,7 @@ lay_twice raw place bytes more first second within =
     let front : List ℕ = take first bytes in
     let size : length front ≡ first = length-take-le first bytes within in
     let same : front ≡ take first all = sym (take-append-le first bytes more within) in
-    ap (λ (xs : List ℕ). lay (lay raw place front) (place + first) (take second xs)) (sym (drop-append-le first bytes more within))
-    ∙ (ap (λ (n : ℕ). lay (lay raw place front) (place + n) (take second (drop first all))) (sym size)
-    ∙ (lay_behind raw place front (take second (drop first all))
-    ∙ (ap (λ (xs : List ℕ). lay raw place (xs ++ take second (drop first all))) same
-    ∙ ap (lay raw place) (sym (take-add first second all)))))
+    grind (arith, drop-append-le, lay_behind, take-add)
 
 -- Streams.
 
@@ -211,7 +207,3 @@ fills_more old new bytes more fills = grind (arith, length-append, take-append-l
 -- a failing of a step that takes nothing, after another
 pub fails_on : (old mid new : Stream) (bytes : List ℕ) → TookAll old bytes mid → FailsTaking mid [] new → FailsTaking old bytes new
 fails_on old mid new bytes first second = subst (λ (xs : List ℕ). FailsTaking old xs new) (append-nil bytes) (fails_then old mid new bytes [] first second)
-
--- memory that runs out in a step that takes nothing, after another
-pub lacks_on : (old mid new : Stream) (bytes : List ℕ) → Took old bytes mid → Lacks mid [] new → Lacks old bytes new
-lacks_on old mid new bytes first second = subst (λ (xs : List ℕ). Lacks old xs new) (append-nil bytes) (lacks_then old mid new bytes [] first second)

@@ -15,17 +15,4 @@ none_comes old new place (suc room) (byte ∷ more) part count bounded fits full
 -- one transfer into as much of a buffer as may be filled
 pub comes_at : (old new : Raw) (place room : ℕ) (before part : List ℕ) (count : Option ℕ) → (IsTrue old.tells_bytes → length old.bytes ≤ greatest_place) → place + room ≤ greatest_place → room ≤ length before → (room < length before → place + room ≡ greatest_place) → length part ≡ length (take room before) → ReadOutcome old (take room before) (Ok count) part new → TransferOutcome old place before (part ++ drop room before) (Ok count) new
 comes_at old new place room before part None bounded within fits full long is = is
-comes_at old new place room before part (Some count) bounded within fits full long is =
-    let few : count ≤ length part = omega (arith, is.fits, long) in
-    record {
-      fits = omega (arith, few, length-append part (drop room before));
-      within = omega (arith, within, is.fits, length-take-le room before fits);
-      counts = is.counts;
-      written = is.written;
-      reads = is.reads;
-      next = λ tells at. ap (λ (from : ℕ). take count (drop from old.bytes)) (sym at) ∙ (sym (is.told tells).given ∙ sym (take-append-le count part (drop room before) few));
-      last = none_comes old new place room before part count bounded fits full is;
-      stands = is.place;
-      bytes = is.bytes;
-      transfers = is.transfers;
-    }
+comes_at old new place room before part (Some count) bounded within fits full long is = grind (arith, length-append, length-take-le, take-append-le, none_comes)

@@ -1,5 +1,5 @@
--- A place moved by an offset, or by lines; and the steps of moving a stream.
-use Rattle.std.specs.Prelude.{◌≡◌, ℕ, ◌+◌, ◌<◌, ◌≤◌, max, nat_eq, ℤ, pos, suc, zero, true, IsTrue, length, Option, Some, None, IsSome, Result, Ok, Err, if◌then◌else◌}
+-- How a call begins; a place moved by an offset, or by lines; and the steps of moving a stream.
+use Rattle.std.specs.Prelude.{◌≡◌, ℕ, ◌+◌, ◌<◌, ◌≤◌, max, nat_eq, ℤ, pos, suc, zero, Bool, true, false, ◌&&◌, IsTrue, length, Option, Some, None, IsSome, is_some, Result, Ok, Err, if◌then◌else◌}
 use Rattle.py_flat.specs.declared.fault.IoFault.{IoFault}
 use Rattle.py_flat.specs.declared.fault.IoFault.TheVariants as fault
 use Rattle.py_flat.specs.declared.life.Life.TheVariants as life
@@ -9,7 +9,13 @@ use Rattle.py_raw.specs.RawStream.{WhereBytes, KeepsBytes, NoWait, LeavesCounts,
 use Rattle.py_stream.specs.Stream.{Span, Stream, nothing_owed}
 use Rattle.py_stream.specs.Keeping.{KeepsOn}
 use Rattle.py_flat.specs.Limits.{greatest_place}
-use Rattle.py_flat.specs.Refusals.{moved_by, target_refusal}
+use Rattle.py_flat.specs.Refusals.{life_fault, moved_by, target_refusal}
+use Rattle.py_stream.specs.Settling.{SettleOutcome}
+
+-- a call begins: the life refuses it, or lets it go on, and no answer is short yet
+abbrev pub Begins : Stream → Result (Unit {0}) IoFault → Stream → Type 0
+Begins before (Ok done) after = (before.life ≡ life.Live) × (after ≡ record before { short = false })
+Begins before (Err why) after = (life_fault before.life ≡ Some why) × (after ≡ record before { short = false })
 
 -- the place that lies so far from another, or what refuses it
 abbrev pub MovedBy : ℕ → ℤ → Result ℕ IoFault → Type 0
@@ -22,6 +28,20 @@ EndsWithin end (Some place) = (place ≡ end) × (end ≤ greatest_place)
 EndsWithin end None = greatest_place < end
 
 -- Moving a stream.
+
+-- whether a stream may keep bytes that it owes its raw: it writes, and has a buffer
+abbrev pub keeps_pending : Stream → Bool
+keeps_pending stream = stream.can.writable && is_some stream.buffer
+
+-- what is owed, by that: a stream that may keep bytes doesn't read, and another owes nothing
+abbrev pub OwesBy : Bool → Stream → Type 0
+OwesBy true stream = stream.can.readable ≡ false
+OwesBy false stream = stream.owed ≡ nothing_owed stream.place
+
+-- all that is owed is passed on before a stream is moved; one that keeps no bytes is left as it is
+abbrev pub SettlesBy : Bool → Stream → Result (Unit {0}) IoFault → Stream → Type 0
+SettlesBy true old result new = SettleOutcome old result new
+SettlesBy false old result new = (result ≡ Ok tt) × (new ≡ old)
 
 -- the end of the flat file, by where the raw ends: with what is owed
 abbrev pub end_with : Owed → ℕ → ℕ

@@ -7,6 +7,7 @@ mod buffered_stream;
 mod detached;
 mod laws;
 mod live_raw;
+mod moves;
 mod moving;
 mod new_refused;
 mod opening;
@@ -24,9 +25,10 @@ pub use laws::{
     a_smooth_write_takes_all, a_stream_answers_as_a_buffered_one,
 };
 pub use live_raw::LiveRaw;
+pub use moves::{Moves, refuse, seek, tell};
 pub use moving::{end_of_lines, life_fault, moved_by};
 pub use new_refused::NewRefused;
-pub use opening::{first_place, refused_at_first};
+pub use opening::{first_place, refused_at_first, refused_by};
 pub use piecewise::{TakesPieces, take_lines};
 pub use py_flat::Whence;
 pub use reading_on::{ReadsOn, read_into, read_line, read_lines, read_rest};

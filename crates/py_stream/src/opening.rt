@@ -1,8 +1,10 @@
 //! What opening a stream over a raw one begins with.
 ghost use Rattle.std.specs.Prelude.{◌≡◌, false};
 ghost use Rattle.py_raw.specs.RawStream.{Keeps, StaysOpen};
+ghost use Rattle.py_stream.specs.LiveRaw.{fault_of};
 ghost use Rattle.py_stream.specs.Opening.{first_refusal, PlaceOutcome};
 
+use crate::NewRefused;
 use py_raw::{IoFault, RawError, RawStream};
 
 /// Why a raw stream is refused before it is asked for anything: `Closed` where it is closed, then `Unsupported` where it isn't
@@ -43,4 +45,15 @@ pub fn first_place<R: RawStream>(raw: &mut R, appends: bool) -> Result<u64, RawE
     } else {
         raw.tell()
     }
+}
+
+/// The refusal of a raw stream that failed, or lacked memory, when it was asked where a stream begins: it is handed back.
+pub fn refused_by<R: RawStream>(raw: R, error: RawError) -> NewRefused<R>
+    ensures { result ≡ record { raw = raw; fault = fault_of error } }
+{
+    let fault = match error {
+        RawError::Fault => IoFault::RawFault,
+        RawError::Memory => IoFault::NoMemory,
+    };
+    NewRefused { raw, fault }
 }

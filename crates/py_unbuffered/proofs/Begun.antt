@@ -8,7 +8,8 @@ use Rattle.py_flat.specs.FlatFile.{Unbuffered}
 use Rattle.py_flat.specs.Refusals.{is_getter, is_other_getter, is_close, lets_through, life_fault}
 use Rattle.py_raw.specs.RawStream.{KeepsReads}
 use Rattle.py_stream.specs.Answers.{Answers, IsNear}
-use Rattle.py_stream.proofs.Alone.{detaches, Begins, begins_in_vain as stream_begins_in_vain}
+use Rattle.py_stream.specs.Moving.{Begins}
+use Rattle.py_stream.proofs.Alone.{detaches, begins_in_vain as stream_begins_in_vain}
 use Rattle.py_stream.proofs.Refusing.{IsPlaced, refused_by_life as life_refuses}
 use Rattle.py_stream.specs.Keeping.{IsSound, KeepsOn}
 use Rattle.py_stream.specs.Writing.{OwesBehind}

@@ -3,6 +3,7 @@ ghost use Rattle.std.specs.Prelude.{◌≡◌, ◌≢◌, not, false, length};
 ghost use Rattle.py_unbuffered.specs.Engine.{IsEngine, BeginOutcome, TransferOutcome, live_of};
 ghost use Rattle.py_stream.specs.Access.{can_of};
 
+mod ending;
 mod gathering;
 mod moving;
 mod reading;

@@ -9,9 +9,10 @@ ghost use Rattle.py_stream.specs.Handing.{HandsParts};
 ghost use Rattle.py_stream.specs.Access.{can_of, is_able};
 
 use crate::data::UnbufferedData;
-use py_raw::{IoFault, Life, Lines, RawError, RawStream};
+use py_raw::{IoFault, Life, Lines, RawStream};
 use py_stream::{
-    Access, Detached, NewRefused, first_place, read_line, read_lines, refused_at_first, truncate,
+    Access, Detached, NewRefused, first_place, read_line, read_lines, refuse, refused_at_first,
+    refused_by, seek, tell, truncate,
 };
 use std::alloc::Global;
 use std::marker::Model;
@@ -63,14 +64,7 @@ impl<R: RawStream> UnbufferedStream<R> {
             Ok(place) => Ok(UnbufferedStream {
                 data: UnbufferedData::new(raw, place, access),
             }),
-            Err(RawError::Fault) => Err(NewRefused {
-                raw,
-                fault: IoFault::RawFault,
-            }),
-            Err(RawError::Memory) => Err(NewRefused {
-                raw,
-                fault: IoFault::NoMemory,
-            }),
+            Err(error) => Err(refused_by(raw, error)),
         }
     }
 
@@ -160,14 +154,14 @@ impl<R: RawStream> UnbufferedStream<R> {
     pub fn seek(&mut self, offset: i64, whence: i32) -> Result<u64, IoFault>
         ensures { Answers self.old (Seek offset whence) (place_reply result) self.new }
     {
-        self.data.seek(offset, whence)
+        seek(&mut self.data, offset, whence)
     }
 
     /// The place. `Unsupported` where the raw can't seek; nothing else refuses it but the life. It calls no raw.
     pub fn tell(&mut self) -> Result<u64, IoFault>
         ensures { Answers self.old Tell (place_reply result) self.new }
     {
-        self.data.tell()
+        tell(&mut self.data)
     }
 
     /// Cuts the raw's bytes to a size, or lengthens them by zeros, and answers it; without a size to the place. The place is kept, and may
@@ -188,7 +182,7 @@ impl<R: RawStream> UnbufferedStream<R> {
     pub fn refuse(&mut self) -> IoFault
         ensures { (call : FileCall) → RefusesAlone self.old call → Answers self.old call (Refused result) self.new }
     {
-        self.data.refuse()
+        refuse(&mut self.data)
     }
 
     /// Does nothing: there is nothing to pass on. Only the life refuses it. It calls no raw.

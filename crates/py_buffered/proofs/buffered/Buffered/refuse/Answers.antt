@@ -7,7 +7,7 @@ use Rattle.py_buffered.proofs.buffered.Buffered.refuse.Goals.{in-Some, in-None}
 
 pub invariant_of-self : goal.invariant_of-self
 invariant_of-self g c = elim c.match-self.branch [
-  | in-Some w ↦ rw w.self-inside-is (stays_buffered w.in-Some.data w.refuse.new.self c.self.inside.access c.self.inside.seekable c.self.inside.size w.refuse.result (rw w.in-Some.is at c.self.invariant) w.refuse.ensures)
+  | in-Some w ↦ rw w.self-inside-is (stays_buffered w.in-Some.data w.refuse.new.stream c.self.inside.access c.self.inside.seekable c.self.inside.size w.refuse.result (rw w.in-Some.is at c.self.invariant) w.refuse.ensures)
   | in-None w ↦ rw w.self-inside-is c.self.invariant
 ]
 

@@ -11,6 +11,6 @@ use Rattle.py_buffered.proofs.buffered.Buffered.seek.Goals.{in-Some, in-None}
 pub returns-clause-answers : goal.returns-clause-answers
 returns-clause-answers g c = elim c.match-self.branch [
   | in-Some w ↦ rw (← c.self.view_is, w.in-Some.is, w.result-is, w.self-inside-is)
-      (subst₂ (λ (offset : ℤ) (whence : ℤ). Answers (stream_of w.in-Some.data) (Seek offset whence) (place_reply w.seek.result) (stream_of w.seek.new.self)) (to_z-of_z c.ranges.offset) (to_z-of_z c.ranges.whence) w.seek.ensures)
+      (subst₂ (λ (offset : ℤ) (whence : ℤ). Answers (stream_of w.in-Some.data) (Seek offset whence) (place_reply w.seek.result) (stream_of w.seek.new.stream)) (to_z-of_z c.ranges.offset) (to_z-of_z c.ranges.whence) w.seek.ensures)
   | in-None w ↦ rw (← c.self.view_is, w.result-is, w.self-inside-is, w.in-None.is) (detached_answers (can_of c.self.inside.access c.self.inside.seekable) (Some c.self.inside.size) (Seek c.args.offset c.args.whence) refl refl)
 ]

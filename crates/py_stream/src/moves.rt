@@ -1,0 +1,114 @@
+//! Where a stream stands, and moving it, of any stream over a raw.
+ghost use Rattle.std.specs.Prelude.{◌≡◌, ◌≤◌, true, false, []};
+ghost use Rattle.py_flat.specs.declared.life.Life.TheVariants.{Live};
+ghost use Rattle.py_flat.specs.Limits.{greatest_place};
+ghost use Rattle.py_flat.specs.Calls.{FileCall, Seek, Tell, Refused};
+ghost use Rattle.py_stream.specs.Stream.{Stream};
+ghost use Rattle.py_stream.specs.Keeping.{IsSound};
+ghost use Rattle.py_stream.specs.LiveRaw.{is_movable as movable};
+ghost use Rattle.py_stream.specs.Answers.{Answers, RefusesAlone};
+ghost use Rattle.py_stream.specs.Replies.{place_reply};
+ghost use Rattle.py_stream.specs.Moving.{Begins, keeps_pending, OwesBy, SettlesBy, TargetOutcome, EndOutcome, GoOutcome};
+
+use crate::moved_by;
+use py_raw::IoFault;
+
+/// A stream that may be moved.
+pub trait Moves {
+    /// What the stream is seen as.
+    ghost shows: { Self → Stream };
+
+    /// Begins a call: the life refuses it, or it may go on. No answer is short yet, and nothing else changes.
+    fn begin_call(&mut self) -> Result<(), IoFault>
+        ensures begins { Begins (shows self.old) result (shows self.new) }
+        ensures sound { IsSound (shows self.old) }
+        ensures owes { OwesBy (keeps_pending (shows self.old)) (shows self.old) };
+
+    /// Whether the stream's raw can seek.
+    fn seekable(&self) -> bool
+        ensures { result ≡ (shows self.now).can.seekable };
+
+    /// Whether the stream may be moved: its raw can seek, and it doesn't append.
+    fn is_movable(&self) -> bool
+        ensures { result ≡ movable (shows self.now).can };
+
+    /// The stream's place, in bytes from the start of the file; pending writes count.
+    fn stands_at(&self) -> u64
+        ensures { result ≡ (shows self.now).place };
+
+    /// Where the stream ends, in bytes from the start of the file, with what it owes. `RawFault` fails the stream; `NoMemory` leaves all
+    /// as it was.
+    fn end(&mut self) -> Result<u64, IoFault>
+        requires live { (shows self.old).life ≡ Live }
+        requires can { (shows self.old).can.seekable ≡ true }
+        ensures { EndOutcome (shows self.old) result (shows self.new) };
+
+    /// Passes on all that is owed, and keeps the place. `RawFault` fails the stream, `WouldBlock` and `NoMemory` leave it live; each
+    /// leaves what wasn't passed on owed.
+    fn pass_on(&mut self) -> Result<(), IoFault>
+        requires live { (shows self.old).life ≡ Live }
+        requires whole { (shows self.old).short ≡ false }
+        ensures { SettlesBy (keeps_pending (shows self.old)) (shows self.old) result (shows self.new) };
+
+    /// Moves to a place, in bytes from the start of the file, where nothing is owed. `RawFault` fails the stream; `NoMemory` leaves all as
+    /// it was.
+    fn go_to(&mut self, target: u64) -> Result<(), IoFault>
+        requires live { (shows self.old).life ≡ Live }
+        requires can { (shows self.old).can.seekable ≡ true }
+        requires none { (shows self.old).owed.bytes ≡ [] }
+        requires within { target ≤ greatest_place }
+        ensures { GoOutcome (shows self.old) target result (shows self.new) };
+}
+
+/// Where a seek goes.
+fn target<S: Moves>(stream: &mut S, offset: i64, whence: i32) -> Result<u64, IoFault>
+    requires live { (S.shows stream.old).life ≡ Live }
+    requires can { (S.shows stream.old).can.seekable ≡ true }
+    requires far { (S.shows stream.old).place ≤ greatest_place }
+    ensures { TargetOutcome (S.shows stream.old) offset whence result (S.shows stream.new) }
+{
+    match whence {
+        0 => moved_by(0, offset),
+        1 => moved_by(stream.stands_at(), offset),
+        2 => {
+            let end = stream.end()?;
+            moved_by(end, offset)
+        }
+        _ => Err(IoFault::BadWhence),
+    }
+}
+
+/// Moves a stream by an offset from the start (0), the place (1) or the end (2), once nothing is owed, and answers the new place.
+pub fn seek<S: Moves>(stream: &mut S, offset: i64, whence: i32) -> Result<u64, IoFault>
+    ensures { Answers (S.shows stream.old) (Seek offset whence) (place_reply result) (S.shows stream.new) }
+{
+    stream.begin_call()?;
+    if !stream.is_movable() {
+        return Err(IoFault::Unsupported);
+    }
+    let target = target(stream, offset, whence)?;
+    stream.pass_on()?;
+    stream.go_to(target)?;
+    Ok(target)
+}
+
+/// The place, where the stream's raw can seek.
+pub fn tell<S: Moves>(stream: &mut S) -> Result<u64, IoFault>
+    ensures { Answers (S.shows stream.old) Tell (place_reply result) (S.shows stream.new) }
+{
+    stream.begin_call()?;
+    if !stream.seekable() {
+        return Err(IoFault::Unsupported);
+    }
+    Ok(stream.stands_at())
+}
+
+/// Refuses a call by the life, or as one that the stream lacks.
+pub fn refuse<S: Moves>(stream: &mut S) -> IoFault
+    ensures { (call : FileCall) → RefusesAlone (S.shows stream.old) call → Answers (S.shows stream.old) call (Refused result) (S.shows stream.new) }
+{
+    match stream.begin_call() {
+        Ok(()) => IoFault::Unsupported,
+        Err(fault) => fault,
+    }
+}
