@@ -147,6 +147,11 @@ buffer_with file lent taken = record {
 abbrev pub as_buffer : BytesView → Buffer
 as_buffer view = buffer_with view.file (is_lent view) view.taken
 
+-- where the stream ends: a stream in memory knows it, so nothing but its life refuses to tell it
+abbrev pub TellsEnd : Option IoFault → (end : ℕ) → Result ℕ IoFault → Type 0
+TellsEnd (Some why) end result = result ≡ Err why
+TellsEnd None end result = result ≡ Ok end
+
 -- The whole.
 
 -- all bytes, or out of memory

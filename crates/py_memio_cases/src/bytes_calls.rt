@@ -4,6 +4,7 @@ use crate::words::{bytes_of, hex_of, place_of, size_of, split};
 use anyhow::{Result, anyhow};
 use py_callers::mark_first;
 use py_memio::{BytesIO, Data, Export, IoFault, Lines};
+use py_stream::BufferedStream;
 use std::alloc::Global;
 
 /// A stream of bytes.
@@ -12,7 +13,7 @@ pub(crate) fn stream_of(alloc: Global, word: &str) -> Result<BytesIO> {
 }
 
 /// Bytes that were read.
-fn bytes(alloc: Global, came: Result<Vec<u8>, IoFault>) -> Result<String> {
+pub(crate) fn bytes(alloc: Global, came: Result<Vec<u8>, IoFault>) -> Result<String> {
     match came {
         Ok(bytes) => hex_of(alloc, &bytes),
         Err(fault) => answers::refused(alloc, fault),
@@ -79,6 +80,14 @@ fn resize(alloc: Global, stream: &mut BytesIO, word: &str) -> Result<String> {
     }
 }
 
+/// Truncates by what may change how many bytes there are.
+fn cut(alloc: Global, stream: &mut BytesIO, words: &str) -> Result<String> {
+    match stream.try_resizable_opt() {
+        Some(mut resizable) => answers::number(alloc, resizable.truncate(place_of(words)?)),
+        None => Ok(String::from_str(alloc, "none")?),
+    }
+}
+
 /// A call of an export.
 fn use_export(alloc: Global, stream: &mut BytesIO, name: &str, export: Export) -> Result<String> {
     match name {
@@ -116,6 +125,10 @@ pub(crate) fn answer(alloc: Global, stream: &mut BytesIO, call: &str) -> Result<
             )
         }
         "tell" => answers::number(alloc, stream.tell()),
+        "end" => answers::number(alloc, stream.end()),
+        "taken" => answers::number(alloc, Ok(stream.taken())),
+        "exported" => answers::flag(alloc, stream.exported()),
+        "cut" => cut(alloc, stream, words),
         "truncate" => answers::number(alloc, stream.truncate(place_of(words)?)),
         "getvalue" => bytes(alloc, stream.getvalue(alloc)),
         "getbuffer" => answers::number(alloc, stream.getbuffer().map(|export| export.0)),

@@ -1,6 +1,6 @@
 //! Lists of calls, one after the other.
 use crate::words::split;
-use crate::{bytes_calls, text_calls};
+use crate::{buffered_calls, bytes_calls, text_calls};
 use anyhow::{Result, anyhow};
 use py_memio::{BytesIO, StringIO};
 use std::alloc::Global;
@@ -18,15 +18,23 @@ pub(crate) struct Tally {
 enum Stream {
     Text(StringIO),
     Bytes(BytesIO),
+    Buffered(BytesIO),
 }
 
 impl Stream {
-    /// The stream that a first line of a list begins; `None` of a call's line.
-    fn begun(alloc: Global, line: &str) -> Result<Option<Stream>> {
+    /// The stream that a first line of a list begins, of bytes as a buffered stream where that is asked for; `None` of a call's line.
+    fn begun(alloc: Global, line: &str, buffered: bool) -> Result<Option<Stream>> {
         let (word, content) = split(line);
         match word {
             "text" => Ok(Some(Stream::Text(text_calls::stream_of(alloc, content)?))),
-            "bytes" => Ok(Some(Stream::Bytes(bytes_calls::stream_of(alloc, content)?))),
+            "bytes" => {
+                let stream = bytes_calls::stream_of(alloc, content)?;
+                Ok(Some(if buffered {
+                    Stream::Buffered(stream)
+                } else {
+                    Stream::Bytes(stream)
+                }))
+            }
             _ => Ok(None),
         }
     }
@@ -36,12 +44,18 @@ impl Stream {
         match self {
             Stream::Text(stream) => text_calls::answer(alloc, stream, call),
             Stream::Bytes(stream) => bytes_calls::answer(alloc, stream, call),
+            Stream::Buffered(stream) => {
+                if let Some(came) = buffered_calls::answer(alloc, stream, call)? {
+                    return Ok(came);
+                }
+                bytes_calls::answer(alloc, stream, call)
+            }
         }
     }
 }
 
-/// Runs the lists of a file, and prints each call that is answered otherwise.
-pub(crate) fn run_file(rt: &HostRuntime, text: &str) -> Result<Tally> {
+/// Runs the lists of a file, of bytes as buffered streams where that is asked for, and prints each call that is answered otherwise.
+pub(crate) fn run_file(rt: &HostRuntime, text: &str, buffered: bool) -> Result<Tally> {
     let mut tally = Tally {
         lists: 0,
         calls: 0,
@@ -49,7 +63,7 @@ pub(crate) fn run_file(rt: &HostRuntime, text: &str) -> Result<Tally> {
     };
     let mut stream = None;
     for (number, line) in text.lines().enumerate() {
-        if let Some(begun) = Stream::begun(rt.alloc(), line)? {
+        if let Some(begun) = Stream::begun(rt.alloc(), line, buffered)? {
             tally.lists = tally.lists.saturating_add(1);
             stream = Some(begun);
             continue;

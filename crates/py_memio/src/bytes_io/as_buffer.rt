@@ -1,9 +1,11 @@
 //! A stream in memory, as a buffered stream.
-ghost use Rattle.std.specs.Prelude.{◌≡◌};
-ghost use Rattle.py_flat.specs.Calls.{Read1, Write, Seek, Flush, Close};
+ghost use Rattle.std.specs.Prelude.{◌≡◌, length};
+ghost use Rattle.py_flat.specs.Refusals.{life_fault};
+ghost use Rattle.py_flat.specs.Calls.{Read1, Write, Seek, Tell, Flush, Close};
 ghost use Rattle.py_stream.specs.Replies.{bytes_reply, count_reply, place_reply, done_reply};
 ghost use Rattle.py_stream.specs.Buffer.{TellsPlace, AnswersEnd, AnswersAsBuffer};
-ghost use Rattle.py_memio.specs.BytesIO.{as_buffer};
+ghost use Rattle.py_memio.specs.InMemory.{AnswersInMemory};
+ghost use Rattle.py_memio.specs.BytesIO.{as_buffer, is_lent, TellsEnd};
 
 use super::BytesIO;
 use py_flat::{IoFault, Life};
@@ -15,6 +17,7 @@ impl BufferedStream for BytesIO {
 
     fn read1(&mut self, alloc: Global, size: Option<usize>) -> Result<Option<Vec<u8>>, IoFault>
         ensures answers { AnswersAsBuffer (as_buffer self.old) (Read1 size) (bytes_reply result) (as_buffer self.new) }
+        ensures exact { AnswersInMemory (is_lent self.old) self.old.file (Read1 size) (bytes_reply result) self.new.file }
         ensures exports { self.new.exports ≡ self.old.exports }
     {
         let _ = &self.bytes;
@@ -28,6 +31,7 @@ impl BufferedStream for BytesIO {
 
     fn write(&mut self, bytes: &[u8]) -> Result<usize, IoFault>
         ensures answers { AnswersAsBuffer (as_buffer self.old) (Write bytes.now) (count_reply result) (as_buffer self.new) }
+        ensures exact { AnswersInMemory (is_lent self.old) self.old.file (Write bytes.now) (count_reply result) self.new.file }
         ensures exports { self.new.exports ≡ self.old.exports }
     {
         let _ = &self.bytes;
@@ -38,6 +42,7 @@ impl BufferedStream for BytesIO {
 
     fn seek(&mut self, offset: i64, whence: i32) -> Result<u64, IoFault>
         ensures answers { AnswersAsBuffer (as_buffer self.old) (Seek offset whence) (place_reply result) (as_buffer self.new) }
+        ensures exact { AnswersInMemory (is_lent self.old) self.old.file (Seek offset whence) (place_reply result) self.new.file }
         ensures exports { self.new.exports ≡ self.old.exports }
     {
         let _ = &self.bytes;
@@ -48,6 +53,7 @@ impl BufferedStream for BytesIO {
 
     fn tell(&mut self) -> Result<u64, IoFault>
         ensures answers { TellsPlace (as_buffer self.old) result (as_buffer self.new) }
+        ensures exact { AnswersInMemory (is_lent self.old) self.old.file Tell (place_reply result) self.new.file }
         ensures exports { self.new.exports ≡ self.old.exports }
     {
         let _ = &self.bytes;
@@ -56,6 +62,8 @@ impl BufferedStream for BytesIO {
 
     fn end(&mut self) -> Result<u64, IoFault>
         ensures answers { AnswersEnd (as_buffer self.old) result (as_buffer self.new) }
+        ensures exact { TellsEnd (life_fault self.old.file.life) (length self.old.file.bytes) result }
+        ensures same { self.new ≡ self.old }
         ensures exports { self.new.exports ≡ self.old.exports }
     {
         self.check_open()?;
@@ -64,6 +72,7 @@ impl BufferedStream for BytesIO {
 
     fn flush(&mut self) -> Result<(), IoFault>
         ensures answers { AnswersAsBuffer (as_buffer self.old) Flush (done_reply result) (as_buffer self.new) }
+        ensures exact { AnswersInMemory (is_lent self.old) self.old.file Flush (done_reply result) self.new.file }
         ensures exports { self.new.exports ≡ self.old.exports }
     {
         let _ = &self.bytes;
@@ -74,6 +83,7 @@ impl BufferedStream for BytesIO {
 
     fn close(&mut self) -> Result<(), IoFault>
         ensures answers { AnswersAsBuffer (as_buffer self.old) Close (done_reply result) (as_buffer self.new) }
+        ensures exact { AnswersInMemory (is_lent self.old) self.old.file Close (done_reply result) self.new.file }
         ensures exports { self.new.exports ≡ self.old.exports }
     {
         let _ = &self.bytes;

@@ -10,7 +10,7 @@ use py_flat::IoFault;
 
 /// The bytes that an export of a stream lends, to be written: as many as the stream has. What is written there is in the stream once they
 /// come back, of which nothing else changes. Contracts see the borrowed stream (`stream_of`).
-#[derive(Drop)]
+#[derive(Debug, Drop)]
 pub struct LentBytes<'a> {
     stream: &'a mut BytesIO,
 }

@@ -12,7 +12,7 @@ use py_flat::IoFault;
 
 /// A `BytesIO` that is open and has no export out, so that its length may change. Contracts see the borrowed stream
 /// (`stream_of`), which ends as it was left.
-#[derive(Drop)]
+#[derive(Debug, Drop)]
 pub struct Resizable<'a> {
     stream: &'a mut BytesIO,
 }
