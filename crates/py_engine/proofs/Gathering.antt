@@ -1,5 +1,5 @@
 -- How a gathering comes from one piece to the next, and what it ends with.
-use Rattle.std.proofs.Common.{◌≡◌, ℕ, ◌+◌, ◌<◌, ◌≤◌, Bool, true, false, List, [], ◌∷◌, ◌++◌, length, take, inl, inr, ◌≢◌, Ok, Err, refl, sym, ap, subst, ◌∙◌, arith, append_assoc}
+use Rattle.std.proofs.Common.{[], ◌≡◌, ℕ, ◌+◌, ◌<◌, ◌≤◌, Bool, true, false, List, ◌∷◌, ◌++◌, length, take, inl, inr, ◌≢◌, Ok, Err, refl, sym, ap, subst, ◌∙◌, arith, append_assoc}
 use Rattle.std.proofs.lemmas.List.{length-append, length-take, length-take-le, length-drop, take_all}
 use Rattle.py_flat.specs.declared.fault.IoFault.{IoFault}
 use Rattle.py_flat.specs.declared.fault.IoFault.TheVariants as fault
@@ -145,20 +145,7 @@ module _ (old now : EngineView) (part : List ℕ) (moved : Bool) (gathered : Gat
 
   -- the collector took all that is held
   takes_all : (after : List ℕ) → after ≡ part ++ ahead_of now.window → Took old after moved now
-  takes_all after is =
-      let held : length now.window.held ≡ now.window.cursor + length (ahead_of now.window) = omega (arith, gathered.kept.is.window_is.cursor, length-drop now.window.cursor now.window.held) in
-      record {
-        kept = gathered.kept;
-        counts = record { no_fault = gathered.no_fault; no_wait = gathered.no_wait };
-        live = gathered.live;
-        place = omega (arith, gathered.place);
-        end = omega (arith, gathered.place, held, ap length is, length-append part (ahead_of now.window));
-        unmoved = gathered.unmoved;
-        told = λ tells. subst (ComesNext (reading_of old)) (sym is) (comes_with_all tells);
-        each = gathered.each;
-        forth = gathered.forth;
-        raw_forth = gathered.raw_forth;
-      }
+  takes_all after is = grind (arith, length-drop, length-append, comes_with_all)
 
 module _ (old now : EngineView) (part : List ℕ) (moved : Bool) (took : Took old part moved now) where
   end_not_back : (is : Bool) → moved ≡ is → end_of old.window ≤ end_of now.window
@@ -243,15 +230,7 @@ module _ (old now : EngineView) (part after piece : List ℕ) (moved : Bool) (ga
 
 -- memory ran out
 pub starves_so_far : (old now new : EngineView) (part after : List ℕ) (moved : Bool) (first : List ℕ → List ℕ) → GatheredTo old part moved now → MovedSome first old part moved → StarvesWith moved now new → GatherOutcome first (reading_of old) (Err fault.NoMemory) after (reading_of new)
-starves_so_far old now new part after false first gathered some starves =
-    let same : new ≡ old = starves ∙ gathered.unmoved refl in
-    record {
-      stops = inl (ap reading_of same);
-      gathers = tt;
-      starves = λ failed. absurd (let both : life.Failed ≡ life.Live = sym failed ∙ (ap (λ (engine : EngineView). engine.life) starves ∙ gathered.live) in cc);
-      idle = λ held. (ap (λ (engine : EngineView). engine.raw) same, λ fails. absurd (cc));
-      within = λ most bound. omega (arith, ap (λ (engine : EngineView). place_of engine.window) same);
-    }
+starves_so_far old now new part after false first gathered some starves = grind arith
 starves_so_far old now new part after true first gathered some starves =
     subst (λ (engine : EngineView). GatherOutcome first (reading_of old) (Err fault.NoMemory) after (reading_of engine)) (sym starves) (record {
       stops = inr (record {

@@ -1,5 +1,5 @@
 -- Passing on what a stream owes, transfer by transfer.
-use Rattle.std.proofs.Common.{◌≡◌, IsTrue, Bool, true, false, [], Result, Ok, Err, refl, ap, sym, subst, arith}
+use Rattle.std.proofs.Common.{[], ◌≡◌, IsTrue, Bool, true, false, Result, Ok, Err, refl, ap, sym, subst, arith}
 use Rattle.py_flat.specs.declared.fault.IoFault.{IoFault}
 use Rattle.py_flat.specs.declared.fault.IoFault.TheVariants as fault
 use Rattle.py_raw.specs.RawStream.{NoWait}

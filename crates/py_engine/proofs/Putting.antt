@@ -1,5 +1,5 @@
 -- Taking the bytes of a call: into the buffer, or straight to the raw.
-use Rattle.std.proofs.Common.{◌≡◌, ℕ, ◌+◌, ◌≤◌, inr, Bool, true, false, List, [], ◌++◌, length, take, drop, Option, None, Some, Result, Ok, Err, sym, ap, ◌∙◌, subst, arith, length-append}
+use Rattle.std.proofs.Common.{[], ◌≡◌, ℕ, ◌+◌, ◌≤◌, inr, Bool, true, false, List, ◌++◌, length, take, drop, Option, None, Some, Result, Ok, Err, sym, ap, ◌∙◌, subst, arith, length-append}
 use Rattle.std.proofs.Math.Seq.{take-nil}
 use Rattle.std.proofs.lemmas.List.{take-append-le, take_all, drop_all, drop-drop, append-nil}
 use Rattle.py_flat.specs.declared.fault.IoFault.{IoFault}
@@ -7,7 +7,7 @@ use Rattle.py_flat.specs.declared.fault.IoFault.TheVariants as fault
 use Rattle.py_flat.specs.Causes.{Rose}
 use Rattle.py_stream.specs.Stream.{Stream}
 use Rattle.py_stream.specs.Writing.{OwesBehind, OwesRest, OwesOld}
-use Rattle.py_stream.specs.Taking.{Calm, WaitsAsOne, Took, TookAll, FailsTaking, Lacks, PutsOutcome, PutOutcome}
+use Rattle.py_stream.specs.Taking.{Calm, WaitsAsOne, Took, TookAll, FailsTaking, Lacks, PutOutcome}
 use Rattle.py_stream.proofs.Taking.{take_behind, took_then, took_on, fails_then, fails_more, starves_then, waited_then, waited_before}
 use Rattle.py_stream.proofs.Putting.{put_then}
 use Rattle.py_stream.proofs.Flat.{fails_ends, took_none_ends}
@@ -41,11 +41,7 @@ owes_passing old new took = rest_of old new took.behind (took_none_ends old new 
 -- the raw failed while it was given only the bytes that it was owed
 owes_failing : (old new : Stream) → FailsTaking old [] new → OwesOld old new
 owes_failing old new fails =
-    rest_of old new fails.behind (omega (arith, fails_ends old new [] fails, fails.fits)) (record {
-      passed = fails.passed;
-      bytes = fails.owed ∙ ap (drop fails.passed) (ap (λ (xs : List ℕ). old.owed.bytes ++ xs) (take-nil fails.taken) ∙ append-nil old.owed.bytes);
-      place = λ some. fails.place;
-    })
+    rest_of old new fails.behind (omega (arith, fails_ends old new [] fails, fails.fits)) (grind (arith, take-nil, append-nil))
 
 -- what is left after some of the bytes that were owed were passed on
 owes_then : (old mid new : Stream) → Took old [] mid → OwesOld mid new → OwesOld old new

@@ -1,5 +1,5 @@
 -- What is held, and what one transfer brings, for a caller's buffer.
-use Rattle.std.proofs.Common.{◌≡◌, ℕ, ◌<◌, ◌≤◌, Bool, inl, List, length, take, drop, min, nat_lt, if◌then◌else◌, Ok, refl, sym, ap, ◌∙◌, subst, arith}
+use Rattle.std.proofs.Common.{◌≡◌, ℕ, ◌<◌, ◌≤◌, Bool, List, length, take, min, nat_lt, if◌then◌else◌, Ok, sym, ap, arith}
 use Rattle.std.proofs.lemmas.List.{length-take-le, take-take, length-drop}
 use Rattle.std.proofs.lemmas.Bool.{lt-ltb}
 use Rattle.py_flat.specs.declared.life.Life.TheVariants as life
@@ -12,46 +12,18 @@ use Rattle.py_stream.specs.ReadingOn.{StepsNone, StepOutcome, ReadsInto, HoldsLe
 use Rattle.py_stream.proofs.Coming.{each_still, each_seen}
 use Rattle.py_engine.specs.declared.window.Filled.{Filled}
 use Rattle.py_engine.specs.declared.window.Filled.TheVariants as filled
-use Rattle.py_engine.specs.Window.{place_of, end_of, ahead_of, advanced}
+use Rattle.py_engine.specs.Window.{end_of, ahead_of, advanced}
 use Rattle.py_engine.specs.Engine.{EngineView}
 use Rattle.py_engine.specs.Reading.{reading_of, IsReading, UsesUp, Fills, FillsOutcome, stepped}
 use Rattle.py_engine.proofs.Transfers.{held_next, keeps_reading, keeps_then, keeps_advanced, each_but_last}
 
 -- all that is held goes into a buffer that it doesn't fill
 pub holds_less : (old : EngineView) (count : ℕ) (buffer : List ℕ) → IsReading old → old.life ≡ life.Live → count ≡ min (length (ahead_of old.window)) (length buffer) → count < length buffer → take count buffer ≡ take count (ahead_of old.window) → HoldsLess (reading_of old) count buffer (reading_of old)
-holds_less old count buffer is live least less front =
-    let long : length (ahead_of old.window) ≡ count = omega (arith, least, less) in
-    record {
-      same = refl;
-      less = less;
-      all = omega (arith, long, length-drop old.window.cursor old.window.held);
-      to = omega (arith, long, is.window_is.cursor, length-drop old.window.cursor old.window.held);
-      told = λ tells. held_next old.raw old.window count is.window_is.cursor (omega (arith, long)) (is.told tells live) ∙ sym front;
-    }
+holds_less old count buffer is live least less front = grind (arith, length-drop, held_next)
 
 -- what is held fills a buffer
 pub held_enough : (old : EngineView) (count : ℕ) (buffer : List ℕ) → IsReading old → old.life ≡ life.Live → count ≡ length buffer → count ≤ length (ahead_of old.window) → take count buffer ≡ take count (ahead_of old.window) → ReadsInto (reading_of old) (record { count = count; stop = stop.Enough }) buffer (reading_of (record old { window = advanced count old.window }))
-held_enough old count buffer is live all fits front =
-    let long : length (take count buffer) ≡ count = length-take-le count buffer (omega (arith, all)) in
-    record {
-      fits = omega (arith, all);
-      full = λ enough. all;
-      less = λ other. absurd (other refl);
-      idle = λ held. refl;
-      to = omega (arith, fits, is.window_is.cursor, length-drop old.window.cursor old.window.held);
-      stops = (
-        record {
-          kept = keeps_reading old (record old { window = advanced count old.window }) (keeps_advanced old count is fits);
-          no_fault = λ exact. refl;
-          live = live;
-          place = omega (arith, long);
-          told = λ tells. subst (λ (n : ℕ). take n (left_at old.raw.bytes (place_of old.window)) ≡ take count buffer) (sym long) (held_next old.raw old.window count is.window_is.cursor fits (is.told tells live) ∙ sym front);
-        },
-        λ exact. refl,
-        each_still (reading_of old) (reading_of (record old { window = advanced count old.window })) 0 0 refl refl,
-        record { held = λ _ within. refl; last = inl refl },
-      );
-    }
+held_enough old count buffer is live all fits front = grind (arith, length-take-le, length-drop, keeps_reading, keeps_advanced, held_next, each_still)
 
 -- a transfer that brought nothing, or would have blocked
 steps_none : (old new : EngineView) (empties : ℕ) → UsesUp empties old new → StepsNone empties (reading_of old) (reading_of new)
@@ -63,16 +35,11 @@ less_steps some count wanted less = sym (ap (λ (is : Bool). let step : Step = i
 
 -- what came into the window comes next
 window_told : (old new : EngineView) (some count : ℕ) (rest : List ℕ) → Fills old some new → count ≤ length (ahead_of new.window) → take count rest ≡ take count (ahead_of new.window) → WhereTold old.raw (take count (left_at old.raw.bytes (end_of old.window)) ≡ take count rest)
-window_told old new some count rest fills fits front tells =
-    sym (take-take count some (left_at old.raw.bytes (end_of old.window)) (omega (arith, fits, fills.holds.as_many, length-drop new.window.cursor new.window.held)))
-    ∙ (ap (take count) (fills.told tells)
-    ∙ (sym (ap (λ (n : ℕ). take count (drop n new.window.held)) fills.holds.cursor)
-    ∙ sym front))
+window_told old new some count rest fills fits front tells = grind (arith, take-take, length-drop)
 
 -- a transfer into the window, of which less came than what is left of a buffer
 pub window_on : (old new : EngineView) (moved : Bool) (some : Filled) (count : ℕ) (rest : List ℕ) → 0 < length rest → FillsOutcome old moved (Ok some) new → count ≡ min (length (ahead_of new.window)) (length rest) → count < length rest → take count rest ≡ take count (ahead_of new.window) → StepOutcome (reading_of old) moved (Ok (stepped some count (length rest))) rest (reading_of new)
-window_on old new moved (filled.More some) count rest asks fills least less front =
-    subst (λ (step : Step). StepOutcome (reading_of old) moved (Ok step) rest (reading_of new)) (less_steps some count (length rest) less) (grind (arith, keeps_reading, length-drop, window_told))
+window_on old new moved (filled.More some) count rest asks fills least less front = grind (arith, less_steps, keeps_reading, length-drop, window_told)
 window_on old new moved filled.End count rest asks fills least less front = grind (arith, steps_none)
 window_on old new moved filled.Waits count rest asks fills least less front = grind (arith, steps_none)
 

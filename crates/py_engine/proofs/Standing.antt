@@ -1,16 +1,16 @@
 -- Where an engine and its raw stand, as a stream.
-use Rattle.std.proofs.Common.{◌≡◌, ℕ, ◌≤◌, true, false, Err, refl, sym, ap, subst, arith}
+use Rattle.std.proofs.Common.{◌≡◌, ℕ, ◌≤◌, true, false, Err, ap, arith}
 use Rattle.py_flat.specs.declared.fault.IoFault.{IoFault}
 use Rattle.py_flat.specs.declared.fault.IoFault.TheVariants as fault
 use Rattle.py_flat.specs.declared.life.Life.TheVariants as life
 use Rattle.py_stream.specs.declared.access.Access.{Access}
 use Rattle.py_stream.specs.declared.access.Access.TheVariants as access
-use Rattle.py_stream.specs.Access.{can_of, is_read}
+use Rattle.py_stream.specs.Access.{is_read}
 use Rattle.py_stream.specs.Stream.{nothing_owed}
 use Rattle.py_stream.specs.Answers.{IsNear}
 use Rattle.py_stream.specs.Keeping.{IsSound}
 use Rattle.py_stream.specs.Writing.{OwesBehind}
-use Rattle.py_stream.specs.Moving.{FailsMoving, EndOutcome}
+use Rattle.py_stream.specs.Moving.{EndOutcome}
 use Rattle.py_stream.proofs.Refusing.{IsPlaced}
 use Rattle.py_engine.specs.Window.{WindowView, IsWindow, place_of, owed_of}
 use Rattle.py_engine.specs.Engine.{EngineView, stream_of, ReadsAhead, OwesBefore, HasShape, Stands, RawEndOutcome}
@@ -47,28 +47,7 @@ is_sound engine is = record { far = is_far engine is; near = is_near engine is; 
 
 -- the raw failed to say where it ends, or wanted memory for it
 pub end_refused : (old new : EngineView) (why : IoFault) → Stands old → RawEndOutcome old (Err why) new → EndOutcome (stream_of old) (Err why) (stream_of new)
-end_refused old new fault.RawFault is fails = subst (λ (engine : EngineView). FailsMoving (stream_of old) (stream_of engine)) (sym fails.same) (record {
-  stands = record {
-    kept = record {
-      raw = fails.kept;
-      stays = fails.stays;
-      reads = fails.fails.reads;
-      buffer = refl;
-      can = ap (can_of old.access) fails.kept.seekable;
-      short = refl;
-      sound = record { far = is_far old is; near = λ living. absurd (cc); is_open = λ living. absurd (cc); bare = λ none. absurd (cc) };
-    };
-    bytes = fails.fails.bytes;
-    answered = fails.fails.written;
-    place = refl;
-    raw_place = refl;
-    owed = refl;
-    held = refl;
-  };
-  cause = fails.fails.cause;
-  no_wait = fails.fails.no_wait;
-  failed = refl;
-})
+end_refused old new fault.RawFault is fails = grind (arith, is_far)
 end_refused old new fault.NoMemory is wants = (wants.0, ap stream_of wants.1)
 end_refused old new why is never = absurd never
 

@@ -1,5 +1,5 @@
 -- What a step of a stream that is written leaves: by its raw, where that stands, its window and its life.
-use Rattle.std.proofs.Common.{◌≡◌, ◌≢◌, ℕ, ◌+◌, ◌-◌, ◌<◌, ◌≤◌, false, IsTrue, List, [], ◌++◌, length, take, drop, Option, None, Some, Result, Ok, Err, refl, sym, ap, ◌∙◌, subst, arith, add-zero, length-append}
+use Rattle.std.proofs.Common.{[], ◌≡◌, ◌≢◌, ℕ, ◌+◌, ◌-◌, ◌<◌, ◌≤◌, false, IsTrue, List, ◌++◌, length, take, drop, Option, None, Some, Result, Ok, Err, refl, sym, ap, ◌∙◌, subst, arith, add-zero, length-append}
 use Rattle.std.proofs.lemmas.List.{append-nil, length-drop, length-take-le, take_all, drop_all}
 use Rattle.py_flat.specs.declared.fault.IoFault.{IoFault}
 use Rattle.py_flat.specs.declared.fault.IoFault.TheVariants as fault
@@ -82,19 +82,7 @@ pub took_drained : (old : EngineView) (raw : Raw) (count : ℕ) → Stands old �
 took_drained old raw count is writes live keeps stays some wrote =
     let step = drained old raw count is writes live keeps stays some wrote in
     let all : (stream_of old).owed.bytes ++ [] ≡ pending_of old.window = append-nil (pending_of old.window) in
-    record {
-      kept = step.kept;
-      was = step.was;
-      behind = step.behind;
-      live = live;
-      no_fault = wrote.no_fault (λ none. absurd (omega (arith, some, none)));
-      passed = count;
-      within = omega (arith, wrote.fits);
-      answered = wrote.written;
-      place = step.place_is;
-      owed = step.bytes_are ∙ ap (drop count) (sym all);
-      told = λ tells. wrote.told tells ∙ ((λ k. lay old.raw.bytes (stands_there old is writes live (tells_its_place old.raw tells) k) (take count (pending_of old.window))) ∙ ap (λ (xs : List ℕ). lay old.raw.bytes (stream_of old).owed.place (take count xs)) (sym all));
-    }
+    grind (arith, stands_there, tells_its_place)
 
 -- The raw would have blocked.
 

@@ -1,5 +1,5 @@
 -- How a gathering comes from one byte to the next, and what it ends with.
-use Rattle.std.proofs.Common.{◌≡◌, ◌≢◌, ℕ, ◌+◌, ◌<◌, ◌≤◌, Bool, true, false, List, [], ◌++◌, length, take, Ok, Err, refl, sym, ap, ◌∙◌, subst, arith, append_assoc}
+use Rattle.std.proofs.Common.{[], ◌≡◌, ◌≢◌, ℕ, ◌+◌, ◌<◌, ◌≤◌, Bool, true, false, List, ◌++◌, length, take, Ok, Err, refl, sym, ap, ◌∙◌, subst, arith, append_assoc}
 use Rattle.std.proofs.lemmas.List.{append-nil, length-append, take_all, length-take-le}
 use Rattle.py_flat.specs.declared.fault.IoFault.{IoFault}
 use Rattle.py_flat.specs.declared.fault.IoFault.TheVariants as fault
@@ -27,14 +27,7 @@ pub record GatheredTo (wanted : List ℕ → List ℕ) (old : EngineView) (part 
 
 -- nothing is gathered before the first byte
 pub gathered_none : (wanted : List ℕ → List ℕ) (old : EngineView) (part : List ℕ) → part ≡ [] → IsEngine old.raw old.place old.access old.life → old.life ≡ life.Live → wanted [] ≡ [] → ((more : List ℕ) → more ≢ [] → wanted more ≢ []) → GatheredTo wanted old part false old
-gathered_none wanted old part nothing is live alone asks = subst (λ (xs : List ℕ). GatheredTo wanted old xs false old) (sym nothing) (record {
-  took = took_none old is live;
-  alone = alone;
-  goes_on = λ more. (wanted more, refl);
-  asks = λ more some. some_length (wanted more) (asks more some);
-  some = λ moved. absurd (cc);
-  none = λ unmoved. refl;
-})
+gathered_none wanted old part nothing is live alone asks = subst (λ (xs : List ℕ). GatheredTo wanted old xs false old) (sym nothing) (grind (arith, took_none, some_length))
 
 module _ (wanted : List ℕ → List ℕ) (old now : EngineView) (part : List ℕ) (moved : Bool) (gathered : GatheredTo wanted old part moved now) where
   -- more is wanted than is held, which is nothing

@@ -1,5 +1,5 @@
 -- What one transfer of bytes to the raw is to a stream without a buffer.
-use Rattle.std.proofs.Common.{◌≡◌, ℕ, zero, suc, ◌-◌, ◌<◌, inl, inr, Bool, true, false, nat_lt, IsTrue, List, [], length, take, drop, Err, refl, sym, ap, ◌∙◌, subst, arith}
+use Rattle.std.proofs.Common.{[], ◌≡◌, ℕ, ◌-◌, ◌<◌, inr, Bool, true, false, nat_lt, IsTrue, List, length, take, drop, Err, refl, sym, ap, ◌∙◌, arith}
 use Rattle.std.proofs.Math.Seq.{take-nil}
 use Rattle.std.proofs.lemmas.Bool.{cases_lt, true≢false, ltb-true, lt-ltb}
 use Rattle.std.proofs.lemmas.List.{length-take-le, length-drop, take_all, drop_all}
@@ -8,7 +8,7 @@ use Rattle.py_flat.specs.declared.fault.IoFault.TheVariants as fault
 use Rattle.py_flat.specs.declared.life.Life.TheVariants as life
 use Rattle.py_raw.proofs.Telling.{tells_its_bytes}
 use Rattle.py_stream.specs.Keeping.{IsSound}
-use Rattle.py_stream.specs.Taking.{Took, TookAll, FailsTaking, StarvesTaking, CutsBack, FillsUp, PutsOutcome}
+use Rattle.py_stream.specs.Taking.{Took, TookAll, FailsTaking, StarvesTaking, FillsUp, PutsOutcome}
 use Rattle.py_stream.proofs.Putting.{takes_nothing}
 use Rattle.py_unbuffered.specs.Engine.{EngineView, stream_of, Waits, StarvesWith, Puts, FailsPutting, PutOutcome}
 use Rattle.py_unbuffered.proofs.Begun.{keeps_on, owes_behind}
@@ -57,28 +57,13 @@ starves old bytes start true new by is live takes left =
 starves old bytes start false new by is live takes left =
     let none = takes_nothing (stream_of old) is (owes_behind old) live in
     let still : nat_lt start old.place ≡ true → ⊥ = λ past. absurd (true≢false (sym past ∙ sym by)) in
-    record {
-      taken = 0;
-      fits = omega arith;
-      between = stream_of old;
-      lacks = record { takes = takes; took = none.took };
-      calm = none.calm;
-      starved = elim (cases_lt start old.place) [
-        | inl past ↦ absurd (still (lt-ltb start old.place past))
-        | inr before ↦ inl (before, subst (λ (engine : EngineView). CutsBack start (stream_of old) (stream_of engine)) (sym left) (record { kept = none.took.kept; behind = owes_behind old; raw = refl; life_is = refl; place = refl; owed = sym (take-nil (start - old.place)) }))
-      ];
-    }
+    grind (arith, cases_lt, lt-ltb, owes_behind, take-nil)
 
 -- a transfer that is refused is a writing that is
 pub put_refused : (old new : EngineView) (bytes : List ℕ) (start : ℕ) (moved : Bool) (why : IoFault) → moved ≡ nat_lt start old.place → IsSound (stream_of old) → old.life ≡ life.Live → PutOutcome old moved bytes (Err why) new → PutsOutcome (stream_of old) bytes start (Err why) (stream_of new)
 put_refused old new bytes start moved fault.RawFault by is live fails = fails_taking old new bytes fails
 put_refused old new bytes start moved fault.NoMemory by is live outcome = starves old bytes start moved new by is live outcome.0 outcome.1
 put_refused old new bytes start moved why by is live outcome = absurd outcome
-
--- a transfer takes some of some
-pub put_some : (bytes : List ℕ) (count : ℕ) → 0 < length bytes → (count ≡ 0 → bytes ≡ []) → 0 < count
-put_some bytes zero some none = absurd (omega (arith, ap length (none refl)))
-put_some bytes (suc count) some none = omega arith
 
 -- what is handed on of a line is all that is left
 pub piece_is : (line : List ℕ) (taken : ℕ) → take (length line - taken) (drop taken line) ≡ drop taken line

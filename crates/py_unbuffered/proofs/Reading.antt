@@ -1,5 +1,5 @@
 -- Readings of an engine without a buffer, as readings of the stream that it is.
-use Rattle.std.proofs.Common.{◌≡◌, ◌≢◌, ℕ, ◌≤◌, Bool, true, false, not, List, [], ◌∷◌, length, take, Option, Some, None, is_none, Ok, Err, refl, sym, ap, ◌∙◌, subst, arith}
+use Rattle.std.proofs.Common.{[], ◌≡◌, ◌≢◌, ℕ, ◌≤◌, Bool, true, false, not, List, ◌∷◌, length, take, Option, Some, None, is_none, Ok, Err, refl, sym, ap, ◌∙◌, subst, arith}
 use Rattle.std.proofs.lemmas.List.{length-take-le, take_all, take-take, drop_all}
 use Rattle.std.specs.Option.{is_some}
 use Rattle.py_flat.specs.declared.fault.IoFault.{IoFault}
@@ -39,21 +39,7 @@ module _ (old mid : EngineView) (call : FileCall) (before after : List ℕ) (onc
       let part : List ℕ = take count after in
       let left : List ℕ = left_at old.raw.bytes old.place in
       let size : length part ≡ count = length-take-le count after came.fits in
-      answers_once (stream_of old) (stream_of mid) call part once begun (record {
-        kept = keeps_reading old mid came.kept came.bytes came.answered;
-        counts = came.counts;
-        sized = λ size none. absurd (cc);
-        idle = λ asks. absurd (let never = asks_always call once in cc);
-        still = λ buffered. absurd (bufferless None refl buffered);
-        live = came.live;
-        place = omega (arith, came.place, size, moves_all call (length part) once);
-        most = omega (arith, size, came.fits, same_long);
-        one = record { transfers = came.transfers; came = came_once (stream_of old) (stream_of mid) count came.place came.reads };
-        is = λ tells. record {
-          front = comes_front (take (asks_for 0 call) left) part (take-take (length part) (asks_for 0 call) left (omega (arith, size, came.fits, same_long)) ∙ (ap (λ (n : ℕ). take n left) size ∙ came.told tells));
-          some = λ none. none_left before old.raw.bytes (asks_for 0 call) old.place long (λ some. came.end (sym size ∙ ap length none) some tells);
-        };
-      })
+      answers_once (stream_of old) (stream_of mid) call part once begun (grind (arith, keeps_reading, asks_always, bufferless, moves_all, came_once, comes_front, asks_for, take-take, none_left))
   once_came None long same_long came = grind (arith, unready_once, asks_always, keeps_reading, bufferless, one_unread)
 
   -- the transfer of a reading was refused

@@ -1,8 +1,6 @@
 -- How a reading that goes on comes from one transfer to the next.
-use Rattle.std.proofs.Common.{◌≡◌, ◌≢◌, ℕ, ◌+◌, ◌<◌, ◌≤◌, inl, inr, Bool, true, false, IsTrue, List, [], ◌∷◌, ◌++◌, length, take, Ok, Err, refl, sym, ap, ◌∙◌, subst, arith, add-zero}
+use Rattle.std.proofs.Common.{[], ◌≡◌, ◌≢◌, ℕ, ◌+◌, ◌<◌, ◌≤◌, inl, inr, Bool, true, false, IsTrue, List, ◌∷◌, ◌++◌, length, take, Ok, refl, sym, ap, ◌∙◌, subst, arith}
 use Rattle.std.proofs.lemmas.List.{length-append, length-take, length-take-le}
-use Rattle.py_flat.specs.declared.fault.IoFault.{IoFault}
-use Rattle.py_flat.specs.declared.fault.IoFault.TheVariants as fault
 use Rattle.py_flat.specs.declared.life.Life.TheVariants as life
 use Rattle.py_flat.specs.Bytes.{left_at}
 use Rattle.py_lines.proofs.Asking.{some_length}
@@ -11,14 +9,12 @@ use Rattle.py_raw.proofs.Telling.{tells_its_bytes, tells_still}
 use Rattle.py_stream.specs.declared.stop.Stop.TheVariants as stop
 use Rattle.py_stream.specs.Answers.{EachBrings, LastIsNeeded}
 use Rattle.py_stream.proofs.Coming.{came_unread, came_none, each_still, each_seen, each_then, each_brought, each_but_one, last_brought}
-use Rattle.py_stream.specs.declared.stop.Step.TheVariants as step
 use Rattle.py_stream.specs.Reading.{KeepsReading, ComesNext, FailsReading, FailsMoved, StarvesReading, StopOutcome}
-use Rattle.py_stream.specs.ReadingOn.{StepsOn, StepOutcome, ReadsInto, HoldsLess}
-use Rattle.py_stream.proofs.ReadingSteps.{next_behind, next_reaches, keeps_then as keeps_then_reading}
-use Rattle.py_unbuffered.specs.Engine.{EngineView, stream_of, IsEngine, KeepsEngine, Waits, Fails, StarvesWith, Brings, TransferOutcome}
+use Rattle.py_stream.proofs.ReadingSteps.{uncounted, next_behind, next_reaches, keeps_then as keeps_then_reading}
+use Rattle.py_unbuffered.specs.Engine.{EngineView, stream_of, IsEngine, KeepsEngine, Waits, Fails, StarvesWith, Brings}
 use Rattle.py_unbuffered.proofs.Begun.{bufferless}
 use Rattle.py_raw.proofs.ReadingOn.{no_fault_then, no_wait_then, uncounted_then}
-use Rattle.py_unbuffered.proofs.Steps.{keeps_self, keeps_then, keeps_failed, keeps_reading, uncounted, answers_none, answers_none_then}
+use Rattle.py_unbuffered.proofs.Steps.{keeps_self, keeps_then, keeps_failed, keeps_reading, answers_none, answers_none_then}
 
 -- a reading has taken a part, at least one byte by each transfer, the last too: told, the next ones; it began live, where its raw stood
 pub record Took (old : EngineView) (part : List ℕ) (now : EngineView) : Type 0 where
@@ -56,20 +52,7 @@ module _ (old now : EngineView) (part : List ℕ) (took : Took old part now) whe
   pub took_on : (before : List ℕ) (count : ℕ) (after : List ℕ) (new : EngineView) → Brings now before count after new → 0 < count → Took old (part ++ take count after) new
   took_on before count after new brings some =
       let long : length (part ++ take count after) ≡ length part + count = length-append part (take count after) ∙ ap (λ (n : ℕ). length part + n) (length-take-le count after brings.fits) in
-      record {
-        began = took.began;
-        stands = took.stands;
-        kept = keeps_then old now new took.kept brings.kept;
-        counts = uncounted_then old.raw now.raw new.raw took.kept.raw took.counts brings.counts;
-        answered = answers_none_then old now new 0 took.kept took.answered brings.answered;
-        live = brings.live;
-        place = omega (arith, took.place, brings.place, long);
-        none = λ nothing. absurd (omega (arith, ap length nothing, long, some));
-        bytes = bytes_then new brings.bytes;
-        told = brings_next before count after new brings;
-        each = each_then (stream_of old) (stream_of now) (stream_of new) 0 0 took.kept.raw took.each (each_brought (stream_of now) (stream_of new) count some brings.place brings.transfers brings.reads);
-        last = λ _ tells. omega (arith, last_brought now.raw new.raw count brings.reads (took.kept.raw.tells_transfers ∙ tells), some);
-      }
+      grind (arith, keeps_then, uncounted_then, answers_none_then, bytes_then, brings_next, each_then, each_brought, last_brought)
 
   -- the last transfer was made for what was taken
   last_needed : (came : List ℕ) → part ≡ came → LastIsNeeded (stream_of old) (stream_of now)
@@ -78,9 +61,7 @@ module _ (old now : EngineView) (part : List ℕ) (took : Took old part now) whe
 
   -- what was taken is given
   pub gives_taken : StopOutcome (stream_of old) part (Ok stop.Enough) (stream_of now)
-  gives_taken =
-      let needed : LastIsNeeded (stream_of old) (stream_of now) = last_needed part refl in
-      grind (arith, keeps_reading, bufferless)
+  gives_taken = grind (arith, last_needed, keeps_reading, bufferless)
 
   -- what a step after what was taken keeps of the engine
   keeps_on : (new : EngineView) → KeepsEngine now new → KeepsBytes now.raw new.raw → AnswersFor 0 now.raw new.raw → KeepsReading (stream_of old) (stream_of new)
@@ -88,10 +69,7 @@ module _ (old now : EngineView) (part : List ℕ) (took : Took old part now) whe
 
   -- nothing came any more
   pub stops_at_end : (before : List ℕ) (after : List ℕ) (new : EngineView) → Brings now before 0 after new → before ≢ [] → StopOutcome (stream_of old) part (Ok stop.End) (stream_of new)
-  stops_at_end before after new brings asked =
-      let place : new.place ≡ now.place = omega (arith, brings.place) in
-      let each : EachBrings 1 1 (stream_of old) (stream_of new) = each_then (stream_of old) (stream_of now) (stream_of new) 1 1 took.kept.raw took.each (each_but_one (stream_of now) (stream_of new) 1 place brings.transfers (came_none (stream_of now) (stream_of new) place brings.reads)) in
-      grind (arith, keeps_on, no_fault_then, no_wait_then, still_tells, tells_its_bytes)
+  stops_at_end before after new brings asked = grind (arith, each_then, each_but_one, came_none, keeps_on, no_fault_then, no_wait_then, still_tells, tells_its_bytes)
 
   -- a transfer more, which would have blocked or failed
   each_unread : (new : EngineView) → new.place ≡ now.place → WhereTransfers now.raw (new.raw.transfers ≤ now.raw.transfers + 1) → KeepsReads now.raw new.raw → EachBrings 1 0 (stream_of old) (stream_of new)
@@ -99,9 +77,7 @@ module _ (old now : EngineView) (part : List ℕ) (took : Took old part now) whe
 
   -- the raw would have blocked
   pub stops_waiting : (new : EngineView) → Waits now new → StopOutcome (stream_of old) part (Ok stop.Waits) (stream_of new)
-  stops_waiting new waits =
-      let each : EachBrings 1 0 (stream_of old) (stream_of new) = each_unread new waits.place waits.transfers waits.reads in
-      grind (arith, keeps_on, no_fault_then)
+  stops_waiting new waits = grind (arith, each_unread, keeps_on, no_fault_then)
 
   -- the raw failed
   pub fails_after : (new : EngineView) → Fails now new → FailsReading (stream_of old) (stream_of new)

@@ -1,7 +1,7 @@
 -- What stays of an engine from step to step.
 use Rattle.std.proofs.Common.{◌≡◌, ℕ, ap, ◌∙◌, arith}
 use Rattle.py_flat.specs.declared.life.Life.TheVariants as life
-use Rattle.py_raw.specs.RawStream.{Raw, LeavesCounts, AnswersFor, KeepsBytes}
+use Rattle.py_raw.specs.RawStream.{Raw, AnswersFor, KeepsBytes}
 use Rattle.py_raw.proofs.Telling.{keeps_same}
 use Rattle.py_raw.proofs.ReadingOn.{Keeps-then}
 use Rattle.py_stream.specs.Reading.{KeepsReading}
@@ -31,10 +31,6 @@ can_stays old new kept = ap (λ (opened : Access). can_of opened new.raw.seekabl
 -- a step that leaves the bytes, and answers for none, is one of a reading
 pub keeps_reading : (old new : EngineView) → KeepsEngine old new → KeepsBytes old.raw new.raw → AnswersFor 0 old.raw new.raw → KeepsReading (stream_of old) (stream_of new)
 keeps_reading old new kept bytes answered = grind (arith, can_stays, is_near)
-
--- a raw that isn't called counts nothing
-pub uncounted : (old new : Raw) → new ≡ old → LeavesCounts old new
-uncounted old new same = record { no_fault = λ exact. ap (λ (raw : Raw). raw.faults) same; no_wait = λ exact. ap (λ (raw : Raw). raw.waits) same }
 
 -- a raw that isn't called answers for no byte written
 pub answers_none : (old new : Raw) → new ≡ old → AnswersFor 0 old new

@@ -1,4 +1,4 @@
-use Rattle.std.proofs.Common.{◌≡◌, ◌-◌, ◌≤◌, [], length, take}
+use Rattle.std.proofs.Common.{[], ◌≡◌, ◌-◌, ◌≤◌, length, take}
 use Rattle.py_stream.specs.Taking.{TookAll}
 use Rattle.py_engine.specs.Window.{pending_of}
 use Rattle.py_engine.specs.Engine.{stream_of}

@@ -11,7 +11,8 @@ use Rattle.py_lines.specs.Collecting.{HasEnough, WantsMore}
 use Rattle.py_engine.proofs.Transfers.{made_advanced}
 use Rattle.py_engine.proofs.Gathering.{stops_enough, goes_on, moved_some, starves_so_far, fails_so_far, stops_at_end, stops_waiting}
 use Rattle.py_stream.specs.Access.{is_read}
-use Rattle.py_engine.proofs.Filling.{engine_of, stands_advanced}
+use Rattle.py_engine.proofs.Stepping.{engine_of}
+use Rattle.py_engine.proofs.Filling.{stands_advanced}
 use Rattle.py_engine.proofs.data.gathering.BufferedDataReadsOn.gather.Goals as goal
 
 pub returns-in-Ok-Enough : goal.returns-in-Ok-Enough

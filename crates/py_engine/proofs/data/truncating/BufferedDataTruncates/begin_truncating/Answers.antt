@@ -1,6 +1,5 @@
-use Rattle.std.proofs.Common.{subst, refl}
+use Rattle.std.proofs.Common.{refl}
 use Rattle.py_stream.proofs.Sizing.{truncating_begins}
-use Rattle.py_engine.specs.Engine.{stream_of, Stands}
 use Rattle.py_engine.proofs.Standing.{is_sound}
 use Rattle.py_engine.proofs.data.truncating.BufferedDataTruncates.begin_truncating.Goals as goal
 

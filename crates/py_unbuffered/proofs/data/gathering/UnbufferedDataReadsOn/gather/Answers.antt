@@ -1,4 +1,4 @@
-use Rattle.std.proofs.Common.{rules, ◌≡◌, ℕ, ◌<◌, List, [], ◌∷◌, Result, Err, refl, sym, subst, ◌∙◌, arith}
+use Rattle.std.proofs.Common.{[], rules, ◌≡◌, ℕ, ◌<◌, List, ◌∷◌, Result, Err, refl, sym, subst, ◌∙◌, arith}
 use Rattle.py_lines.specs.Collecting.{HasEnough, WantsMore}
 use Rattle.py_flat.specs.declared.fault.IoFault.{IoFault}
 use Rattle.py_stream.specs.declared.stop.Stop.{Stop}

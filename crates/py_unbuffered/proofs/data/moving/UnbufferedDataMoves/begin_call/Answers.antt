@@ -1,4 +1,4 @@
-use Rattle.std.proofs.Common.{subst, arith}
+use Rattle.std.proofs.Common.{subst}
 use Rattle.py_unbuffered.proofs.Begun.{Stands, begins, is_sound}
 use Rattle.py_unbuffered.proofs.data.moving.UnbufferedDataMoves.begin_call.Goals as goal
 

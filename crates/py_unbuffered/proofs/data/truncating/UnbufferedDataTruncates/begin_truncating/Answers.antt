@@ -1,6 +1,6 @@
-use Rattle.std.proofs.Common.{subst, refl}
+use Rattle.std.proofs.Common.{refl}
 use Rattle.py_stream.proofs.Sizing.{truncating_begins}
-use Rattle.py_unbuffered.proofs.Begun.{Stands, is_sound}
+use Rattle.py_unbuffered.proofs.Begun.{is_sound}
 use Rattle.py_unbuffered.proofs.data.truncating.UnbufferedDataTruncates.begin_truncating.Goals as goal
 
 pub returns : goal.returns

@@ -6,7 +6,8 @@ use Rattle.py_stream.specs.Taking.{TookAll, PutsOutcome}
 use Rattle.py_stream.proofs.Putting.{takes_nothing, takes_more, put_rest, rest_within}
 use Rattle.py_unbuffered.specs.Engine.{EngineView, stream_of, PutOutcome}
 use Rattle.py_unbuffered.proofs.Begun.{Stands, is_sound, owes_behind}
-use Rattle.py_unbuffered.proofs.Putting.{puts_took, waits_full, put_refused, put_some, piece_is}
+use Rattle.py_stream.proofs.Pieces.{some_taken}
+use Rattle.py_unbuffered.proofs.Putting.{puts_took, waits_full, put_refused, piece_is}
 use Rattle.py_unbuffered.proofs.data.writing.UnbufferedDataTakesPieces.take_piece.Goals as goal
 
 pub loop-taken-init : goal.loop-taken-init
@@ -36,7 +37,7 @@ returns-in_err-count g c =
     (put_refused now new (drop taken line) c.args.start _ why moved c.loop-taken.invariant.took.took.kept.sound c.loop-taken.invariant.took.took.live put))
 
 pub loop-taken-smaller : goal.loop-taken-smaller
-loop-taken-smaller g c = grind (arith, piece_is, length-drop, put_some)
+loop-taken-smaller g c = grind (arith, piece_is, length-drop, some_taken)
 
 pub loop-taken-preserved : goal.loop-taken-preserved
 loop-taken-preserved g c = grind (arith, piece_is, length-drop, takes_more, puts_took)
