@@ -9,7 +9,7 @@ use Rattle.py_flat.specs.FlatFile.{Abilities}
 use Rattle.py_flat.specs.Refusals.{or_else, refused_if}
 use Rattle.py_raw.specs.declared.raw_error.RawError.{RawError}
 use Rattle.py_raw.specs.declared.raw_error.RawError.TheVariants as raw_error
-use Rattle.py_raw.specs.RawStream.{Raw, Keeps, StaysOpen, WherePlace, WhereTransfers, KeepsBytes, LeavesCounts, AnswersFor}
+use Rattle.py_raw.specs.RawStream.{Raw, Keeps, StaysOpen, WherePlace, WhereTransfers, KeepsBytes, LeavesCounts, AnswersFor, KeepsReads}
 use Rattle.py_stream.specs.declared.new_refused.NewRefused.{NewRefused}
 use Rattle.py_stream.specs.Stream.{Stream, nothing_owed}
 
@@ -17,14 +17,15 @@ use Rattle.py_stream.specs.Stream.{Stream, nothing_owed}
 abbrev pub StandsAtStart : Raw → Type 0
 StandsAtStart raw = IsFalse raw.seekable → WherePlace raw (raw.place ≡ 0)
 
--- nothing was read or written: as far as the raw tells, it made no transfer, its writes answered for no byte, and it has the bytes that
--- it had
+-- nothing was read or written: as far as the raw tells, it made no transfer, its writes answered for no byte, its reads brought none, and
+-- it has the bytes that it had
 pub record Untouched (old new : Raw) : Type 0 where
   pub keeps : Keeps old new
   pub stays : StaysOpen old new
   pub bytes : KeepsBytes old new
   pub transfers : WhereTransfers old (new.transfers ≤ old.transfers)
   pub written : AnswersFor 0 old new
+  pub reads : KeepsReads old new
 
 -- the raw stands where it stood
 abbrev pub StandsWhereItStood : Raw → Raw → Type 0
