@@ -31,8 +31,9 @@ where
         4 => match opener.last_file_error() {
             Some(kind) => format!(in alloc; "the opening of {path:?} is refused: {kind}"),
             None => {
+                let mode = words.get(2).map_or("", |word| word.as_str());
                 format!(in alloc;
-                    "the opening of {path:?} is refused, by the name that was printed"
+                    "the mode {mode:?} or an option is refused for {path:?}, by the name that was printed: try --help"
                 )
             }
         },
