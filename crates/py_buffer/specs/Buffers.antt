@@ -19,7 +19,7 @@ pub record IsOver (descriptor : BufferDescriptor) (bytes : List ℕ) : Type 0 wh
 abbrev pub items_of : BufferView → List ℕ
 items_of buffer = bytes_of buffer.desc buffer.bytes
 
--- a buffer with these bytes in place of its own, which keep their number: more are cut, and of fewer the old ones behind stay
+-- a buffer with these bytes in place of its own, which keep their number: more are cut, and of fewer the old ones after them stay
 abbrev pub refilled : BufferView → List ℕ → BufferView
 refilled buffer bytes = record buffer { bytes = take (length buffer.bytes) (bytes ++ drop (length bytes) buffer.bytes) }
 

@@ -42,7 +42,7 @@ pub record IsValid (descriptor : BufferDescriptor) : Type 0 where
 -- Contiguity.
 
 -- items of this many bytes lie one after the other, in row order: no suboffset, and from the last dimension on each that has more
--- than one entry steps over all bytes of those behind it
+-- than one entry steps over all bytes of those after it
 abbrev pub IsRowMajor : ℕ → List Dimension → Type 0
 IsRowMajor itemsize [] = Unit {0}
 IsRowMajor itemsize (dimension ∷ rest) = (dimension.2 ≡ pos 0) × (1 < dimension.0 → dimension.1 ≡ pos (items_in rest * itemsize)) × IsRowMajor itemsize rest

@@ -28,7 +28,7 @@ MayWrite false given None = ⊥
 abbrev pub StaysIfNone : MutBor BufferView → Option OwnedBytes → Fml
 StaysIfNone buffer result = RestsIfNone the_row buffer (λ lent. (borrow_of lent).ghost_name) result (λ last. last ≡ buffer.now)
 
--- the borrowed buffer has the bytes that were left behind what it lent, of which there are as many
+-- the borrowed buffer has the bytes that were left in what it lent, of which there are as many
 abbrev pub with_written : OwnedBytes → List ℕ → OwnedBytes
 with_written lent bytes = record { buffer = record (borrow_of lent) { now = refilled (buffer_of lent) bytes } }
 

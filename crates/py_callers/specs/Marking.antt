@@ -13,7 +13,7 @@ marked mark (b ∷ bs) = mark ∷ bs
 abbrev pub marked_stream : ℕ → BytesView → BytesView
 marked_stream mark view = record view { file = record view.file { bytes = marked mark view.file.bytes }; exports = record view.exports { next = view.exports.next + 1 } }
 
--- the stream is marked; or no export of its bytes could be had, by what refuses one or for want of memory, and all is as it was
+-- the stream is marked; or no export of its bytes could be had, by what refuses one or when out of memory, and all is as it was
 abbrev pub MarkOutcome : Option IoFault → ℕ → BytesView → Result (Unit {0}) IoFault → BytesView → Type 0
 MarkOutcome (Some why) mark before result after = (result ≡ Err why) × (after ≡ before)
 MarkOutcome None mark before (Ok done) after = after ≡ marked_stream mark before

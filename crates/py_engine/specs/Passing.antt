@@ -39,7 +39,7 @@ HandOnOutcome old bytes (Err fault.RawFault) new = FailsTaking old bytes new × 
 HandOnOutcome old bytes (Err fault.NoMemory) new = IsTrue old.raw.takes_memory × (new ≡ old)
 HandOnOutcome old bytes (Err other) new = ⊥
 
--- how many bytes the buffer has room for behind what is owed
+-- how many bytes the buffer has room for after what is owed
 abbrev pub room_behind : Stream → ℕ
 room_behind stream = size_of stream - length stream.owed.bytes
 

@@ -98,7 +98,7 @@ LendsBytes (Some why) bytes result = result ≡ Err why
 LendsBytes None bytes (Ok lent) = lent.now ≡ bytes
 LendsBytes None bytes (Err why) = ⊥
 
--- a stream with these bytes in place of its own, which keep their number: more are cut, and of fewer the old ones behind stay
+-- a stream with these bytes in place of its own, which keep their number: more are cut, and of fewer the old ones after them stay
 abbrev pub with_bytes : BytesView → List ℕ → BytesView
 with_bytes view bytes = record view { file = record view.file { bytes = take (length view.file.bytes) (bytes ++ drop (length bytes) view.file.bytes) } }
 

@@ -29,7 +29,7 @@ MayLend None given (Err why) = ⊥
 abbrev pub StaysUnlessLent : MutBor BytesView → Result LentBytes IoFault → Fml
 StaysUnlessLent stream result = RestsIfErr the_row stream (λ lent. (borrow_of lent).ghost_name) result (λ last. last ≡ stream.now)
 
--- the borrowed stream has the bytes that were left behind what it lent, of which there are as many
+-- the borrowed stream has the bytes that were left in what it lent, of which there are as many
 abbrev pub with_written : LentBytes → List ℕ → LentBytes
 with_written lent bytes = record { stream = record (borrow_of lent) { now = with_bytes (stream_of lent) bytes } }
 

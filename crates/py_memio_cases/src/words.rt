@@ -2,7 +2,7 @@
 use anyhow::Result;
 use std::alloc::Global;
 
-/// A word and what stands behind the space after it.
+/// A word and what stands after the next space.
 pub(crate) fn split(line: &str) -> (&str, &str) {
     match line.split_once(' ') {
         Some((word, rest)) => (word, rest),

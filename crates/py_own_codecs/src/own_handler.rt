@@ -1,7 +1,7 @@
 use py_codec::{EncodeReplace, Encoding, ErrorHandler, HandlerRefusal};
 use std::alloc::Global;
 
-/// A handler that puts one and the same text for each range and each run, and goes on behind it.
+/// A handler that puts one and the same text for each range and each run, and goes on after it.
 #[derive(Clone, Copy, Debug, PartialEq, Eq)]
 pub struct Marks {
     pub mark: &'static str,

@@ -99,7 +99,7 @@ impl<S: Copy, H: Copy> CodecsRegistry<S, H> {
         })
     }
 
-    /// Registers a search function behind the others, and answers its number: 0 for the first, and one more for each
+    /// Registers a search function after the others, and answers its number: 0 for the first, and one more for each
     /// next, so that no number is given twice.
     ///
     /// `TooFar`: all numbers are given, which is told before memory is taken; `NoMemory` means out of memory.

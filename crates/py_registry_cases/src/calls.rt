@@ -36,7 +36,7 @@ fn slot(word: &str) -> Result<PyCodec<Finds>> {
     Ok(PyCodec::Slot(Finds { any: true, slot }, slot))
 }
 
-/// A word and what stands behind the space after it.
+/// A word and what stands after the next space.
 fn split(line: &str) -> (&str, &str) {
     match line.split_once(' ') {
         Some((word, rest)) => (word, rest),

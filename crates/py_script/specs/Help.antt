@@ -40,7 +40,7 @@ script_help =
     codes "  write HEX          writes bytes, and writelines [HEX ..] any number of lines" ∷
     codes "  seek I [WHENCE]    I from the start (0, or none), the place (1), the end (2)" ∷
     codes "  truncate [N], tell, flush, close, detach, readable, writable, seekable, closed" ∷
-    codes "N and I are decimal, I also behind a -; HEX has two digits a byte, - for none." ∷
+    codes "N and I are decimal, I also after a -; HEX has two digits a byte, - for none." ∷
     codes "Lines that are empty or begin with # are skipped. A close is added at the end." ∷
     [] ∷
     codes "Each call is answered by a line:" ∷

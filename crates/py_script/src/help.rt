@@ -24,7 +24,7 @@ A script has a call a line, one space between words, and 1048576 bytes at most:
   write HEX          writes bytes, and writelines [HEX ..] any number of lines
   seek I [WHENCE]    I from the start (0, or none), the place (1), the end (2)
   truncate [N], tell, flush, close, detach, readable, writable, seekable, closed
-N and I are decimal, I also behind a -; HEX has two digits a byte, - for none.
+N and I are decimal, I also after a -; HEX has two digits a byte, - for none.
 Lines that are empty or begin with # are skipped. A close is added at the end.
 
 Each call is answered by a line:

@@ -254,11 +254,11 @@ pub record AnswersAsBuffer (before : Buffer) (call : FileCall) (reply : FileRepl
   pub moves : BufferMoves before call reply after
   -- a seek from the end goes by some end that was answered
   pub ends : BufferSeeksByEnd before call reply after
-  -- a call that has its room lacks memory only where the stream takes some
+  -- a call that has its room runs out of memory only where the stream takes some
   pub wants : IsTrue (says_no_memory reply) → IsTrue (has_room call) → IsTrue before.takes_memory
   -- which replies an accepted call may have
   pub answer : refused_here before call ≡ None → IsReplyTo (size_shown before.buffering) before.can.writable call reply
-  -- where no count rose, an accepted call is answered in full, or lacks memory
+  -- where no count rose, an accepted call is answered in full, or runs out of memory
   pub complete : refused_here before call ≡ None → rose before.waits after.waits ≡ false → rose before.faults after.faults ≡ false → IsAnswerTo call reply × (after.short ≡ false)
   -- told, the call is the step of the model from flat file to flat file, but for one that is refused as bytes are lent out
   pub told : refused_lent before call ≡ false → WhereShown before (BinaryStep (flat_of before) call reply after.short (says_fault reply) (flat_of after))

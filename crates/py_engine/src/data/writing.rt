@@ -136,7 +136,7 @@ impl<R: RawStream> BufferedData<R> {
         }
     }
 
-    /// Keeps bytes behind what is owed, for which there is room.
+    /// Keeps bytes after what is owed, for which there is room.
     fn keep(&mut self, bytes: &[u8])
         requires live { self.old.life ≡ Life.Live }
         requires writes { is_read self.old.access ≡ false }
