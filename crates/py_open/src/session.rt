@@ -98,10 +98,10 @@ impl<R: RawStream> Session<R> {
     ///   none only where none is asked for or left. Where the raw would have blocked, what came by then is answered, never nothing, or it is
     ///   `NotReady` with nothing taken; `short` says so.
     /// - `Write` answers how many bytes were taken: all, or without a buffer those of one transfer; `WriteLines` is `Done`.
-    /// - `Seek` and `Tell` answer the place, `Flush` and `Close` `Done`. `Detach` answers what is unwritten, and its place; the
+    /// - `Seek` and `Tell` answer the place, `Truncate` the size, `Flush` and `Close` `Done`. `Detach` answers what is unwritten, and its place; the
     ///   raw stays with the session, and every call is `Detached` from then on, but the questions.
     ///
-    /// A write without a buffer that had to wait is `NotReady`, with nothing taken. Else a call is `Refused`:
+    /// A write without a buffer whose raw would have blocked is `NotReady`, with nothing taken. Else a call is `Refused`:
     ///
     /// - `Failed` once a fault or running out of memory failed the session (a stream with a buffer may still be detached), `Closed` after a
     ///   `Close` (which may be made again), `Detached` after a `Detach`; then `Unsupported` to a call that the session lacks,
@@ -110,7 +110,7 @@ impl<R: RawStream> Session<R> {
     /// - `UnicodeDecodeError`, with byte places from the start of the stream, where a range that is no UTF-8 stands before the end of a
     ///   text's answer: place and life stay, and a shorter read gives the characters before it.
     /// - `WouldBlock` where the raw would have blocked and the rest of a `Write` had no room in the buffer, or some of `WriteLines` wasn't
-    ///   taken: the first `taken` bytes were. A `Seek`, `Flush`, `Close` or `Detach` that had to wait took none, and may be made again.
+    ///   taken: the first `taken` bytes were. Of a `Seek`, `Truncate`, `Flush`, `Close` or `Detach` none were, and it may be made again.
     /// - `RawFault` where the raw failed: the session is failed from then on; after `Close` it is closed.
     /// - `NoMemory`: place and life stay, and the call may be made again; but a `Read`, `ReadInto`, `ReadLine` or `ReadLines` of bytes
     ///   fails the session once bytes left the raw, and a write once the raw took some of its bytes.

@@ -20,9 +20,10 @@ pub use access::Access;
 pub use buffered_stream::BufferedStream;
 pub use detached::Detached;
 pub use laws::{
-    a_seek_to_the_told_place_keeps_all, a_smooth_line_is_the_first_that_is_left,
-    a_smooth_read_gives_what_comes_next, a_smooth_single_transfer_gives_a_front,
-    a_smooth_write_takes_all, a_stream_answers_as_a_buffered_one,
+    a_reader_stands_where_its_reads_brought_it, a_seek_to_the_told_place_keeps_all,
+    a_smooth_line_is_the_first_that_is_left, a_smooth_read_gives_what_comes_next,
+    a_smooth_single_transfer_gives_a_front, a_smooth_write_takes_all,
+    a_stream_answers_as_a_buffered_one,
 };
 pub use live_raw::LiveRaw;
 pub use moves::{Moves, refuse, seek, tell};
