@@ -2,8 +2,8 @@
 use crate::examples::{every_second, two_rows};
 use anyhow::Result;
 use py_buffer::{
-    ArgBytesLike, ArgMemoryBuffer, BufferDescriptor, OwnedBuffer, PyBuffer, PyBufferMut, VecBuffer,
-    try_bytes_like, try_rw_bytes_like,
+    ArgBytesLike, ArgFault, ArgMemoryBuffer, BufferDescriptor, OwnedBuffer, PyBuffer, PyBufferMut,
+    VecBuffer, try_bytes_like, try_rw_bytes_like,
 };
 
 /// Prints bytes that are letters.
@@ -45,6 +45,15 @@ fn print_first(rt: &HostRuntime, buffer: &PyBufferMut) -> Result<()> {
     Ok(())
 }
 
+/// Prints what a buffer still collects and holds once its bytes were lent to be written.
+fn print_still(rt: &HostRuntime, buffer: &PyBufferMut) -> Result<()> {
+    let mut appended = Vec::new(rt.alloc());
+    buffer.append_to(&mut appended)?;
+    print_bytes(rt, "still appended", &appended)?;
+    println!(rt; "still {:?}", buffer.desc().format)?;
+    Ok(())
+}
+
 /// Prints what stands after the first bytes of a buffer were written, which are all that its descriptor names.
 pub(crate) fn print_contiguous(rt: &HostRuntime) -> Result<()> {
     let alloc = rt.alloc();
@@ -55,6 +64,7 @@ pub(crate) fn print_contiguous(rt: &HostRuntime) -> Result<()> {
     ) {
         fill_first(&mut buffer, b'y');
         print_first(rt, &buffer)?;
+        print_still(rt, &buffer)?;
     }
     print_bytes(rt, "after four", &bytes)
 }
@@ -101,6 +111,7 @@ pub(crate) fn print_argument(rt: &HostRuntime) -> Result<()> {
     ) {
         let lent = fill_argument(&mut argument, b'x');
         println!(rt; "argument of {lent}, {}", argument.len())?;
+        print_still(rt, &PyBufferMut::from(argument))?;
     }
     print_bytes(rt, "after the argument", &bytes)?;
     let readonly = BufferDescriptor::simple(alloc, 4, true)?;
@@ -207,6 +218,18 @@ pub(crate) fn print_lent(rt: &HostRuntime) -> Result<()> {
         )?;
     }
     print_bytes(rt, "after the function", &bytes)
+}
+
+/// Prints the texts of why an argument is refused.
+pub(crate) fn print_faults(rt: &HostRuntime) -> Result<()> {
+    for fault in [
+        ArgFault::NotContiguous,
+        ArgFault::ReadOnly,
+        ArgFault::NotAscii,
+    ] {
+        println!(rt; "{fault:?}: {fault}")?;
+    }
+    Ok(())
 }
 
 /// Prints what an owned buffer lends to be written, and what it has then.
