@@ -3,6 +3,7 @@ use Rattle.std.specs.Prelude.{◌≡◌, ◌≢◌, ℕ, ◌≤◌, Bool, true, 
 use Rattle.py_flat.specs.Causes.{Rose, RoseBy}
 use Rattle.py_raw.specs.declared.opener.OpenError.{OpenError}
 use Rattle.py_raw.specs.declared.opener.OpenError.TheVariants.{Fault, Memory}
+use Rattle.py_raw.specs.Reads.{no_reads}
 use Rattle.py_raw.specs.RawStream.{Raw, WherePlace, WhereTransfers, tells}
 use Rattle.py_raw.specs.RawMode.{letter_r, letter_w, letter_x, file_letter, mode_reads, mode_writes}
 
@@ -57,6 +58,7 @@ pub record IsOpened (mode : List ℕ) (raw : Raw) : Type 0 where
   pub start : IsFalse raw.seekable → WherePlace raw (raw.place ≡ 0)
   pub transfers : WhereTransfers raw (raw.transfers ≡ 0)
   pub written : WhereTransfers raw (raw.written ≡ 0)
+  pub read : WhereTransfers raw (raw.reads ≡ no_reads)
 
 -- told: the raw can seek and stands at the start of the path's bytes
 pub record OpensTold (old : OpenerView) (path mode : List ℕ) (raw : Raw) (new : OpenerView) : Type 0 where

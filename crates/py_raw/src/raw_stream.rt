@@ -159,6 +159,14 @@ pub trait RawStream {
         Err(self.unsupported())
     }
 
+    /// About how many bytes there are, counted from the start; `None` where nobody can say.
+    ///
+    /// A guess, by which a reading of all takes its space at once: nothing rests on it but how much that is. A guess that is far
+    /// above the end makes such a reading run out of memory, one below it makes it take space again. It counts nothing.
+    fn end_hint(&self) -> Option<u64> {
+        None
+    }
+
     /// Cuts the bytes to a size, or lengthens them by zeros; the place is kept.
     ///
     /// After `Fault` the bytes are unchanged or have that size; after `Memory` all is unchanged.

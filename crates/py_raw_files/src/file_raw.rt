@@ -157,6 +157,13 @@ impl<F: Read + Write + Seek + OpenFile + Drop> RawStream for FileRaw<F> {
         self.handle.take_reply(answer)
     }
 
+    /// The length that the system keeps of the file: 0 of a device, and of a file that the system makes as it is read.
+    fn end_hint(&self) -> Option<u64> {
+        let file = self.handle.inner.as_ref()?;
+        let metadata = file.metadata().ok()?;
+        Some(metadata.len())
+    }
+
     fn truncate(&mut self, size: u64) -> Result<(), RawError>
         requires open { (shown self.old).closed ≡ false }
         requires within { size ≤ greatest_place }

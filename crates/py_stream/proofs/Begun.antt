@@ -8,7 +8,7 @@ use Rattle.py_stream.specs.Stream.{Stream}
 use Rattle.py_stream.specs.Kinds.{is_writing, has_room}
 use Rattle.py_stream.specs.Writing.{OwesUpTo, OwesBehind, Takes, PassesFront, LaysInOrder, OwesBoth, PassesOn, OwesNoneOfIts, Writes}
 use Rattle.py_stream.proofs.Coming.{came_seen, each_seen}
-use Rattle.py_stream.specs.Answers.{Answers, AnswersWith, Leaves, SeeksFromEnd, EndMoves, SeeksByEnd, Unmoved, closes_again}
+use Rattle.py_stream.specs.Answers.{Answers, AnswersWith, Leaves, SeeksFromEnd, EndMoves, SeeksByEnd, closes_again}
 
 -- a stream whose last answer was short, or wasn't
 abbrev pub seen : Bool → Stream → Stream
@@ -30,9 +30,6 @@ module _ (short : Bool) where
   end_moves before after offset (Refused (fault.WouldBlock taken)) moves = tt
   end_moves before after offset (Refused fault.NoMemory) moves = tt
   end_moves before after offset reply moves = from_end before after offset reply moves
-
-  unmoved_seen : (before after : Stream) (asks_end : Bool) → Unmoved asks_end (seen short before) after → Unmoved asks_end before after
-  unmoved_seen before after asks_end is = grind arith
 
   by_end : (before after : Stream) (call : FileCall) (reply : FileReply) → SeeksByEnd (seen short before) call reply after → SeeksByEnd before call reply after
   by_end before after (Seek offset (pos (suc (suc zero)))) reply seeks = λ asks. end_moves before after offset reply (seeks asks)
@@ -91,7 +88,7 @@ module _ (short : Bool) where
     moves = record { life_is = answers.moves.life_is; place = answers.moves.place; far = answers.moves.far; within = answers.moves.within };
     ends = by_end before after call reply answers.ends;
     wants = answers.wants;
-    starves = λ wanting reads. let starved = answers.starves wanting reads in record { unmoved = λ living none. unmoved_seen before after _ (starved.unmoved living none); moved = starved.moved; stands = starved.stands };
+    starves = λ wanting reads. let starved = answers.starves wanting reads in record { unmoved = starved.unmoved; moved = starved.moved; stands = starved.stands };
     first = answers.first;
     nothing = λ asks. let none = answers.nothing asks in record { raw = none.raw; fault = none.fault };
     idle = λ keeps. let still = answers.idle keeps in record { raw = still.raw; fault = still.fault; memory = still.memory };

@@ -71,7 +71,7 @@ pub record Comes (before : Stream) (call : FileCall) (reply : FileReply) (short 
   pub place : PlaceMoves before.buffer call reply mid.life before.place mid.place
   pub within : GivesWithin (size_of before) call reply
   pub wants : WantsMemory (has_room call) reply before.raw
-  pub starves : IsTrue (says_no_memory reply) → IsTrue (reads_on call) → Starves call before (record mid { short = short })
+  pub starves : IsTrue (says_no_memory reply) → IsTrue (reads_on call) → Starves before (record mid { short = short })
   pub first : StarvesFirst before call reply (record mid { short = short })
   pub sound : IsTrue (asks_none before.buffer call) → says_fault reply ≡ false
   pub nothing : IsTrue (asks_none before.buffer call) → mid.raw ≡ before.raw

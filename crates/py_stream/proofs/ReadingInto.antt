@@ -20,13 +20,13 @@ use Rattle.py_stream.specs.declared.stop.Step.TheVariants as step
 use Rattle.py_flat.specs.Calls.{FileCall, NotReady, Refused}
 use Rattle.py_stream.specs.Kinds.{by_several}
 use Rattle.py_stream.specs.Stream.{Stream, file_of}
-use Rattle.py_stream.specs.Answers.{Answers, OnlyAsked, EachBrings, ahead}
+use Rattle.py_stream.specs.Answers.{Answers, EachBrings, ahead}
 use Rattle.py_stream.specs.Reading.{KeepsReading, Reaches, Gives, FailsReading, FailsMoved, StarvesReading, StopOutcome, RestOutcome, wanted_by, reply_by, has_answer, answered_at, GatherOutcome}
-use Rattle.py_stream.specs.ReadingOn.{MayRead, StepsOn, StepsNone, StepFails, StarvesWith, StepOutcome, ReadsInto, HoldsLess, FailsStarved, StarvesIn, ReadIntoOutcome, FirstOutcome, ReadsMore, ReadMoreOutcome}
+use Rattle.py_stream.specs.ReadingOn.{MayRead, StepsOn, StepsNone, StepFails, StarvesWith, StepOutcome, ReadsInto, HoldsLess, FailsStarved, StarvesIn, ReadIntoOutcome, ReadsMore, ReadMoreOutcome}
 use Rattle.py_stream.proofs.Coming.{each_still, each_seen, each_then}
 use Rattle.py_stream.proofs.ReadingSteps.{more_taken, next_behind, within_end, next_reaches, same_bytes, gives_then, waits_once_then, still_tells, uncounted, keeps_then, keeps_failed}
 use Rattle.py_stream.proofs.ReadingAnswers.{Reads, ReadingBegins}
-use Rattle.py_stream.proofs.ReadingOn.{none_counted, some_counted, answered_from, unready_from, WantsSize, gathers_size, refuses_size, refused_stop, asked_gives, asked_each}
+use Rattle.py_stream.proofs.ReadingOn.{none_counted, some_counted, answered_from, unready_from, WantsSize, gathers_size, refuses_size, refused_stop}
 
 -- a buffer after what is left of it was written
 pub end_written : (count : ℕ) (buffer left : List ℕ) → count < length buffer → length left ≡ length (take (length buffer - count) (drop count buffer)) → put_mid count (length buffer - count) buffer left ≡ take count buffer ++ left
@@ -223,8 +223,7 @@ refused_into old new call size buffer why several wants long begun outcome = abs
 
 -- Readings of all that is left.
 
--- all that was asked for so far has come: nothing was, at first, but that the raw may have been asked where it ends; then as much as is
--- asked for next
+-- all that was asked for so far has come: nothing was, at first; then as much as is asked for next
 pub record ReadsAll (before : Stream) (bytes : List ℕ) (more : ℕ) (moved : Bool) (now : Stream) : Type 0 where
   pub may : MayRead before
   pub gives : Gives before bytes now
@@ -233,12 +232,12 @@ pub record ReadsAll (before : Stream) (bytes : List ℕ) (more : ℕ) (moved : B
   pub each : EachBrings 0 0 before now
   pub some : 0 < more
   pub fits : more < 2 ^ 64
-  pub first : moved ≡ false → OnlyAsked before now × (before.raw_place < before.place + more)
+  pub first : moved ≡ false → (now ≡ before) × (before.raw_place < before.place + more)
   pub later : moved ≡ true → (more ≡ length bytes) × (before.raw_place < now.place)
 
--- a reading of all begins, once the raw was asked where it ends
-pub all_begins : (old now : Stream) (bytes : List ℕ) (more : ℕ) → bytes ≡ [] → MayRead old → old.short ≡ false → FirstOutcome old (Ok more) now → ReadsAll old bytes more false now
-all_begins old now bytes more none may whole asked = grind (arith, asked_gives, asked_each, true≢false)
+-- a reading of all begins
+pub all_begins : (stream : Stream) (bytes : List ℕ) (more : ℕ) → bytes ≡ [] → MayRead stream → stream.raw_place < stream.place + more → more < 2 ^ 64 → ReadsAll stream bytes more false stream
+all_begins stream bytes more none may past fits = grind (arith, uncounted, keeps_same, each_still, true≢false)
 
 module _ (before : Stream) (bytes : List ℕ) (more : ℕ) (moved : Bool) (now new : Stream) (reads : ReadsAll before bytes more moved now) where
   -- the stream may be read between two turns
@@ -251,7 +250,7 @@ module _ (before : Stream) (bytes : List ℕ) (more : ℕ) (moved : Bool) (now n
 
   -- what is asked for reaches after the bytes that were held at first
   past_held : (is : Bool) → moved ≡ is → before.raw_place < now.place + more
-  past_held false is = omega (arith, ap (λ (stream : Stream). stream.place) (reads.first is).0.same, (reads.first is).1)
+  past_held false is = omega (arith, ap (λ (stream : Stream). stream.place) (reads.first is).0, (reads.first is).1)
   past_held true is = omega (arith, (reads.later is).1)
 
   -- a turn of a reading brought all that it asked for
@@ -266,7 +265,17 @@ module _ (before : Stream) (bytes : List ℕ) (more : ℕ) (moved : Bool) (now n
 
   -- a turn found no memory, once bytes had left the raw
   fails_on : (was : Bool) → FailsStarved was now new → before.raw_place < new.raw_place → WherePlace before.raw (before.raw.place < new.raw.place) → WhereTold before.raw (rest (file_of before) ≢ []) → FailsMoved before new
-  fails_on was fails further stands some = grind (arith, keeps_then, uncounted_then, reaches_on, each_then)
+  fails_on was fails further stands some = record {
+    kept = keeps_then before now new reads.gives.kept fails.kept;
+    counts = uncounted_then before.raw now.raw new.raw reads.gives.kept.raw (record { no_fault = reads.gives.no_fault; no_wait = reads.no_wait }) fails.counts;
+    failed = fails.failed;
+    forth = omega (arith, reads.gives.place, fails.forth);
+    reach = reaches_on fails.reach;
+    further = further;
+    stands = stands;
+    some = some;
+    each = each_then before now new 0 0 reads.gives.kept.raw reads.each fails.each;
+  }
 
   -- in a turn after the first
   all_moved : moved ≡ true → FailsStarved true now new → FailsMoved before new
@@ -287,12 +296,12 @@ fails_between : (before : Stream) (bytes : List ℕ) (more : ℕ) (now : Stream)
 fails_between before bytes more now reads = grind (arith, keeps_failed)
 
 all_wanting : (before : Stream) (bytes : List ℕ) (more : ℕ) (moved : Bool) (now new : Stream) → ReadsAll before bytes more moved now → StarvesWith moved now new ⊎ FailsStarved moved now new → RestOutcome before (Err fault.NoMemory) bytes new
-all_wanting before bytes more false now new reads (inl same) = inr (subst (OnlyAsked before) (sym same) (reads.first refl).0)
-all_wanting before bytes more false now new reads (inr fails) = inl (inr (first_moved before bytes more false now new reads refl fails))
+all_wanting before bytes more false now new reads (inl same) = inl (same ∙ (reads.first refl).0)
+all_wanting before bytes more false now new reads (inr fails) = inr (first_moved before bytes more false now new reads refl fails)
 all_wanting before bytes more true now new reads (inl same) =
     let failed : Stream = record now { life = life.Failed } in
-    subst (RestOutcome before (Err fault.NoMemory) bytes) (sym same) (inl (inr (all_moved before bytes more true now failed reads refl (fails_between before bytes more now reads))))
-all_wanting before bytes more true now new reads (inr fails) = inl (inr (all_moved before bytes more true now new reads refl fails))
+    subst (RestOutcome before (Err fault.NoMemory) bytes) (sym same) (inr (all_moved before bytes more true now failed reads refl (fails_between before bytes more now reads)))
+all_wanting before bytes more true now new reads (inr fails) = inr (all_moved before bytes more true now new reads refl fails)
 
 -- a turn was refused
 pub all_refused : (before : Stream) (bytes : List ℕ) (more : ℕ) (moved : Bool) (now new : Stream) (why : IoFault) (after : List ℕ) → ReadsAll before bytes more moved now → ReadMoreOutcome now moved bytes more (Err why) after new → RestOutcome before (Err why) after new

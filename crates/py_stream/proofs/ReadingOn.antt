@@ -21,7 +21,7 @@ use Rattle.py_stream.specs.declared.stop.Stop.TheVariants as stops
 use Rattle.py_stream.specs.Stream.{Stream, file_of}
 use Rattle.py_stream.specs.Kinds.{has_room, takes_space_first, asks_none, by_several}
 use Rattle.py_stream.proofs.Coming.{came_unread, came_more, each_more}
-use Rattle.py_stream.specs.Answers.{Answers, IsNear, OnlyAsked, EachBrings, ahead}
+use Rattle.py_stream.specs.Answers.{Answers, ahead}
 use Rattle.py_stream.specs.Reading.{KeepsReading, ComesNext, Gives, StarvesReading, StopOutcome, RestOutcome, has_answer, answered_at, wanted_by, reply_by, GathersEnough, GathersFront, Gathers, IsOpen, WantsHeld, StarvesWanting, GatherOutcome}
 use Rattle.py_stream.proofs.ReadingCalls.{reading_on, on_suits, nothing_held, in_hand_held, wanted_within, is_several}
 use Rattle.py_stream.proofs.ReadingSteps.{next_parts}
@@ -141,32 +141,6 @@ rest_not_held before held = rest_unbound (ahead before) held
 open_rest : (part : List ℕ) → IsOpen (wanted_by (Read None)) part
 open_rest part whole = omega (arith, ap length (whole (0 ∷ [])), length-append part (0 ∷ []))
 
-asked_transfers : (old new : ℕ) → (new ≡ old) ⊎ (new ≡ counted old 0) → new ≤ old
-asked_transfers old new none = grind arith
-
-asked_near : (before : Stream) (raw : Raw) → OnlyAsked before (record before { raw = raw; short = false }) → IsNear before → IsNear (record before { raw = raw })
-asked_near before raw is near = grind arith
-
--- a stream whose raw was at most asked where it ends keeps what every step of a reading keeps
-asked_keeps : (before : Stream) (raw : Raw) → Reads before → OnlyAsked before (record before { raw = raw; short = false }) → KeepsReading before (record before { raw = raw })
-asked_keeps before raw begun is = grind (arith, asked_near)
-
--- the flat file is as it was
-asked_file : (before : Stream) (raw : Raw) → Reads before → OnlyAsked before (record before { raw = raw; short = false }) → WhereTold before.raw (file_of (record before { raw = raw }) ≡ file_of before)
-asked_file before raw begun is tells = grind (arith, tells_its_bytes)
-
--- a stream whose raw was at most asked where it ends gave nothing
-pub asked_gives : (before after : Stream) → Reads before → OnlyAsked before after → Gives before [] after
-asked_gives before after begun is = grind (arith, asked_keeps)
-
--- no transfer was made for it
-pub asked_each : (before after : Stream) → OnlyAsked before after → EachBrings 0 0 before after
-asked_each before after is = grind (arith, asked_transfers, came_unread)
-
--- where memory ran out before any byte came, of a stream whose raw was asked where it ends
-starved_asked : (before : Stream) (raw : Raw) → Reads before → OnlyAsked before (record before { raw = raw; short = false }) → Answers before (Read None) (Refused fault.NoMemory) (record before { raw = raw; short = false })
-starved_asked before raw begun is = grind (arith, asked_keeps, answers_coming, on_suits, came_more, came_unread, each_more, asked_each, asked_file, works)
-
 starves_wanting_rest : (before after : Stream) → before.life ≡ life.Live → StarvesReading before after → after.life ≡ life.Failed → WhereTold before.raw (rest (file_of before) ≢ [])
 starves_wanting_rest before after live starves failed = grind arith
 
@@ -182,8 +156,7 @@ rest_stopped before after part why starves outcome = grind (arith, rest_not_held
 -- a reading of all that is left that was refused
 pub refused_rest : (before after : Stream) (part : List ℕ) (why : IoFault) → Reads before → RestOutcome before (Err why) part after → Answers before (Read None) (Refused why) after
 refused_rest before after part fault.RawFault begun outcome = refused_stop before after (Read None) part fault.RawFault (all_by_several before.buffer) begun (rest_stopped before after part fault.RawFault tt outcome) (λ wants takes. absurd (cc))
-refused_rest before after part fault.NoMemory begun (inr asked) = subst (Answers before (Read None) (Refused fault.NoMemory)) (sym asked.same) (starved_asked before after.raw begun (subst (OnlyAsked before) asked.same asked))
-refused_rest before after part fault.NoMemory begun (inl starves) = refused_stop before after (Read None) part fault.NoMemory (all_by_several before.buffer) begun (rest_stopped before after part fault.NoMemory (starves_wanting_rest before after begun.live starves) starves) (λ wants takes. absurd (cc))
+refused_rest before after part fault.NoMemory begun starves = refused_stop before after (Read None) part fault.NoMemory (all_by_several before.buffer) begun (rest_stopped before after part fault.NoMemory (starves_wanting_rest before after begun.live starves) starves) (λ wants takes. absurd (cc))
 refused_rest before after part why begun outcome = absurd outcome
 
 -- Of a size.

@@ -20,7 +20,7 @@ use Rattle.py_raw.proofs.Telling.{keeps_same}
 use Rattle.py_stream.specs.Stream.{Stream, buffering_of, file_of}
 use Rattle.py_stream.specs.Kinds.{is_reading, reads_on, goes_on, makes_one, has_room, takes_space_first, asks_none, by_several, says_fault, says_no_memory}
 use Rattle.py_stream.proofs.Coming.{came_more, each_seen, each_more}
-use Rattle.py_stream.specs.Answers.{Answers, CameByReads, EachBrings, IsShort, PlaceMoves, PlaceStarves, MovesForth, moves_most, GivesWithin, InHandOf, IsWhole, AsksNoMore, OnlyAsked, Unmoved, IsReplyTo, LifeMoves, HasCauses, IsCounted, WantsMemory, Starves, StarvesFirst}
+use Rattle.py_stream.specs.Answers.{Answers, CameByReads, EachBrings, IsShort, PlaceMoves, PlaceStarves, MovesForth, moves_most, GivesWithin, InHandOf, IsWhole, AsksNoMore, IsReplyTo, LifeMoves, HasCauses, IsCounted, WantsMemory, Starves, StarvesFirst}
 use Rattle.py_stream.specs.Reading.{KeepsReading, OneTransfer, IsNeeded, Gives, FailsReading, FailsMoved, wanted_by, reply_by, GathersEnough, GathersFront, IsOpen, WantsHeld, GatherOutcome, is_wait, answered_at}
 use Rattle.py_stream.proofs.ReadingCalls.{IsReadingCall, reading_call, starved_by_failing, reading_on, on_suits, nothing_held, in_hand_held, is_several}
 use Rattle.py_stream.proofs.ReadingSteps.{uncounted, file_after, file_fails, next_reaches}
@@ -134,7 +134,7 @@ answers_given before mid call part short several begun given =
     let counted : IsTrue before.raw.counts_exactly → IsCounted before.buffer before.raw call reply mid.raw short = λ exactly. record { faults = λ sound. kept.no_fault exactly; waits = λ whole writes. given.no_wait whole exactly; once = λ shortened writes. given.once shortened exactly } in
     let fed : IsTrue (says_no_memory reply) → ⊥ = λ wanting. let never = is.gave part in absurd (cc) in
     let wants : WantsMemory (has_room call) reply before.raw = λ wanting. absurd (fed wanting) in
-    let starves : IsTrue (says_no_memory reply) → IsTrue (reads_on call) → Starves call before (record mid { short = short }) = λ wanting. absurd (fed wanting) in
+    let starves : IsTrue (says_no_memory reply) → IsTrue (reads_on call) → Starves before (record mid { short = short }) = λ wanting. absurd (fed wanting) in
     let first : StarvesFirst before call reply (record mid { short = short }) = λ wanting. absurd (fed wanting) in
     let told : WhereTold before.raw (BinaryStep (file_of before) call reply short (says_fault reply) (file_of mid)) = λ tells. subst (λ (faulted : Bool). BinaryStep (file_of before) call reply short faulted (file_of mid)) (sym said) (given.told tells) in
     answers_coming before mid call reply short (reading_on call on) (on_suits (file_of before) call on begun.readable) begun (search (rules, short_part, part_moves, part_within, asks_given, next_reaches))
@@ -186,16 +186,9 @@ starves_where most current before after same forth = grind arith
 pub answers_faulted : (before after : Stream) (call : FileCall) → is_reading call ≡ true → lacks (file_of before) call ≡ false → Reads before → FailsReading before after → ((bound : ℕ) → moves_most call ≡ Some bound → after.place ≤ before.place + bound) → (goes_on before.buffer call ≡ false → after.place ≡ before.place) → asks_none before.buffer call ≡ false → (IsTrue (makes_one before.buffer call) → OneTransfer before after) → (IsSome before.buffer → InHandOf before call → ⊥) → Answers before call (Refused fault.RawFault) after
 answers_faulted before after call reads has begun fails within stays asks_some one apart = grind (arith, reading_call, each_seen, each_more, came_more, unshortened, answers_coming)
 
--- a stream that is as it was, and not even asked where its raw ends
-pub asked_none : (stream : Stream) → stream.short ≡ false → OnlyAsked stream stream
-asked_none stream whole = grind (arith, uncounted, keeps_same)
-
-stays_unmoved : (asks_end : Bool) (stream : Stream) → stream.short ≡ false → Unmoved asks_end stream stream
-stays_unmoved asks_end stream whole = grind (arith, asked_none)
-
 -- a reading that wanted memory before anything moved: all is as it was
 pub unmoved : (before : Stream) (call : FileCall) → is_reading call ≡ true → lacks (file_of before) call ≡ false → Reads before → (IsTrue (has_room call) → IsTrue before.raw.takes_memory) → Answers before call (Refused fault.NoMemory) before
-unmoved before call reads has begun room = grind (arith, stays_unmoved)
+unmoved before call reads has begun room = grind (arith, uncounted, keeps_same)
 
 -- a reading that memory ran out for once bytes had left the raw, some of them wanted
 pub answers_failing : (before after : Stream) (call : FileCall) → by_several before.buffer call ≡ true → Reads before → FailsMoved before after → ((bound : ℕ) → moves_most call ≡ Some bound → after.place ≤ before.place + bound) → (IsTrue (has_room call) → IsTrue before.raw.takes_memory) → (IsTrue (takes_space_first call) → IsTrue before.raw.takes_memory) → (WantsHeld (wanted_by call) before → after.raw ≡ before.raw) → WhereTold before.raw (wanted_by call (rest (file_of before)) ≢ []) → Answers before call (Refused fault.NoMemory) after

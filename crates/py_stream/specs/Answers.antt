@@ -14,7 +14,7 @@ use Rattle.py_flat.specs.ExactStep.{is_closed}
 use Rattle.py_flat.specs.BinaryStep.{asks_end, BinaryStep}
 use Rattle.py_raw.specs.RawStream.{Raw, Keeps, WhereTold, WhereBytes, WherePlace, WhereTransfers, KeepsBytes, AnswersFor, KeepsReads, ReadsInAll, StaysOpen, LeavesCounts, KeepsPlace}
 use Rattle.py_stream.specs.Stream.{Span, Stream, size_of, buffering_of, file_of, nothing_owed}
-use Rattle.py_stream.specs.Kinds.{profile, is_reading, moves_raw, reads_on, by_several, has_room, takes_space_first, calls_none, says_wait, says_fault, says_no_memory, looks_ahead}
+use Rattle.py_stream.specs.Kinds.{profile, is_reading, moves_raw, reads_on, by_several, has_room, takes_space_first, calls_none, says_wait, says_fault, says_no_memory}
 use Rattle.py_stream.specs.Writing.{Writes}
 
 -- What every call keeps.
@@ -244,28 +244,10 @@ WantsMemory room reply raw = IsTrue (says_no_memory reply) → IsTrue room → I
 abbrev pub NoTransfer : Raw → Raw → Type 0
 NoTransfer old new = WhereTransfers old ((new.transfers ≡ old.transfers) ⊎ (new.transfers ≡ counted old.transfers 0))
 
--- at most the raw was asked where it ends, if it can be moved: the stream is as it was, and so is all that its raw tells and counts
-pub record OnlyAsked (before after : Stream) : Type 0 where
-  pub same : after ≡ record before { raw = after.raw; short = false }
-  pub unasked : before.raw.seekable ≡ false → after.raw ≡ before.raw
-  pub kept : Keeps before.raw after.raw
-  pub stays : StaysOpen before.raw after.raw
-  pub counts : LeavesCounts before.raw after.raw
-  pub written : AnswersFor 0 before.raw after.raw
-  pub reads : KeepsReads before.raw after.raw
-  pub bytes : KeepsBytes before.raw after.raw
-  pub place : KeepsPlace before.raw after.raw
-  pub transfers : NoTransfer before.raw after.raw
-
--- all is as it was, but that a call that asks for the end may have asked the raw where that is
-abbrev pub Unmoved : (asks_end : Bool) → Stream → Stream → Type 0
-Unmoved true before after = OnlyAsked before after
-Unmoved false before after = after ≡ record before { short = false }
-
 -- running out of memory leaves a reading that goes on as it was, or fails it; where nothing was owed it leaves the raw too, and fails the
 -- stream only where bytes left the raw in this call
-pub record Starves (call : FileCall) (before after : Stream) : Type 0 where
-  pub unmoved : after.life ≡ life.Live → before.owed.bytes ≡ [] → Unmoved (looks_ahead call) before after
+pub record Starves (before after : Stream) : Type 0 where
+  pub unmoved : after.life ≡ life.Live → before.owed.bytes ≡ [] → after ≡ record before { short = false }
   pub moved : after.life ≡ life.Failed → before.owed.bytes ≡ [] → before.raw_place < after.raw_place
   pub stands : after.life ≡ life.Failed → before.owed.bytes ≡ [] → WherePlace before.raw (before.raw.place < after.raw.place)
 
@@ -399,7 +381,7 @@ pub record AnswersWith (room : FileCall → Bool) (before : Stream) (call : File
   -- a call that has its room wants memory only where its raw takes some
   pub wants : WantsMemory (room call) reply before.raw
   -- running out of memory leaves a reading that goes on as it was, or fails it once bytes left the raw
-  pub starves : IsTrue (says_no_memory reply) → IsTrue (reads_on call) → Starves call before after
+  pub starves : IsTrue (says_no_memory reply) → IsTrue (reads_on call) → Starves before after
   -- a call that takes its space first leaves all as it was where there is none
   pub first : StarvesFirst before call reply after
   -- calls that ask no raw leave the raw as it was, and answer no fault

@@ -6,8 +6,7 @@ use Rattle.py_flat.specs.Calls.{FileCall, Read, Read1, ReadLine, ReadLines, Peek
 -- Calls.
 
 -- what a call is like: it gives bytes to its caller, or takes bytes from it; it may make several transfers, or makes at most one; its space
--- is taken before anything else; it asks a raw that can be moved where it ends, so as to take space up to there at once; its stream has
--- room for it from the opening on, so that it needs no memory but the raw's; it asks for no byte, and so for no transfer; it calls no raw; it
+-- is taken before anything else; its stream has room for it from the opening on, so that it needs no memory but the raw's; it asks for no byte, and so for no transfer; it calls no raw; it
 -- calls the raw only to pass on what is owed, which a stream that doesn't write never does; it answers a wait with not ready; and it may go
 -- on over a wait, as the buffer has room
 pub record Profile : Type 0 where
@@ -16,7 +15,6 @@ pub record Profile : Type 0 where
   pub many : Bool
   pub one : Bool
   pub space_first : Bool
-  pub asks_end : Bool
   pub room : Bool
   pub none : Bool
   pub idle : Bool
@@ -26,7 +24,7 @@ pub record Profile : Type 0 where
 
 -- a profile of which no field is so
 abbrev pub plain : Profile
-plain = record { gives = false; takes = false; many = false; one = false; space_first = false; asks_end = false; room = false; none = false; idle = false; passes = false; unready = false; outlasts = false }
+plain = record { gives = false; takes = false; many = false; one = false; space_first = false; room = false; none = false; idle = false; passes = false; unready = false; outlasts = false }
 
 -- a reading that goes on until it has all that is asked for
 abbrev pub several : Profile
@@ -49,7 +47,7 @@ asks_zero None = false
 -- what each call is like, by whether the stream has a buffer: without one reads of a size, `readinto` and `write` make one transfer each, no
 -- wait is outlasted, and there is nothing to pass on
 abbrev pub by_buffer : Bool → FileCall → Profile
-by_buffer buffered (Read size) = record several { many = buffered || is_none size; one = not buffered && is_some size; space_first = is_some size; asks_end = is_none size; none = buffered && asks_zero size }
+by_buffer buffered (Read size) = record several { many = buffered || is_none size; one = not buffered && is_some size; space_first = is_some size; none = buffered && asks_zero size }
 by_buffer buffered (ReadLine limit) = record several { none = asks_zero limit }
 by_buffer buffered (ReadLines hint) = several
 by_buffer buffered (ReadInto size) = record several { many = buffered; one = not buffered; room = true; none = buffered && is_zero size }
@@ -104,10 +102,6 @@ has_room call = (by_buffer true call).room
 -- calls whose space is taken before anything else
 abbrev pub takes_space_first : FileCall → Bool
 takes_space_first call = (by_buffer true call).space_first
-
--- readings that ask the raw where it ends before they take space; a seek from the end goes by what the raw answers, and is no such one
-abbrev pub looks_ahead : FileCall → Bool
-looks_ahead call = (by_buffer true call).asks_end
 
 -- readings that ask for no byte
 abbrev pub asks_nothing : FileCall → Bool

@@ -11,9 +11,8 @@ use Rattle.py_flat.specs.Refusals.{life_fault}
 use Rattle.py_raw.specs.declared.raw_error.RawError.{RawError}
 use Rattle.py_raw.specs.declared.raw_error.RawError.TheVariants as raw_error
 use Rattle.py_flat.specs.Causes.{Rose}
-use Rattle.py_raw.specs.RawStream.{Raw, WhereTold, WherePlace, WhereTransfers, KeepsBytes, KeepsReads, KeepsPlace, NoWait, Transfers, LeavesCounts, AnswersFor, ReadsBring, AsksToWait, FailsWithout, LacksMemory, LaysFront, WritesBytes}
+use Rattle.py_raw.specs.RawStream.{Raw, WhereTold, WherePlace, WhereTransfers, KeepsBytes, KeepsReads, NoWait, Transfers, LeavesCounts, AnswersFor, ReadsBring, AsksToWait, FailsWithout, LacksMemory, LaysFront, WritesBytes}
 use Rattle.py_stream.specs.declared.access.Access.{Access}
-use Rattle.py_stream.specs.Answers.{NoTransfer}
 
 -- a raw stream, what its stream is opened for, what became of that, and whether a wait cut its last answer short
 pub record LiveView : Type 0 where
@@ -99,21 +98,3 @@ GiveOutcome old piece (Ok (Some count)) new = WritesBytes old piece count new ×
 GiveOutcome old piece (Ok None) new = AsksToWait old new
 GiveOutcome old piece (Err raw_error.Fault) new = FailsGiven old piece new
 GiveOutcome old piece (Err raw_error.Memory) new = LacksMemory old new
-
--- at most the raw was asked where it ends, if it can be moved: all is as it was, but for what it doesn't tell
-pub record AsksForEnd (old new : LiveView) : Type 0 where
-  pub same : new ≡ record old { raw = new.raw }
-  pub unasked : old.raw.seekable ≡ false → new.raw ≡ old.raw
-  pub counts : LeavesCounts old.raw new.raw
-  pub written : AnswersFor 0 old.raw new.raw
-  pub reads : KeepsReads old.raw new.raw
-  pub bytes : KeepsBytes old.raw new.raw
-  pub place : KeepsPlace old.raw new.raw
-  pub transfers : NoTransfer old.raw new.raw
-
--- a reading of all finds how many bytes it asks for, more than are held; or its raw failed to say where it ends, or wanted memory
-abbrev pub FirstOutcome : LiveView → ℕ → Result ℕ IoFault → LiveView → Type 0
-FirstOutcome old ahead (Ok more) new = AsksForEnd old new × (ahead < more)
-FirstOutcome old ahead (Err fault.RawFault) new = FailsWithout 0 old.raw new.raw × (new ≡ record old { raw = new.raw; life = life.Failed })
-FirstOutcome old ahead (Err fault.NoMemory) new = IsTrue old.raw.takes_memory × (new ≡ old)
-FirstOutcome old ahead (Err other) new = ⊥

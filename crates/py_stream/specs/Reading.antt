@@ -14,7 +14,7 @@ use Rattle.py_raw.specs.RawStream.{Keeps, StaysOpen, WhereTold, WherePlace, Wher
 use Rattle.py_stream.specs.declared.stop.Stop.{Stop}
 use Rattle.py_stream.specs.declared.stop.Stop.TheVariants as stop
 use Rattle.py_stream.specs.Stream.{Stream, file_of, nothing_owed}
-use Rattle.py_stream.specs.Answers.{ahead, IsNear, OnlyAsked, CameByReads, EachBrings, LastIsNeeded}
+use Rattle.py_stream.specs.Answers.{ahead, IsNear, CameByReads, EachBrings, LastIsNeeded}
 
 -- What a reading keeps.
 
@@ -101,11 +101,9 @@ StopOutcome before part (Err fault.RawFault) after = FailsReading before after
 StopOutcome before part (Err fault.NoMemory) after = StarvesReading before after
 StopOutcome before part (Err other) after = ⊥
 
--- a reading of all that is left stops as any other, but never with just enough; or memory ran out before any byte came, once its raw was
--- asked where it ends
+-- a reading of all that is left stops as any other, but never with just enough
 abbrev pub RestOutcome : Stream → Result Stop IoFault → List ℕ → Stream → Type 0
 RestOutcome before (Ok stop.Enough) bytes after = ⊥
-RestOutcome before (Err fault.NoMemory) bytes after = StarvesReading before after ⊎ OnlyAsked before after
 RestOutcome before result bytes after = StopOutcome before bytes result after
 
 -- what the stops mean for the answer

@@ -1,5 +1,5 @@
 -- How a reading begins that goes on until it has all that is wanted, and the steps of one into a buffer, or of all that is left.
-use Rattle.std.specs.Prelude.{◌≡◌, ◌≢◌, ℕ, ◌+◌, ◌^◌, ◌<◌, ◌≤◌, ◌⊎◌, Bool, true, false, IsTrue, List, [], ◌++◌, length, take, Result, Ok, Err}
+use Rattle.std.specs.Prelude.{◌≡◌, ◌≢◌, ℕ, ◌+◌, ◌<◌, ◌≤◌, ◌⊎◌, Bool, true, false, IsTrue, List, [], ◌++◌, length, take, Result, Ok, Err}
 use Rattle.py_flat.specs.declared.fault.IoFault.{IoFault}
 use Rattle.py_flat.specs.declared.fault.IoFault.TheVariants as fault
 use Rattle.py_flat.specs.declared.life.Life.TheVariants as life
@@ -17,7 +17,7 @@ use Rattle.py_stream.specs.declared.stop.Step.TheVariants as step
 use Rattle.py_stream.specs.Stream.{Stream, file_of, nothing_owed}
 use Rattle.py_stream.specs.Kinds.{is_reading}
 use Rattle.py_stream.specs.LiveRaw.{starved}
-use Rattle.py_stream.specs.Answers.{Answers, IsNear, OnlyAsked, EachBrings, ahead}
+use Rattle.py_stream.specs.Answers.{Answers, IsNear, EachBrings, ahead}
 use Rattle.py_stream.specs.Reading.{KeepsReading, Reaches, FailsReading, StopOutcome}
 
 -- a stream that may be read: it lives, reads and owes nothing, and its raw stands at its place or near after it
@@ -137,13 +137,6 @@ ReadIntoOutcome old moved (Err fault.NoMemory) buffer new = StarvesIn moved old 
 ReadIntoOutcome old moved (Err other) buffer new = ⊥
 
 -- Of all that is left.
-
--- a reading of all begins: it asks for more bytes than are held, once the raw was asked where it ends, if that can be moved
-abbrev pub FirstOutcome : Stream → Result ℕ IoFault → Stream → Type 0
-FirstOutcome old (Ok more) new = OnlyAsked old new × (old.raw_place < old.place + more) × (more < 2 ^ 64)
-FirstOutcome old (Err fault.RawFault) new = FailsReading old new
-FirstOutcome old (Err fault.NoMemory) new = IsTrue old.raw.takes_memory × (new ≡ old)
-FirstOutcome old (Err other) new = ⊥
 
 -- n bytes more were asked for, and some of them came after what a vector had; all of them where there are enough
 pub record ReadsMore (old : Stream) (before : List ℕ) (more : ℕ) (where_stopped : Stop) (after : List ℕ) (new : Stream) : Type 0 where

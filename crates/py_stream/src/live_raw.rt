@@ -4,7 +4,7 @@ ghost use Rattle.py_flat.specs.Limits.{greatest_place};
 ghost use Rattle.py_raw.specs.RawStream.{Keeps, StaysOpen, WriteFits, SeekOutcome, EndOutcome, TruncateOutcome, CloseOutcome};
 ghost use Rattle.py_stream.specs.Access.{is_read, can_of};
 ghost use Rattle.py_stream.specs.Reading.{is_wait, has_answer};
-ghost use Rattle.py_stream.specs.LiveRaw.{is_movable as movable, LetsBegin, LetsTruncate, Calls, TransferOutcome, GiveOutcome, FirstOutcome, starved, fault_of, life_after};
+ghost use Rattle.py_stream.specs.LiveRaw.{is_movable as movable, LetsBegin, LetsTruncate, Calls, TransferOutcome, GiveOutcome, starved, fault_of, life_after};
 
 use crate::{Access, Stop, life_fault};
 use py_raw::{GREATEST_PLACE, IoFault, Life, RawError, RawStream};
@@ -228,25 +228,19 @@ impl<R: RawStream> LiveRaw<R> {
         }
     }
 
-    /// How many bytes a reading of all asks for at first, of a stream that holds n bytes after its place: of a raw that can be
-    /// moved, and says that it ends after the place, all up to that end, at least those held, and one more, by which the end is
-    /// met; else as many as are asked for where the end is unknown.
-    pub fn first_more(&mut self, place: u64, ahead: usize, unknown: usize) -> Result<usize, IoFault>
-        requires open { self.old.raw.closed ≡ false }
+    /// How many bytes a reading of all asks for at first, of a stream that holds n bytes after its place: where the raw guesses
+    /// that it ends after the place, all up to there, at least those held, and one more, by which the end is met; else as many as
+    /// are asked for where the end is unknown.
+    pub fn first_more(&self, place: u64, ahead: usize, unknown: usize) -> usize
         requires more { ahead < unknown }
-        ensures keeps { Keeps self.old.raw self.new.raw }
-        ensures open { StaysOpen self.old.raw self.new.raw }
-        ensures outcome { FirstOutcome self.old ahead result self.new }
+        ensures { ahead < result }
     {
-        if !self.seekable() {
-            return Ok(unknown);
+        match self.raw.end_hint() {
+            Some(end) if place < end && end <= GREATEST_PLACE => {
+                ((end - place) as usize).max(ahead) + 1
+            }
+            _ => unknown,
         }
-        let end = self.end()?;
-        if end <= place {
-            return Ok(unknown);
-        }
-        let left = (end - place) as usize;
-        Ok(left.max(ahead) + 1)
     }
 
     /// Moves the raw to a place.

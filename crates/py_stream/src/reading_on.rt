@@ -6,7 +6,7 @@ ghost use Rattle.py_stream.specs.Stream.{Stream};
 ghost use Rattle.py_stream.specs.Answers.{Answers};
 ghost use Rattle.py_stream.specs.LiveRaw.{starved};
 ghost use Rattle.py_stream.specs.Reading.{GatherOutcome, RestOutcome, answered_at, has_answer};
-ghost use Rattle.py_stream.specs.ReadingOn.{BeginsReading, MayRead, FirstOutcome, HeldOutcome, StepOutcome, ReadIntoOutcome, ReadMoreOutcome};
+ghost use Rattle.py_stream.specs.ReadingOn.{BeginsReading, MayRead, HeldOutcome, StepOutcome, ReadIntoOutcome, ReadMoreOutcome};
 ghost use Rattle.py_stream.specs.Replies.{bytes_reply, lines_reply};
 
 use crate::{Progress, Step, Stop};
@@ -43,12 +43,10 @@ pub trait ReadsOn {
 
     /// How many bytes a reading of all asks for at first: more than are held, so that bytes leave the raw before space is
     /// wanted again.
-    fn first_more(&mut self) -> Result<usize, IoFault>
-        requires live { (shows self.old).life ≡ Live }
-        requires reads { reads self.old ≡ true }
-        requires whole { (shows self.old).short ≡ false }
-        ensures outcome { FirstOutcome (shows self.old) result (shows self.new) }
-        ensures reads { IfOk result (λ more. reads self.new ≡ true) };
+    fn first_more(&self) -> usize
+        requires live { (shows self.now).life ≡ Live }
+        requires reads { reads self.now ≡ true }
+        ensures { (shows self.now).raw_place < (shows self.now).place + result };
 
     /// Copies the front of what is held into the front of a buffer. Where that fills it, the place moves past these bytes.
     fn read_held(&mut self, buffer: &mut [u8]) -> Step
@@ -153,16 +151,15 @@ fn read_more<S: ReadsOn>(
 }
 
 /// Reads all that is left into a vector that has nothing yet: what the stream asks for at first, and then as much as came, until
-/// the end is met, since where the raw said that it ends was a guess.
+/// the end is met.
 fn read_all<S: ReadsOn>(stream: &mut S, bytes: &mut Vec<u8>) -> Result<Stop, IoFault>
     requires may { MayRead (S.shows stream.old) }
     requires reads { S.reads stream.old ≡ true }
-    requires whole { (S.shows stream.old).short ≡ false }
     requires none { bytes.old.items ≡ [] }
     ensures { RestOutcome (S.shows stream.old) result bytes.new.items (S.shows stream.new) }
 {
     let mut moved = false;
-    let mut more = stream.first_more()?;
+    let mut more = stream.first_more();
     loop {
         match read_more(stream, bytes, more, moved)? {
             Stop::Enough => {

@@ -46,7 +46,7 @@ impl<R: RawStream> ReadsOn for BufferedData<R> {
     }
 
     /// Where the end isn't known, the window's size more than it holds.
-    fn first_more(&mut self) -> Result<usize, IoFault> {
+    fn first_more(&self) -> usize {
         let ahead = self.window.ahead().len();
         let unknown = ahead + self.window.size();
         self.live.first_more(self.window.place(), ahead, unknown)

@@ -135,6 +135,10 @@ impl RawStream for MemRaw {
         Ok(self.bytes.len() as u64)
     }
 
+    fn end_hint(&self) -> Option<u64> {
+        Some(self.bytes.len() as u64)
+    }
+
     fn truncate(&mut self, size: u64) -> Result<(), RawError>
         requires open { (shown self.old).closed ≡ false }
         requires within { size ≤ greatest_place }

@@ -7,8 +7,8 @@ use Rattle.py_stream.proofs.reading_on.read_all.Goals as goal
 
 pub loop-moved-init : goal.loop-moved-init
 loop-moved-init g c = record {
-  came = all_begins (g.S.ReadsOn.shows c.args.stream.now) (g.S.ReadsOn.shows c.first_more.new.self) c.args.bytes.now.items c.in_ok-more.more c.requires.none c.requires.may c.requires.whole c.in_ok-more.ensures.outcome;
-  reads = c.in_ok-more.ensures.reads;
+  came = all_begins (g.S.ReadsOn.shows c.args.stream.now) c.args.bytes.now.items c.first_more-more.result c.requires.none c.requires.may c.first_more-more.ensures (omega arith);
+  reads = c.requires.reads;
 }
 
 pub loop-moved-preserved : goal.loop-moved-preserved
@@ -37,6 +37,6 @@ returns-in_default g c =
 pub returns-in_err-stop : goal.returns-in_err-stop
 returns-in_err-stop g c =
     let loop = c.loop-moved in
-    let says : c.from_residual-in_err-stop.result ≡ Err c.in_err-stop.field-0.0 = search rules in
+    let says : c.from_residual.result ≡ Err c.in_err-stop.field-0.0 = search rules in
     subst (λ (result : Result Stop _). RestOutcome (g.S.ReadsOn.shows c.args.stream.now) result c.read_more.new.bytes.items (g.S.ReadsOn.shows c.read_more.new.stream)) (sym says)
     (all_refused (g.S.ReadsOn.shows c.args.stream.now) loop.bytes.items loop.more loop.moved (g.S.ReadsOn.shows loop.stream) (g.S.ReadsOn.shows c.read_more.new.stream) c.in_err-stop.field-0.0 c.read_more.new.bytes.items loop.invariant.came c.in_err-stop.ensures.outcome)
