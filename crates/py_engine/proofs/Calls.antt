@@ -7,7 +7,7 @@ use Rattle.py_flat.specs.Calls.{FileCall, Flush, Close, Refused}
 use Rattle.py_flat.specs.BinaryStep.{payload}
 use Rattle.py_stream.specs.declared.access.Access.{Access}
 use Rattle.py_stream.specs.declared.access.Access.TheVariants as access
-use Rattle.py_stream.specs.Access.{can_of, is_read}
+use Rattle.py_stream.specs.Access.{can_of, is_read, is_written}
 use Rattle.py_stream.specs.Kinds.{is_writing}
 use Rattle.py_stream.specs.Replies.{done_reply}
 use Rattle.py_stream.specs.Answers.{Answers}
@@ -20,7 +20,7 @@ use Rattle.py_stream.proofs.PassingOn.{begun}
 use Rattle.py_stream.proofs.Flushing.{flush_answers}
 use Rattle.py_stream.proofs.Shutting.{flush_passes_on, close_stops, close_answers, close_answers_at_once}
 use Rattle.py_engine.specs.Window.{place_of}
-use Rattle.py_engine.specs.Engine.{EngineView, stream_of, Stands, BeginOutcome}
+use Rattle.py_engine.specs.Engine.{EngineView, stream_of, HasShape, Stands, BeginOutcome}
 use Rattle.py_engine.specs.Passing.{PassesAll, PassesToClose}
 use Rattle.py_engine.proofs.Standing.{is_placed, is_sound, owes_behind, owes_nothing}
 
@@ -30,16 +30,9 @@ use Rattle.py_engine.proofs.Standing.{is_placed, is_sound, owes_behind, owes_not
 pub writes_only : (opened : Access) (seekable : Bool) → is_read opened ≡ false → ((can_of opened seekable).writable ≡ true) × ((can_of opened seekable).readable ≡ false)
 writes_only opened seekable other = grind arith
 
--- a stream that is opened to be read doesn't write
-pub reads_only : (opened : Access) (seekable : Bool) → is_read opened ≡ true → (can_of opened seekable).writable ≡ false
-reads_only access.Read seekable reads = refl
-reads_only other seekable reads = absurd (cc)
-
--- a stream can seek where its raw can
-pub can_seek : (opened : Access) (seekable : Bool) → (can_of opened seekable).seekable ≡ seekable
-can_seek access.Read seekable = refl
-can_seek access.Write seekable = refl
-can_seek access.Append seekable = refl
+-- no engine both reads and writes
+no_update : (engine : EngineView) → engine.access ≡ access.Update → Stands engine → ⊥
+no_update engine opened is = subst (λ (access : Access). HasShape access engine.raw_place engine.window) opened is.shape
 
 -- How a call begins.
 
@@ -67,7 +60,8 @@ written_there opened (Err why) raw_place place writes stands = tt
 
 -- a `flush` answers what passing all on came to
 pub flushes : (opened : Access) (old started new : EngineView) (result : Result (Unit {0}) IoFault) → old.access ≡ opened → Stands old → BeginOutcome old (Ok tt) started → PassesAll opened (stream_of started) result (stream_of new) → IfOk result (λ done. is_read opened ≡ false → new.raw_place ≡ place_of new.window) → Answers (stream_of old) Flush (done_reply result) (stream_of new)
-flushes access.Read old started new result opened is began passed stands = grind (arith, flush_answers, is_placed, owes_nothing, reads_only, begins)
+flushes access.Read old started new result opened is began passed stands = grind (arith, flush_answers, is_placed, owes_nothing, begins)
+flushes access.Update old started new result opened is began passed stands = absurd (no_update old opened is)
 flushes other old started new result opened is began passed stands =
     flush_passes_on (stream_of old) (stream_of started) (stream_of new) result (is_writing_live old is (ap is_read opened) began.0) (begins old started (Ok tt) began) passed (written_there old.access result new.raw_place (place_of new.window) (ap is_read opened) (subst (λ (access : Access). IfOk result (λ done. is_read access ≡ false → new.raw_place ≡ place_of new.window)) (sym opened) stands))
 
@@ -76,11 +70,13 @@ flushes other old started new result opened is began passed stands =
 -- a `close` that passing all on refused answers that refusal
 pub closing_stops : (opened : Access) (old started new : EngineView) (why : IoFault) → old.access ≡ opened → Stands old → BeginOutcome old (Ok tt) started → PassesToClose opened (stream_of started) (Err why) (stream_of new) → Answers (stream_of old) Close (Refused why) (stream_of new)
 closing_stops access.Read old started new why opened is began stops = let never : Err why ≡ Ok tt = stops.0 in absurd (cc)
+closing_stops access.Update old started new why opened is began stops = absurd (no_update old opened is)
 closing_stops other old started new why opened is began stops = close_stops (stream_of old) (stream_of started) (stream_of new) why (is_writing_live old is (ap is_read opened) began.0) (begins old started (Ok tt) began) stops
 
 -- a `close` that passed all on answers what the closing of the raw came to
 pub closes : (opened : Access) (old started mid new : EngineView) (result : Result (Unit {0}) IoFault) → old.access ≡ opened → Stands old → BeginOutcome old (Ok tt) started → PassesToClose opened (stream_of started) (Ok tt) (stream_of mid) → CloseRawOutcome (stream_of mid) result (stream_of new) → Answers (stream_of old) Close (done_reply result) (stream_of new)
 closes access.Read old started mid new result opened is began passed shut = grind (arith, close_answers_at_once, is_sound, stands_whole, owes_nothing, begins)
+closes access.Update old started mid new result opened is began passed shut = absurd (no_update old opened is)
 closes other old started mid new result opened is began passed shut =
     close_answers (stream_of old) (stream_of started) (stream_of mid) (stream_of new) result (is_writing_live old is (ap is_read opened) began.0) (begins old started (Ok tt) began) passed shut
 
@@ -88,6 +84,7 @@ closes other old started mid new result opened is began passed shut =
 
 owes_in : (opened : Access) (engine : EngineView) → engine.access ≡ opened → Stands engine → OwesBy (keeps_pending (stream_of engine)) (stream_of engine)
 owes_in access.Read engine opened is = grind (arith, owes_nothing)
+owes_in access.Update engine opened is = absurd (no_update engine opened is)
 owes_in other engine opened is = grind arith
 
 -- a stream that is written doesn't read, and another owes nothing
@@ -103,3 +100,9 @@ settles_by opened old new result is passed = grind arith
 -- a call that gives bytes begins, where these have a place
 pub writing_begun : (first old : EngineView) (call : FileCall) → is_writing call ≡ true → Stands first → is_read first.access ≡ false → BeginOutcome first (Ok tt) old → place_of old.window + length (payload call) ≤ greatest_place → Begun (stream_of first) (stream_of old) call
 writing_begun first old call writing is writes began within = grind (arith, begins, is_sound, owes_behind, writes_only, of_both)
+
+-- an engine that writes doesn't read
+pub writes_alone : (opened : Access) (engine : EngineView) → engine.access ≡ opened → Stands engine → is_written opened ≡ true → is_read opened ≡ false
+writes_alone access.Read engine opened is writes = absurd (cc)
+writes_alone access.Update engine opened is writes = absurd (no_update engine opened is)
+writes_alone other engine opened is writes = refl

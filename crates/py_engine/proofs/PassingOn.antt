@@ -63,3 +63,4 @@ pub passes_all : (opened : Access) (old new : Stream) (result : Result (Unit {0}
 passes_all access.Read old new result other passed = absurd (cc)
 passes_all access.Write old new result other passed = passed
 passes_all access.Append old new result other passed = passed
+passes_all access.Update old new result other passed = absurd (cc)

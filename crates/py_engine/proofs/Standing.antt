@@ -21,6 +21,7 @@ use Rattle.py_engine.proofs.Collecting.{pending_ends}
 -- a stream that is read has its raw after the bytes held
 pub reads_ahead : (opened : Access) (raw_place : ℕ) (window : WindowView) → is_read opened ≡ true → HasShape opened raw_place window → ReadsAhead raw_place window
 reads_ahead access.Read raw_place window reads shape = shape
+reads_ahead access.Update raw_place window reads shape = absurd shape
 reads_ahead other raw_place window reads shape = absurd (cc)
 
 -- a stream that is written has its raw where what is owed begins

@@ -52,9 +52,10 @@ pub record OwesBefore (raw_place : ℕ) (window : WindowView) : Type 0 where
   pub collects : Collects window
   pub stands : raw_place ≡ window.begin + window.from
 
--- where an engine's raw stands beside its window, by what the stream is opened for
+-- where an engine's raw stands beside its window, by what the stream is opened for. No engine both reads and writes
 abbrev pub HasShape : Access → ℕ → WindowView → Type 0
 HasShape access.Read raw_place window = ReadsAhead raw_place window
+HasShape access.Update raw_place window = ⊥
 HasShape other raw_place window = OwesBefore raw_place window
 
 -- told, what a stream that is read holds are the raw's bytes

@@ -13,7 +13,6 @@ mod moving;
 mod passing_on;
 mod reading;
 mod single;
-mod truncating;
 mod writing;
 
 use crate::window::{Filled, Window};
@@ -42,10 +41,11 @@ impl<R: RawStream> Model for BufferedData<R> {
 }
 
 impl<R: RawStream> BufferedData<R> {
-    /// An engine over an open raw that stands at a place, with an empty window there.
+    /// An engine over an open raw that stands at a place, with an empty window there. It either reads or writes.
     pub fn new(raw: R, buffer: Vec<u8>, place: u64, access: Access) -> Self
         requires open { (R.shows raw).closed ≡ false }
         requires some { 0 < vec_len buffer }
+        requires alone { access ≢ Access.Update }
         requires within { place ≤ greatest_place }
         requires stands { WherePlace (R.shows raw) ((R.shows raw).place ≡ place) }
         ensures { result ≡ record { raw = R.shows raw; raw_place = place; window = record { size = vec_len buffer; begin = place; held = []; cursor = 0; from = 0; to = 0 }; access = access; life = Life.Live; short = false } }

@@ -13,22 +13,31 @@ use Rattle.py_flat.specs.ExactStep.{is_closed, truncated}
 use Rattle.py_flat.specs.AllowedStep.{settled, raw_faulted}
 use Rattle.py_flat.specs.BinaryStep.{BinaryStep, SettledBy, Fails, FaultedBy}
 use Rattle.py_raw.specs.RawStream.{WhereTold, NoWait}
-use Rattle.py_raw.proofs.Telling.{tells_its_bytes}
+use Rattle.py_raw.proofs.Telling.{keeps_same, tells_its_bytes}
 use Rattle.py_raw.proofs.ReadingOn.{no_fault_then, no_wait_then}
-use Rattle.py_stream.specs.Stream.{Stream, buffering_of, file_of}
-use Rattle.py_stream.specs.LiveRaw.{is_truncatable, LetsTruncate}
+use Rattle.py_stream.specs.Stream.{Stream, buffering_of, file_of, nothing_owed}
+use Rattle.py_stream.specs.LiveRaw.{is_truncatable}
 use Rattle.py_stream.specs.Writing.{size_asked, NoneAtPlace, PassesFront, LaysThenCuts, Writes}
 use Rattle.py_stream.specs.Answers.{Answers}
 use Rattle.py_stream.specs.Keeping.{IsSound, KeepsOn}
 use Rattle.py_stream.specs.Settling.{LivesOn, SettleOutcome}
-use Rattle.py_stream.specs.Truncating.{MayTruncate, BeginsTruncating, SettlesFirst, KeepsPlace, Resizes, FailsToResize, ResizeOutcome}
+use Rattle.py_stream.specs.Moving.{Begins, keeps_pending, OwesBy, SettlesBy}
+use Rattle.py_stream.specs.Sizing.{KeepsPlace, Resizes, FailsToResize, ResizeOutcome}
 use Rattle.py_stream.proofs.Begun.{answers_whole}
-use Rattle.py_stream.proofs.Alone.{begins_in_vain}
-use Rattle.py_stream.proofs.Refusing.{refused_with, refused_by_ability}
+use Rattle.py_stream.proofs.Refusing.{IsPlaced, refused_with, refused_by_ability}
 use Rattle.py_stream.proofs.Taking.{keeps_then, faulted_then, answers_still}
 use Rattle.py_stream.proofs.Flat.{flat_of, file_now, failed_file}
 use Rattle.py_stream.proofs.Showing.{MovesNone, Asked, Accepts, shows_answers}
 use Rattle.py_stream.proofs.PassingOn.{begun, FaultLeaves, passed_all, stays_open, lacks_refuse, settling_refuses}
+
+-- a stream that may be truncated: it lives and writes, and may be moved
+pub record MayTruncate (stream : Stream) : Type 0 where
+  pub sound : IsSound stream
+  pub live : stream.life ≡ life.Live
+  pub whole : stream.short ≡ false
+  pub writes : stream.can.writable ≡ true
+  pub seeks : stream.can.seekable ≡ true
+  pub free : stream.can.appending ≡ false
 
 -- What is accepted.
 
@@ -53,11 +62,11 @@ truncating old size may within = grind (arith, accepted, truncate_moves_none)
 lacks_truncation : (stream : Stream) (size : Option ℕ) → is_truncatable stream.can ≡ false → lacks (file_of stream) (Truncate size) ≡ true
 lacks_truncation stream size cannot = grind arith
 
--- a truncation begins, or the life refuses it, or it is unsupported of a stream that doesn't write, or may not be moved
-pub truncating_begins : (old new : Stream) (result : Result (Unit {0}) IoFault) → IsSound old → LetsTruncate old.life old.can result → new ≡ begun old → BeginsTruncating old result new
-truncating_begins old new (Ok done) sound lets is = grind arith
-truncating_begins old new (Err why) sound (inl dead) is = λ size. begins_in_vain old new (Truncate size) why (record { far = sound.far; near = sound.near }) refl refl refl refl (dead, is)
-truncating_begins old new (Err why) sound (inr unable) is = λ size. subst (λ (fault : IoFault). Answers old (Truncate size) (Refused fault) new) (sym unable.2) (refused_by_ability old new (Truncate size) (record { far = sound.far; near = sound.near }) refl refl unable.0 (lacks_truncation old size unable.1) is)
+-- a truncation is unsupported of a stream that doesn't write, or may not be moved
+pub truncates_not : (old started seen : Stream) (can : Bool) (size : Option ℕ) → IsPlaced old → Begins old (Ok tt) started → seen ≡ started → can ≡ is_truncatable seen.can → can ≡ false → Answers old (Truncate size) (Refused fault.Unsupported) started
+truncates_not old started seen can size placed began is asked cannot =
+    let unable : is_truncatable old.can ≡ false = ap (λ (stream : Stream). is_truncatable stream.can) (sym began.1 ∙ sym is) ∙ sym asked ∙ cannot in
+    refused_by_ability old started (Truncate size) placed refl refl began.0 (lacks_truncation old size unable) began.1
 
 too_large : (old : Stream) (size : Option ℕ) → MayTruncate old → greatest_place < size_asked old size → refusal (file_of old) (Truncate size) ≡ Some fault.TooFar
 too_large old None may beyond = absurd (omega (arith, beyond, may.sound.far))
@@ -65,11 +74,14 @@ too_large old (Some size) may beyond = grind arith
 
 -- a truncation that has begun, and the size that it asks for
 pub record Started (old started : Stream) (size : Option ℕ) (count : ℕ) : Type 0 where
-  pub begins : BeginsTruncating old (Ok tt) started
+  pub sound : IsSound old
+  pub owes : OwesBy (keeps_pending old) old
+  pub begins : Begins old (Ok tt) started
+  pub can : is_truncatable started.can ≡ true
   pub asks : count ≡ size_asked started size
 
 may_truncate : (old started : Stream) (size : Option ℕ) (count : ℕ) → Started old started size count → MayTruncate (begun old)
-may_truncate old started size count is = subst MayTruncate is.begins.1 is.begins.0
+may_truncate old started size count is = grind arith
 
 asked_size : (old started : Stream) (size : Option ℕ) (count : ℕ) → Started old started size count → count ≡ size_asked old size
 asked_size old started size count is = is.asks ∙ ap (λ (stream : Stream). size_asked stream size) is.begins.1
@@ -92,12 +104,28 @@ settling_stops : (old new : Stream) (size : Option ℕ) (buffer : Option ℕ) (w
 settling_stops old new size None why may within is buffered stops = absurd (let wrong : false ≡ true = buffered in cc)
 settling_stops old new size (Some room) why may within is buffered stops = settling_refuses old new (Truncate size) room why (truncating old size may within) is may.writes (λ has. has.of) (fault_fails_truncate size) stops
 
+-- a stream that may keep bytes has a buffer, and another owes nothing
+has_buffer : (old started : Stream) (size : Option ℕ) (count : ℕ) → keeps_pending started ≡ true → Started old started size count → IsSome old.buffer
+has_buffer old started size count keeps is = grind arith
+
+owes_nothing : (old started : Stream) (size : Option ℕ) (count : ℕ) → keeps_pending started ≡ false → Started old started size count → old.owed ≡ nothing_owed old.place
+owes_nothing old started size count keeps is = subst (λ (kept : Bool). OwesBy kept old) (sym (ap keeps_pending is.begins.1) ∙ keeps) is.owes
+
+-- a stream that owes nothing has passed all on
+settles_at_once : (stream : Stream) → MayTruncate stream → stream.owed ≡ nothing_owed stream.place → SettleOutcome stream (Ok tt) stream
+settles_at_once stream may none = grind (arith, keeps_same)
+
 -- what stops the passing on answers a truncation
-pub truncation_stops : (old started new : Stream) (size : Option ℕ) (count : ℕ) (why : IoFault) → Started old started size count → count ≤ greatest_place → SettlesFirst started (Err why) new → Answers old (Truncate size) (Refused why) new
-truncation_stops old started new size count why is within stops =
-    let stopped = subst (λ (stream : Stream). SettlesFirst stream (Err why) new) is.begins.1 stops in
+pub truncation_stops : (keeps : Bool) (old started new : Stream) (size : Option ℕ) (count : ℕ) (why : IoFault) → keeps_pending started ≡ keeps → Started old started size count → count ≤ greatest_place → SettlesBy keeps started (Err why) new → Answers old (Truncate size) (Refused why) new
+truncation_stops true old started new size count why keeps is within stops =
     answers_whole old new (Truncate size) (Refused why)
-    (settling_stops (begun old) new size old.buffer why (may_truncate old started size count is) (subst (λ (n : ℕ). n ≤ greatest_place) (asked_size old started size count is) within) refl stopped.0 stopped.1)
+    (settling_stops (begun old) new size old.buffer why (may_truncate old started size count is) (subst (λ (n : ℕ). n ≤ greatest_place) (asked_size old started size count is) within) refl (has_buffer old started size count keeps is) (subst (λ (stream : Stream). SettleOutcome stream (Err why) new) is.begins.1 stops))
+truncation_stops false old started new size count why keeps is within stops = let never : Err why ≡ Ok tt = stops.0 in absurd (cc)
+
+-- what passing all on came to leaves nothing owed; a stream that keeps no bytes is left as it was
+settled_first : (keeps : Bool) (old started mid : Stream) (size : Option ℕ) (count : ℕ) → keeps_pending started ≡ keeps → Started old started size count → SettlesBy keeps started (Ok tt) mid → SettleOutcome (begun old) (Ok tt) mid
+settled_first true old started mid size count keeps is settles = subst (λ (stream : Stream). SettleOutcome stream (Ok tt) mid) is.begins.1 settles
+settled_first false old started mid size count keeps is settles = subst (SettleOutcome (begun old) (Ok tt)) (sym (settles.1 ∙ is.begins.1)) (settles_at_once (begun old) (may_truncate old started size count is) (owes_nothing old started size count keeps is))
 
 -- The raw's bytes are given the size, once nothing is owed.
 
@@ -248,19 +276,19 @@ resize_fails old mid new size why may within settled_by never = absurd never
 -- As the steps come.
 
 -- a truncation whose raw failed, or wanted memory
-pub truncation_fails : (old started mid new : Stream) (size : Option ℕ) (count : ℕ) (why : IoFault) → Started old started size count → count ≤ greatest_place → SettleOutcome started (Ok tt) mid → ResizeOutcome mid count (Err why) new → Answers old (Truncate size) (Refused why) new
-truncation_fails old started mid new size count why is within settled_by fails =
+pub truncation_fails : (old started mid new : Stream) (size : Option ℕ) (count : ℕ) (why : IoFault) → Started old started size count → count ≤ greatest_place → SettlesBy (keeps_pending started) started (Ok tt) mid → ResizeOutcome mid count (Err why) new → Answers old (Truncate size) (Refused why) new
+truncation_fails old started mid new size count why is within settles fails =
     let asked : count ≡ size_asked old size = asked_size old started size count is in
     answers_whole old new (Truncate size) (Refused why)
     (resize_fails (begun old) mid new size why (may_truncate old started size count is) (subst (λ (n : ℕ). n ≤ greatest_place) asked within)
-    (subst (λ (stream : Stream). SettleOutcome stream (Ok tt) mid) is.begins.1 settled_by) (subst (λ (n : ℕ). ResizeOutcome mid n (Err why) new) asked fails))
+    (settled_first (keeps_pending started) old started mid size count refl is settles) (subst (λ (n : ℕ). ResizeOutcome mid n (Err why) new) asked fails))
 
 -- a truncation that came about
-pub truncation_answers : (old started mid new : Stream) (size : Option ℕ) (count : ℕ) → Started old started size count → count ≤ greatest_place → SettleOutcome started (Ok tt) mid → Resizes mid count new → Answers old (Truncate size) (Place count) new
-truncation_answers old started mid new size count is within settled_by resizes =
+pub truncation_answers : (old started mid new : Stream) (size : Option ℕ) (count : ℕ) → Started old started size count → count ≤ greatest_place → SettlesBy (keeps_pending started) started (Ok tt) mid → Resizes mid count new → Answers old (Truncate size) (Place count) new
+truncation_answers old started mid new size count is within settles resizes =
     let asked : count ≡ size_asked old size = asked_size old started size count is in
     let given : Resizes mid (size_asked old size) new = subst (λ (n : ℕ). Resizes mid n new) asked resizes in
     subst (λ (n : ℕ). Answers old (Truncate size) (Place n) new) (sym asked)
     (answers_whole old new (Truncate size) (Place (size_asked old size))
     (gives_size (begun old) mid new size (subst (λ (n : ℕ). n ≤ greatest_place) asked within)
-    (record { may = may_truncate old started size count is; settled_by = subst (λ (stream : Stream). SettleOutcome stream (Ok tt) mid) is.begins.1 settled_by; keeps = given.keeps }) given))
+    (record { may = may_truncate old started size count is; settled_by = settled_first (keeps_pending started) old started mid size count refl is settles; keeps = given.keeps }) given))

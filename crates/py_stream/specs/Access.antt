@@ -1,29 +1,33 @@
 -- What a stream is opened for, and what it can do then.
-use Rattle.std.specs.Prelude.{Bool, true, false}
+use Rattle.std.specs.Prelude.{Bool, true, false, ◌&&◌}
 use Rattle.py_flat.specs.FlatFile.{Abilities}
 use Rattle.py_raw.specs.RawStream.{Raw}
 use Rattle.py_stream.specs.declared.access.Access.{Access}
 use Rattle.py_stream.specs.declared.access.Access.TheVariants as access
-use Rattle.py_stream.specs.Stream.{reader_can, writer_can}
+
+-- whether a stream of an access is read
+abbrev pub is_read : Access → Bool
+is_read access.Read = true
+is_read access.Update = true
+is_read other = false
+
+-- whether a stream of an access is written
+abbrev pub is_written : Access → Bool
+is_written access.Read = false
+is_written other = true
+
+-- whether a stream of an access is written from the end on
+abbrev pub is_appended : Access → Bool
+is_appended access.Append = true
+is_appended other = false
 
 -- what a stream of an access can do, by whether its raw can seek
 abbrev pub can_of : Access → Bool → Abilities
-can_of access.Read seekable = reader_can seekable
-can_of access.Write seekable = writer_can false seekable
-can_of access.Append seekable = writer_can true seekable
+can_of opened seekable = record { readable = is_read opened; writable = is_written opened; seekable = seekable; appending = is_appended opened }
 
 -- whether a raw is able to do what the stream over it is opened for
 abbrev pub is_able : Access → Raw → Bool
 is_able access.Read raw = raw.readable
 is_able access.Write raw = raw.writable
 is_able access.Append raw = raw.writable
-
--- whether a stream of an access is read
-abbrev pub is_read : Access → Bool
-is_read access.Read = true
-is_read other = false
-
--- whether a stream of an access is written from the end on
-abbrev pub is_appended : Access → Bool
-is_appended access.Append = true
-is_appended other = false
+is_able access.Update raw = raw.readable && raw.writable

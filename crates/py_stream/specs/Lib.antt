@@ -6,7 +6,7 @@ pub mod Answers
 pub mod Keeping
 pub mod Taking
 pub mod Settling
-pub mod Truncating
+pub mod Sizing
 pub mod Taken
 pub mod Reading
 pub mod LiveRaw

@@ -39,11 +39,6 @@ is_movable can = can.seekable && not can.appending
 abbrev pub is_truncatable : Abilities → Bool
 is_truncatable can = can.writable && is_movable can
 
--- whether a life and abilities let a truncation begin: the life is asked first
-abbrev pub LetsTruncate : Life → Abilities → Result (Unit {0}) IoFault → Type 0
-LetsTruncate current can (Ok done) = (current ≡ life.Live) × (is_truncatable can ≡ true)
-LetsTruncate current can (Err why) = (life_fault current ≡ Some why) ⊎ ((current ≡ life.Live) × (is_truncatable can ≡ false) × (why ≡ fault.Unsupported))
-
 -- what an error of the raw is answered by
 abbrev pub fault_of : RawError → IoFault
 fault_of raw_error.Fault = fault.RawFault

@@ -1,10 +1,10 @@
 //! What a stream is opened for.
 ghost use Rattle.std.specs.Prelude.{◌≡◌};
-ghost use Rattle.py_stream.specs.Access.{is_able, is_read, is_appended};
+ghost use Rattle.py_stream.specs.Access.{is_able, is_read, is_written, is_appended};
 
 use py_raw::RawStream;
 
-/// What a stream is opened for: to be read, or written.
+/// What a stream is opened for: to be read, or written, or both.
 #[derive(Clone, Copy, Debug, PartialEq, Eq)]
 pub enum Access {
     /// The stream is read, from where its raw stands.
@@ -13,6 +13,8 @@ pub enum Access {
     Write,
     /// The stream is written from the end on, and never moved.
     Append,
+    /// The stream is read and written, from where its raw stands.
+    Update,
 }
 
 impl Access {
@@ -20,7 +22,14 @@ impl Access {
     pub fn reads(self) -> bool
         ensures { result ≡ is_read self }
     {
-        matches!(self, Access::Read)
+        matches!(self, Access::Read | Access::Update)
+    }
+
+    /// Whether the stream is written.
+    pub fn writes(self) -> bool
+        ensures { result ≡ is_written self }
+    {
+        !matches!(self, Access::Read)
     }
 
     /// Whether the stream is written from the end on, and never moved.
@@ -34,9 +43,6 @@ impl Access {
     pub fn suits<R: RawStream>(self, raw: &R) -> bool
         ensures { result ≡ is_able self (R.shows raw.now) }
     {
-        match self {
-            Access::Read => raw.readable(),
-            Access::Write | Access::Append => raw.writable(),
-        }
+        (!self.reads() || raw.readable()) && (!self.writes() || raw.writable())
     }
 }

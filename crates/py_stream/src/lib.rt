@@ -14,7 +14,6 @@ mod opening;
 mod piecewise;
 mod reading_on;
 mod stop;
-mod truncating;
 
 pub use access::Access;
 pub use buffered_stream::BufferedStream;
@@ -26,7 +25,7 @@ pub use laws::{
     a_stream_answers_as_a_buffered_one,
 };
 pub use live_raw::LiveRaw;
-pub use moves::{Moves, refuse, seek, tell};
+pub use moves::{Moves, refuse, seek, tell, truncate};
 pub use moving::{end_of_lines, life_fault, moved_by};
 pub use new_refused::NewRefused;
 pub use opening::{first_place, refused_at_first, refused_by};
@@ -34,4 +33,3 @@ pub use piecewise::{TakesPieces, take_lines};
 pub use py_flat::Whence;
 pub use reading_on::{ReadsOn, read_into, read_line, read_lines, read_rest};
 pub use stop::{Progress, Step, Stop};
-pub use truncating::{Truncates, truncate};

@@ -1,10 +1,10 @@
 //! A raw stream under the stream that calls it.
-ghost use Rattle.std.specs.Prelude.{◌≡◌, ◌+◌, ◌<◌, ◌≤◌, not, false, length};
+ghost use Rattle.std.specs.Prelude.{◌≡◌, ◌+◌, ◌<◌, ◌≤◌, false, length};
 ghost use Rattle.py_flat.specs.Limits.{greatest_place};
 ghost use Rattle.py_raw.specs.RawStream.{Keeps, StaysOpen, WriteFits, SeekOutcome, EndOutcome, TruncateOutcome, CloseOutcome};
 ghost use Rattle.py_stream.specs.Access.{is_read, can_of};
 ghost use Rattle.py_stream.specs.Reading.{is_wait, has_answer};
-ghost use Rattle.py_stream.specs.LiveRaw.{is_movable as movable, LetsBegin, LetsTruncate, Calls, TransferOutcome, GiveOutcome, starved, fault_of, life_after};
+ghost use Rattle.py_stream.specs.LiveRaw.{is_movable as movable, is_truncatable as truncatable, LetsBegin, Calls, TransferOutcome, GiveOutcome, starved, fault_of, life_after};
 
 use crate::{Access, Stop, life_fault};
 use py_raw::{GREATEST_PLACE, IoFault, Life, RawError, RawStream};
@@ -94,13 +94,19 @@ impl<R: RawStream> LiveRaw<R> {
         self.raw
     }
 
-    /// Whether the stream reads; else it writes.
+    /// Whether the stream reads.
     pub fn reads(&self) -> bool
         ensures access { result ≡ is_read self.now.access }
         ensures readable { result ≡ (can_of self.now.access self.now.raw.seekable).readable }
-        ensures writable { not result ≡ (can_of self.now.access self.now.raw.seekable).writable }
     {
         self.access.reads()
+    }
+
+    /// Whether the stream writes.
+    pub fn writes(&self) -> bool
+        ensures { result ≡ (can_of self.now.access self.now.raw.seekable).writable }
+    {
+        self.access.writes()
     }
 
     /// Whether the raw can be moved.
@@ -117,6 +123,13 @@ impl<R: RawStream> LiveRaw<R> {
         self.raw.seekable() && !self.access.appends()
     }
 
+    /// Whether the bytes of the stream's raw may be given a size: where the stream writes, and may be moved.
+    pub fn is_truncatable(&self) -> bool
+        ensures { result ≡ truncatable (can_of self.now.access self.now.raw.seekable) }
+    {
+        self.writes() && self.is_movable()
+    }
+
     /// Begins a call: the life refuses it, or it may go on. No answer is short yet.
     pub fn begin(&mut self) -> Result<(), IoFault>
         ensures life { LetsBegin self.old.life result }
@@ -127,19 +140,6 @@ impl<R: RawStream> LiveRaw<R> {
             None => Ok(()),
             Some(fault) => Err(fault),
         }
-    }
-
-    /// Begins a truncation: the life refuses it, or it is `Unsupported` of a stream that doesn't write, or may not be moved; else it
-    /// may go on. No answer is short yet, and nothing else changes.
-    pub fn begin_truncating(&mut self) -> Result<(), IoFault>
-        ensures begins { LetsTruncate self.old.life (can_of self.old.access self.old.raw.seekable) result }
-        ensures whole { self.new ≡ record self.old { short = false } }
-    {
-        self.begin()?;
-        if self.access.reads() || !self.is_movable() {
-            return Err(IoFault::Unsupported);
-        }
-        Ok(())
     }
 
     /// Whether a reading has an answer: none where the raw would have blocked before anything came. A wait is remembered.

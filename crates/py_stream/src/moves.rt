@@ -1,19 +1,20 @@
-//! Where a stream stands, and moving it, of any stream over a raw.
+//! Where a stream stands, moving it, and giving its bytes a size, of any stream over a raw.
 ghost use Rattle.std.specs.Prelude.{◌≡◌, ◌≤◌, true, false, []};
 ghost use Rattle.py_flat.specs.declared.life.Life.TheVariants.{Live};
 ghost use Rattle.py_flat.specs.Limits.{greatest_place};
-ghost use Rattle.py_flat.specs.Calls.{FileCall, Seek, Tell, Refused};
+ghost use Rattle.py_flat.specs.Calls.{FileCall, Seek, Tell, Truncate, Refused};
 ghost use Rattle.py_stream.specs.Stream.{Stream};
 ghost use Rattle.py_stream.specs.Keeping.{IsSound};
-ghost use Rattle.py_stream.specs.LiveRaw.{is_movable as movable};
+ghost use Rattle.py_stream.specs.LiveRaw.{is_movable as movable, is_truncatable as truncatable};
 ghost use Rattle.py_stream.specs.Answers.{Answers, RefusesAlone};
 ghost use Rattle.py_stream.specs.Replies.{place_reply};
 ghost use Rattle.py_stream.specs.Moving.{Begins, keeps_pending, OwesBy, SettlesBy, TargetOutcome, EndOutcome, GoOutcome};
+ghost use Rattle.py_stream.specs.Sizing.{ResizeOutcome};
 
 use crate::moved_by;
-use py_raw::IoFault;
+use py_raw::{GREATEST_PLACE, IoFault};
 
-/// A stream that may be moved.
+/// A stream that may be moved, and whose bytes may be given a size.
 pub trait Moves {
     /// What the stream is seen as.
     ghost shows: { Self → Stream };
@@ -31,6 +32,10 @@ pub trait Moves {
     /// Whether the stream may be moved: its raw can seek, and it doesn't append.
     fn is_movable(&self) -> bool
         ensures { result ≡ movable (shows self.now).can };
+
+    /// Whether the stream's bytes may be given a size: it writes, and may be moved.
+    fn is_truncatable(&self) -> bool
+        ensures { result ≡ truncatable (shows self.now).can };
 
     /// The stream's place, in bytes from the start of the file; pending writes count.
     fn stands_at(&self) -> u64
@@ -58,6 +63,15 @@ pub trait Moves {
         requires none { (shows self.old).owed.bytes ≡ [] }
         requires within { target ≤ greatest_place }
         ensures { GoOutcome (shows self.old) target result (shows self.new) };
+
+    /// Gives the raw's bytes a size in bytes, where nothing is owed. The place is kept. `RawFault`: the stream is failed, and the bytes
+    /// are as they were or have the size. `NoMemory`: with all as it was.
+    fn resize(&mut self, size: u64) -> Result<(), IoFault>
+        requires live { (shows self.old).life ≡ Live }
+        requires writes { (shows self.old).can.writable ≡ true }
+        requires none { (shows self.old).owed.bytes ≡ [] }
+        requires within { size ≤ greatest_place }
+        ensures { ResizeOutcome (shows self.old) size result (shows self.new) };
 }
 
 /// Where a seek goes.
@@ -101,6 +115,29 @@ pub fn tell<S: Moves>(stream: &mut S) -> Result<u64, IoFault>
         return Err(IoFault::Unsupported);
     }
     Ok(stream.stands_at())
+}
+
+/// Cuts a stream's bytes to a size in bytes, or lengthens them by zeros; without a size to the place, which is kept. What is owed is
+/// passed on first. The answer is the size.
+///
+/// The life refuses it, then `Unsupported` (of a stream that doesn't write, or may not be moved), then `TooFar` (a size past the greatest
+/// place): each leaves all as it was. What stops the passing on is answered next: `WouldBlock { taken: 0 }` and `NoMemory` leave the
+/// stream live, `RawFault` fails it, and what wasn't passed on is owed still. Where the raw fails at the size, its bytes are as they were
+/// or have the size, and the stream is failed.
+pub fn truncate<S: Moves>(stream: &mut S, size: Option<u64>) -> Result<u64, IoFault>
+    ensures { Answers (S.shows stream.old) (Truncate size) (place_reply result) (S.shows stream.new) }
+{
+    stream.begin_call()?;
+    if !stream.is_truncatable() {
+        return Err(IoFault::Unsupported);
+    }
+    let size = size.unwrap_or(stream.stands_at());
+    if size > GREATEST_PLACE {
+        return Err(IoFault::TooFar);
+    }
+    stream.pass_on()?;
+    stream.resize(size)?;
+    Ok(size)
 }
 
 /// Refuses a call by the life, or as one that the stream lacks.

@@ -1,16 +1,22 @@
 -- The engine with which a call begins, and what a stream without a buffer refuses by itself.
-use Rattle.std.proofs.Common.{◌≡◌, false, Some, Err, Ok, refl, sym, ap, subst, arith, add-zero, ℕ, None, IsSome, Option, Result}
+use Rattle.std.proofs.Common.{◌≡◌, ◌∙◌, true, false, Some, Err, Ok, refl, sym, ap, subst, arith, add-zero, ℕ, None, IsSome, Option, Result}
 use Rattle.py_flat.specs.declared.fault.IoFault.{IoFault}
+use Rattle.py_flat.specs.declared.fault.IoFault.TheVariants as fault
 use Rattle.py_flat.specs.declared.life.Life.{Life}
 use Rattle.py_flat.specs.declared.life.Life.TheVariants as life
 use Rattle.py_flat.specs.Calls.{FileCall, Close, Refused}
 use Rattle.py_flat.specs.FlatFile.{Unbuffered}
-use Rattle.py_flat.specs.Refusals.{is_getter, is_other_getter, is_close, lets_through, life_fault}
+use Rattle.py_flat.specs.Refusals.{is_getter, is_other_getter, is_close, lacks, lets_through, life_fault}
 use Rattle.py_raw.specs.RawStream.{KeepsReads}
 use Rattle.py_stream.specs.Answers.{Answers, IsNear}
 use Rattle.py_stream.specs.Moving.{Begins}
 use Rattle.py_stream.proofs.Alone.{detaches, begins_in_vain as stream_begins_in_vain}
-use Rattle.py_stream.proofs.Refusing.{IsPlaced, refused_by_life as life_refuses}
+use Rattle.py_stream.proofs.Refusing.{IsPlaced, refused_by_ability, refused_by_life as life_refuses}
+use Rattle.py_stream.proofs.ReadingCalls.{reading_call}
+use Rattle.py_stream.specs.Access.{is_read}
+use Rattle.py_stream.specs.Kinds.{is_reading}
+use Rattle.py_stream.specs.Stream.{Stream, file_of}
+use Rattle.py_stream.specs.ReadingOn.{BeginsReading}
 use Rattle.py_stream.specs.Keeping.{IsSound, KeepsOn}
 use Rattle.py_stream.specs.Writing.{OwesBehind}
 use Rattle.py_unbuffered.specs.Engine.{EngineView, stream_of, IsEngine, KeepsEngine, BeginOutcome}
@@ -77,3 +83,17 @@ pub record Begun (engine : EngineView) : Type 0 where
 -- what is known of an engine with which a call begins holds where its life lets the call through
 pub begun_live : (first now : EngineView) → Stands first → BeginOutcome first (Ok tt) now → Begun now
 begun_live first now stands began = subst Begun (sym began.1) (record { live = began.0; whole = refl; stands = stands })
+
+-- A reading begins of a stream that is read.
+
+pub reading_begins : (old new : EngineView) → Stands old → BeginOutcome old (Ok tt) new → is_read new.access ≡ true → BeginsReading (stream_of old) (Ok tt) (stream_of new)
+reading_begins old new stands began reads = grind (arith, is_near)
+
+lacks_reading : (stream : Stream) (call : FileCall) → is_reading call ≡ true → stream.can.readable ≡ false → lacks (file_of stream) call ≡ true
+lacks_reading stream call reading cannot = grind arith
+
+-- another refuses it as one that it lacks
+pub reading_lacks : (old new : EngineView) → Stands old → BeginOutcome old (Ok tt) new → is_read new.access ≡ false → BeginsReading (stream_of old) (Err fault.Unsupported) (stream_of new)
+reading_lacks old new stands began other = λ call reading.
+    let is = reading_call call reading in
+    refused_by_ability (stream_of old) (stream_of new) call (is_placed old stands) is.getter is.other began.0 (lacks_reading (stream_of old) call reading (ap (λ (engine : EngineView). is_read engine.access) (sym began.1) ∙ other)) (ap stream_of began.1)

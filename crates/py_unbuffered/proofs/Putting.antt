@@ -1,17 +1,21 @@
 -- What one transfer of bytes to the raw is to a stream without a buffer.
-use Rattle.std.proofs.Common.{[], ◌≡◌, ℕ, ◌-◌, ◌<◌, inr, Bool, true, false, nat_lt, IsTrue, List, length, take, drop, Err, refl, sym, ap, ◌∙◌, arith}
+use Rattle.std.proofs.Common.{[], ◌≡◌, ℕ, ◌+◌, ◌-◌, ◌<◌, ◌≤◌, inr, Bool, true, false, nat_lt, IsTrue, List, length, take, drop, Option, Some, None, unwrap_or, Ok, Err, refl, sym, ap, ◌∙◌, add-zero, arith}
 use Rattle.std.proofs.Math.Seq.{take-nil}
 use Rattle.std.proofs.lemmas.Bool.{cases_lt, true≢false, ltb-true, lt-ltb}
 use Rattle.std.proofs.lemmas.List.{length-take-le, length-drop, take_all, drop_all}
 use Rattle.py_flat.specs.declared.fault.IoFault.{IoFault}
 use Rattle.py_flat.specs.declared.fault.IoFault.TheVariants as fault
 use Rattle.py_flat.specs.declared.life.Life.TheVariants as life
+use Rattle.py_flat.specs.Limits.{greatest_place}
+use Rattle.py_raw.specs.RawStream.{Raw, Keeps, StaysOpen, WherePlace}
 use Rattle.py_raw.proofs.Telling.{tells_its_bytes}
+use Rattle.py_stream.specs.LiveRaw.{GiveOutcome}
 use Rattle.py_stream.specs.Keeping.{IsSound}
 use Rattle.py_stream.specs.Taking.{Took, TookAll, FailsTaking, StarvesTaking, FillsUp, PutsOutcome}
 use Rattle.py_stream.proofs.Putting.{takes_nothing}
-use Rattle.py_unbuffered.specs.Engine.{EngineView, stream_of, Waits, StarvesWith, Puts, FailsPutting, PutOutcome}
+use Rattle.py_unbuffered.specs.Engine.{EngineView, stream_of, IsEngine, KeepsEngine, Waits, StarvesWith, Puts, FailsPutting, PutOutcome}
 use Rattle.py_unbuffered.proofs.Begun.{keeps_on, owes_behind}
+use Rattle.py_unbuffered.proofs.Steps.{able_stays}
 
 -- the raw took some of the bytes
 pub puts_took : (old : EngineView) (bytes : List ℕ) (count : ℕ) (new : EngineView) → Puts old bytes count new → TookAll (stream_of old) (take count bytes) (stream_of new)
@@ -68,3 +72,19 @@ put_refused old new bytes start moved why by is live outcome = absurd outcome
 -- what is handed on of a line is all that is left
 pub piece_is : (line : List ℕ) (taken : ℕ) → take (length line - taken) (drop taken line) ≡ drop taken line
 piece_is line taken = take_all (length line - taken) (drop taken line) (omega (arith, length-drop taken line))
+
+-- One transfer of bytes, as the raw answered it.
+
+-- an engine after a step of its raw, at a place where that stands
+stands_on : (old : EngineView) (raw : Raw) (place : ℕ) → IsEngine old.raw old.place old.access old.life → Keeps old.raw raw → StaysOpen old.raw raw → place ≤ greatest_place → WherePlace old.raw (old.life ≡ life.Live → raw.place ≡ place) → KeepsEngine old (record old { raw = raw; place = place })
+stands_on old raw place is keeps stays far stands = record {
+  raw = keeps;
+  stays = stays;
+  access = refl;
+  short = refl;
+  is = record { far = far; able = able_stays old.access old.raw raw keeps ∙ is.able; is_open = λ live. stays ∙ is.is_open live; attached = is.attached; stands = λ tells. stands (sym keeps.tells_place ∙ tells) };
+}
+
+pub put_answers : (old : EngineView) (raw : Raw) (bytes : List ℕ) (moved : Bool) (count : Option ℕ) → IsEngine old.raw old.place old.access old.life → old.life ≡ life.Live → old.place + length bytes ≤ greatest_place → Keeps old.raw raw → StaysOpen old.raw raw → GiveOutcome old.raw bytes (Ok count) raw → PutOutcome old moved bytes (Ok count) (record old { raw = raw; place = old.place + unwrap_or count 0 })
+put_answers old raw bytes moved (Some count) is live within keeps stays gives = grind (arith, stands_on)
+put_answers old raw bytes moved None is live within keeps stays waits = grind (arith, stands_on, add-zero)

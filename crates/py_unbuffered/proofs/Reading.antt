@@ -8,6 +8,7 @@ use Rattle.py_flat.specs.Bytes.{left_at}
 use Rattle.py_flat.specs.Calls.{FileCall, Read, ReadInto, Refused}
 use Rattle.py_stream.specs.Kinds.{asks_none}
 use Rattle.py_stream.specs.Answers.{Answers}
+use Rattle.py_stream.specs.Reading.{Gives, FailsReading}
 use Rattle.py_stream.specs.Replies.{into_reply}
 use Rattle.py_stream.proofs.Coming.{came_once, came_unread, one_unread, each_but_one}
 use Rattle.py_stream.proofs.ReadingAnswers.{Reads}
@@ -40,11 +41,16 @@ module _ (old mid : EngineView) (call : FileCall) (before after : List ℕ) (onc
       let left : List ℕ = left_at old.raw.bytes old.place in
       let size : length part ≡ count = length-take-le count after came.fits in
       answers_once (stream_of old) (stream_of mid) call part once begun (grind (arith, keeps_reading, asks_always, bufferless, moves_all, came_once, comes_front, asks_for, take-take, none_left))
-  once_came None long same_long came = grind (arith, unready_once, asks_always, keeps_reading, bufferless, one_unread)
+  once_came None long same_long came =
+      let given : Gives (stream_of old) [] (stream_of mid) = record { kept = keeps_reading old mid came.kept came.bytes came.answered; no_fault = came.no_fault; live = came.live; place = omega (arith, came.place); told = λ _. refl } in
+      unready_once (stream_of old) (stream_of mid) call once (asks_always call once) begun given came.cause refl came.once (one_unread (stream_of old) (stream_of mid) came.place came.transfers came.reads) (λ buffered. absurd (cc))
 
   -- the transfer of a reading was refused
   pub once_refused : (why : IoFault) → TransferOutcome old false before (Err why) after mid → Answers (stream_of old) call (Refused why) (stream_of mid)
-  once_refused fault.RawFault fails = grind (arith, faulted_once, asks_always, keeps_reading, bufferless, one_unread, each_but_one, came_unread)
+  once_refused fault.RawFault fails =
+      let came = came_unread (stream_of old) (stream_of mid) fails.place fails.reads in
+      let failed : FailsReading (stream_of old) (stream_of mid) = record { kept = keeps_reading old mid fails.kept fails.bytes fails.answered; cause = fails.cause; no_wait = fails.no_wait; failed = fails.failed; forth = omega (arith, fails.place); reach = λ _. omega (arith, fails.place); each = each_but_one (stream_of old) (stream_of mid) 0 fails.place fails.transfers came } in
+      faulted_once (stream_of old) (stream_of mid) call once (asks_always call once) begun failed fails.place (one_unread (stream_of old) (stream_of mid) fails.place fails.transfers fails.reads) (λ buffered. absurd (cc))
   once_refused fault.NoMemory wants = subst (λ (engine : EngineView). Answers (stream_of old) call (Refused fault.NoMemory) (stream_of engine)) (sym wants.1) (unmoved_once (stream_of old) call once begun wants.0)
   once_refused why never = absurd never
 

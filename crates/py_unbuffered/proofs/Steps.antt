@@ -1,12 +1,13 @@
 -- What stays of an engine from step to step.
-use Rattle.std.proofs.Common.{◌≡◌, ℕ, ap, ◌∙◌, arith}
+use Rattle.std.proofs.Common.{◌≡◌, ℕ, refl, ap, ◌∙◌, arith}
 use Rattle.py_flat.specs.declared.life.Life.TheVariants as life
-use Rattle.py_raw.specs.RawStream.{Raw, AnswersFor, KeepsBytes}
+use Rattle.py_raw.specs.RawStream.{Raw, Keeps, AnswersFor, KeepsBytes}
 use Rattle.py_raw.proofs.Telling.{keeps_same}
 use Rattle.py_raw.proofs.ReadingOn.{Keeps-then}
 use Rattle.py_stream.specs.Reading.{KeepsReading}
 use Rattle.py_stream.specs.declared.access.Access.{Access}
-use Rattle.py_stream.specs.Access.{can_of}
+use Rattle.py_stream.specs.declared.access.Access.TheVariants as access
+use Rattle.py_stream.specs.Access.{can_of, is_able}
 use Rattle.py_unbuffered.specs.Engine.{EngineView, stream_of, IsEngine, KeepsEngine}
 use Rattle.py_unbuffered.proofs.Begun.{is_near}
 
@@ -23,6 +24,13 @@ keeps_failed engine is = grind (arith, keeps_same)
 -- two steps, one after the other
 pub keeps_then : (old mid new : EngineView) → KeepsEngine old mid → KeepsEngine mid new → KeepsEngine old new
 keeps_then old mid new first second = grind (arith, Keeps-then)
+
+-- a raw stays able to do what the stream is opened for
+pub able_stays : (opened : Access) (old new : Raw) → Keeps old new → is_able opened new ≡ is_able opened old
+able_stays access.Read old new kept = kept.readable
+able_stays access.Write old new kept = kept.writable
+able_stays access.Append old new kept = kept.writable
+able_stays access.Update old new kept = rw (kept.readable, kept.writable) refl
 
 -- what a stream can do stays
 can_stays : (old new : EngineView) → KeepsEngine old new → can_of new.access new.raw.seekable ≡ can_of old.access old.raw.seekable

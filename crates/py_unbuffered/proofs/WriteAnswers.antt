@@ -12,36 +12,24 @@ use Rattle.py_stream.specs.Replies.{taken_reply}
 use Rattle.py_stream.proofs.Putting.{takes_nothing}
 use Rattle.py_stream.proofs.Giving.{MayWrite, writing_too_far}
 use Rattle.py_stream.proofs.Given.{Begun, from_first, as_left, takes_answers, waits_answers, faults_answers, wants_answers}
-use Rattle.py_stream.specs.declared.access.Access.{Access}
-use Rattle.py_stream.specs.declared.access.Access.TheVariants as access
 use Rattle.py_stream.specs.Access.{can_of}
 use Rattle.py_unbuffered.specs.Engine.{EngineView, stream_of, BeginOutcome, PutOutcome}
 use Rattle.py_unbuffered.proofs.Begun.{Stands, begins, begun_live, is_placed, is_sound, keeps_on, owes_behind}
 use Rattle.py_unbuffered.proofs.Putting.{puts_took, waits_took, fails_taking, fails_with_none}
 
--- a stream that doesn't read writes
-reads_or_writes : (opened : Access) (seekable : Bool) → (can_of opened seekable).readable ≡ false → (can_of opened seekable).writable ≡ true
-reads_or_writes access.Read seekable reads = absurd (cc)
-reads_or_writes access.Write seekable reads = refl
-reads_or_writes access.Append seekable reads = refl
-
--- a call that was begun, of a stream that doesn't read
+-- a call that was begun, of a stream that writes
 pub record Writing (old started : EngineView) : Type 0 where
   pub stands : Stands old
   pub begins : BeginOutcome old (Ok tt) started
-  pub reads : (can_of started.access started.raw.seekable).readable ≡ false
-
--- a stream that was begun and doesn't read can write
-pub can_write : (old started : EngineView) → Writing old started → (can_of started.access started.raw.seekable).writable ≡ true
-can_write old started writing = reads_or_writes started.access started.raw.seekable writing.reads
+  pub writes : (can_of started.access started.raw.seekable).writable ≡ true
 
 -- bytes that would end past the greatest place
 pub too_far_answers : (old started : EngineView) (call : FileCall) → is_writing call ≡ true → Writing old started → greatest_place < started.place + length (payload call) → Answers (stream_of old) call (Refused fault.TooFar) (stream_of started)
-too_far_answers old started call gives writing past = grind (arith, can_write, writing_too_far, is_placed, begins)
+too_far_answers old started call gives writing past = grind (arith, writing_too_far, is_placed, begins)
 
 -- bytes that fit may be written
 pub may_write : (old started : EngineView) (call : FileCall) → is_writing call ≡ true → Writing old started → started.place + length (payload call) ≤ greatest_place → MayWrite (stream_of started) call
-may_write old started call gives writing fits = grind (arith, begun_live, is_sound, owes_behind, can_write)
+may_write old started call gives writing fits = grind (arith, begun_live, is_sound, owes_behind)
 
 -- lines, which go on until all are taken
 pub lines_begun : (old started : EngineView) (call : FileCall) → is_writing call ≡ true → goes_on None call ≡ true → makes_one None call ≡ false → Writing old started → started.place + length (payload call) ≤ greatest_place → Begun (stream_of old) (stream_of started) call

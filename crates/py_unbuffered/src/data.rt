@@ -1,5 +1,5 @@
 //! The engine of the streams without a buffer: a raw stream, its place, and what became of the stream.
-ghost use Rattle.std.specs.Prelude.{◌≡◌, ◌≢◌, not, false, length};
+ghost use Rattle.std.specs.Prelude.{◌≡◌, ◌≢◌, false, length};
 ghost use Rattle.py_unbuffered.specs.Engine.{IsEngine, BeginOutcome, TransferOutcome, live_of};
 ghost use Rattle.py_stream.specs.Access.{can_of};
 
@@ -7,7 +7,6 @@ mod ending;
 mod gathering;
 mod moving;
 mod reading;
-mod truncating;
 mod writing;
 
 use py_raw::{IoFault, Life, RawStream};
@@ -66,12 +65,11 @@ impl<R: RawStream> UnbufferedData<R> {
         self.live.begin()
     }
 
-    /// Whether the stream reads; else it writes.
-    fn reads(&self) -> bool
-        ensures readable { result ≡ (can_of self.now.access self.now.raw.seekable).readable }
-        ensures writable { not result ≡ (can_of self.now.access self.now.raw.seekable).writable }
+    /// Whether the stream writes.
+    fn writes(&self) -> bool
+        ensures { result ≡ (can_of self.now.access self.now.raw.seekable).writable }
     {
-        self.live.reads()
+        self.live.writes()
     }
 
     /// One transfer into a buffer, of no byte past the greatest place. `moved` tells whether bytes had moved in this call.

@@ -167,7 +167,7 @@ impl<R: RawStream> UnbufferedStream<R> {
     /// Cuts the raw's bytes to a size, or lengthens them by zeros, and answers it; without a size to the place. The place is kept, and may
     /// lie past the end then.
     ///
-    /// `Unsupported` of a stream that reads, where the raw can't seek, and of a stream that appends; `TooFar` for a size past
+    /// `Unsupported` of a stream that doesn't write, where the raw can't seek, and of a stream that appends; `TooFar` for a size past
     /// 9223372036854775807: all is as it was. After `RawFault` the stream is failed, and the raw's bytes may have the size, or not. It
     /// takes no memory: `NoMemory` comes only of a raw that takes some, and leaves the stream as it was.
     pub fn truncate(&mut self, size: Option<u64>) -> Result<u64, IoFault>
@@ -228,7 +228,7 @@ impl<R: RawStream> UnbufferedStream<R> {
     pub fn writable(&self) -> bool
         ensures { result ≡ self.now.can.writable }
     {
-        !self.data.live().reads()
+        self.data.live().writes()
     }
 
     /// Whether the stream's raw can be moved. A stream that appends isn't moved, whatever its raw can.

@@ -1,4 +1,4 @@
-//! Where the stream stands, and moving it.
+//! Where the stream stands, moving it, and giving its bytes a size.
 ghost use Rattle.py_engine.specs.Engine.{stream_of};
 
 use super::BufferedData;
@@ -19,6 +19,10 @@ impl<R: RawStream> Moves for BufferedData<R> {
 
     fn is_movable(&self) -> bool {
         self.live.is_movable()
+    }
+
+    fn is_truncatable(&self) -> bool {
+        self.live.is_truncatable()
     }
 
     fn stands_at(&self) -> u64 {
@@ -50,5 +54,10 @@ impl<R: RawStream> Moves for BufferedData<R> {
         self.window.restart_at(target);
         self.raw_place = target;
         Ok(())
+    }
+
+    fn resize(&mut self, size: u64) -> Result<(), IoFault> {
+        let _ = &self.live;
+        self.live.truncate(size)
     }
 }

@@ -19,6 +19,7 @@ impl<R: RawStream> TakesPieces for BufferedData<R> {
     ghost shows = { stream_of };
 
     fn take_piece(&mut self, piece: &[u8], start: u64) -> Result<bool, IoFault> {
+        let _ = &self.live;
         self.put(piece, start)
     }
 }

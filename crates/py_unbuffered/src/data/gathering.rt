@@ -22,7 +22,7 @@ impl<R: RawStream> ReadsOn for UnbufferedData<R> {
     fn begin_reading(&mut self) -> Result<(), IoFault> {
         let _ = &self.live;
         self.begin()?;
-        if self.reads() {
+        if self.live.reads() {
             Ok(())
         } else {
             Err(IoFault::Unsupported)

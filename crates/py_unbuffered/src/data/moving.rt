@@ -1,4 +1,4 @@
-//! Where the stream stands, and moving it.
+//! Where the stream stands, moving it, and giving its bytes a size.
 ghost use Rattle.py_unbuffered.specs.Engine.{stream_of};
 
 use super::UnbufferedData;
@@ -21,6 +21,10 @@ impl<R: RawStream> Moves for UnbufferedData<R> {
         self.live.is_movable()
     }
 
+    fn is_truncatable(&self) -> bool {
+        self.live.is_truncatable()
+    }
+
     fn stands_at(&self) -> u64 {
         self.place
     }
@@ -40,5 +44,10 @@ impl<R: RawStream> Moves for UnbufferedData<R> {
         self.live.seek(target)?;
         self.place = target;
         Ok(())
+    }
+
+    fn resize(&mut self, size: u64) -> Result<(), IoFault> {
+        let _ = &self.live;
+        self.live.truncate(size)
     }
 }

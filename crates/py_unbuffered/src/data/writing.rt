@@ -36,7 +36,7 @@ impl<R: RawStream> UnbufferedData<R> {
     {
         let _ = &self.live;
         self.begin()?;
-        if self.reads() {
+        if !self.writes() {
             return Err(IoFault::Unsupported);
         }
         if bytes.len() as u64 > GREATEST_PLACE - self.place {
@@ -53,7 +53,7 @@ impl<R: RawStream> UnbufferedData<R> {
     {
         let _ = &self.live;
         self.begin()?;
-        if self.reads() {
+        if !self.writes() {
             return Err(IoFault::Unsupported);
         }
         let start = self.place;

@@ -1,6 +1,6 @@
-use Rattle.std.proofs.Common.{◌≡◌, false, ℕ, List, length, take, drop, Bool, Option, Some, Ok, refl, sym, ap, ◌∙◌, subst, arith}
+use Rattle.std.proofs.Common.{◌≡◌, false, ℕ, List, length, take, drop, Bool, Option, Some, None, Ok, refl, sym, ap, ◌∙◌, subst, arith}
 use Rattle.std.proofs.lemmas.Result.{err_from_is_err_and}
-use Rattle.py_flat.specs.Calls.{FileCall, Bytes, Read, Refused}
+use Rattle.py_flat.specs.Calls.{FileCall, Bytes, NotReady, Read, Refused}
 use Rattle.py_stream.specs.Answers.{Answers}
 use Rattle.py_stream.proofs.ReadingAnswers.{answers_begun}
 use Rattle.py_stream.proofs.LineReadings.{begun}
@@ -43,4 +43,14 @@ returns-in-Some g c =
     (once_came old c.transfer.new.self call before buffer refl begins.reads (Some count) long (c.in_ok-count.ensures.length ∙ long) came)))
 
 pub returns-in-None : goal.returns-in-None
-returns-in-None g c = grind (arith, begun, answers_begun, once_came)
+returns-in-None g c =
+    let old : EngineView = c.begin_reading.new.self in
+    let call : FileCall = Read (Some c.args.size) in
+    let before : List ℕ = c.deref_mut.result.now in
+    let buffer : List ℕ = c.transfer.new.buffer in
+    let begins = begun (stream_of c.args.self.now) (stream_of old) c.in_ok-begin_reading.ensures.begins in
+    let long : length before ≡ c.args.size = c.deref_mut.ensures.len ∙ c.in-Ok.ensures.len in
+    let came : TransferOutcome old false before (Ok None) buffer c.transfer.new.self = subst (λ (counted : Option ℕ). TransferOutcome old false before (Ok counted) buffer c.transfer.new.self) c.in-None.is c.in_ok-count.ensures.outcome in
+    answers_begun (stream_of c.args.self.now) (stream_of old) call NotReady (stream_of c.note_wait.new.self) begins.from
+    (subst (λ (engine : EngineView). Answers (stream_of old) call NotReady (stream_of engine)) (sym c.note_wait.ensures)
+    (once_came old c.transfer.new.self call before buffer refl begins.reads None long (c.in_ok-count.ensures.length ∙ long) came))

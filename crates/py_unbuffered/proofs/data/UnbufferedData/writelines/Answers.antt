@@ -9,7 +9,7 @@ use Rattle.py_stream.proofs.Giving.{lines_fit, lines_too_far}
 use Rattle.py_stream.proofs.Given.{Begun, giving_takes, giving_blocks, giving_fails}
 use Rattle.py_unbuffered.specs.Engine.{EngineView, stream_of}
 use Rattle.py_unbuffered.proofs.Begun.{Stands, begins_in_vain, begun_live, is_sound, owes_behind}
-use Rattle.py_unbuffered.proofs.WriteAnswers.{Writing, can_write, is_there, too_far_answers, lines_begun}
+use Rattle.py_unbuffered.proofs.WriteAnswers.{Writing, is_there, too_far_answers, lines_begun}
 use Rattle.py_unbuffered.proofs.data.UnbufferedData.writelines.Goals as goal
 
 pub returns-in_err-begin : goal.returns-in_err-begin
@@ -20,7 +20,7 @@ returns-in_err-begin g c =
 pub returns-then-is_none : goal.returns-then-is_none
 returns-then-is_none g c =
     let lines : List (List ℕ) = c.args.lines.now in
-    let writing : Writing c.args.self.now c.begin.new.self = record { stands = subst Stands c.self.view_is c.self.invariant; begins = c.in_ok-begin.ensures; reads = sym c.reads.ensures.readable ∙ c.if-reads.false } in
+    let writing : Writing c.args.self.now c.begin.new.self = record { stands = subst Stands c.self.view_is c.self.invariant; begins = c.in_ok-begin.ensures; writes = sym c.writes.ensures ∙ c.if-not-writes.false } in
     let at : c.self-2.inside.place ≡ c.begin.new.self.place = ap (λ (engine : EngineView). engine.place) c.self-2.view_is in
     too_far_answers c.args.self.now c.begin.new.self (WriteLines lines) refl writing
     (subst (λ (start : ℕ). greatest_place < start + length (joined lines)) at (lines_too_far (c.self-2.inside.place + length (joined lines)) c.end_of_lines.result c.end_of_lines.ensures (is_there c.end_of_lines.result c.is_none.result true c.is_none.ensures c.if-is_none.true)))
@@ -29,7 +29,7 @@ pub returns-in_err-take_lines : goal.returns-in_err-take_lines
 returns-in_err-take_lines g c =
     let left = err_from_is_err_and c.from_residual-in_err-take_lines.result c.from_residual-in_err-take_lines.ensures.1 in
     let lines : List (List ℕ) = c.args.lines.now in
-    let writing : Writing c.args.self.now c.begin.new.self = record { stands = subst Stands c.self.view_is c.self.invariant; begins = c.in_ok-begin.ensures; reads = sym c.reads.ensures.readable ∙ c.if-reads.false } in
+    let writing : Writing c.args.self.now c.begin.new.self = record { stands = subst Stands c.self.view_is c.self.invariant; begins = c.in_ok-begin.ensures; writes = sym c.writes.ensures ∙ c.if-not-writes.false } in
     let at : c.self-2.inside.place ≡ c.begin.new.self.place = ap (λ (engine : EngineView). engine.place) c.self-2.view_is in
     let fits : c.begin.new.self.place + length (joined lines) ≤ greatest_place = subst (λ (start : ℕ). start + length (joined lines) ≤ greatest_place) at (lines_fit (c.self-2.inside.place + length (joined lines)) c.end_of_lines.result c.end_of_lines.ensures (is_there c.end_of_lines.result c.is_none.result false c.is_none.ensures c.if-is_none.false)) in
     let begun : Begun (stream_of c.args.self.now) (stream_of c.begin.new.self) (WriteLines lines) = lines_begun c.args.self.now c.begin.new.self (WriteLines lines) refl refl refl writing fits in
@@ -38,7 +38,7 @@ returns-in_err-take_lines g c =
 pub returns-then-branch : goal.returns-then-branch
 returns-then-branch g c =
     let lines : List (List ℕ) = c.args.lines.now in
-    let writing : Writing c.args.self.now c.begin.new.self = record { stands = subst Stands c.self.view_is c.self.invariant; begins = c.in_ok-begin.ensures; reads = sym c.reads.ensures.readable ∙ c.if-reads.false } in
+    let writing : Writing c.args.self.now c.begin.new.self = record { stands = subst Stands c.self.view_is c.self.invariant; begins = c.in_ok-begin.ensures; writes = sym c.writes.ensures ∙ c.if-not-writes.false } in
     let at : c.self-2.inside.place ≡ c.begin.new.self.place = ap (λ (engine : EngineView). engine.place) c.self-2.view_is in
     let fits : c.begin.new.self.place + length (joined lines) ≤ greatest_place = subst (λ (start : ℕ). start + length (joined lines) ≤ greatest_place) at (lines_fit (c.self-2.inside.place + length (joined lines)) c.end_of_lines.result c.end_of_lines.ensures (is_there c.end_of_lines.result c.is_none.result false c.is_none.ensures c.if-is_none.false)) in
     let begun : Begun (stream_of c.args.self.now) (stream_of c.begin.new.self) (WriteLines lines) = lines_begun c.args.self.now c.begin.new.self (WriteLines lines) refl refl refl writing fits in
@@ -48,7 +48,7 @@ returns-then-branch g c =
 pub returns : goal.returns
 returns g c =
     let lines : List (List ℕ) = c.args.lines.now in
-    let writing : Writing c.args.self.now c.begin.new.self = record { stands = subst Stands c.self.view_is c.self.invariant; begins = c.in_ok-begin.ensures; reads = sym c.reads.ensures.readable ∙ c.if-reads.false } in
+    let writing : Writing c.args.self.now c.begin.new.self = record { stands = subst Stands c.self.view_is c.self.invariant; begins = c.in_ok-begin.ensures; writes = sym c.writes.ensures ∙ c.if-not-writes.false } in
     let at : c.self-2.inside.place ≡ c.begin.new.self.place = ap (λ (engine : EngineView). engine.place) c.self-2.view_is in
     let fits : c.begin.new.self.place + length (joined lines) ≤ greatest_place = subst (λ (start : ℕ). start + length (joined lines) ≤ greatest_place) at (lines_fit (c.self-2.inside.place + length (joined lines)) c.end_of_lines.result c.end_of_lines.ensures (is_there c.end_of_lines.result c.is_none.result false c.is_none.ensures c.if-is_none.false)) in
     let begun : Begun (stream_of c.args.self.now) (stream_of c.begin.new.self) (WriteLines lines) = lines_begun c.args.self.now c.begin.new.self (WriteLines lines) refl refl refl writing fits in
@@ -58,7 +58,7 @@ returns g c =
     (ap stream_of c.note_wait.ensures)
 
 pub take_lines-requires-clause-writes : goal.take_lines-requires-clause-writes
-take_lines-requires-clause-writes g c = can_write c.args.self.now c.begin.new.self (record { stands = subst Stands c.self.view_is c.self.invariant; begins = c.in_ok-begin.ensures; reads = sym c.reads.ensures.readable ∙ c.if-reads.false })
+take_lines-requires-clause-writes g c = sym c.writes.ensures ∙ c.if-not-writes.false
 
 pub take_lines-requires-clause-sound : goal.take_lines-requires-clause-sound
 take_lines-requires-clause-sound g c = is_sound c.begin.new.self (begun_live c.args.self.now c.begin.new.self (subst Stands c.self.view_is c.self.invariant) c.in_ok-begin.ensures).stands

@@ -1,10 +1,10 @@
-use Rattle.std.proofs.Common.{rules, ◌≡◌, ℕ, nat_lt, Bool, List, drop, Result, Err, sym, ap, subst, ◌∙◌, arith}
+use Rattle.std.proofs.Common.{rules, ◌≡◌, ℕ, ◌-◌, nat_lt, Bool, false, List, length, take, drop, Option, Result, Ok, Err, sym, ap, subst, ◌∙◌, arith}
 use Rattle.std.proofs.lemmas.List.{take_all, length-drop}
 use Rattle.py_flat.specs.declared.fault.IoFault.{IoFault}
 use Rattle.py_flat.specs.FlatFile.{Abilities}
 use Rattle.py_stream.specs.Taking.{TookAll, PutsOutcome}
 use Rattle.py_stream.proofs.Putting.{takes_nothing, takes_more, put_rest, rest_within}
-use Rattle.py_unbuffered.specs.Engine.{EngineView, stream_of, PutOutcome}
+use Rattle.py_unbuffered.specs.Engine.{EngineView, stream_of, Waits, PutOutcome}
 use Rattle.py_unbuffered.proofs.Begun.{Stands, is_sound, owes_behind}
 use Rattle.py_stream.proofs.Pieces.{some_taken}
 use Rattle.py_unbuffered.proofs.Putting.{puts_took, waits_full, put_refused, piece_is}
@@ -43,7 +43,13 @@ pub loop-taken-preserved : goal.loop-taken-preserved
 loop-taken-preserved g c = grind (arith, piece_is, length-drop, takes_more, puts_took)
 
 pub returns-in-None : goal.returns-in-None
-returns-in-None g c = grind (arith, put_rest, waits_full, length-drop)
+returns-in-None g c =
+    let line : List ℕ = c.args.piece.now in
+    let taken : ℕ = c.loop-taken.taken in
+    let now : EngineView = c.loop-taken.self in
+    let new : EngineView = c.put-in-loop-taken.new.self in
+    let waits : Waits now new = subst (λ (count : Option ℕ). PutOutcome now (nat_lt c.args.start c.put.inside.place) (take (length line - taken) (drop taken line)) (Ok count) new) c.in-None.is c.in_ok-count.ensures in
+    put_rest (stream_of c.args.self.now) (stream_of now) (stream_of new) line taken c.args.start (Ok false) c.loop-taken.invariant.took (waits_full now new (drop taken line) (omega (arith, length-drop taken line, c.loop-taken-test.true)) waits)
 
 pub returns : goal.returns
 returns g c = subst (λ (bytes : List ℕ). TookAll (stream_of c.args.self.now) bytes (stream_of c.loop-taken.self)) (take_all c.loop-taken.taken c.args.piece.now c.loop-taken-test.false) c.loop-taken.invariant.took

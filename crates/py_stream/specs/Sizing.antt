@@ -1,35 +1,13 @@
--- Giving the bytes of a stream a size, step by step.
-use Rattle.std.specs.Prelude.{◌≡◌, ℕ, ◌⊎◌, true, false, IsTrue, Option, IsSome, Result, Ok, Err}
+-- Giving the bytes of a stream a size.
+use Rattle.std.specs.Prelude.{◌≡◌, ℕ, ◌⊎◌, IsTrue, Result, Ok, Err}
 use Rattle.py_flat.specs.declared.fault.IoFault.{IoFault}
 use Rattle.py_flat.specs.declared.fault.IoFault.TheVariants as fault
 use Rattle.py_flat.specs.declared.life.Life.TheVariants as life
 use Rattle.py_flat.specs.Bytes.{resized}
 use Rattle.py_flat.specs.Causes.{Rose}
-use Rattle.py_flat.specs.Calls.{Truncate, Refused}
 use Rattle.py_raw.specs.RawStream.{WhereBytes, NoWait, LeavesCounts, AnswersFor}
 use Rattle.py_stream.specs.Stream.{Stream}
-use Rattle.py_stream.specs.Answers.{Answers}
-use Rattle.py_stream.specs.Keeping.{IsSound, KeepsOn}
-use Rattle.py_stream.specs.Settling.{SettleOutcome}
-
--- a stream that may be truncated: it lives and writes, and may be moved
-pub record MayTruncate (stream : Stream) : Type 0 where
-  pub sound : IsSound stream
-  pub live : stream.life ≡ life.Live
-  pub whole : stream.short ≡ false
-  pub writes : stream.can.writable ≡ true
-  pub seeks : stream.can.seekable ≡ true
-  pub free : stream.can.appending ≡ false
-
--- a truncation begins, and no answer is short yet; or it is refused, and the refusal answers it, whatever the size
-abbrev pub BeginsTruncating : Stream → Result (Unit {0}) IoFault → Stream → Type 0
-BeginsTruncating old (Ok done) new = MayTruncate new × (new ≡ record old { short = false })
-BeginsTruncating old (Err why) new = (size : Option ℕ) → Answers old (Truncate size) (Refused why) new
-
--- all that is owed is passed on first; what stops that is of a stream with a buffer
-abbrev pub SettlesFirst : Stream → Result (Unit {0}) IoFault → Stream → Type 0
-SettlesFirst old (Ok done) new = SettleOutcome old (Ok done) new
-SettlesFirst old (Err why) new = IsSome old.buffer × SettleOutcome old (Err why) new
+use Rattle.py_stream.specs.Keeping.{KeepsOn}
 
 -- what giving the raw's bytes a size leaves of the stream: its place, and what it owes
 pub record KeepsPlace (old new : Stream) : Type 0 where
