@@ -47,7 +47,8 @@ impl<R: RawStream> Model for BinarySession<R> {
 }
 
 impl<R: RawStream> BinarySession<R> {
-    /// A session over a raw that is read, written or appended to, with a buffer of `buffer_size` bytes, or none. It begins
+    /// A session over a raw that is read, written or appended to, with a buffer of `buffer_size` bytes, or none; or, without a buffer,
+    /// both read and written. It begins
     /// where the raw stands, one that appends at the end, to which a raw that can seek is moved. A raw that can't seek stands
     /// at place 0.
     ///
@@ -61,6 +62,7 @@ impl<R: RawStream> BinarySession<R> {
         buffer_size: Option<usize>,
     ) -> Result<Self, NewRefused<R>>
         requires start { StandsAtStart (R.shows raw) }
+        requires update { access ≡ Access.Update → buffer_size ≡ None }
         ensures outcome { NewOutcome R.shows (is_able access) (can_of access) raw buffer_size result }
         ensures memory { buffer_size ≡ None → IfErr result (λ refused. refused.fault ≡ IoFault.NoMemory → IsTrue (R.shows raw).takes_memory) }
     {
@@ -76,6 +78,7 @@ impl<R: RawStream> BinarySession<R> {
     /// Opens the stream with a buffer.
     fn buffered(alloc: Global, raw: R, access: Access, size: usize) -> Result<Self, NewRefused<R>>
         requires start { StandsAtStart (R.shows raw) }
+        requires alone { access ≢ Access.Update }
         ensures { NewOutcome R.shows (is_able access) (can_of access) raw (Some size) result }
     {
         match access {
@@ -91,6 +94,7 @@ impl<R: RawStream> BinarySession<R> {
                 Ok(writer) => Ok(BinarySession::over(alloc, Kind::Writer(writer))),
                 Err(refused) => Err(refused),
             },
+            Access::Update => unreachable!(),
         }
     }
 

@@ -5,6 +5,7 @@ use Rattle.py_flat.specs.declared.life.Life.{Life}
 use Rattle.py_flat.specs.Calls.{Detach, Refused}
 use Rattle.py_raw.specs.RawStream.{Raw}
 use Rattle.py_stream.specs.declared.access.Access.{Access}
+use Rattle.py_stream.specs.declared.access.Access.TheVariants as access
 use Rattle.py_stream.specs.Access.{can_of, is_read}
 use Rattle.py_stream.specs.Stream.{Stream, detached_stream}
 use Rattle.py_stream.specs.Answers.{Answers}
@@ -17,7 +18,7 @@ use Rattle.py_engine.specs.Engine.{EngineView, stream_of, Stands}
 use Rattle.py_engine.specs.Passing.{PassesToDetach, BeginsDetachIn}
 use Rattle.py_buffered.specs.Buffered.{seen_as, IsBuffered, BeginsDetach}
 use Rattle.py_engine.proofs.Standing.{is_far, owes_behind, owes_nothing}
-use Rattle.py_engine.proofs.Calls.{reads_only, can_seek, is_writing_live}
+use Rattle.py_engine.proofs.Calls.{reads_alone, is_writing_live}
 
 -- How a detaching begins.
 
@@ -26,8 +27,10 @@ begins_written : (opened : Access) (current : Life) (old new : Stream) (result :
 begins_written opened current old new result writes begins = grind arith
 
 -- a live stream that is read is left as it is
-begins_read : (opened : Access) (old new : Stream) (result : Result (Unit {0}) IoFault) → is_read opened ≡ true → PassesToDetach opened old result new → (result ≡ Ok tt) × (new ≡ old)
-begins_read opened old new result reads begins = grind arith
+begins_read : (opened : Access) (engine : EngineView) (old new : Stream) (result : Result (Unit {0}) IoFault) → engine.access ≡ opened → Stands engine → is_read opened ≡ true → PassesToDetach opened old result new → (result ≡ Ok tt) × (new ≡ old)
+begins_read access.Read engine old new result opened is reads begins = begins
+begins_read access.Update engine old new result opened is reads begins = absurd (let alone = reads_alone access.Update engine opened is reads in cc)
+begins_read other engine old new result opened is reads begins = absurd (cc)
 
 -- A detaching that is refused.
 
@@ -58,7 +61,9 @@ hands_same : (old new : EngineView) → Stands old → is_read old.access ≡ tr
 hands_same old new is reads at_once same = grind (arith, hands_at_once, is_far, owes_nothing)
 
 hands_read : (old new : EngineView) (current : Life) → Stands old → is_read old.access ≡ true → old.life ≡ current → BeginsDetachIn old.access current (begun (stream_of old)) (Ok tt) (stream_of new) → HandsBack old new
-hands_read old new current is reads at begins = grind (arith, hands_same, reads_only, owes_nothing, begins_read, begun)
+hands_read old new current is reads at begins =
+    let alone = reads_alone old.access old refl is reads in
+    grind (arith, hands_same, owes_nothing, begins_read, begun)
 
 hands_in : (old new : EngineView) (read : Bool) → is_read old.access ≡ read → BeginsDetach (Some old) (Ok tt) (Some new) → HandsBack old new
 hands_in old new true reads (begins, is) = hands_read old new old.life is reads refl begins
@@ -69,7 +74,7 @@ hands_in old new false writes (begins, is) =
 
 -- as a stream hands it back that kept beside its engine what is the engine's own
 hands_kept : (old new : EngineView) (opened : Access) (seekable : Bool) (size : ℕ) → IsBuffered (Some old) opened seekable size → HandsBack old new → HandsOver (stream_of old) new.raw (stream_of new).owed.bytes (if seekable then Some (stream_of new).owed.place else None) (detached_stream (can_of opened seekable) (Some size))
-hands_kept old new opened seekable size is hands = grind (arith, can_seek)
+hands_kept old new opened seekable size is hands = grind arith
 
 -- a stream that is handed over
 pub detach_hands_over : (old : Option EngineView) (new : EngineView) (opened : Access) (seekable : Bool) (size : ℕ) (raw : Raw) (unwritten : List ℕ) (place : Option ℕ) → IsBuffered old opened seekable size → BeginsDetach old (Ok tt) (Some new) → raw ≡ new.raw → unwritten ≡ (stream_of new).owed.bytes → place ≡ (if seekable then Some (stream_of new).owed.place else None) → HandsOver (seen_as old opened seekable size) raw unwritten place (seen_as None opened seekable size)

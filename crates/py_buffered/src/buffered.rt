@@ -1,6 +1,6 @@
 //! A buffered stream, which is its engine or, once its raw was handed back, what is left of it. Reader and writer are thin types
 //! over it.
-ghost use Rattle.std.specs.Prelude.{◌≡◌, ◌≢◌, ◌≤◌, ◌-◌, true, false, Some, None, IfOk, length, vec_len, if◌then◌else◌};
+ghost use Rattle.std.specs.Prelude.{◌≡◌, ◌≢◌, ◌≢◌, ◌≤◌, ◌-◌, true, false, Some, None, IfOk, length, vec_len, if◌then◌else◌};
 ghost use Rattle.py_flat.specs.Lines.{joined};
 ghost use Rattle.py_flat.specs.Calls.{FileCall, Read, Read1, ReadLine, ReadLines, Peek, ReadInto, ReadInto1, Write, WriteLines, Seek, Tell, Truncate, Flush, Close, Refused};
 ghost use Rattle.py_stream.specs.Access.{can_of, is_able};
@@ -44,9 +44,11 @@ impl<R: RawStream> Model for Buffered<R> {
 
 // What an engine answers to a reading is said of one that reads ahead: `assured`, before and after it, says that the stream is one.
 impl<R: RawStream> Buffered<R> {
-    /// A stream over a raw one, from where that stands, with a buffer of `size` bytes; one that appends begins at the end.
+    /// A stream over a raw one, from where that stands, with a buffer of `size` bytes; one that appends begins at the end. It either
+    /// reads or writes.
     pub fn new(alloc: Global, raw: R, size: usize, access: Access) -> Result<Self, NewRefused<R>>
         requires start { StandsAtStart (R.shows raw) }
+        requires alone { access ≢ Access.Update }
         ensures outcome { NewOutcome R.shows (is_able access) (can_of access) raw (Some size) (opened_as seen_of result) }
         ensures taken { IfOk result (λ stream. stream.taken ≡ 0) }
     {
@@ -66,6 +68,7 @@ impl<R: RawStream> Buffered<R> {
     fn over(raw: R, buffer: Vec<u8>, access: Access) -> Result<Self, NewRefused<R>>
         requires start { StandsAtStart (R.shows raw) }
         requires may { MayOpen (is_able access) (R.shows raw) (Some (vec_len buffer)) }
+        requires alone { access ≢ Access.Update }
         ensures outcome { NewOutcome R.shows (is_able access) (can_of access) raw (Some (vec_len buffer)) (opened_as seen_of result) }
         ensures taken { IfOk result (λ stream. stream.taken ≡ 0) }
     {
@@ -229,7 +232,7 @@ impl<R: RawStream> Buffered<R> {
 
     /// Takes bytes, and passes on what the buffer has no room for.
     pub fn write(&mut self, bytes: &[u8]) -> Result<usize, IoFault>
-        requires writes { (seen_of self.old).can.writable ≡ true }
+        requires writes { (seen_of self.old).can.readable ≡ false }
         ensures answers { Answers (seen_of self.old) (Write bytes.now) (count_reply result) (seen_of self.new) }
         ensures taken { self.new.taken ≡ taken_of bytes.now (count_reply result) (seen_of self.old).place (seen_of self.new).place }
     {
@@ -242,7 +245,7 @@ impl<R: RawStream> Buffered<R> {
 
     /// Takes lines, as one write of them joined.
     pub fn writelines(&mut self, lines: &Lines) -> Result<(), IoFault>
-        requires writes { (seen_of self.old).can.writable ≡ true }
+        requires writes { (seen_of self.old).can.readable ≡ false }
         ensures answers { Answers (seen_of self.old) (WriteLines lines.now) (done_reply result) (seen_of self.new) }
         ensures taken { self.new.taken ≡ taken_of (joined lines.now) (done_reply result) (seen_of self.old).place (seen_of self.new).place }
     {
@@ -255,7 +258,7 @@ impl<R: RawStream> Buffered<R> {
 
     /// Takes bytes, and doesn't count them.
     fn put(&mut self, bytes: &[u8]) -> Result<usize, IoFault>
-        requires writes { (seen_of self.old).can.writable ≡ true }
+        requires writes { (seen_of self.old).can.readable ≡ false }
         ensures { Answers (seen_of self.old) (Write bytes.now) (count_reply result) (seen_of self.new) }
     {
         match &mut self.data {
@@ -266,7 +269,7 @@ impl<R: RawStream> Buffered<R> {
 
     /// Takes lines, and doesn't count them.
     fn put_lines(&mut self, lines: &Lines) -> Result<(), IoFault>
-        requires writes { (seen_of self.old).can.writable ≡ true }
+        requires writes { (seen_of self.old).can.readable ≡ false }
         ensures { Answers (seen_of self.old) (WriteLines lines.now) (done_reply result) (seen_of self.new) }
     {
         match &mut self.data {

@@ -142,7 +142,8 @@ fn plain_of(alloc: Global, case: &SessionCase<'_>) -> Result<Plain> {
     Ok(Plain::Bytes(Flat {
         place: if appends { bytes.len() } else { case.at },
         bytes,
-        reads: case.mode.contains('r'),
+        reads: case.mode.contains('r') || case.mode.contains('+'),
+        writes: !case.mode.contains('r') || case.mode.contains('+'),
         appends,
         buffered: !case.options.contains(&"buffering=0"),
     }))
@@ -220,8 +221,11 @@ fn ends(
             && shuts(handed, end)
             && match plain {
                 Plain::Text(_) => spares && end.shorts == waits,
-                Plain::Bytes(flat) if flat.reads => {
-                    spares && end.shorts == waits && reaches(handed, flat, end.failed)
+                Plain::Bytes(flat) if !flat.writes || end.failed.is_some_and(gives) => {
+                    raw.bytes_of() == flat.bytes.as_slice()
+                        && handed.unwritten.is_empty()
+                        && end.shorts == waits
+                        && reaches(handed, flat, end.failed)
                 }
                 Plain::Bytes(flat) => {
                     end.shorts <= waits
@@ -230,6 +234,14 @@ fn ends(
                         && (!end.closes || raw.bytes_of() == flat.bytes.as_slice())
                 }
             },
+    )
+}
+
+/// Whether a call gives bytes to its caller.
+fn gives(call: &Call) -> bool {
+    matches!(
+        call,
+        Call::Read(_) | Call::ReadLine(_) | Call::ReadLines(_) | Call::ReadInto(_)
     )
 }
 
@@ -282,6 +294,7 @@ fn holds_all_taken(
         bytes: Vec::from_slice(alloc, handed.raw.bytes_of())?,
         place: place as usize,
         reads: false,
+        writes: true,
         appends: false,
         buffered: true,
     };

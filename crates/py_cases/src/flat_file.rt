@@ -8,8 +8,8 @@ use std::alloc::{AllocError, Global};
 pub(crate) struct Flat {
     pub(crate) bytes: Vec<u8>,
     pub(crate) place: usize,
-    /// Whether it is read, and not written.
     pub(crate) reads: bool,
+    pub(crate) writes: bool,
     /// Whether it is only written at its end.
     pub(crate) appends: bool,
     pub(crate) buffered: bool,
@@ -53,9 +53,9 @@ impl Flat {
                 !self.reads
             }
             Call::Read1(_) | Call::ReadInto1(_) | Call::Peek => !self.reads || !self.buffered,
-            Call::Write(_) | Call::WriteLines(_) => self.reads,
+            Call::Write(_) | Call::WriteLines(_) => !self.writes,
             Call::Seek(_, _) => self.appends,
-            Call::Truncate(_) => self.reads || self.appends,
+            Call::Truncate(_) => !self.writes || self.appends,
             Call::Tell | Call::Flush | Call::Close => false,
             _ => true,
         }
@@ -185,7 +185,7 @@ impl Flat {
             }
             Reply::Refused(IoFault::WouldBlock { taken }) => {
                 let taken = *taken as usize;
-                let waits = !self.reads && !self.is_bare_write(call);
+                let waits = self.writes && !self.is_bare_write(call);
                 (taken, waits && (taken < all || taken == 0) && short)
             }
             _ => (0, false),

@@ -101,6 +101,12 @@ settles_by opened old new result is passed = grind arith
 pub writing_begun : (first old : EngineView) (call : FileCall) → is_writing call ≡ true → Stands first → is_read first.access ≡ false → BeginOutcome first (Ok tt) old → place_of old.window + length (payload call) ≤ greatest_place → Begun (stream_of first) (stream_of old) call
 writing_begun first old call writing is writes began within = grind (arith, begins, is_sound, owes_behind, writes_only, of_both)
 
+-- an engine that reads doesn't write
+pub reads_alone : (opened : Access) (engine : EngineView) → engine.access ≡ opened → Stands engine → is_read opened ≡ true → is_written opened ≡ false
+reads_alone access.Read engine opened is reads = refl
+reads_alone access.Update engine opened is reads = absurd (no_update engine opened is)
+reads_alone other engine opened is reads = absurd (cc)
+
 -- an engine that writes doesn't read
 pub writes_alone : (opened : Access) (engine : EngineView) → engine.access ≡ opened → Stands engine → is_written opened ≡ true → is_read opened ≡ false
 writes_alone access.Read engine opened is writes = absurd (cc)

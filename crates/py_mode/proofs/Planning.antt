@@ -1,5 +1,5 @@
 -- Texts that are compared by their characters, and what is known of an accepted plan.
-use Rattle.std.proofs.Common.{◌≡◌, ◌≢◌, ℕ, zero, suc, ◌<◌, ℤ, pos, negsuc, Bool, true, false, not, ◌&&◌, ◌||◌, if◌then◌else◌, nat_eq, Option, Some, None, is_some, List, [], ◌∷◌, Result, Ok, Err, codes, refl, sym, ap, subst, ◌∙◌, bytes_eq, arith}
+use Rattle.std.proofs.Common.{◌≡◌, ◌≢◌, ℕ, zero, suc, ◌<◌, ℤ, pos, negsuc, Bool, true, false, not, ◌&&◌, ◌||◌, if◌then◌else◌, nat_eq, Option, Some, None, is_none, is_some, List, [], ◌∷◌, Result, Ok, Err, codes, refl, sym, ap, subst, ◌∙◌, bytes_eq, arith}
 use Rattle.std.specs.Str.{chars as characters, IsUtf8}
 use Rattle.std.proofs.lemmas.Str.{encodes-chars}
 use Rattle.std.proofs.lemmas.Slice.Eq.{bytes_eq-Decides}
@@ -14,7 +14,7 @@ use Rattle.py_mode.specs.declared.mode.EncodeMode.TheVariants.{Text, Bytes}
 use Rattle.py_mode.specs.declared.mode.Mode.{Mode}
 use Rattle.py_mode.specs.declared.open_args.OpenArgs.{OpenArgs}
 use Rattle.py_mode.specs.declared.plan.OpenPlan.{OpenPlan}
-use Rattle.py_mode.specs.Mode.{is_read, is_text, mode_of}
+use Rattle.py_mode.specs.Mode.{is_read, is_append, is_text, mode_of}
 use Rattle.py_mode.specs.Plan.{buffer_size_of, gives_text_argument, has_bad_argument, are_planned_names, is_planned_text, is_planned, plan_by, plan_of}
 
 -- two texts are the same by their bytes just where they are by their characters
@@ -66,14 +66,23 @@ accepted mode args plan is = accepted_mode (mode_of mode) args plan is
 
 -- The tests, one by one.
 
-without_plus : (plus rest : Bool) → (not plus && rest) ≡ true → plus ≡ false
-without_plus false rest is = refl
-without_plus true rest is = cc
+text_is_planned : (encode : EncodeMode) (planned : Bool) → (not (is_text encode) || planned) ≡ true → encode ≡ Text → planned ≡ true
+text_is_planned Text planned is text = is
+text_is_planned Bytes planned is text = cc
 
-text_is_planned : (encode : EncodeMode) (plus planned : Bool) → (not plus && (not (is_text encode) || planned)) ≡ true → encode ≡ Text → planned ≡ true
-text_is_planned Text false planned is text = is
-text_is_planned Text true planned is text = cc
-text_is_planned Bytes plus planned is text = cc
+-- a plus is planned of bytes, not at the end, and without a buffer
+plus_is_planned : (encode : EncodeMode) (appends none : Bool) → (not (is_text encode) && (not appends && none)) ≡ true → (encode ≡ Bytes) × (appends ≡ false) × (none ≡ true)
+plus_is_planned Bytes false none is = (refl, refl, is)
+plus_is_planned Bytes true none is = cc
+plus_is_planned Text appends none is = cc
+
+is_not_there : (size : Option ℕ) → is_none size ≡ true → size ≡ None
+is_not_there None is = refl
+is_not_there (Some given) is = cc
+
+first_or : (plus first : Bool) → (not plus || first) ≡ true → plus ≡ true → first ≡ true
+first_or true first is plus = is
+first_or false first is plus = cc
 
 is_read_alone : (file : FileMode) (rest : Bool) → (is_read file && rest) ≡ true → (file ≡ Read) × (rest ≡ true)
 is_read_alone Read rest is = (refl, is)
@@ -116,13 +125,15 @@ some_buffer (negsuc more) size is = let same : 8192 ≡ size = cc in rw (sym sam
 pub planned_mode : (mode : List ℕ) (args : OpenArgs) (plan : OpenPlan) → plan_of mode args ≡ Ok plan → mode_of mode ≡ Ok plan.mode
 planned_mode mode args plan planned = (accepted mode args plan planned).named
 
--- the mode of an accepted plan has no plus
-pub planned_without_plus : (mode : List ℕ) (args : OpenArgs) (plan : OpenPlan) → plan_of mode args ≡ Ok plan → plan.mode.plus ≡ false
-planned_without_plus mode args plan planned = without_plus plan.mode.plus _ (accepted mode args plan planned).planned
-
 -- the buffer of an accepted plan is the one that is asked for
 pub planned_buffer : (mode : List ℕ) (args : OpenArgs) (plan : OpenPlan) → plan_of mode args ≡ Ok plan → plan.buffer_size ≡ buffer_size_of args.buffering
 planned_buffer mode args plan planned = (accepted mode args plan planned).buffer
+
+-- an accepted plan with a plus is one of bytes, not at the end, without a buffer
+pub planned_plus : (mode : List ℕ) (args : OpenArgs) (plan : OpenPlan) → plan_of mode args ≡ Ok plan → plan.mode.plus ≡ true → (plan.mode.encode ≡ Bytes) × (is_append plan.mode.file ≡ false) × (plan.buffer_size ≡ None)
+planned_plus mode args plan planned plus =
+    let is = plus_is_planned plan.mode.encode (is_append plan.mode.file) (is_none (buffer_size_of args.buffering)) (first_or plan.mode.plus _ (both_hold _ _ (accepted mode args plan planned).planned).0 plus) in
+    (is.0, is.1, planned_buffer mode args plan planned ∙ is_not_there (buffer_size_of args.buffering) is.2)
 
 -- a buffer that an accepted plan has is of at least one byte
 pub planned_buffer_has_bytes : (mode : List ℕ) (args : OpenArgs) (plan : OpenPlan) (size : ℕ) → plan_of mode args ≡ Ok plan → plan.buffer_size ≡ Some size → 0 < size
@@ -137,7 +148,7 @@ pub planned_chunk : (mode : List ℕ) (args : OpenArgs) (plan : OpenPlan) → pl
 planned_chunk mode args plan planned = some_chunk args.chunk_size (neither_holds _ _ (accepted mode args plan planned).fits).0
 
 planned_text : (mode : List ℕ) (args : OpenArgs) (plan : OpenPlan) → plan_of mode args ≡ Ok plan → plan.mode.encode ≡ Text → is_planned_text plan.mode args ≡ true
-planned_text mode args plan planned text = text_is_planned plan.mode.encode plan.mode.plus _ (accepted mode args plan planned).planned text
+planned_text mode args plan planned text = text_is_planned plan.mode.encode _ (both_hold _ _ (accepted mode args plan planned).planned).1 text
 
 -- an accepted plan of a text reads it
 pub planned_text_is_read : (mode : List ℕ) (args : OpenArgs) (plan : OpenPlan) → plan_of mode args ≡ Ok plan → plan.mode.encode ≡ Text → plan.mode.file ≡ Read

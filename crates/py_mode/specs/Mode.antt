@@ -33,6 +33,11 @@ is_read Write = false
 is_read Exclusive = false
 is_read Append = false
 
+-- whether the file is written at its end alone
+abbrev pub is_append : FileMode → Bool
+is_append Append = true
+is_append other = false
+
 -- whether calls speak of characters
 abbrev pub is_text : EncodeMode → Bool
 is_text Text = true

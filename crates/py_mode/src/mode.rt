@@ -1,7 +1,7 @@
 //! The mode of an opening, parsed.
 ghost use Rattle.std.specs.Prelude.{◌≡◌};
 ghost use Rattle.py_raw.specs.RawMode.{IsRawMode, raw_mode_text};
-ghost use Rattle.py_mode.specs.Mode.{mode_of, letter_of, is_read, is_text};
+ghost use Rattle.py_mode.specs.Mode.{mode_of, letter_of, is_read, is_append, is_text};
 
 use crate::letters::Letters;
 use py_flat::ParseModeError;
@@ -29,6 +29,13 @@ impl FileMode {
             FileMode::Read => true,
             FileMode::Write | FileMode::Exclusive | FileMode::Append => false,
         }
+    }
+
+    /// Whether the file is written at its end alone.
+    pub fn is_append(self) -> bool
+        ensures { result ≡ is_append self }
+    {
+        matches!(self, FileMode::Append)
     }
 }
 

@@ -1,6 +1,6 @@
 //! What a mode and arguments set up, decided before any raw stream is asked.
 ghost use Rattle.std.specs.Prelude.{◌≡◌, chars};
-ghost use Rattle.py_mode.specs.Plan.{plan_of, is_given, is_lf, is_utf8, is_strict, buffer_size_of, gives_text_argument, has_bad_argument, are_planned_names, is_planned_text, is_planned};
+ghost use Rattle.py_mode.specs.Plan.{plan_of, is_given, is_lf, is_utf8, is_strict, buffer_size_of, gives_text_argument, has_bad_argument, are_planned_names, is_planned_text, is_planned_update, is_planned};
 
 use crate::{Mode, OpenArgs};
 use py_flat::{Chars, IoFault};
@@ -91,11 +91,19 @@ fn is_planned_text(mode: Mode, args: &OpenArgs) -> bool
     mode.file.is_read() && are_planned_names(args) && buffer_size_of(args.buffering).is_some()
 }
 
+/// Whether reading and writing is opened so far.
+fn is_planned_update(mode: Mode, args: &OpenArgs) -> bool
+    ensures { result ≡ is_planned_update mode args.now }
+{
+    !mode.encode.is_text() && !mode.file.is_append() && buffer_size_of(args.buffering).is_none()
+}
+
 /// Whether mode and arguments are opened so far.
 fn is_planned(mode: Mode, args: &OpenArgs) -> bool
     ensures { result ≡ is_planned mode args.now }
 {
-    !mode.plus && (!mode.encode.is_text() || is_planned_text(mode, args))
+    (!mode.plus || is_planned_update(mode, args))
+        && (!mode.encode.is_text() || is_planned_text(mode, args))
 }
 
 /// What an opening by a mode and arguments sets up, before any raw is asked (Python's documentation of `open`): the mode,
@@ -110,8 +118,9 @@ fn is_planned(mode: Mode, args: &OpenArgs) -> bool
 ///   where the chunk size is 0, in any mode, since a text that asks for no bytes comes to no end (this project's choice);
 /// - as `Unsupported`, where it isn't opened so far, though Python's `open` takes more.
 ///
-/// So far these are opened, all without `+`:
+/// So far these are opened:
 /// - the binary modes `rb`, `wb`, `xb` and `ab`, with any `buffering`;
+/// - the binary modes `rb+`, `wb+` and `xb+`, where `buffering` is 0;
 /// - the text mode `r`, also spelled with `t`, where `buffering` is other than 0, with encoding `None`, `locale` or `utf-8`,
 ///   all of which mean utf-8, errors `None` or `strict`, both of which mean strict, and newline LF; a name is compared
 ///   letter for letter.

@@ -1,6 +1,6 @@
 -- Private: the kinds of sessions, and what a plan says of a text.
-use Rattle.std.specs.Prelude.{◌≡◌, ℕ, ◌<◌, Some}
-use Rattle.py_mode.specs.declared.mode.EncodeMode.TheVariants.{Text}
+use Rattle.std.specs.Prelude.{◌≡◌, ℕ, ◌<◌, true, Some, None}
+use Rattle.py_mode.specs.declared.mode.EncodeMode.TheVariants.{Text, Bytes}
 use Rattle.py_mode.specs.declared.mode.FileMode.TheVariants.{Read}
 use Rattle.py_mode.specs.declared.plan.OpenPlan.{OpenPlan}
 use Rattle.py_open.specs.declared.session.Kind.{Kind}
@@ -12,8 +12,9 @@ abbrev pub seen : {R : Type 0} → Kind R → SessionView
 seen (kind.Text text) = TextSession text
 seen (kind.Binary stream) = BinarySession stream
 
--- a planned text is read through a buffer of some bytes, in chunks of some
+-- a planned text is read through a buffer of some bytes, in chunks of some; what is both read and written has no buffer
 pub record IsPlanned (plan : OpenPlan) (chunk : ℕ) : Type 0 where
   pub reads : plan.mode.encode ≡ Text → plan.mode.file ≡ Read
   pub buffer : plan.mode.encode ≡ Text → (size : ℕ) × (plan.buffer_size ≡ Some size) × (0 < size)
   pub chunk_size : 0 < chunk
+  pub plus : plan.mode.plus ≡ true → (plan.mode.encode ≡ Bytes) × (plan.buffer_size ≡ None)

@@ -7,7 +7,7 @@ ghost use Rattle.py_open.specs.Kinds.{IsPlanned};
 ghost use Rattle.py_open.specs.Opening.{SessionOutcome, access_of, place_handed};
 
 use crate::text_calls::answer_text;
-use crate::{Call, EncodeMode, FileMode, OpenPlan, Reply};
+use crate::{Call, EncodeMode, FileMode, Mode, OpenPlan, Reply};
 use py_binary::{Access, BinarySession};
 use py_flat::{IoFault, Life};
 use py_raw::RawStream;
@@ -26,7 +26,7 @@ pub(crate) enum Kind<R: RawStream> {
 }
 
 /// A stream that was opened, and on which calls are made one by one: a text that is read, or a stream of bytes that is read,
-/// written or appended to, with a buffer or without.
+/// written or appended to, with a buffer or without, or both read and written, without one.
 ///
 /// It is seen as a text's state or as a stream: the flat file, the raw under it, its buffer's size, whether its last answer was
 /// short, and of a stream the bytes that it owes the raw. A session that is dropped drops its raw, and what it owes;
@@ -75,7 +75,7 @@ impl<R: RawStream> Session<R> {
                 }
             }
             EncodeMode::Bytes => {
-                let access = access_of(plan.mode.file);
+                let access = access_of(plan.mode);
                 match BinarySession::new(alloc, raw, access, plan.buffer_size) {
                     Ok(session) => Ok(Session {
                         alloc,
@@ -167,24 +167,22 @@ impl<R: RawStream> Session<R> {
 }
 
 /// What a mode opens a raw for; an opener has made the file by then.
-fn access_of(file: FileMode) -> Access
-    ensures { result ≡ access_of file }
+fn access_of(mode: Mode) -> Access
+    ensures { result ≡ access_of mode }
 {
-    match file {
-        FileMode::Read => Access::Read,
-        FileMode::Write | FileMode::Exclusive => Access::Write,
-        FileMode::Append => Access::Append,
+    match (mode.file, mode.plus) {
+        (FileMode::Append, _) => Access::Append,
+        (_, true) => Access::Update,
+        (FileMode::Read, false) => Access::Read,
+        (FileMode::Write | FileMode::Exclusive, false) => Access::Write,
     }
 }
 
 /// Why a plan's opening refuses a raw before it is asked for anything: `Closed` where it is closed, then `Unsupported` where it
 /// can't do what the mode needs, then `BadArgument` for a buffer of 0 bytes. `None` where nothing refuses it.
 pub(crate) fn raw_refusal<R: RawStream>(raw: &R, plan: OpenPlan) -> Option<IoFault>
-    ensures { result ≡ first_refusal (is_able (access_of plan.mode.file) (R.shows raw.now)) (R.shows raw.now) plan.buffer_size }
+    ensures { result ≡ first_refusal (is_able (access_of plan.mode) (R.shows raw.now)) (R.shows raw.now) plan.buffer_size }
 {
-    let able = match access_of(plan.mode.file) {
-        Access::Read => raw.readable(),
-        Access::Write | Access::Append => raw.writable(),
-    };
+    let able = access_of(plan.mode).suits(raw);
     refused_at_first(raw, able, plan.buffer_size)
 }

@@ -4,10 +4,11 @@ use Rattle.py_flat.specs.declared.fault.IoFault.{IoFault}
 use Rattle.py_source_sink.specs.Source.{SourceView}
 use Rattle.py_raw.specs.Opener.{OpenerView, HoldsTheSame, OthersHoldTheSame, misses, opened_bytes}
 use Rattle.py_calls.specs.declared.call.Call.{Call}
-use Rattle.py_mode.specs.declared.mode.FileMode.TheVariants.{Read}
+use Rattle.py_stream.specs.declared.access.Access.TheVariants as access
 use Rattle.py_mode.specs.declared.open_args.OpenArgs.{OpenArgs}
 use Rattle.py_mode.specs.declared.plan.OpenPlan.{OpenPlan}
 use Rattle.py_mode.specs.Plan.{plan_of}
+use Rattle.py_open.specs.Opening.{access_of}
 use Rattle.py_script.specs.CommandWords.{Command, Run, Help, Version, command_of}
 use Rattle.py_program.specs.declared.status.Status.{Status}
 use Rattle.py_program.specs.declared.status.Status.TheVariants as status
@@ -29,12 +30,12 @@ opener_keeps : (path : List ℕ) (asked : Asked) (before after : Outside) → Op
 opener_keeps path asked before after (inl refused) tells = refused.0.holds tells
 opener_keeps path asked before after (inr opened) tells = let both : true ≡ false = sym tells ∙ opened.2 in absurd (cc)
 
-memory_keeps : (path : List ℕ) (asked : Asked) (before after : Outside) → asked.plan.mode.file ≡ Read → LacksMemory path asked before after → IsTrue before.opener.tells → HoldsTheSame before.opener after.opener
+memory_keeps : (path : List ℕ) (asked : Asked) (before after : Outside) → access_of asked.plan.mode ≡ access.Read → LacksMemory path asked before after → IsTrue before.opener.tells → HoldsTheSame before.opener after.opener
 memory_keeps path asked before after reads (inl opened) tells = path_keeps path asked status.NoMemory before after reads opened tells
 memory_keeps path asked before after reads (inr (inl opened)) tells = path_keeps path asked status.Done before after reads opened tells
 memory_keeps path asked before after reads (inr (inr none)) tells = none.0.holds tells
 
-calls_keep : (path : List ℕ) (asked : Asked) (ended : Status) (before after : Outside) → asked.plan.mode.file ≡ Read → CallsOutcome path asked ended before after → IsTrue before.opener.tells → HoldsTheSame before.opener after.opener
+calls_keep : (path : List ℕ) (asked : Asked) (ended : Status) (before after : Outside) → access_of asked.plan.mode ≡ access.Read → CallsOutcome path asked ended before after → IsTrue before.opener.tells → HoldsTheSame before.opener after.opener
 calls_keep path asked status.Done before after reads did tells = path_keeps path asked status.Done before after reads did tells
 calls_keep path asked status.Refused before after reads did tells = path_keeps path asked status.Refused before after reads did tells
 calls_keep path asked status.SinkFailed before after reads did tells = path_keeps path asked status.SinkFailed before after reads did tells
@@ -46,7 +47,7 @@ calls_keep path asked status.SourceFailed before after reads did tells = absurd 
 
 -- the plan of a mode and arguments, if there is one, reads
 abbrev pub PlansToRead : List ℕ → OpenArgs → Type 0
-PlansToRead mode args = (plan : OpenPlan) → plan_of mode args ≡ Ok plan → plan.mode.file ≡ Read
+PlansToRead mode args = (plan : OpenPlan) → plan_of mode args ≡ Ok plan → access_of plan.mode ≡ access.Read
 
 planned_keeps : (path mode : List ℕ) (args : OpenArgs) (calls : List Call) (ended : Status) (before after : Outside) → PlansToRead mode args → PlannedOutcome path mode args calls ended before after → IsTrue before.opener.tells → HoldsTheSame before.opener after.opener
 planned_keeps path mode args calls ended before after reads (inl refused) tells = opener_same before.opener after.opener refused.opener
@@ -83,7 +84,7 @@ refused_reads (Some Version) refused = absurd refused
 refused_reads None refused = absurd refused
 
 asked_reads : (command : Option Command) → AsksToRead command → WordsToRead command
-asked_reads (Some (Run path mode args)) asked = λ plan accepted. ap (λ (by : OpenPlan). by.mode.file) (one_plan (plan_of mode args) plan asked.0 accepted asked.1) ∙ asked.2
+asked_reads (Some (Run path mode args)) asked = λ plan accepted. ap (λ (by : OpenPlan). access_of by.mode) (one_plan (plan_of mode args) plan asked.0 accepted asked.1) ∙ asked.2
 asked_reads (Some Help) asked = absurd asked
 asked_reads (Some Version) asked = absurd asked
 asked_reads None asked = absurd asked

@@ -101,7 +101,7 @@ binary_file raw access buffer bytes stream opens told seeks place are =
 
 file_opened : (encode : EncodeMode) (raw : Raw) (plan : OpenPlan) (chunk : ℕ) (bytes : List ℕ) (session : SessionView) → OpensBy encode raw plan chunk session → tells raw ≡ true → raw.seekable ≡ true → raw.place ≡ 0 → raw.bytes ≡ bytes → file_seen session ≡ file_by encode plan chunk bytes
 file_opened Text raw plan chunk bytes (TextSession text) opens tells seeks place are = ap OfText (text_file raw _ chunk bytes text opens tells seeks place are)
-file_opened Bytes raw plan chunk bytes (BinarySession stream) opens tells seeks place are = ap OfBinary (binary_file raw (access_of plan.mode.file) plan.buffer_size bytes stream opens tells seeks place are)
+file_opened Bytes raw plan chunk bytes (BinarySession stream) opens tells seeks place are = ap OfBinary (binary_file raw (access_of plan.mode) plan.buffer_size bytes stream opens tells seeks place are)
 file_opened Text raw plan chunk bytes (BinarySession stream) opens tells seeks place are = absurd opens
 file_opened Bytes raw plan chunk bytes (TextSession text) opens tells seeks place are = absurd opens
 

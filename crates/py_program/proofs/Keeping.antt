@@ -12,12 +12,14 @@ use Rattle.py_stream.specs.Opening.{Lacking, Untouched}
 use Rattle.py_mode.specs.declared.mode.EncodeMode.{EncodeMode}
 use Rattle.py_mode.specs.declared.mode.EncodeMode.TheVariants.{Text, Bytes}
 use Rattle.py_mode.specs.declared.mode.FileMode.{FileMode}
-use Rattle.py_mode.specs.declared.mode.FileMode.TheVariants.{Read}
+use Rattle.py_mode.specs.declared.mode.FileMode.TheVariants.{Read, Write, Exclusive, Append}
 use Rattle.py_mode.specs.declared.plan.OpenPlan.{OpenPlan}
 use Rattle.py_mode.specs.Mode.{letter_of}
+use Rattle.py_stream.specs.declared.access.Access.{Access}
+use Rattle.py_stream.specs.declared.access.Access.TheVariants as access
 use Rattle.py_stream.specs.Access.{can_of}
 use Rattle.py_open.specs.Session.{SessionView, TextSession, BinarySession, raw_of}
-use Rattle.py_open.specs.Opening.{access_of, OpensBy}
+use Rattle.py_open.specs.Opening.{access_by, access_of, OpensBy}
 use Rattle.py_open.specs.Run.{RefusesOpening}
 use Rattle.py_open.specs.Laws.{OnlyReads}
 use Rattle.py_open.proofs.Runs.{run_spares}
@@ -57,13 +59,13 @@ opening_keeps Text raw plan chunk (BinarySession stream) opens = absurd opens
 opening_keeps Bytes raw plan chunk (TextSession text) opens = absurd opens
 
 -- a session that is opened to be read only reads
-opened_to_read : (encode : EncodeMode) (raw : Raw) (plan : OpenPlan) (chunk : ℕ) (session : SessionView) → plan.mode.file ≡ Read → OpensBy encode raw plan chunk session → OnlyReads session
+opened_to_read : (encode : EncodeMode) (raw : Raw) (plan : OpenPlan) (chunk : ℕ) (session : SessionView) → access_of plan.mode ≡ access.Read → OpensBy encode raw plan chunk session → OnlyReads session
 opened_to_read Text raw plan chunk (TextSession text) reads opens = tt
-opened_to_read Bytes raw plan chunk (BinarySession stream) reads opens = (ap (λ (can : Abilities). can.writable) (opens.can_do ∙ ap (λ (file : FileMode). can_of (access_of file) raw.seekable) reads), opens.owed)
+opened_to_read Bytes raw plan chunk (BinarySession stream) reads opens = (ap (λ (can : Abilities). can.writable) (opens.can_do ∙ ap (λ (opened : Access). can_of opened raw.seekable) reads), opens.owed)
 opened_to_read Text raw plan chunk (BinarySession stream) reads opens = absurd opens
 opened_to_read Bytes raw plan chunk (TextSession text) reads opens = absurd opens
 
-run_keeps : (raw back : Raw) (asked : Asked) (lines : List ℕ) → asked.plan.mode.file ≡ Read → RanCalls raw asked back lines → IsTrue raw.tells_bytes → back.bytes ≡ raw.bytes
+run_keeps : (raw back : Raw) (asked : Asked) (lines : List ℕ) → access_of asked.plan.mode ≡ access.Read → RanCalls raw asked back lines → IsTrue raw.tells_bytes → back.bytes ≡ raw.bytes
 run_keeps raw back asked lines reads ran tells =
     let opened = opening_keeps asked.plan.mode.encode raw asked.plan asked.chunk ran.run.opened ran.run.opens in
     ap (λ (last : Raw). last.bytes) ran.raw_is
@@ -76,16 +78,16 @@ lacking_keeps false raw back lacks tells = ap (λ (same : Raw). same.bytes) lack
 
 none_keeps : (raw back : Raw) (asked : Asked) → (back ≡ raw) ⊎ RefusesOpening raw asked.plan fault.NoMemory back → IsTrue raw.tells_bytes → back.bytes ≡ raw.bytes
 none_keeps raw back asked (inl same) tells = ap (λ (as_was : Raw). as_was.bytes) same
-none_keeps raw back asked (inr refused) tells = lacking_keeps (can_of (access_of asked.plan.mode.file) raw.seekable).appending raw back refused.1 tells
+none_keeps raw back asked (inr refused) tells = lacking_keeps (can_of (access_of asked.plan.mode) raw.seekable).appending raw back refused.1 tells
 
-lines_keep : (raw back : Raw) (asked : Asked) (lines : List ℕ) → asked.plan.mode.file ≡ Read → HasLines raw asked back lines → IsTrue raw.tells_bytes → back.bytes ≡ raw.bytes
+lines_keep : (raw back : Raw) (asked : Asked) (lines : List ℕ) → access_of asked.plan.mode ≡ access.Read → HasLines raw asked back lines → IsTrue raw.tells_bytes → back.bytes ≡ raw.bytes
 lines_keep raw back asked lines reads (inl ran) tells = run_keeps raw back asked lines reads ran tells
 lines_keep raw back asked lines reads (inr refused) tells = refused.why.3.bytes tells
 
-some_keeps : (raw back : Raw) (asked : Asked) (old new : SinkView) → asked.plan.mode.file ≡ Read → PrintsSome raw asked back old new → IsTrue raw.tells_bytes → back.bytes ≡ raw.bytes
+some_keeps : (raw back : Raw) (asked : Asked) (old new : SinkView) → access_of asked.plan.mode ≡ access.Read → PrintsSome raw asked back old new → IsTrue raw.tells_bytes → back.bytes ≡ raw.bytes
 some_keeps raw back asked old new reads prints tells = lines_keep raw back asked prints.0 reads prints.1 tells
 
-outcome_keeps : (raw back : Raw) (asked : Asked) (ended : Status) (old new : SinkView) → asked.plan.mode.file ≡ Read → RawOutcome raw asked ended back old new → IsTrue raw.tells_bytes → back.bytes ≡ raw.bytes
+outcome_keeps : (raw back : Raw) (asked : Asked) (ended : Status) (old new : SinkView) → access_of asked.plan.mode ≡ access.Read → RawOutcome raw asked ended back old new → IsTrue raw.tells_bytes → back.bytes ≡ raw.bytes
 outcome_keeps raw back asked status.Done old new reads does tells = run_keeps raw back asked does.0 reads does.1 tells
 outcome_keeps raw back asked status.Refused old new reads does tells = does.1.why.3.bytes tells
 outcome_keeps raw back asked status.SinkFailed old new reads does tells = some_keeps raw back asked old new reads does.0 tells
@@ -97,6 +99,15 @@ outcome_keeps raw back asked status.SourceFailed old new reads does tells = absu
 outcome_keeps raw back asked status.OpenerFailed old new reads does tells = absurd does
 
 -- Paths.
+
+-- what is opened to be read alone has the file letter of reading
+file_read : (file : FileMode) (plus : Bool) → access_by file plus ≡ access.Read → file ≡ Read
+file_read Read plus reads = refl
+file_read Write true reads = cc
+file_read Write false reads = cc
+file_read Exclusive true reads = cc
+file_read Exclusive false reads = cc
+file_read Append plus reads = cc
 
 -- what is opened to be read holds what it held
 read_holds : (file : FileMode) (plus : Bool) (held : Option (List ℕ)) → file ≡ Read → misses (raw_mode_text (letter_of file) plus) held ≡ false → Some (opened_bytes (raw_mode_text (letter_of file) plus) held) ≡ held
@@ -110,12 +121,12 @@ pub path_spares : (path : List ℕ) (asked : Asked) (ended : Status) (before aft
 path_spares path asked ended before after opened tells = others_of_both path before.opener opened.mid after.opener (opened.opens.told tells).others (opened.puts tells).others
 
 -- a path that was opened to be read holds what it held, whatever became of the calls
-pub path_keeps : (path : List ℕ) (asked : Asked) (ended : Status) (before after : Outside) → asked.plan.mode.file ≡ Read → OpensPath path asked ended before after → IsTrue before.opener.tells → HoldsTheSame before.opener after.opener
+pub path_keeps : (path : List ℕ) (asked : Asked) (ended : Status) (before after : Outside) → access_of asked.plan.mode ≡ access.Read → OpensPath path asked ended before after → IsTrue before.opener.tells → HoldsTheSame before.opener after.opener
 path_keeps path asked ended before after reads opened tells =
     let told = opened.opens.told tells in
     let same = outcome_keeps opened.raw opened.back asked ended before.sink after.sink reads opened.does (tells_its_bytes opened.raw told.tells) in
     all_hold path before.opener after.opener
-    ((opened.puts tells).held ∙ ap Some (same ∙ told.bytes) ∙ read_holds asked.plan.mode.file asked.plan.mode.plus (before.opener.holds path) reads told.found)
+    ((opened.puts tells).held ∙ ap Some (same ∙ told.bytes) ∙ read_holds asked.plan.mode.file asked.plan.mode.plus (before.opener.holds path) (file_read asked.plan.mode.file asked.plan.mode.plus reads) told.found)
     (path_spares path asked ended before after opened tells)
 
 -- a path whose raw was refused holds what its opening left

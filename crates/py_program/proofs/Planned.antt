@@ -17,7 +17,7 @@ use Rattle.py_mode.specs.Mode.{letter_of}
 use Rattle.py_mode.specs.Plan.{plan_of}
 use Rattle.py_mode.proofs.Planning.{planned_buffer_is_not_empty}
 use Rattle.py_open.specs.Session.{SessionView}
-use Rattle.py_open.specs.Opening.{access_of, RefusesSession}
+use Rattle.py_open.specs.Opening.{access_by, RefusesSession}
 use Rattle.py_open.specs.Run.{RefusesOpening, RefusesPlanned, RunsCalls}
 use Rattle.py_script.specs.Faults.{refused_line}
 use Rattle.py_program.specs.declared.status.Status.{Status}
@@ -41,11 +41,15 @@ refused_raw raw mode args plan refused back accepted why = subst (λ (planned : 
 -- A raw that was opened as it is planned.
 
 -- a raw that was opened is able to do what it is opened for
-opened_able : (file : FileMode) (plus : Bool) (raw : Raw) → IsOpened (raw_mode_text (letter_of file) plus) raw → is_able (access_of file) raw ≡ true
-opened_able Read plus raw opened = opened.reads
-opened_able Write plus raw opened = opened.writes
-opened_able Exclusive plus raw opened = opened.writes
-opened_able Append plus raw opened = opened.writes
+opened_able : (file : FileMode) (plus : Bool) (raw : Raw) → IsOpened (raw_mode_text (letter_of file) plus) raw → is_able (access_by file plus) raw ≡ true
+opened_able Read false raw opened = opened.reads
+opened_able Read true raw opened = rw (opened.reads, opened.writes) refl
+opened_able Write false raw opened = opened.writes
+opened_able Write true raw opened = rw (opened.reads, opened.writes) refl
+opened_able Exclusive false raw opened = opened.writes
+opened_able Exclusive true raw opened = rw (opened.reads, opened.writes) refl
+opened_able Append false raw opened = opened.writes
+opened_able Append true raw opened = opened.writes
 
 -- a session over a raw that was opened is refused by a fault of the raw, or when out of memory
 refused_session : (raw back : Raw) (plan : OpenPlan) (refused : IoFault) → IsOpened (raw_mode plan) raw → plan.buffer_size ≢ Some 0 → RefusesSession raw plan refused back → (refused ≡ fault.NoMemory) ⊎ ((refused ≡ fault.RawFault) × RefusesSession raw plan fault.RawFault back)

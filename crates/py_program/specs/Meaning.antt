@@ -7,12 +7,12 @@ use Rattle.py_raw.specs.Opener.{OpenerView, NoOpenerFault, misses, IsOpened, ope
 use Rattle.py_source_sink.specs.Source.{SourceView, NoSourceFault}
 use Rattle.py_source_sink.specs.Sink.{NoSinkFault}
 use Rattle.py_stream.specs.Stream.{buffering_of}
+use Rattle.py_stream.specs.declared.access.Access.TheVariants as access
 use Rattle.py_stream.specs.Access.{can_of}
 use Rattle.py_calls.specs.declared.call.Call.{Call}
 use Rattle.py_calls.specs.declared.reply.Reply.{Reply}
 use Rattle.py_mode.specs.declared.mode.EncodeMode.{EncodeMode}
 use Rattle.py_mode.specs.declared.mode.EncodeMode.TheVariants.{Text, Bytes}
-use Rattle.py_mode.specs.declared.mode.FileMode.TheVariants.{Read}
 use Rattle.py_mode.specs.declared.open_args.OpenArgs.{OpenArgs}
 use Rattle.py_mode.specs.declared.plan.OpenPlan.{OpenPlan}
 use Rattle.py_mode.specs.Plan.{plan_of}
@@ -103,7 +103,7 @@ AsksForRun command = ⊥
 
 -- the words ask for a run that only reads
 abbrev pub AsksToRead : Option Command → Type 0
-AsksToRead (Some (Run path mode args)) = (plan : OpenPlan) × (plan_of mode args ≡ Ok plan) × (plan.mode.file ≡ Read)
+AsksToRead (Some (Run path mode args)) = (plan : OpenPlan) × (plan_of mode args ≡ Ok plan) × (access_of plan.mode ≡ access.Read)
 AsksToRead command = ⊥
 
 -- the opener had nothing to change: by the status, by the plan, or since it was only read
@@ -127,8 +127,8 @@ abbrev pub file_by : EncodeMode → OpenPlan → ℕ → List ℕ → SessionFil
 file_by Text plan chunk bytes = OfText (text_opened bytes 0 true chunk)
 file_by Bytes plan chunk bytes = OfBinary (record {
   bytes = bytes;
-  place = begins_with (can_of (access_of plan.mode.file) true).appending bytes;
-  can = can_of (access_of plan.mode.file) true;
+  place = begins_with (can_of (access_of plan.mode) true).appending bytes;
+  can = can_of (access_of plan.mode) true;
   buffering = buffering_of plan.buffer_size;
   life = life.Live;
 })

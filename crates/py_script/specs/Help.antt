@@ -26,8 +26,8 @@ words_help =
     codes "  newline=HEX    what ends a line, in hex of its UTF-8: 0a is LF (default: any" ∷
     codes "                 of CR LF, CR and LF, each read as LF); none: empty text" ∷
     codes "  chunk=N        bytes that a text asks its buffer for at once (default 8192)" ∷
-    codes "So far MODE is rb, wb, xb or ab, with any buffering; or r, with newline=0a, in" ∷
-    codes "UTF-8, strict, buffered, by chunks of 1 byte or more." ∷
+    codes "So far MODE is rb, wb, xb, ab; rb+, wb+, xb+ with buffering=0; or r, buffered," ∷
+    codes "with newline=0a, in UTF-8, strict, by chunks of 1 byte or more." ∷
     []
 
 -- the script and its replies

@@ -14,8 +14,8 @@ MODE is as in Python's open. Each OPTION is given at most once, in any order:
   newline=HEX    what ends a line, in hex of its UTF-8: 0a is LF (default: any
                  of CR LF, CR and LF, each read as LF); none: empty text
   chunk=N        bytes that a text asks its buffer for at once (default 8192)
-So far MODE is rb, wb, xb or ab, with any buffering; or r, with newline=0a, in
-UTF-8, strict, buffered, by chunks of 1 byte or more.
+So far MODE is rb, wb, xb, ab; rb+, wb+, xb+ with buffering=0; or r, buffered,
+with newline=0a, in UTF-8, strict, by chunks of 1 byte or more.
 
 A script has a call a line, one space between words, and 1048576 bytes at most:
   read [N]           reads N bytes, of a text characters, or all that is left

@@ -1,5 +1,5 @@
 use Rattle.std.proofs.Common.{sym}
-use Rattle.py_mode.proofs.Planning.{planned_chunk, planned_text_buffer, planned_text_is_read}
+use Rattle.py_mode.proofs.Planning.{planned_chunk, planned_plus, planned_text_buffer, planned_text_is_read}
 use Rattle.py_open.proofs.run.run_session.Goals as goal
 
 pub run_opened-requires-clause-planned : goal.run_opened-requires-clause-planned
@@ -7,4 +7,5 @@ run_opened-requires-clause-planned g c = record {
   reads = planned_text_is_read c.args.mode.now c.args.args c.in-Ok.plan (sym c.in-Ok.ensures);
   buffer = planned_text_buffer c.args.mode.now c.args.args c.in-Ok.plan (sym c.in-Ok.ensures);
   chunk_size = planned_chunk c.args.mode.now c.args.args c.in-Ok.plan (sym c.in-Ok.ensures);
+  plus = λ plus. let is = planned_plus c.args.mode.now c.args.args c.in-Ok.plan (sym c.in-Ok.ensures) plus in (is.0, is.2);
 }
