@@ -46,7 +46,7 @@ PairOutcome reads writes reader writer size (Err refused) = RefusesReader (reads
 
 -- Closing.
 
--- whether a close had to wait
+-- whether a close would have blocked
 abbrev pub had_to_wait : Result (Unit {0}) IoFault → Bool
 had_to_wait (Err (fault.WouldBlock taken)) = true
 had_to_wait result = false
@@ -57,7 +57,7 @@ pub record ClosesReader (first : Result (Unit {0}) IoFault) (before : Stream) (r
   pub reader : Answers before Close (done_reply second) after
   pub answer : result ≡ result_and first second
 
--- the writer is closed first, and then the reader, unless the writer had to wait: then the reader is as it was
+-- the writer is closed first, and then the reader, unless the writer would have blocked: then the reader is as it was
 pub record ClosesBoth (old : PairView) (result : Result (Unit {0}) IoFault) (new : PairView) : Type 0 where
   pub first : Result (Unit {0}) IoFault
   pub writer : Answers old.writer.stream Close (done_reply first) new.writer.stream

@@ -45,7 +45,7 @@ fn raw_of<R: RawStream>(reader: BufferedReader<R>) -> R
     }
 }
 
-/// Whether a close had to wait.
+/// Whether a close would have blocked.
 fn had_to_wait(closed: &Result<(), IoFault>) -> bool
     ensures { result ≡ had_to_wait closed.now }
 {
@@ -187,8 +187,8 @@ impl<R: RawStream, W: RawStream> BufferedRWPair<R, W> {
         self.writer.flush()
     }
 
-    /// Closes the writer and then the reader, and answers the first fault. Where the writer had to wait (`WouldBlock`) the reader stays
-    /// open: close the pair again. A closed pair may be closed again, which calls no raw.
+    /// Closes the writer and then the reader, and answers the first fault. Where the writer would have blocked (`WouldBlock`) the reader
+    /// stays open: close the pair again. A closed pair may be closed again, which calls no raw.
     pub fn close(&mut self) -> Result<(), IoFault>
         ensures { ClosesBoth self.old result self.new }
     {

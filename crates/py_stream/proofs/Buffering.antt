@@ -78,7 +78,7 @@ takes_so : (before after : Stream) (call : FileCall) → (IsTrue (is_writing cal
 takes_so before after (Write bytes) owes = let both = owes refl in (omega (arith, both.place), omega (arith, both.place, both.within))
 takes_so before after call owes = tt
 
--- a stream that doesn't write refuses a write, and not as one that had to wait
+-- a stream that doesn't write refuses a write, and not as one that would have blocked
 unwritten_full : (taken : ℕ) (before : Stream) (call : FileCall) (reply : FileReply) (after : Stream) → before.can.writable ≡ false → IsTrue (is_made call) → Answers before call reply after → BufferBlocksFull call reply (buffer_of after taken)
 unwritten_full taken before call reply after can made answers = grind arith
 

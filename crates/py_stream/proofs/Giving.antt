@@ -184,12 +184,12 @@ abbrev pub taken_reply : FileCall → ℕ → FileReply
 taken_reply (Write bytes) count = Count count
 taken_reply call count = Done
 
--- what a call carried out, or what it did before it had to wait
+-- what a call carried out, or what it did before it would have blocked
 abbrev pub StepsBy : Bool → FlatFile → FileCall → FileReply → FlatFile → Type 0
 StepsBy true file call reply after = WaitedBy file call reply after
 StepsBy false file call reply after = Accepted file call reply after
 
--- an answer of a call that took the first n of its bytes: all that it could, or what it could before it had to wait
+-- an answer of a call that took the first n of its bytes: all that it could, or what it could before it would have blocked
 pub record IsPart (old : Stream) (count : ℕ) (buffer : Option ℕ) (call : FileCall) (reply : FileReply) (short : Bool) : Type 0 where
   pub no_fault : says_fault reply ≡ false
   pub no_want : says_no_memory reply ≡ false
@@ -224,12 +224,12 @@ abbrev pub WaitsCount : Option ℕ → FileCall → ℕ → Type 0
 WaitsCount None (Write bytes) taken = taken ≡ 0
 WaitsCount buffer call taken = taken < length (payload call)
 
--- what a call answers that had to wait
+-- what a call answers that would have blocked
 abbrev pub waited_reply : Option ℕ → FileCall → ℕ → FileReply
 waited_reply None (Write bytes) taken = NotReady
 waited_reply buffer call taken = Refused (fault.WouldBlock taken)
 
--- each call that gives bytes has the answer of one that had to wait
+-- each call that gives bytes has the answer of one that would have blocked
 pub is_blocked : (old : Stream) (taken : ℕ) (buffer : Option ℕ) (call : FileCall) → is_writing call ≡ true → WaitsCount buffer call taken → IsPart old taken buffer call (waited_reply buffer call taken) true
 is_blocked old taken buffer call writing counts = grind arith
 

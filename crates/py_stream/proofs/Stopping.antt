@@ -50,7 +50,7 @@ waits_alive buffer call current = grind arith
 pub waits_there : (buffer : Option ℕ) (call : FileCall) (current : Life) (place : ℕ) → is_writing call ≡ false → PlaceMoves buffer call (Refused (fault.WouldBlock 0)) current place place
 waits_there buffer call current place writing = grind arith
 
--- a call that gives no bytes to the stream took none where it had to wait
+-- a call that gives no bytes to the stream took none where it would have blocked
 pub waits_with_none : (call : FileCall) (after : Stream) → is_writing call ≡ false → BlocksFull call (Refused (fault.WouldBlock 0)) after
 waits_with_none call after writing = grind arith
 

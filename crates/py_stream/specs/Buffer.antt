@@ -270,7 +270,7 @@ pub record AnswersAsBuffer (before : Buffer) (call : FileCall) (reply : FileRepl
   pub owes : BufferOwes before call after
   -- what the raw's bytes are after a call
   pub lays : WhereShown before (BufferLays before (payload call) after.raw_bytes)
-  -- a write that had to wait leaves as many bytes owed as the buffer holds
+  -- a write that would have blocked leaves as many bytes owed as the buffer holds
   pub full : BufferBlocksFull call reply after
   -- a write takes a front of its bytes
   pub takes : BufferTakes call before.place after.place

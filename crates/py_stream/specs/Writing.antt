@@ -142,7 +142,7 @@ PassesOn before (Truncate size) (Place place) after = CutTo before (size_asked b
 PassesOn before (Seek offset whence) (Place place) after = before.can.readable ≡ false → after.owed.bytes ≡ []
 PassesOn before call reply after = Unit {0}
 
--- a write that couldn't take all has filled the buffer; another call that had to wait took nothing
+-- a write that couldn't take all has filled the buffer; another call that would have blocked took nothing
 abbrev pub BlocksFull : FileCall → FileReply → Stream → Type 0
 BlocksFull (Write bytes) (Refused (fault.WouldBlock taken)) after = length after.owed.bytes ≡ size_of after
 BlocksFull (WriteLines lines) (Refused (fault.WouldBlock taken)) after = length after.owed.bytes ≡ size_of after
@@ -183,7 +183,7 @@ pub record Writes (before : Stream) (call : FileCall) (reply : FileReply) (after
   pub lays : WhereTold before.raw (LaysInOrder before call after.raw.bytes)
   -- what is passed on of a live stream
   pub passes : PassesOn before call reply after
-  -- what a call leaves that had to wait
+  -- what a call leaves that would have blocked
   pub full : BlocksFull call reply after
   -- running out of memory fails a write only once the raw took some of its own bytes
   pub starves : IsTrue (says_no_memory reply) → IsTrue (is_writing call) → after.life ≡ life.Failed → TookOwn before after
