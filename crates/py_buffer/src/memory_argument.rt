@@ -10,6 +10,7 @@ ghost use Rattle.py_buffer.specs.Buffers.{LeavesFront};
 use crate::writing::called_on_front;
 use crate::{ArgFault, BufferDescriptor, PyBufferMut};
 use std::marker::Model;
+use thiserror::Error;
 
 /// A contiguous buffer that is written. Contracts see the buffer.
 #[derive(Debug, Drop)]
@@ -30,8 +31,9 @@ impl<'a> Model for ArgMemoryBuffer<'a> {
     ghost invariant = { λ a. IsWritable a.desc a.size × IsContiguous a.desc };
 }
 
-/// Bytes that were to be written, as they were, and why they were refused.
-#[derive(Debug, Drop)]
+/// Bytes that were to be written, as they were, and why they were refused. It is shown as its fault.
+#[derive(Debug, Drop, Error)]
+#[error("{fault}")]
 pub struct ArgRefused<'a> {
     /// The bytes.
     pub bytes: &'a mut [u8],

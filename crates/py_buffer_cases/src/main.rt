@@ -31,6 +31,7 @@ fn main(rt: HostRuntime) -> Result<()> {
     writable::print_given_back(&rt)?;
     writable::print_lent(&rt)?;
     writable::print_faults(&rt)?;
+    writable::print_refusals(&rt)?;
     writable::print_owned(&rt)?;
     writable::print_readonly(&rt)?;
     writable::print_described(&rt)?;

@@ -5,6 +5,7 @@ use py_buffer::{
     ArgBytesLike, ArgFault, ArgMemoryBuffer, BufferDescriptor, OwnedBuffer, PyBuffer, PyBufferMut,
     VecBuffer, try_bytes_like, try_rw_bytes_like,
 };
+use std::error::Error;
 
 /// Prints bytes that are letters.
 fn print_bytes(rt: &HostRuntime, what: &str, bytes: &[u8]) -> Result<()> {
@@ -230,6 +231,39 @@ pub(crate) fn print_faults(rt: &HostRuntime) -> Result<()> {
         println!(rt; "{fault:?}: {fault}")?;
     }
     Ok(())
+}
+
+/// Prints the text of an error.
+fn print_error<E: Error>(rt: &HostRuntime, what: &str, error: &E) -> Result<()> {
+    println!(rt; "{what}: {error}")?;
+    Ok(())
+}
+
+/// Prints the text of a refusal that gives bytes back which were to be written.
+fn print_refusal(rt: &HostRuntime, what: &str, desc: BufferDescriptor) -> Result<()> {
+    let mut bytes = *b"abcd";
+    if let Some(desc) = desc.validate() {
+        if desc.covers(bytes.len()) {
+            if let Err(refused) = ArgMemoryBuffer::try_new(&mut bytes, desc) {
+                print_error(rt, what, &refused)?;
+            }
+        }
+    }
+    Ok(())
+}
+
+/// Prints the texts of refused bytes: of items apart, of bytes that may only be read, and of both at once.
+pub(crate) fn print_refusals(rt: &HostRuntime) -> Result<()> {
+    let alloc = rt.alloc();
+    print_refusal(rt, "refused apart", every_second(alloc, 2)?)?;
+    print_refusal(
+        rt,
+        "refused readonly",
+        BufferDescriptor::simple(alloc, 4, true)?,
+    )?;
+    let mut both = every_second(alloc, 2)?;
+    both.readonly = true;
+    print_refusal(rt, "refused apart and readonly", both)
 }
 
 /// Prints what an owned buffer lends to be written, and what it has then.
