@@ -2,10 +2,11 @@
 //! who has to act on it.
 
 use crate::noting::Noting;
+use py_mode::plan_open;
 use py_program::Status;
 use py_raw::Source;
 use py_raw_files::FileOpener;
-use py_script::{parse_line, parse_words};
+use py_script::{Command, parse_line, parse_words};
 use std::alloc::{AllocError, Global};
 use std::fs::Files;
 
@@ -30,12 +31,7 @@ where
         3 => script_complaint(alloc, script.seen()),
         4 => match opener.last_file_error() {
             Some(kind) => format!(in alloc; "the opening of {path:?} is refused: {kind}"),
-            None => {
-                let mode = words.get(2).map_or("", |word| word.as_str());
-                format!(in alloc;
-                    "the mode {mode:?} or an option is refused for {path:?}, by the name that was printed: try --help"
-                )
-            }
+            None => refused_complaint(alloc, words, path),
         },
         5 => String::from_str(alloc, "the script can't be read from standard input"),
         6 => String::from_str(alloc, "standard output can't be written"),
@@ -68,6 +64,19 @@ fn words_complaint(alloc: Global, words: &[String]) -> Result<String, AllocError
         }
     }
     String::from_str(alloc, "a word is not UTF-8")
+}
+
+/// Why an opening was refused of which the system said nothing: the mode and the options refuse it, which opens nothing; or else the
+/// file that was opened failed.
+fn refused_complaint(alloc: Global, words: &[String], path: &str) -> Result<String, AllocError> {
+    if let Some(Command::Run { mode, args, .. }) = parse_words(alloc, words)? {
+        if plan_open(mode, &args).is_err() {
+            return format!(in alloc;
+                "the mode {mode:?} or an option is refused for {path:?}, by the name that was printed: try --help"
+            );
+        }
+    }
+    format!(in alloc; "{path:?} can't be opened: the system gave no reason")
 }
 
 /// Why a script is malformed: it is too long, and was read no further then, so that its last line is cut; or which of its lines is,
