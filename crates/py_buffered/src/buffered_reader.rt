@@ -67,9 +67,9 @@ impl<R: RawStream> BufferedReader<R> {
 
     /// Reads the next `size` bytes, or all that are left for `None`; fewer come only at the end.
     ///
-    /// Space for a `size` is taken before anything is read. For `None` a raw that can seek is asked first where it ends, and the
-    /// space up to there is taken at once; the reading goes on until the end is met, wherever that is by then. `NoMemory` leaves
-    /// the reader as it was, but that the raw may have been asked, unless bytes had left the raw already: then it is failed.
+    /// Space for a `size` is taken before anything is read. For `None` the space up to the end that the raw guesses (`end_hint`) is
+    /// taken at once; the reading goes on until the end is met, wherever that is by then. `NoMemory` leaves the reader as it was,
+    /// unless bytes had left the raw already: then it is failed.
     pub fn read(&mut self, alloc: Global, size: Option<usize>) -> Result<Option<Vec<u8>>, IoFault>
         ensures { Answers self.old (Read size) (bytes_reply result) self.new }
     {
