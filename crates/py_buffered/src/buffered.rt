@@ -16,7 +16,7 @@ use py_engine::BufferedData;
 use py_raw::{IoFault, Life, Lines, RawStream};
 use py_stream::{
     Access, Detached, NewRefused, first_place, read_line, read_lines, refuse, refused_at_first,
-    refused_by, seek, tell, truncate,
+    refused_raw, seek, tell, truncate,
 };
 use std::alloc::Global;
 use std::marker::Model;
@@ -83,7 +83,7 @@ impl<R: RawStream> Buffered<R> {
                 size,
                 taken: 0,
             }),
-            Err(error) => Err(refused_by(raw, error)),
+            Err(error) => Err(refused_raw(raw, error)),
         }
     }
 

@@ -5,17 +5,20 @@ ghost use Rattle.py_flat.specs.Limits.{greatest_place};
 ghost use Rattle.py_flat.specs.Calls.{FileCall, Seek, Tell, Truncate, Refused};
 ghost use Rattle.py_stream.specs.Stream.{Stream};
 ghost use Rattle.py_stream.specs.Keeping.{IsSound};
-ghost use Rattle.py_stream.specs.LiveRaw.{is_movable as movable, is_truncatable as truncatable};
+ghost use Rattle.py_stream.specs.Access.{can_of};
 ghost use Rattle.py_stream.specs.Answers.{Answers, RefusesAlone};
 ghost use Rattle.py_stream.specs.Replies.{place_reply};
 ghost use Rattle.py_stream.specs.Moving.{Begins, keeps_pending, OwesBy, SettlesBy, TargetOutcome, EndOutcome, GoOutcome};
 ghost use Rattle.py_stream.specs.Sizing.{ResizeOutcome};
 
-use crate::moved_by;
-use py_raw::{GREATEST_PLACE, IoFault};
+use crate::{LiveRaw, moved_by};
+use py_raw::{GREATEST_PLACE, IoFault, RawStream};
 
 /// A stream that may be moved, and whose bytes may be given a size.
 pub trait Moves {
+    /// The raw stream under the stream.
+    type Raw: RawStream;
+
     /// What the stream is seen as.
     ghost shows: { Self → Stream };
 
@@ -25,17 +28,9 @@ pub trait Moves {
         ensures sound { IsSound (shows self.old) }
         ensures owes { OwesBy (keeps_pending (shows self.old)) (shows self.old) };
 
-    /// Whether the stream's raw can seek.
-    fn seekable(&self) -> bool
-        ensures { result ≡ (shows self.now).can.seekable };
-
-    /// Whether the stream may be moved: its raw can seek, and it doesn't append.
-    fn is_movable(&self) -> bool
-        ensures { result ≡ movable (shows self.now).can };
-
-    /// Whether the stream's bytes may be given a size: it writes, and may be moved.
-    fn is_truncatable(&self) -> bool
-        ensures { result ≡ truncatable (shows self.now).can };
+    /// The stream's raw, lent, and what the stream is opened for.
+    fn live(&self) -> &LiveRaw<Self::Raw>
+        ensures { can_of result.now.access result.now.raw.seekable ≡ (shows self.now).can };
 
     /// The stream's place, in bytes from the start of the file; pending writes count.
     fn stands_at(&self) -> u64
@@ -97,7 +92,7 @@ pub fn seek<S: Moves>(stream: &mut S, offset: i64, whence: i32) -> Result<u64, I
     ensures { Answers (S.shows stream.old) (Seek offset whence) (place_reply result) (S.shows stream.new) }
 {
     stream.begin_call()?;
-    if !stream.is_movable() {
+    if !stream.live().is_movable() {
         return Err(IoFault::Unsupported);
     }
     let target = target(stream, offset, whence)?;
@@ -111,7 +106,7 @@ pub fn tell<S: Moves>(stream: &mut S) -> Result<u64, IoFault>
     ensures { Answers (S.shows stream.old) Tell (place_reply result) (S.shows stream.new) }
 {
     stream.begin_call()?;
-    if !stream.seekable() {
+    if !stream.live().seekable() {
         return Err(IoFault::Unsupported);
     }
     Ok(stream.stands_at())
@@ -128,7 +123,7 @@ pub fn truncate<S: Moves>(stream: &mut S, size: Option<u64>) -> Result<u64, IoFa
     ensures { Answers (S.shows stream.old) (Truncate size) (place_reply result) (S.shows stream.new) }
 {
     stream.begin_call()?;
-    if !stream.is_truncatable() {
+    if !stream.live().is_truncatable() {
         return Err(IoFault::Unsupported);
     }
     let size = size.unwrap_or(stream.stands_at());

@@ -47,8 +47,8 @@ pub fn first_place<R: RawStream>(raw: &mut R, appends: bool) -> Result<u64, RawE
     }
 }
 
-/// The refusal of a raw stream that failed, or lacked memory, when it was asked where a stream begins: it is handed back.
-pub fn refused_by<R: RawStream>(raw: R, error: RawError) -> NewRefused<R>
+/// The refusal of a raw stream that failed, or ran out of memory, when it was asked where a stream begins: it is handed back.
+pub fn refused_raw<R: RawStream>(raw: R, error: RawError) -> NewRefused<R>
     ensures { result ≡ record { raw = raw; fault = fault_of error } }
 {
     let fault = match error {

@@ -12,7 +12,7 @@ use crate::data::UnbufferedData;
 use py_raw::{IoFault, Life, Lines, RawStream};
 use py_stream::{
     Access, Detached, NewRefused, first_place, read_line, read_lines, refuse, refused_at_first,
-    refused_by, seek, tell, truncate,
+    refused_raw, seek, tell, truncate,
 };
 use std::alloc::Global;
 use std::marker::Model;
@@ -64,7 +64,7 @@ impl<R: RawStream> UnbufferedStream<R> {
             Ok(place) => Ok(UnbufferedStream {
                 data: UnbufferedData::new(raw, place, access),
             }),
-            Err(error) => Err(refused_by(raw, error)),
+            Err(error) => Err(refused_raw(raw, error)),
         }
     }
 

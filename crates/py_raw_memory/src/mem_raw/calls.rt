@@ -135,8 +135,11 @@ impl RawStream for MemRaw {
         Ok(self.bytes.len() as u64)
     }
 
+    /// How many bytes there are, where the raw can be moved.
     fn end_hint(&self) -> Option<u64> {
-        Some(self.bytes.len() as u64)
+        self.flags
+            .is_seekable()
+            .then_some(self.bytes.len() as u64)
     }
 
     fn truncate(&mut self, size: u64) -> Result<(), RawError>

@@ -3,9 +3,11 @@ ghost use Rattle.py_unbuffered.specs.Engine.{stream_of};
 
 use super::UnbufferedData;
 use py_raw::{IoFault, RawStream};
-use py_stream::Moves;
+use py_stream::{LiveRaw, Moves};
 
 impl<R: RawStream> Moves for UnbufferedData<R> {
+    type Raw = R;
+
     ghost shows = { stream_of };
 
     fn begin_call(&mut self) -> Result<(), IoFault> {
@@ -13,16 +15,8 @@ impl<R: RawStream> Moves for UnbufferedData<R> {
         self.begin()
     }
 
-    fn seekable(&self) -> bool {
-        self.live.seekable()
-    }
-
-    fn is_movable(&self) -> bool {
-        self.live.is_movable()
-    }
-
-    fn is_truncatable(&self) -> bool {
-        self.live.is_truncatable()
+    fn live(&self) -> &LiveRaw<R> {
+        &self.live
     }
 
     fn stands_at(&self) -> u64 {

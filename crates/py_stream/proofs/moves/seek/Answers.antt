@@ -1,6 +1,7 @@
-use Rattle.std.proofs.Common.{ℤ, Ok, Err, refl, subst₂, to_z-of_z}
+use Rattle.std.proofs.Common.{ℤ, Ok, Err, refl, ap, ◌∙◌, subst₂, to_z-of_z}
 use Rattle.std.proofs.lemmas.Result.{err_from_is_err_and}
 use Rattle.py_flat.specs.Calls.{Seek}
+use Rattle.py_stream.specs.LiveRaw.{is_movable}
 use Rattle.py_stream.specs.Moving.{TargetOutcome}
 use Rattle.py_stream.proofs.Alone.{begins_in_vain}
 use Rattle.py_stream.proofs.Refusing.{sound_placed}
@@ -15,13 +16,13 @@ returns-in_err-begin_call g c =
     rw (left.1, left.2) (begins_in_vain _ _ (Seek c.args.offset c.args.whence) c.in_err-begin_call.field-0.0 (sound_placed _ c.in_err-begin_call.ensures.sound) refl refl refl refl c.in_err-begin_call.ensures.begins)
 
 pub returns-then-not-is_movable : goal.returns-then-not-is_movable
-returns-then-not-is_movable g c = seeks_not _ _ _ c.is_movable.result c.args.offset c.args.whence (sound_placed _ c.in_ok-begin_call.ensures.sound) c.in_ok-begin_call.ensures.begins refl c.is_movable.ensures c.if-not-is_movable.true
+returns-then-not-is_movable g c = seeks_not _ _ _ c.is_movable.result c.args.offset c.args.whence (sound_placed _ c.in_ok-begin_call.ensures.sound) c.in_ok-begin_call.ensures.begins refl (c.is_movable.ensures ∙ ap is_movable c.live.ensures) c.if-not-is_movable.true
 
 pub returns-in_err-target : goal.returns-in_err-target
 returns-in_err-target g c =
     let left = err_from_is_err_and c.from_residual-in_err-target.result c.from_residual-in_err-target.ensures.1 in
     let began = c.in_ok-begin_call.ensures in
-    let may = seeks_on _ _ _ c.is_movable.result began.sound began.begins refl c.is_movable.ensures c.if-not-is_movable.false in
+    let may = seeks_on _ _ _ c.is_movable.result began.sound began.begins refl (c.is_movable.ensures ∙ ap is_movable c.live.ensures) c.if-not-is_movable.false in
     let found = subst₂ (λ (offset : ℤ) (whence : ℤ). TargetOutcome (g.S.Moves.shows c.begin_call.new.self) offset whence (Err c.in_err-target.field-0.0) (g.S.Moves.shows c.target.new.stream)) (to_z-of_z c.ranges.offset) (to_z-of_z c.ranges.whence) c.in_err-target.ensures in
     rw (left.1, left.2) (seek_finds_nothing _ _ _ c.args.offset c.args.whence c.in_err-target.field-0.0 may began.begins found)
 
@@ -29,7 +30,7 @@ pub returns-in_err-pass_on : goal.returns-in_err-pass_on
 returns-in_err-pass_on g c =
     let left = err_from_is_err_and c.from_residual-in_err-pass_on.result c.from_residual-in_err-pass_on.ensures.1 in
     let began = c.in_ok-begin_call.ensures in
-    let may = seeks_on _ _ _ c.is_movable.result began.sound began.begins refl c.is_movable.ensures c.if-not-is_movable.false in
+    let may = seeks_on _ _ _ c.is_movable.result began.sound began.begins refl (c.is_movable.ensures ∙ ap is_movable c.live.ensures) c.if-not-is_movable.false in
     let found = subst₂ (λ (offset : ℤ) (whence : ℤ). TargetOutcome (g.S.Moves.shows c.begin_call.new.self) offset whence (Ok c.in_ok-target.target) (g.S.Moves.shows c.target.new.stream)) (to_z-of_z c.ranges.offset) (to_z-of_z c.ranges.whence) c.in_ok-target.ensures in
     rw (left.1, left.2) (seeking_stops _ _ _ _ c.args.offset c.args.whence c.in_ok-target.target c.in_err-pass_on.field-0.0 refl (seek_found _ _ _ c.args.offset c.args.whence c.in_ok-target.target began.owes may began.begins found) c.in_err-pass_on.ensures)
 
@@ -37,13 +38,13 @@ pub returns-in_err-go_to : goal.returns-in_err-go_to
 returns-in_err-go_to g c =
     let left = err_from_is_err_and c.from_residual-in_err-go_to.result c.from_residual-in_err-go_to.ensures.1 in
     let began = c.in_ok-begin_call.ensures in
-    let may = seeks_on _ _ _ c.is_movable.result began.sound began.begins refl c.is_movable.ensures c.if-not-is_movable.false in
+    let may = seeks_on _ _ _ c.is_movable.result began.sound began.begins refl (c.is_movable.ensures ∙ ap is_movable c.live.ensures) c.if-not-is_movable.false in
     let found = subst₂ (λ (offset : ℤ) (whence : ℤ). TargetOutcome (g.S.Moves.shows c.begin_call.new.self) offset whence (Ok c.in_ok-target.target) (g.S.Moves.shows c.target.new.stream)) (to_z-of_z c.ranges.offset) (to_z-of_z c.ranges.whence) c.in_ok-target.ensures in
     rw (left.1, left.2) (seeking_fails _ _ _ _ _ c.args.offset c.args.whence c.in_ok-target.target c.in_err-go_to.field-0.0 refl (seek_found _ _ _ c.args.offset c.args.whence c.in_ok-target.target began.owes may began.begins found) c.in_ok-pass_on.ensures c.in_err-go_to.ensures)
 
 pub returns : goal.returns
 returns g c =
     let began = c.in_ok-begin_call.ensures in
-    let may = seeks_on _ _ _ c.is_movable.result began.sound began.begins refl c.is_movable.ensures c.if-not-is_movable.false in
+    let may = seeks_on _ _ _ c.is_movable.result began.sound began.begins refl (c.is_movable.ensures ∙ ap is_movable c.live.ensures) c.if-not-is_movable.false in
     let found = subst₂ (λ (offset : ℤ) (whence : ℤ). TargetOutcome (g.S.Moves.shows c.begin_call.new.self) offset whence (Ok c.in_ok-target.target) (g.S.Moves.shows c.target.new.stream)) (to_z-of_z c.ranges.offset) (to_z-of_z c.ranges.whence) c.in_ok-target.ensures in
     seeking_arrives _ _ _ _ _ c.args.offset c.args.whence c.in_ok-target.target refl (seek_found _ _ _ c.args.offset c.args.whence c.in_ok-target.target began.owes may began.begins found) c.in_ok-pass_on.ensures c.in_ok-go_to.ensures
