@@ -1,20 +1,17 @@
 -- The calls that give nothing, or bytes, by what the stream is opened for: what holds when a call begins, and what its steps come to.
-use Rattle.std.proofs.Common.{[], ◌≡◌, ℕ, ◌+◌, ◌≤◌, Bool, true, false, length, Result, Ok, Err, IfOk, refl, sym, ap, subst, arith}
+use Rattle.std.proofs.Common.{[], ◌≡◌, ℕ, Bool, true, false, length, Result, Ok, Err, IfOk, refl, sym, ap, subst, arith}
 use Rattle.py_flat.specs.declared.fault.IoFault.{IoFault}
 use Rattle.py_flat.specs.declared.life.Life.TheVariants as life
-use Rattle.py_flat.specs.Limits.{greatest_place}
-use Rattle.py_flat.specs.Calls.{FileCall, Flush, Close, Refused}
-use Rattle.py_flat.specs.BinaryStep.{payload}
+use Rattle.py_flat.specs.Calls.{Flush, Close, Refused}
 use Rattle.py_stream.specs.declared.access.Access.{Access}
 use Rattle.py_stream.specs.declared.access.Access.TheVariants as access
 use Rattle.py_stream.specs.Access.{can_of, is_read, is_written}
-use Rattle.py_stream.specs.Kinds.{is_writing}
 use Rattle.py_stream.specs.Replies.{done_reply}
 use Rattle.py_stream.specs.Answers.{Answers}
 use Rattle.py_stream.specs.Moving.{Begins, keeps_pending, OwesBy, SettlesBy}
 use Rattle.py_stream.specs.Ending.{CloseRawOutcome}
-use Rattle.py_stream.proofs.Giving.{of_both}
-use Rattle.py_stream.proofs.Given.{Begun}
+use Rattle.py_stream.specs.Taking.{MayTake, BeginsWriting}
+use Rattle.py_stream.proofs.Given.{writing_refused}
 use Rattle.py_stream.proofs.Showing.{IsWriting}
 use Rattle.py_stream.proofs.PassingOn.{begun}
 use Rattle.py_stream.proofs.Flushing.{flush_answers}
@@ -97,9 +94,13 @@ settles_by opened old new result is passed = grind arith
 
 -- Giving bytes.
 
--- a call that gives bytes begins, where these have a place
-pub writing_begun : (first old : EngineView) (call : FileCall) → is_writing call ≡ true → Stands first → is_read first.access ≡ false → BeginOutcome first (Ok tt) old → place_of old.window + length (payload call) ≤ greatest_place → Begun (stream_of first) (stream_of old) call
-writing_begun first old call writing is writes began within = grind (arith, begins, is_sound, owes_behind, writes_only, of_both)
+-- a call that gives bytes begins, or is refused
+pub begins_writing : (old new : EngineView) (result : Result (Unit {0}) IoFault) → Stands old → is_read old.access ≡ false → BeginOutcome old result new → BeginsWriting (stream_of old) result (stream_of new)
+begins_writing old new (Ok done) is writes began =
+    let started : EngineView = record old { short = false } in
+    let stands : Stands started = stands_whole old is in
+    (subst (λ (engine : EngineView). MayTake (stream_of engine)) (sym began.1) (record { live = began.0; writes = (writes_only old.access old.raw.seekable writes).0; sound = is_sound started stands; behind = owes_behind started stands writes }), ap stream_of began.1)
+begins_writing old new (Err why) is writes began = writing_refused (stream_of old) (stream_of new) why (is_placed old is) (begins old new (Err why) began)
 
 -- an engine that reads doesn't write
 pub reads_alone : (opened : Access) (engine : EngineView) → engine.access ≡ opened → Stands engine → is_read opened ≡ true → is_written opened ≡ false

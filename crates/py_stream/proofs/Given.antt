@@ -1,5 +1,5 @@
 -- The answers of the calls that give bytes to a stream, by what their steps came to.
-use Rattle.std.proofs.Common.{◌≡◌, ℕ, ◌+◌, ◌-◌, ◌<◌, ◌≤◌, inl, inr, Bool, true, false, IsTrue, List, [], ◌++◌, length, take, drop, Option, Result, Ok, Err, refl, sym, ap, ◌∙◌, subst, arith, None, rules}
+use Rattle.std.proofs.Common.{◌≡◌, ℕ, ◌+◌, ◌-◌, ◌<◌, ◌≤◌, inl, inr, Bool, true, false, IsTrue, List, [], ◌++◌, length, take, drop, Option, is_some, Result, Ok, Err, refl, sym, ap, ◌∙◌, subst, arith, None, rules}
 use Rattle.std.proofs.Math.Seq.{take-append_seam}
 use Rattle.std.proofs.lemmas.List.{length-take-le, take_all, take-append-le, append-nil, drop-take}
 use Rattle.py_flat.specs.declared.fault.IoFault.{IoFault}
@@ -8,7 +8,8 @@ use Rattle.py_flat.specs.declared.life.Life.{Life}
 use Rattle.py_flat.specs.declared.life.Life.TheVariants as life
 use Rattle.py_flat.specs.Bytes.{lay}
 use Rattle.py_flat.specs.Causes.{Rose}
-use Rattle.py_flat.specs.Calls.{FileCall, FileReply, Write, Refused}
+use Rattle.py_flat.specs.Limits.{greatest_place}
+use Rattle.py_flat.specs.Calls.{FileCall, FileReply, Write, WriteLines, Refused}
 use Rattle.py_flat.specs.AllowedStep.{settled, waited_for, raw_faulted, out_of_memory}
 use Rattle.py_flat.specs.BinaryStep.{payload, SettledBy, BinaryStep, does_work}
 use Rattle.py_raw.specs.RawStream.{WhereTransfers, WhereTold}
@@ -17,14 +18,17 @@ use Rattle.py_stream.specs.Kinds.{is_writing, goes_on, makes_one, says_fault, sa
 use Rattle.py_stream.specs.Writing.{Takes, OwesNoneOfIts, TookOwn, BlocksFull}
 use Rattle.py_stream.specs.Answers.{Answers, LifeMoves, PlaceMoves, HasCauses, IsCounted}
 use Rattle.py_stream.specs.Keeping.{KeepsOn}
-use Rattle.py_stream.specs.Taking.{Took, TookAll, FailsTaking, Calm, WaitsAsOne, CutsBack, Starved, StarvesTaking, FillsUp, PutOutcome, PutsOutcome}
+use Rattle.py_stream.specs.Taking.{Took, TookAll, FailsTaking, Calm, WaitsAsOne, CutsBack, Starved, StarvesTaking, FillsUp, MayTake, BeginsWriting, PutOutcome, PutsOutcome}
 use Rattle.py_stream.proofs.Begun.{answers_whole}
-use Rattle.py_stream.specs.Moving.{Begins}
+use Rattle.py_flat.specs.Lines.{joined}
+use Rattle.py_stream.specs.Moving.{EndsWithin, Begins}
 use Rattle.py_stream.proofs.Refused.{nothing_blocked}
 use Rattle.py_stream.proofs.Stopping.{says_short, fault_answers, starves_alive, starves_there, starve_answers, work_reaches}
 use Rattle.py_stream.proofs.Taking.{fails_sound}
 use Rattle.py_stream.proofs.Flat.{took_ends, fails_ends, took_bytes, took_file, took_none_ends, took_none_file, failed_file, fails_bytes, lays_taken, fails_lays}
-use Rattle.py_stream.proofs.Giving.{MayWrite, answers_coming, accepted, works, no_tell, calm_counts, one_counts, TakesCount, taken_reply, is_taken, WaitsCount, waited_reply, is_blocked, FailsCount, is_faulted, IsPart, StepsBy}
+use Rattle.py_stream.proofs.Alone.{begins_in_vain}
+use Rattle.py_stream.proofs.Refusing.{IsPlaced}
+use Rattle.py_stream.proofs.Giving.{of_both, writing_too_far, lines_fit, MayWrite, answers_coming, accepted, works, no_tell, calm_counts, one_counts, TakesCount, taken_reply, is_taken, WaitsCount, waited_reply, is_blocked, FailsCount, is_faulted, IsPart, StepsBy}
 use Rattle.py_flat.specs.Refusals.{refusal}
 use Rattle.py_flat.specs.FlatFile.{FlatFile}
 
@@ -168,6 +172,30 @@ pub record Begun (first old : Stream) (call : FileCall) : Type 0 where
   pub may : MayWrite old call
   pub many : makes_one old.buffer call ≡ false
   pub goes : goes_on old.buffer call ≡ true
+
+-- it began as every call does
+pub writing_begins : (first old : Stream) → BeginsWriting first (Ok tt) old → Begins first (Ok tt) old
+writing_begins first old began = (sym (ap (λ (stream : Stream). stream.life) began.1) ∙ began.0.live, began.1)
+
+-- a call that began, and whose bytes have a place
+pub begun_on : (first old : Stream) (call : FileCall) → is_writing call ≡ true → makes_one old.buffer call ≡ false → goes_on old.buffer call ≡ true → BeginsWriting first (Ok tt) old → old.place + length (payload call) ≤ greatest_place → Begun first old call
+begun_on first old call writing many goes began within = grind arith
+
+-- lines that have a place, as it was tried
+pub lines_begun : (first old : Stream) (lines : List (List ℕ)) (start : ℕ) (found : Option ℕ) → BeginsWriting first (Ok tt) old → start ≡ old.place → EndsWithin (start + length (joined lines)) found → is_some found ≡ true → Begun first old (WriteLines lines)
+lines_begun first old lines start found began at ends some = begun_on first old (WriteLines lines) refl refl refl began (subst (λ (place : ℕ). place + length (joined lines) ≤ greatest_place) at (lines_fit (start + length (joined lines)) found ends some))
+
+-- one whose bytes would end past the greatest place is refused
+pub writing_past : (first old : Stream) (call : FileCall) → is_writing call ≡ true → BeginsWriting first (Ok tt) old → greatest_place < old.place + length (payload call) → Answers first call (Refused fault.TooFar) old
+writing_past first old call writing began past =
+    let before : Stream = record first { short = false } in
+    let may : MayTake before = subst MayTake began.1 began.0 in
+    answers_whole first old call (Refused fault.TooFar)
+    (writing_too_far before old call writing (record { far = may.sound.far; near = may.sound.near }) may.writes (may.live, began.1) (subst (λ (stream : Stream). greatest_place < stream.place + length (payload call)) began.1 past))
+
+-- a call that gives bytes, which the life refuses
+pub writing_refused : (before after : Stream) (why : IoFault) → IsPlaced before → Begins before (Err why) after → (call : FileCall) → is_writing call ≡ true → Answers before call (Refused why) after
+writing_refused before after why placed begins = of_both (λ (call : FileCall). Answers before call (Refused why) after) (λ bytes. begins_in_vain before after (Write bytes) why placed refl refl refl refl begins) (λ lines. begins_in_vain before after (WriteLines lines) why placed refl refl refl refl begins)
 
 whole : (first old : Stream) → Begins first (Ok tt) old → old.short ≡ false
 whole first old began = ap (λ (stream : Stream). stream.short) began.1

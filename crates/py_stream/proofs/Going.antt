@@ -17,7 +17,7 @@ use Rattle.py_raw.specs.RawStream.{WhereTold, LeavesCounts}
 use Rattle.py_raw.proofs.Telling.{tells_its_bytes}
 use Rattle.py_raw.proofs.ReadingOn.{no_fault_then, no_wait_then}
 use Rattle.py_stream.specs.Stream.{Span, Stream, file_of, nothing_owed}
-use Rattle.py_stream.specs.Writing.{LaysFront, Writes}
+use Rattle.py_stream.specs.Writing.{Writes}
 use Rattle.py_stream.specs.Answers.{Answers, Leaves, SeeksTo, SeeksFromEnd, InHandOf, InHand, SparesBytes, IsCounted}
 use Rattle.py_stream.specs.Keeping.{KeepsOn}
 use Rattle.py_stream.specs.Settling.{PassesSome, LivesOn, SettleOutcome}

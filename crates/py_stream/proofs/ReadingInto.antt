@@ -22,7 +22,7 @@ use Rattle.py_stream.specs.Kinds.{by_several}
 use Rattle.py_stream.specs.Stream.{Stream, file_of}
 use Rattle.py_stream.specs.Answers.{Answers, EachBrings, ahead}
 use Rattle.py_stream.specs.Reading.{KeepsReading, Reaches, Gives, FailsReading, FailsMoved, StarvesReading, StopOutcome, RestOutcome, wanted_by, reply_by, has_answer, answered_at, GatherOutcome}
-use Rattle.py_stream.specs.ReadingOn.{MayRead, StepsOn, StepsNone, StepFails, StarvesWith, StepOutcome, ReadsInto, HoldsLess, FailsStarved, StarvesIn, ReadIntoOutcome, ReadsMore, ReadMoreOutcome}
+use Rattle.py_stream.specs.ReadingOn.{MayRead, StepsOn, StepsNone, StepFails, StarvesWith, StepOutcome, ReadsInto, FailsStarved, StarvesIn, ReadIntoOutcome, ReadsMore, ReadMoreOutcome}
 use Rattle.py_stream.proofs.Coming.{each_still, each_seen, each_then}
 use Rattle.py_stream.proofs.ReadingSteps.{more_taken, next_behind, within_end, next_reaches, same_bytes, gives_then, waits_once_then, still_tells, uncounted, keeps_then, keeps_failed}
 use Rattle.py_stream.proofs.ReadingAnswers.{Reads, ReadingBegins}

@@ -1,5 +1,5 @@
 -- What a reading that goes on answers, by where it stopped: of all that is left, of a size, of a line, of lines.
-use Rattle.std.proofs.Common.{◌≡◌, ◌≢◌, ℕ, ◌+◌, ◌<◌, ◌≤◌, ◌⊎◌, inl, inr, Bool, true, false, ◌||◌, IsTrue, List, [], ◌∷◌, ◌++◌, length, take, drop, replicate, Option, None, Result, Ok, Err, refl, sym, ap, ◌∙◌, subst, arith, rules}
+use Rattle.std.proofs.Common.{◌≡◌, ◌≢◌, ℕ, ◌+◌, ◌<◌, ◌≤◌, inl, inr, Bool, true, false, ◌||◌, IsTrue, List, [], ◌∷◌, ◌++◌, length, take, drop, replicate, Option, None, Result, Ok, Err, refl, sym, ap, ◌∙◌, subst, arith, rules}
 use Rattle.std.proofs.lemmas.List.{append-nil, nil_from_length, length-append, length-replicate, take_all, take-take, take-append-drop}
 use Rattle.std.proofs.Math.ListN.{drop_of_length-le}
 use Rattle.std.proofs.Math.Seq.{take-append_seam}
@@ -9,23 +9,21 @@ use Rattle.py_flat.specs.declared.fault.IoFault.{IoFault}
 use Rattle.py_flat.specs.declared.fault.IoFault.TheVariants as fault
 use Rattle.py_flat.specs.declared.life.Life.TheVariants as life
 use Rattle.py_flat.specs.Lines.{lines_of, joined}
-use Rattle.py_flat.specs.Causes.{counted}
 use Rattle.py_flat.specs.Calls.{FileCall, Read, ReadLine, ReadLines, NotReady, Refused, FileReply, Bytes, Lines}
 use Rattle.py_flat.specs.ExactStep.{rest}
 use Rattle.py_flat.specs.BinaryStep.{IsFrontOf}
 use Rattle.py_lines.specs.Collecting.{LineView, LinesView, line_wanted, lines_wanted}
-use Rattle.py_raw.specs.RawStream.{Raw, WhereTold}
-use Rattle.py_raw.proofs.Telling.{tells_its_bytes}
+use Rattle.py_raw.specs.RawStream.{WhereTold}
 use Rattle.py_stream.specs.declared.stop.Stop.{Stop}
 use Rattle.py_stream.specs.declared.stop.Stop.TheVariants as stops
 use Rattle.py_stream.specs.Stream.{Stream, file_of}
 use Rattle.py_stream.specs.Kinds.{has_room, takes_space_first, asks_none, by_several}
-use Rattle.py_stream.proofs.Coming.{came_unread, came_more, each_more}
+use Rattle.py_stream.proofs.Coming.{each_more}
 use Rattle.py_stream.specs.Answers.{Answers, ahead}
-use Rattle.py_stream.specs.Reading.{KeepsReading, ComesNext, Gives, StarvesReading, StopOutcome, RestOutcome, has_answer, answered_at, wanted_by, reply_by, GathersEnough, GathersFront, Gathers, IsOpen, WantsHeld, StarvesWanting, GatherOutcome}
+use Rattle.py_stream.specs.Reading.{ComesNext, Gives, StarvesReading, StopOutcome, RestOutcome, has_answer, answered_at, wanted_by, reply_by, GathersEnough, GathersFront, Gathers, IsOpen, WantsHeld, StarvesWanting, GatherOutcome}
 use Rattle.py_stream.proofs.ReadingCalls.{reading_on, on_suits, nothing_held, in_hand_held, wanted_within, is_several}
 use Rattle.py_stream.proofs.ReadingSteps.{next_parts}
-use Rattle.py_stream.proofs.ReadingAnswers.{works, Reads, ReadingBegins, answers_coming, answers_begun}
+use Rattle.py_stream.proofs.ReadingAnswers.{Reads, ReadingBegins, answers_begun}
 use Rattle.py_stream.proofs.ReadingStops.{answers_unready, several_asks, answers_faulted, unmoved, answers_failing, answers_stopped}
 use Rattle.py_flat.specs.Bytes.{left_at}
 use Rattle.py_stream.proofs.LineReadings.{all_by_several, begun as begins}

@@ -11,7 +11,7 @@ use Rattle.py_flat.specs.Calls.{FileCall, FileReply, NotReady, Refused, Lines, R
 use Rattle.py_flat.specs.FlatFile.{FlatFile}
 use Rattle.py_flat.specs.Refusals.{lacks}
 use Rattle.py_flat.specs.ExactStep.{rest, after_read}
-use Rattle.py_flat.specs.AllowedStep.{settled, waited_for}
+use Rattle.py_flat.specs.AllowedStep.{settled}
 use Rattle.py_flat.specs.BinaryStep.{BinaryStep, Accepted, SettledBy, GivesPart, WaitedBy, StarvedBy, does_work}
 use Rattle.py_flat.proofs.Cutting.{joined_lines}
 use Rattle.py_lines.proofs.Lines.{lines_left}

@@ -1,5 +1,5 @@
 -- A seek of any stream that may be moved, as its steps come.
-use Rattle.std.proofs.Common.{◌≡◌, ℕ, ℤ, Bool, true, false, ◌&&◌, Option, Some, None, is_some, Ok, Err, refl, sym, ap, ◌∙◌, subst, arith}
+use Rattle.std.proofs.Common.{◌≡◌, ℕ, ℤ, Bool, true, false, ◌&&◌, Option, Some, None, is_some, Ok, Err, sym, ◌∙◌, subst, arith}
 use Rattle.py_flat.specs.declared.fault.IoFault.{IoFault}
 use Rattle.py_flat.specs.Calls.{Seek, Place, Refused}
 use Rattle.py_stream.specs.Stream.{Stream}

@@ -11,12 +11,12 @@ use Rattle.py_flat.specs.Limits.{greatest_place}
 use Rattle.py_flat.specs.Calls.{Flush, Close, FileReply, Done, Refused}
 use Rattle.py_flat.specs.FlatFile.{FlatFile}
 use Rattle.py_flat.specs.ExactStep.{in_life}
-use Rattle.py_flat.specs.AllowedStep.{settled, raw_faulted}
+use Rattle.py_flat.specs.AllowedStep.{settled}
 use Rattle.py_flat.specs.BinaryStep.{BinaryStep, SettledBy}
 use Rattle.py_raw.specs.RawStream.{WhereTold, NoWait, KeepsReads}
 use Rattle.py_raw.proofs.Telling.{tells_its_bytes}
 use Rattle.py_raw.proofs.ReadingOn.{Keeps-then, no_fault_then, no_wait_then}
-use Rattle.py_stream.specs.Stream.{Stream, buffering_of, file_of, nothing_owed}
+use Rattle.py_stream.specs.Stream.{Stream, file_of, nothing_owed}
 use Rattle.py_stream.specs.Kinds.{says_fault, says_no_memory}
 use Rattle.py_stream.specs.Replies.{done_reply}
 use Rattle.py_stream.specs.Writing.{NoneAtPlace, PassesFront, LaysFront, PassedOn, PassesOn, BlocksFull, Writes}

@@ -1,5 +1,5 @@
 -- The answers of `truncate`, as its steps come: what refuses it, what is passed on before, and the giving of the size.
-use Rattle.std.proofs.Common.{◌≡◌, ℕ, ◌<◌, ◌≤◌, ◌⊎◌, inl, inr, Bool, true, false, List, [], Option, Some, None, IsSome, Result, Ok, Err, refl, sym, ap, ◌∙◌, subst, arith}
+use Rattle.std.proofs.Common.{◌≡◌, ℕ, ◌<◌, ◌≤◌, ◌⊎◌, inl, inr, Bool, true, false, List, [], Option, Some, None, IsSome, Ok, Err, refl, sym, ap, ◌∙◌, subst, arith}
 use Rattle.py_flat.specs.declared.fault.IoFault.{IoFault}
 use Rattle.py_flat.specs.declared.fault.IoFault.TheVariants as fault
 use Rattle.py_flat.specs.declared.life.Life.TheVariants as life
@@ -10,8 +10,8 @@ use Rattle.py_flat.specs.Calls.{FileCall, Truncate, Place, Refused}
 use Rattle.py_flat.specs.FlatFile.{FlatFile}
 use Rattle.py_flat.specs.Refusals.{refusal, lacks}
 use Rattle.py_flat.specs.ExactStep.{is_closed, truncated}
-use Rattle.py_flat.specs.AllowedStep.{settled, raw_faulted}
-use Rattle.py_flat.specs.BinaryStep.{BinaryStep, SettledBy, Fails, FaultedBy}
+use Rattle.py_flat.specs.AllowedStep.{raw_faulted}
+use Rattle.py_flat.specs.BinaryStep.{SettledBy, Fails, FaultedBy}
 use Rattle.py_raw.specs.RawStream.{WhereTold, NoWait}
 use Rattle.py_raw.proofs.Telling.{keeps_same, tells_its_bytes}
 use Rattle.py_raw.proofs.ReadingOn.{no_fault_then, no_wait_then}

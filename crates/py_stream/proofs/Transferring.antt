@@ -1,5 +1,5 @@
 -- What a transfer brings into the front of a buffer, as far as it may be filled.
-use Rattle.std.proofs.Common.{◌≡◌, ◌≢◌, ℕ, zero, suc, ◌+◌, ◌<◌, ◌≤◌, IsTrue, List, [], ◌∷◌, ◌++◌, length, take, drop, Option, Some, None, Ok, refl, sym, ap, ◌∙◌, arith}
+use Rattle.std.proofs.Common.{◌≡◌, ◌≢◌, ℕ, zero, suc, ◌+◌, ◌<◌, ◌≤◌, IsTrue, List, [], ◌∷◌, ◌++◌, length, take, drop, Option, Some, None, Ok, refl, arith}
 use Rattle.std.proofs.lemmas.List.{length-append, length-take-le, take-append-le}
 use Rattle.py_flat.specs.Limits.{greatest_place}
 use Rattle.py_raw.specs.RawStream.{Raw, WhereTold, ReadBytes, ReadOutcome}

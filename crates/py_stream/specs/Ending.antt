@@ -1,5 +1,5 @@
 -- The steps of closing a stream, and of handing its raw back.
-use Rattle.std.specs.Prelude.{◌≡◌, ◌≤◌, false, true, IsTrue, Result, Ok, Err}
+use Rattle.std.specs.Prelude.{◌≡◌, ◌≤◌, true, IsTrue, Result, Ok, Err}
 use Rattle.py_flat.specs.declared.fault.IoFault.{IoFault}
 use Rattle.py_flat.specs.declared.fault.IoFault.TheVariants as fault
 use Rattle.py_flat.specs.declared.life.Life.{Life}

@@ -8,7 +8,10 @@ use Rattle.py_flat.specs.Causes.{Rose}
 use Rattle.py_raw.specs.RawStream.{Raw, WhereTold, NoFault, NoWait, WaitsOnce, AnswersFor}
 use Rattle.py_stream.specs.Stream.{Stream, size_of}
 use Rattle.py_stream.specs.Writing.{OwesBehind, OwesOld}
-use Rattle.py_stream.specs.Keeping.{KeepsOn}
+use Rattle.py_flat.specs.Calls.{FileCall, Refused}
+use Rattle.py_stream.specs.Kinds.{is_writing}
+use Rattle.py_stream.specs.Answers.{Answers}
+use Rattle.py_stream.specs.Keeping.{IsSound, KeepsOn}
 
 -- Waits: a stream with a buffer may go on over one, as that has room; without a buffer each ends the call.
 
@@ -70,7 +73,19 @@ pub record Lacks (old : Stream) (bytes : List ℕ) (new : Stream) : Type 0 where
   pub takes : IsTrue old.raw.takes_memory
   pub took : Took old bytes new
 
--- A call that writes, from a place on.
+-- A call that gives bytes, from a place on.
+
+-- a stream that may take bytes: it lives and writes, and owes what lies right before its place
+pub record MayTake (stream : Stream) : Type 0 where
+  pub live : stream.life ≡ life.Live
+  pub writes : stream.can.writable ≡ true
+  pub sound : IsSound stream
+  pub behind : OwesBehind stream
+
+-- a call that gives bytes begins, and no answer is short yet; or it is refused, and the refusal answers it, whichever call it is
+abbrev pub BeginsWriting : Stream → Result (Unit {0}) IoFault → Stream → Type 0
+BeginsWriting old (Ok done) new = MayTake new × (new ≡ record old { short = false })
+BeginsWriting old (Err why) new = (call : FileCall) → is_writing call ≡ true → Answers old call (Refused why) new
 
 -- the stream as it was, but without the bytes that it owes from a place on, where it then stands
 pub record CutsBack (start : ℕ) (old new : Stream) : Type 0 where

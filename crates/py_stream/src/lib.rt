@@ -29,7 +29,7 @@ pub use moves::{Moves, refuse, seek, tell, truncate};
 pub use moving::{end_of_lines, life_fault, moved_by};
 pub use new_refused::NewRefused;
 pub use opening::{first_place, refused_at_first, refused_raw};
-pub use piecewise::{TakesPieces, take_lines};
+pub use piecewise::{TakesPieces, write_lines};
 pub use py_flat::Whence;
 pub use reading_on::{ReadsOn, read_into, read_line, read_lines, read_rest};
 pub use stop::{Progress, Step, Stop};

@@ -1,19 +1,39 @@
 //! Pieces of a caller's bytes that a stream takes, one after the other.
-ghost use Rattle.std.specs.Prelude.{◌≡◌, ◌+◌, ◌≤◌, true, length};
+ghost use Rattle.std.specs.Prelude.{◌≡◌, ◌+◌, ◌≤◌, true, length, IfOk};
 ghost use Rattle.py_flat.specs.declared.life.Life.TheVariants.{Live};
 ghost use Rattle.py_flat.specs.Limits.{greatest_place};
 ghost use Rattle.py_flat.specs.Lines.{joined};
 ghost use Rattle.py_stream.specs.Stream.{Stream};
 ghost use Rattle.py_stream.specs.Keeping.{IsSound};
 ghost use Rattle.py_stream.specs.Writing.{OwesBehind};
-ghost use Rattle.py_stream.specs.Taking.{PutsOutcome};
+ghost use Rattle.py_stream.specs.Taking.{BeginsWriting, PutsOutcome};
+ghost use Rattle.py_flat.specs.Calls.{WriteLines};
+ghost use Rattle.py_stream.specs.Answers.{Answers};
+ghost use Rattle.py_stream.specs.Replies.{done_reply};
 
+use crate::end_of_lines;
 use py_raw::{IoFault, Lines};
 
 /// A stream that takes a caller's bytes, piece by piece.
 pub trait TakesPieces {
     /// What the stream is seen as.
     ghost shows: { Self → Stream };
+
+    /// When a call that gives bytes may begin.
+    ghost may_begin: { Self → Type 0 };
+
+    /// Begins a call that gives bytes, or refuses it, with all as it was. No answer is short yet.
+    fn begin_writing(&mut self) -> Result<(), IoFault>
+        requires may { may_begin self.old }
+        ensures { BeginsWriting (shows self.old) result (shows self.new) };
+
+    /// The stream's place, in bytes from the start of the file; pending writes count.
+    fn next_place(&self) -> u64
+        ensures { result ≡ (shows self.now).place };
+
+    /// Notes that a wait cut the answer short.
+    fn note_short(&mut self)
+        ensures { shows self.new ≡ record (shows self.old) { short = true } };
 
     /// Takes a piece for a call that began at a place; false where the raw would have blocked, and some of it is left over.
     fn take_piece(&mut self, piece: &[u8], start: u64) -> Result<bool, IoFault>
@@ -25,11 +45,7 @@ pub trait TakesPieces {
 }
 
 /// Takes each line, for a call that begins here; false where some of them are left over.
-pub fn take_lines<S: TakesPieces>(
-    stream: &mut S,
-    lines: &Lines,
-    start: u64,
-) -> Result<bool, IoFault>
+fn take_lines<S: TakesPieces>(stream: &mut S, lines: &Lines, start: u64) -> Result<bool, IoFault>
     requires live { (S.shows stream.old).life ≡ Live }
     requires writes { (S.shows stream.old).can.writable ≡ true }
     requires sound { IsSound (S.shows stream.old) }
@@ -44,4 +60,23 @@ pub fn take_lines<S: TakesPieces>(
         }
     }
     Ok(true)
+}
+
+/// Takes lines, as one write of them joined.
+pub fn write_lines<S: TakesPieces>(stream: &mut S, lines: &Lines) -> Result<(), IoFault>
+    requires may { S.may_begin stream.old }
+    ensures { Answers (S.shows stream.old) (WriteLines lines.now) (done_reply result) (S.shows stream.new) }
+{
+    stream.begin_writing()?;
+    let start = stream.next_place();
+    if end_of_lines(start, lines).is_none() {
+        return Err(IoFault::TooFar);
+    }
+    if take_lines(stream, lines, start)? {
+        return Ok(());
+    }
+    stream.note_short();
+    Err(IoFault::WouldBlock {
+        taken: stream.next_place() - start,
+    })
 }

@@ -13,10 +13,25 @@ ghost use Rattle.py_engine.specs.Passing.{room_behind, HandOnOutcome, FitOutcome
 use super::BufferedData;
 use super::passing_on::Passed;
 use py_raw::{GREATEST_PLACE, IoFault, Life, Lines, RawStream};
-use py_stream::{TakesPieces, end_of_lines, take_lines};
+use py_stream::{TakesPieces, write_lines};
 
 impl<R: RawStream> TakesPieces for BufferedData<R> {
     ghost shows = { stream_of };
+
+    ghost may_begin = { λ engine. is_read engine.access ≡ false };
+
+    fn begin_writing(&mut self) -> Result<(), IoFault> {
+        let _ = &self.live;
+        self.begin()
+    }
+
+    fn next_place(&self) -> u64 {
+        self.window.place()
+    }
+
+    fn note_short(&mut self) {
+        self.live.note_wait(true);
+    }
 
     fn take_piece(&mut self, piece: &[u8], start: u64) -> Result<bool, IoFault> {
         let _ = &self.live;
@@ -30,8 +45,7 @@ impl<R: RawStream> BufferedData<R> {
         requires writes { is_read self.old.access ≡ false }
         ensures { Answers (stream_of self.old) (Write bytes.now) (count_reply result) (stream_of self.new) }
     {
-        let _ = &self.live;
-        self.begin()?;
+        self.begin_writing()?;
         let start = self.window.place();
         if bytes.len() as u64 > GREATEST_PLACE - start {
             return Err(IoFault::TooFar);
@@ -48,17 +62,7 @@ impl<R: RawStream> BufferedData<R> {
         requires writes { is_read self.old.access ≡ false }
         ensures { Answers (stream_of self.old) (WriteLines lines.now) (done_reply result) (stream_of self.new) }
     {
-        let _ = &self.live;
-        self.begin()?;
-        let start = self.window.place();
-        if end_of_lines(start, lines).is_none() {
-            return Err(IoFault::TooFar);
-        }
-        if take_lines(self, lines, start)? {
-            Ok(())
-        } else {
-            Err(self.blocked(start))
-        }
+        write_lines(self, lines)
     }
 
     /// The refusal of a call that a wait stopped, which says how many bytes were taken from the place on where it began.

@@ -10,10 +10,30 @@ ghost use Rattle.py_stream.specs.Access.{can_of};
 
 use super::UnbufferedData;
 use py_raw::{GREATEST_PLACE, IoFault, Lines, RawStream};
-use py_stream::{TakesPieces, end_of_lines, take_lines};
+use py_stream::{TakesPieces, write_lines};
 
 impl<R: RawStream> TakesPieces for UnbufferedData<R> {
     ghost shows = { stream_of };
+
+    ghost may_begin = { λ engine. Unit {0} };
+
+    fn begin_writing(&mut self) -> Result<(), IoFault> {
+        let _ = &self.live;
+        self.begin()?;
+        if self.writes() {
+            Ok(())
+        } else {
+            Err(IoFault::Unsupported)
+        }
+    }
+
+    fn next_place(&self) -> u64 {
+        self.place
+    }
+
+    fn note_short(&mut self) {
+        self.live.note_wait(true);
+    }
 
     /// Hands all of a piece to the raw.
     fn take_piece(&mut self, piece: &[u8], start: u64) -> Result<bool, IoFault> {
@@ -34,11 +54,7 @@ impl<R: RawStream> UnbufferedData<R> {
     pub fn write(&mut self, bytes: &[u8]) -> Result<Option<usize>, IoFault>
         ensures { Answers (stream_of self.old) (Write bytes.now) (taken_reply result) (stream_of self.new) }
     {
-        let _ = &self.live;
-        self.begin()?;
-        if !self.writes() {
-            return Err(IoFault::Unsupported);
-        }
+        self.begin_writing()?;
         if bytes.len() as u64 > GREATEST_PLACE - self.place {
             return Err(IoFault::TooFar);
         }
@@ -51,22 +67,7 @@ impl<R: RawStream> UnbufferedData<R> {
     pub fn writelines(&mut self, lines: &Lines) -> Result<(), IoFault>
         ensures { Answers (stream_of self.old) (WriteLines lines.now) (done_reply result) (stream_of self.new) }
     {
-        let _ = &self.live;
-        self.begin()?;
-        if !self.writes() {
-            return Err(IoFault::Unsupported);
-        }
-        let start = self.place;
-        if end_of_lines(start, lines).is_none() {
-            return Err(IoFault::TooFar);
-        }
-        if take_lines(self, lines, start)? {
-            return Ok(());
-        }
-        self.note_wait(true);
-        Err(IoFault::WouldBlock {
-            taken: self.place - start,
-        })
+        write_lines(self, lines)
     }
 
     /// One transfer to the raw. `moved` tells whether bytes had moved in this call.

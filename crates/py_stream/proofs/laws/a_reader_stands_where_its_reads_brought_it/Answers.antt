@@ -3,7 +3,7 @@ use Rattle.py_flat.specs.Owed.{Owed}
 use Rattle.py_flat.specs.FlatFile.{Abilities}
 use Rattle.py_flat.specs.Calls.{FileCall, FileReply}
 use Rattle.py_stream.specs.Stream.{Stream, nothing_owed}
-use Rattle.py_stream.specs.Kinds.{is_reading, is_seek, moves_raw}
+use Rattle.py_stream.specs.Kinds.{is_reading, is_seek}
 use Rattle.py_stream.specs.Answers.{Answers, CameByReads}
 use Rattle.py_stream.specs.Laws.{AnswersEach, none_seeks}
 use Rattle.py_stream.proofs.Coming.{came_still, came_unread, came_more, came_then}

@@ -1,4 +1,4 @@
-use Rattle.std.proofs.Common.{◌≡◌, ◌+◌, ℕ, ◌≤◌, length, unwrap_or, Ok, sym, ap, ◌∙◌, subst, arith}
+use Rattle.std.proofs.Common.{◌+◌, ℕ, ◌≤◌, length, unwrap_or, Ok, sym, ap, ◌∙◌, subst, arith}
 use Rattle.py_flat.specs.Limits.{greatest_place}
 use Rattle.py_stream.specs.LiveRaw.{LiveView}
 use Rattle.py_unbuffered.specs.Engine.{EngineView, PutOutcome}
