@@ -6,7 +6,7 @@ ghost use Rattle.py_buffer.specs.Descriptor.{IsContiguous};
 ghost use Rattle.py_buffer.specs.Buffers.{IsOver, items_of};
 
 use crate::BufferDescriptor;
-use crate::lent::{append, collected, contiguous};
+use crate::lent::{append, contiguous, copied};
 use py_flat::IoFault;
 use std::alloc::Global;
 use std::marker::Model;
@@ -70,7 +70,7 @@ impl<'a> PyBuffer<'a> {
         append(self.bytes, &self.desc, buf)
     }
 
-    /// What `f` answers of the bytes of all items, in row order; or NoMemory, since they had to be copied.
+    /// What `f` answers of the bytes of all items, in row order; or NoMemory, where they had to be copied, as they aren't contiguous.
     pub fn contiguous_or_collect<R, F: FnOnce(&[u8]) -> R>(
         &self,
         alloc: Global,
@@ -79,7 +79,11 @@ impl<'a> PyBuffer<'a> {
         requires { F.IsAlwaysCallable f }
         ensures answer { IfOk result (λ r. FnOnceReturnsAt F.FnOnce f (items_of self.now) r) }
         ensures err { OnErr result (result ≡ Err fault.NoMemory) }
+        ensures copied { OnErr result (IsContiguous self.now.desc → ⊥) }
     {
-        collected(self.bytes, &self.desc, alloc, f)
+        match self.as_contiguous() {
+            Some(first) => Ok(f(first)),
+            None => copied(self.bytes, &self.desc, alloc, f),
+        }
     }
 }

@@ -8,7 +8,7 @@ ghost use Rattle.py_buffer.specs.Lending.{WritesAll};
 ghost use Rattle.std.specs.Borrow.{sem};
 
 use crate::BufferDescriptor;
-use crate::lent::{append, collected, contiguous};
+use crate::lent::{append, contiguous, copied};
 use crate::writing::called_on_front;
 use py_flat::IoFault;
 use std::alloc::Global;
@@ -126,7 +126,7 @@ impl<'a> PyBufferMut<'a> {
         append(&self.bytes[..], &self.desc, buf)
     }
 
-    /// What `f` answers of the bytes of all items, in row order; or NoMemory, since they had to be copied.
+    /// What `f` answers of the bytes of all items, in row order; or NoMemory, where they had to be copied, as they aren't contiguous.
     pub fn contiguous_or_collect<R, F: FnOnce(&[u8]) -> R>(
         &self,
         alloc: Global,
@@ -135,10 +135,14 @@ impl<'a> PyBufferMut<'a> {
         requires { F.IsAlwaysCallable f }
         ensures answer { IfOk result (λ r. FnOnceReturnsAt F.FnOnce f (items_of (as_read self.now)) r) }
         ensures err { OnErr result (result ≡ Err fault.NoMemory) }
+        ensures copied { OnErr result (IsContiguous self.now.desc → ⊥) }
     {
+        if let Some(first) = self.as_contiguous() {
+            return Ok(f(first));
+        }
         if self.bytes.len() != self.size {
             return Err(IoFault::NoMemory); // never so, as in `append_to`
         }
-        collected(&self.bytes[..], &self.desc, alloc, f)
+        copied(&self.bytes[..], &self.desc, alloc, f)
     }
 }

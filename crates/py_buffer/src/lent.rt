@@ -56,8 +56,8 @@ pub(crate) fn append(
     Ok(())
 }
 
-/// What `f` answers of the bytes of all items, in row order, which are copied where they don't lie so; or NoMemory.
-pub(crate) fn collected<R, F: FnOnce(&[u8]) -> R>(
+/// What `f` answers of a copy of the bytes of all items, in row order; or NoMemory.
+pub(crate) fn copied<R, F: FnOnce(&[u8]) -> R>(
     bytes: &[u8],
     desc: &BufferDescriptor,
     alloc: Global,
@@ -68,14 +68,9 @@ pub(crate) fn collected<R, F: FnOnce(&[u8]) -> R>(
     ensures answer { IfOk result (λ r. FnOnceReturnsAt F.FnOnce f (bytes_of desc.now bytes.now) r) }
     ensures err { OnErr result (result ≡ Err fault.NoMemory) }
 {
-    match contiguous(bytes, desc) {
-        Some(first) => Ok(f(first)),
-        None => {
-            let mut copied = Vec::new(alloc);
-            match append(bytes, desc, &mut copied) {
-                Ok(()) => Ok(f(copied.as_slice())),
-                Err(_) => Err(IoFault::NoMemory),
-            }
-        }
+    let mut all = Vec::new(alloc);
+    match append(bytes, desc, &mut all) {
+        Ok(()) => Ok(f(all.as_slice())),
+        Err(_) => Err(IoFault::NoMemory),
     }
 }
