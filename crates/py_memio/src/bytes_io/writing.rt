@@ -41,10 +41,11 @@ impl BytesIO {
         written
     }
 
-    /// `write`, but that it doesn't tell how many bytes were taken.
+    /// `write`, but for how many bytes were taken, which stays.
     fn lay(&mut self, bytes: &[u8]) -> Result<usize, IoFault>
         ensures answer { AnswersInMemory (is_lent self.old) self.old.file (Write bytes.now) (count_reply result) self.new.file }
         ensures exports { self.new.exports ≡ self.old.exports }
+        ensures taken { self.new.taken ≡ self.old.taken }
     {
         self.check_resizable()?;
         if bytes.len() as u64 > GREATEST_PLACE - self.place {
