@@ -106,7 +106,7 @@ fn a_real_file_keeps_what_is_written(rt: HostRuntime) -> Result<(), Fail> {
     assert_eq!(rt; &buf, b"ef\0\0");
     assert_eq!(rt; raw.readinto(&mut buf), Ok(Some(0)));
     assert_eq!(rt; raw.truncate(3), Ok(()));
-    assert_eq!(rt; raw.end(), Ok(3));
+    assert_eq!(rt; (raw.end(), raw.end_hint()), (Ok(3), Some(3)));
     assert_eq!(rt; raw.tell(), Ok(6));
     assert_eq!(rt; raw.write(b"g"), Ok(Some(1)));
     assert_eq!(rt; raw.seek(2), Ok(()));
@@ -114,7 +114,9 @@ fn a_real_file_keeps_what_is_written(rt: HostRuntime) -> Result<(), Fail> {
     assert_eq!(rt; &buf, b"c\0\0\0");
     assert_eq!(rt; raw.truncate(0), Ok(()));
     assert_eq!(rt; (raw.end(), raw.tell()), (Ok(0), Ok(6)));
+    assert_eq!(rt; raw.end_hint(), Some(0));
     assert_eq!(rt; raw.close(), Ok(()));
+    assert_eq!(rt; raw.end_hint(), None);
     fs::remove_file(&rt, path.as_path())?;
     Ok(())
 }
@@ -128,6 +130,7 @@ fn an_end_that_the_system_can_t_move_to_is_a_fault(rt: HostRuntime) -> Result<()
     let mut buf = [0; 5];
     assert_eq!(rt; raw.readinto(&mut buf), Ok(Some(5)));
     assert_eq!(rt; &buf, b"Linux");
+    assert_eq!(rt; raw.end_hint(), Some(0));
     assert_eq!(rt; raw.end(), Err(RawError::Fault));
     assert_eq!(rt; raw.last_error(), Some(ErrorKind::InvalidInput));
     assert_eq!(rt; raw.tell(), Ok(5));

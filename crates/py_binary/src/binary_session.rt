@@ -47,10 +47,9 @@ impl<R: RawStream> Model for BinarySession<R> {
 }
 
 impl<R: RawStream> BinarySession<R> {
-    /// A session over a raw that is read, written or appended to, with a buffer of `buffer_size` bytes, or none; or, without a buffer,
-    /// both read and written. It begins
-    /// where the raw stands, one that appends at the end, to which a raw that can seek is moved. A raw that can't seek stands
-    /// at place 0.
+    /// A session over a raw that is read, written or appended to, with a buffer of `buffer_size` bytes, or none; or both read and
+    /// written, for which so far there has to be no buffer. It begins where the raw stands, one that appends at the end, to which a
+    /// raw that can seek is moved. A raw that can't seek stands at place 0.
     ///
     /// Refused, the raw is handed back with nothing read or written: `Closed` where it is closed, then `Unsupported` where it
     /// can't do what it is opened for, `BadArgument` for a buffer of no bytes, `NoMemory`, and `RawFault` where it failed to say

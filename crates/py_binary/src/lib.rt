@@ -1,6 +1,6 @@
 //! Binary sessions: a stream of bytes, buffered or not, on which calls are made as values.
 //!
-//! `BinarySession` opens a raw stream for reading, writing or appending, and answers each call by the one clause of all
+//! `BinarySession` opens a raw stream for reading, writing, both of them or appending, and answers each call by the one clause of all
 //! binary streams. A `detach` hands over what the stream owes; the raw stays with the session, for `into_parts`.
 #![tactic(auto)]
 

@@ -1,6 +1,6 @@
 //! A buffered stream, which is its engine or, once its raw was handed back, what is left of it. Reader and writer are thin types
 //! over it.
-ghost use Rattle.std.specs.Prelude.{◌≡◌, ◌≢◌, ◌≢◌, ◌≤◌, ◌-◌, true, false, Some, None, IfOk, length, vec_len, if◌then◌else◌};
+ghost use Rattle.std.specs.Prelude.{◌≡◌, ◌≢◌, ◌≤◌, ◌-◌, true, false, Some, None, IfOk, length, vec_len, if◌then◌else◌};
 ghost use Rattle.py_flat.specs.Lines.{joined};
 ghost use Rattle.py_flat.specs.Calls.{FileCall, Read, Read1, ReadLine, ReadLines, Peek, ReadInto, ReadInto1, Write, WriteLines, Seek, Tell, Truncate, Flush, Close, Refused};
 ghost use Rattle.py_stream.specs.Access.{can_of, is_able};
@@ -232,7 +232,7 @@ impl<R: RawStream> Buffered<R> {
 
     /// Takes bytes, and passes on what the buffer has no room for.
     pub fn write(&mut self, bytes: &[u8]) -> Result<usize, IoFault>
-        requires writes { (seen_of self.old).can.readable ≡ false }
+        requires alone { (seen_of self.old).can.readable ≡ false }
         ensures answers { Answers (seen_of self.old) (Write bytes.now) (count_reply result) (seen_of self.new) }
         ensures taken { self.new.taken ≡ taken_of bytes.now (count_reply result) (seen_of self.old).place (seen_of self.new).place }
     {
@@ -245,7 +245,7 @@ impl<R: RawStream> Buffered<R> {
 
     /// Takes lines, as one write of them joined.
     pub fn writelines(&mut self, lines: &Lines) -> Result<(), IoFault>
-        requires writes { (seen_of self.old).can.readable ≡ false }
+        requires alone { (seen_of self.old).can.readable ≡ false }
         ensures answers { Answers (seen_of self.old) (WriteLines lines.now) (done_reply result) (seen_of self.new) }
         ensures taken { self.new.taken ≡ taken_of (joined lines.now) (done_reply result) (seen_of self.old).place (seen_of self.new).place }
     {
@@ -258,7 +258,7 @@ impl<R: RawStream> Buffered<R> {
 
     /// Takes bytes, and doesn't count them.
     fn put(&mut self, bytes: &[u8]) -> Result<usize, IoFault>
-        requires writes { (seen_of self.old).can.readable ≡ false }
+        requires alone { (seen_of self.old).can.readable ≡ false }
         ensures { Answers (seen_of self.old) (Write bytes.now) (count_reply result) (seen_of self.new) }
     {
         match &mut self.data {
@@ -269,7 +269,7 @@ impl<R: RawStream> Buffered<R> {
 
     /// Takes lines, and doesn't count them.
     fn put_lines(&mut self, lines: &Lines) -> Result<(), IoFault>
-        requires writes { (seen_of self.old).can.readable ≡ false }
+        requires alone { (seen_of self.old).can.readable ≡ false }
         ensures { Answers (seen_of self.old) (WriteLines lines.now) (done_reply result) (seen_of self.new) }
     {
         match &mut self.data {

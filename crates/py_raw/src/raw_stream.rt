@@ -161,8 +161,8 @@ pub trait RawStream {
 
     /// About how many bytes there are, counted from the start; `None` where nobody can say.
     ///
-    /// A guess, by which a reading of all takes its space at once: nothing rests on it but how much that is. A guess that is far
-    /// above the end makes such a reading run out of memory, one below it makes it take space again. It counts nothing.
+    /// A guess, by which a reading of all takes its space at once: nothing rests on it but how much that is. Where there is no memory
+    /// for so much, or the guess lies below the end, such a reading takes space again as bytes come. It counts nothing.
     fn end_hint(&self) -> Option<u64> {
         None
     }

@@ -157,7 +157,8 @@ impl<F: Read + Write + Seek + OpenFile + Drop> RawStream for FileRaw<F> {
         self.handle.take_reply(answer)
     }
 
-    /// The length that the system keeps of the file: 0 of a device, and of a file that the system makes as it is read.
+    /// The length that the system tells of the file, which is 0 of a pipe, a device and most files below `/proc`; none where it tells
+    /// none, and once the stream is closed.
     fn end_hint(&self) -> Option<u64> {
         let file = self.handle.inner.as_ref()?;
         let metadata = file.metadata().ok()?;

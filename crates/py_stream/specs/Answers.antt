@@ -240,10 +240,6 @@ SeeksByEnd before call reply after = Unit {0}
 abbrev pub WantsMemory : Bool → FileReply → Raw → Type 0
 WantsMemory room reply raw = IsTrue (says_no_memory reply) → IsTrue room → IsTrue raw.takes_memory
 
--- where the raw tells its transfers, none was made, as far as a count can tell
-abbrev pub NoTransfer : Raw → Raw → Type 0
-NoTransfer old new = WhereTransfers old ((new.transfers ≡ old.transfers) ⊎ (new.transfers ≡ counted old.transfers 0))
-
 -- running out of memory leaves a reading that goes on as it was, or fails it; where nothing was owed it leaves the raw too, and fails the
 -- stream only where bytes left the raw in this call
 pub record Starves (before after : Stream) : Type 0 where

@@ -6,9 +6,9 @@ use Rattle.py_flat.specs.Calls.{FileCall, Read, Read1, ReadLine, ReadLines, Peek
 -- Calls.
 
 -- what a call is like: it gives bytes to its caller, or takes bytes from it; it may make several transfers, or makes at most one; its space
--- is taken before anything else; its stream has room for it from the opening on, so that it needs no memory but the raw's; it asks for no byte, and so for no transfer; it calls no raw; it
--- calls the raw only to pass on what is owed, which a stream that doesn't write never does; it answers a wait with not ready; and it may go
--- on over a wait, as the buffer has room
+-- is taken before anything else; its stream has room for it from the opening on, so that it needs no memory but the raw's; it asks for no
+-- byte, and so for no transfer; it calls no raw; it calls the raw only to pass on what is owed, which a stream that doesn't write never
+-- does; it answers a wait with not ready; and it may go on over a wait, as the buffer has room
 pub record Profile : Type 0 where
   pub gives : Bool
   pub takes : Bool

@@ -1,5 +1,5 @@
 //! A raw stream under the stream that calls it.
-ghost use Rattle.std.specs.Prelude.{◌≡◌, ◌+◌, ◌<◌, ◌≤◌, false, length};
+ghost use Rattle.std.specs.Prelude.{◌≡◌, ◌+◌, ◌<◌, ◌≤◌, false, length, IfSome};
 ghost use Rattle.py_flat.specs.Limits.{greatest_place};
 ghost use Rattle.py_raw.specs.RawStream.{Keeps, StaysOpen, WriteFits, SeekOutcome, EndOutcome, TruncateOutcome, CloseOutcome};
 ghost use Rattle.py_stream.specs.Access.{is_read, can_of};
@@ -228,18 +228,17 @@ impl<R: RawStream> LiveRaw<R> {
         }
     }
 
-    /// How many bytes a reading of all asks for at first, of a stream that holds n bytes after its place: where the raw guesses
-    /// that it ends after the place, all up to there, at least those held, and one more, by which the end is met; else as many as
-    /// are asked for where the end is unknown.
-    pub fn first_more(&self, place: u64, ahead: usize, unknown: usize) -> usize
-        requires more { ahead < unknown }
-        ensures { ahead < result }
+    /// How many bytes a reading of all asks for at first, of a stream that holds n bytes after its place, where the raw guesses that
+    /// it ends after the place: all up to there, at least those held, and one more, by which the end is met.
+    pub fn guessed_more(&self, place: u64, ahead: usize) -> Option<usize>
+        requires small { ahead ≤ greatest_place }
+        ensures { IfSome result (λ more. ahead < more) }
     {
         match self.raw.end_hint() {
             Some(end) if place < end && end <= GREATEST_PLACE => {
-                ((end - place) as usize).max(ahead) + 1
+                Some(((end - place) as usize).max(ahead) + 1)
             }
-            _ => unknown,
+            _ => None,
         }
     }
 

@@ -1,5 +1,5 @@
 //! Readings that go on until they have all that is wanted, of any stream that can go on so.
-ghost use Rattle.std.specs.Prelude.{◌≡◌, ◌≢◌, ◌+◌, ◌^◌, ◌<◌, ◌≤◌, ℕ, List, Bool, [], true, false, None, IfOk, length, take, drop, vec_len};
+ghost use Rattle.std.specs.Prelude.{◌≡◌, ◌≢◌, ◌+◌, ◌^◌, ◌<◌, ◌≤◌, ℕ, List, Bool, [], true, false, None, IfOk, IfSome, length, take, drop, vec_len};
 ghost use Rattle.py_flat.specs.declared.life.Life.TheVariants.{Live};
 ghost use Rattle.py_flat.specs.Calls.{Read, ReadLine, ReadLines};
 ghost use Rattle.py_stream.specs.Stream.{Stream};
@@ -41,8 +41,14 @@ pub trait ReadsOn {
         requires asks { (more : List ℕ) → more ≢ [] → C.wanted collector.old more ≢ [] }
         ensures { GatherOutcome (C.wanted collector.old) (shows self.old) result (C.collected collector.new) (shows self.new) };
 
-    /// How many bytes a reading of all asks for at first: more than are held, so that bytes leave the raw before space is
-    /// wanted again.
+    /// How many bytes a reading of all asks for at first, by the raw's guess of its end: more than are held. `None` without a guess.
+    fn guessed_more(&self) -> Option<usize>
+        requires live { (shows self.now).life ≡ Live }
+        requires reads { reads self.now ≡ true }
+        ensures { IfSome result (λ more. (shows self.now).raw_place < (shows self.now).place + more) };
+
+    /// How many bytes a reading of all asks for at first where its raw has no guess, or there is no memory for so many: more than are
+    /// held, so that bytes leave the raw before space is wanted again.
     fn first_more(&self) -> usize
         requires live { (shows self.now).life ≡ Live }
         requires reads { reads self.now ≡ true }
@@ -150,6 +156,22 @@ fn read_more<S: ReadsOn>(
     Ok(progress.stop)
 }
 
+/// How many bytes a reading of all asks for at first: by the raw's guess of its end, where there is memory for so many. A vector that has
+/// nothing yet is given the space.
+fn first_space<S: ReadsOn>(stream: &S, bytes: &mut Vec<u8>) -> usize
+    requires live { (S.shows stream.now).life ≡ Live }
+    requires reads { S.reads stream.now ≡ true }
+    ensures past { (S.shows stream.now).raw_place < (S.shows stream.now).place + result }
+    ensures bytes { bytes.new.items ≡ bytes.old.items }
+{
+    if let Some(more) = stream.guessed_more() {
+        if bytes.reserve(more).is_ok() {
+            return more;
+        }
+    }
+    stream.first_more()
+}
+
 /// Reads all that is left into a vector that has nothing yet: what the stream asks for at first, and then as much as came, until
 /// the end is met.
 fn read_all<S: ReadsOn>(stream: &mut S, bytes: &mut Vec<u8>) -> Result<Stop, IoFault>
@@ -159,7 +181,7 @@ fn read_all<S: ReadsOn>(stream: &mut S, bytes: &mut Vec<u8>) -> Result<Stop, IoF
     ensures { RestOutcome (S.shows stream.old) result bytes.new.items (S.shows stream.new) }
 {
     let mut moved = false;
-    let mut more = stream.first_more();
+    let mut more = first_space(stream, bytes);
     loop {
         match read_more(stream, bytes, more, moved)? {
             Stop::Enough => {

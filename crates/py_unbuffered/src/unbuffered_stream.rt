@@ -71,9 +71,9 @@ impl<R: RawStream> UnbufferedStream<R> {
     /// Reads some of the next bytes, at most `size`, by one transfer: none only where `size` is 0 or nothing is left. For
     /// `None` all that are left, or up to a wait.
     ///
-    /// Space for a `size` is taken before the transfer. For `None` a raw that can seek is asked first where it ends, and the space
-    /// up to there is taken at once. `NoMemory` leaves the stream as it was, but that the raw may have been asked, unless bytes had
-    /// left the raw already: then it is failed.
+    /// Space for a `size` is taken before the transfer. For `None` the space up to where the raw guesses that it ends is taken at once,
+    /// where there is so much; the reading goes on until the end is met, wherever that is by then. `NoMemory` leaves the stream as it
+    /// was, unless bytes had left the raw already: then it is failed.
     pub fn read(&mut self, alloc: Global, size: Option<usize>) -> Result<Option<Vec<u8>>, IoFault>
         ensures { Answers self.old (Read size) (bytes_reply result) self.new }
     {

@@ -45,11 +45,14 @@ impl<R: RawStream> ReadsOn for BufferedData<R> {
         }
     }
 
-    /// Where the end isn't known, the window's size more than it holds.
+    fn guessed_more(&self) -> Option<usize> {
+        self.live
+            .guessed_more(self.window.place(), self.window.ahead().len())
+    }
+
+    /// The window's size more than it holds.
     fn first_more(&self) -> usize {
-        let ahead = self.window.ahead().len();
-        let unknown = ahead + self.window.size();
-        self.live.first_more(self.window.place(), ahead, unknown)
+        self.window.ahead().len() + self.window.size()
     }
 
     fn read_held(&mut self, buffer: &mut [u8]) -> Step {

@@ -137,9 +137,7 @@ impl RawStream for MemRaw {
 
     /// How many bytes there are, where the raw can be moved.
     fn end_hint(&self) -> Option<u64> {
-        self.flags
-            .is_seekable()
-            .then_some(self.bytes.len() as u64)
+        self.flags.is_seekable().then_some(self.bytes.len() as u64)
     }
 
     fn truncate(&mut self, size: u64) -> Result<(), RawError>

@@ -9,7 +9,7 @@ use py_lines::{Collected, Collector};
 use py_raw::{IoFault, RawStream};
 use py_stream::{ReadsOn, Step, Stop};
 
-/// How many bytes a reading of all asks for at first, where the raw doesn't guess that it ends after the place.
+/// How many bytes a reading of all asks for at first, without a guess of where the raw ends.
 const FIRST_CHUNK: usize = 8192;
 
 impl<R: RawStream> ReadsOn for UnbufferedData<R> {
@@ -47,8 +47,12 @@ impl<R: RawStream> ReadsOn for UnbufferedData<R> {
         }
     }
 
+    fn guessed_more(&self) -> Option<usize> {
+        self.live.guessed_more(self.place, 0)
+    }
+
     fn first_more(&self) -> usize {
-        self.live.first_more(self.place, 0, FIRST_CHUNK)
+        FIRST_CHUNK
     }
 
     /// Nothing is held.

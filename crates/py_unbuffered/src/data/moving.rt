@@ -15,10 +15,6 @@ impl<R: RawStream> Moves for UnbufferedData<R> {
         self.begin()
     }
 
-    fn live(&self) -> &LiveRaw<R> {
-        &self.live
-    }
-
     fn stands_at(&self) -> u64 {
         self.place
     }
@@ -38,6 +34,10 @@ impl<R: RawStream> Moves for UnbufferedData<R> {
         self.live.seek(target)?;
         self.place = target;
         Ok(())
+    }
+
+    fn live(&self) -> &LiveRaw<R> {
+        &self.live
     }
 
     fn resize(&mut self, size: u64) -> Result<(), IoFault> {

@@ -1,4 +1,4 @@
-use Rattle.std.proofs.Common.{rules, ◌≡◌, Result, Err, arith, sym, subst}
+use Rattle.std.proofs.Common.{rules, ◌≡◌, ◌∙◌, Result, Err, arith, sym, subst}
 use Rattle.py_stream.specs.declared.stop.Stop.{Stop}
 use Rattle.py_stream.specs.Reading.{RestOutcome}
 use Rattle.py_stream.specs.ReadingOn.{ReadsMore}
@@ -7,7 +7,7 @@ use Rattle.py_stream.proofs.reading_on.read_all.Goals as goal
 
 pub loop-moved-init : goal.loop-moved-init
 loop-moved-init g c = record {
-  came = all_begins (g.S.ReadsOn.shows c.args.stream.now) c.args.bytes.now.items c.first_more-more.result c.requires.none c.requires.may c.first_more-more.ensures (omega arith);
+  came = all_begins (g.S.ReadsOn.shows c.args.stream.now) c.first_space-more.new.bytes.items c.first_space-more.result (c.first_space-more.ensures.bytes ∙ c.requires.none) c.requires.may c.first_space-more.ensures.past (omega arith);
   reads = c.requires.reads;
 }
 
