@@ -22,8 +22,8 @@ use Rattle.py_calls.specs.Calls.{text_call, file_call, said}
 use Rattle.py_textio.specs.TextState.{TextState}
 use Rattle.py_textio.specs.Answers as text
 use Rattle.py_binary.specs.Binary.{has_reply_room, left_by, left_of, AnswersBy}
-use Rattle.py_open.specs.Session.{OfText, OfBinary, SessionView, TextSession, BinarySession, file_seen, raw_of, life_of, AnswersTextBy, Answers}
-use Rattle.py_open.specs.Laws.{IsInStep, PassesAll, HoldsFlat, closed_text_reply, closed_file_reply, closed_by, closed_reply, WhereShown}
+use Rattle.py_open.specs.Session.{OfText, OfBinary, SessionView, TextSession, BinarySession, file_seen, raw_of, life_of, AnswersTextBy, Answers, IsInStep}
+use Rattle.py_open.specs.Laws.{PassesAll, HoldsFlat, closed_text_reply, closed_file_reply, closed_by, closed_reply, WhereShown}
 use Rattle.py_open.proofs.Steps.{left_raw, left_none, text_bytes}
 
 -- What is passed on.
@@ -128,7 +128,7 @@ closed_leaves before Seekable reply answered closed asks a = absurd (cc)
 closed_leaves before Closed reply answered closed asks a = absurd (cc)
 closed_leaves before call reply answered closed asks a = a.refused fault.Closed (closed_refuses before call closed asks (λ is. cc) (λ is. cc))
 
-left_closed : (stream : Stream) → stream.life ≡ life.Closed → left_of stream ≡ stream
+pub left_closed : (stream : Stream) → stream.life ≡ life.Closed → left_of stream ≡ stream
 left_closed stream closed = ap (λ (current : Life). left_by current stream) closed
 
 binary_closed : (getter : Bool) (before : Stream) (call : Call) (reply : FileReply) (after : Stream) → is_getter (file_call call) ≡ getter → before.life ≡ life.Closed → AnswersBy getter before (file_call call) reply after → (reply ≡ closed_by getter (OfBinary (file_of before)) call) × (after ≡ record before { short = false })

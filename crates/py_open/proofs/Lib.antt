@@ -3,3 +3,4 @@ pub mod Ending
 pub mod Resting
 pub mod Runs
 pub mod Running
+pub mod Closing

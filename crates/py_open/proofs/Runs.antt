@@ -17,10 +17,10 @@ use Rattle.py_calls.specs.Calls.{file_call, said}
 use Rattle.py_mode.specs.declared.mode.EncodeMode.{EncodeMode}
 use Rattle.py_mode.specs.declared.mode.EncodeMode.TheVariants.{Text, Bytes}
 use Rattle.py_mode.specs.declared.plan.OpenPlan.{OpenPlan}
-use Rattle.py_open.specs.Session.{SessionFile, OfText, OfBinary, SessionView, TextSession, BinarySession, SettlesBy, file_seen, raw_of, life_of, short_of}
+use Rattle.py_open.specs.Session.{SessionFile, OfText, OfBinary, SessionView, TextSession, BinarySession, SettlesBy, file_seen, raw_of, life_of, short_of, IsInStep}
 use Rattle.py_open.specs.Opening.{OpensBy, OpensSession}
 use Rattle.py_open.specs.Run.{Entry, IsRun, IsHistory, IsCalm, IsSmooth, NoneLacksMemory, AllSettle, all_said, calls_of, replies_of}
-use Rattle.py_open.specs.Laws.{exact_by, exact_replies, exact_after, IsExact, HasHistory, RunsInTwo, RunsComplete, KeepsSettings, OnlyReads, IsInStep, closed_replies, StaysClosed}
+use Rattle.py_open.specs.Laws.{exact_by, exact_replies, exact_after, IsExact, HasHistory, RunsInTwo, RunsComplete, KeepsSettings, OnlyReads, closed_replies, StaysClosed}
 use Rattle.py_open.proofs.Steps.{step_keeps, step_told, step_settles, smooth_step, step_completes, step_in_step, step_reads, step_spares, step_writes_none, step_shuts}
 use Rattle.py_open.proofs.Ending.{step_closed}
 

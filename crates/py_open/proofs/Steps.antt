@@ -29,9 +29,9 @@ use Rattle.py_calls.specs.declared.reply.Reply.{Reply}
 use Rattle.py_calls.specs.Calls.{text_call, file_call, said}
 use Rattle.py_textio.specs.TextState.{TextState}
 use Rattle.py_binary.specs.Binary.{left_by, left_of, AnswersCall, AnswersBy}
-use Rattle.py_open.specs.Session.{SessionFile, OfText, OfBinary, SessionView, TextSession, BinarySession, FileLeftBy, FileLeft, StepBy, SessionStep, SettlesBy, Settles, file_seen, raw_of, life_of, short_of, AnswersTextBy, Answers}
+use Rattle.py_open.specs.Session.{SessionFile, OfText, OfBinary, SessionView, TextSession, BinarySession, FileLeftBy, FileLeft, StepBy, SessionStep, SettlesBy, Settles, file_seen, raw_of, life_of, short_of, AnswersTextBy, Answers, IsInStep}
 use Rattle.py_open.specs.Run.{IsSmooth}
-use Rattle.py_open.specs.Laws.{CompletesBy, Completes, KeepsSettings, OnlyReads, IsInStep}
+use Rattle.py_open.specs.Laws.{CompletesBy, Completes, KeepsSettings, OnlyReads}
 use Rattle.py_stream.proofs.Closing.{closes_whole}
 
 -- What is left of a stream.

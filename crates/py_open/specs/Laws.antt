@@ -1,5 +1,5 @@
 -- What holds of whole runs, whatever raw is below.
-use Rattle.std.specs.Prelude.{◌≡◌, ◌⊎◌, Bool, true, false, List, [], ◌∷◌, None}
+use Rattle.std.specs.Prelude.{◌≡◌, Bool, true, false, List, [], ◌∷◌, None}
 use Rattle.py_flat.specs.declared.fault.IoFault.TheVariants as fault
 use Rattle.py_flat.specs.Calls.{FileCall, Close, Detach, Flush, OtherGetter, FileReply, Done, Unwritten, Refused}
 use Rattle.py_flat.specs.Refusals.{is_getter}
@@ -86,12 +86,6 @@ KeepsSettings before after = ⊥
 abbrev pub OnlyReads : SessionView → Type 0
 OnlyReads (TextSession text) = Unit {0}
 OnlyReads (BinarySession stream) = (stream.can.writable ≡ false) × (stream.owed ≡ nothing_owed stream.place)
-
--- a session is in step with its raw, as every session is from its opening on: the bytes of a text's flat file are the raw's,
--- where that tells them; and a stream that doesn't write, or has no buffer, owes nothing
-abbrev pub IsInStep : SessionView → Type 0
-IsInStep (TextSession text) = WhereBytes text.raw (text.file.bytes ≡ text.raw.bytes)
-IsInStep (BinarySession stream) = (stream.can.writable ≡ false) ⊎ (stream.buffer ≡ None) → stream.owed ≡ nothing_owed stream.place
 
 -- What is passed on.
 

@@ -1,5 +1,5 @@
 -- A session: what it is seen as, and what one call of it may do.
-use Rattle.std.specs.Prelude.{◌≡◌, ℕ, Bool, true, false, List, []}
+use Rattle.std.specs.Prelude.{◌≡◌, ◌≢◌, ◌⊎◌, ℕ, Bool, true, false, List, [], None}
 use Rattle.py_flat.specs.declared.life.Life.{Life}
 use Rattle.py_flat.specs.declared.life.Life.TheVariants as life
 use Rattle.py_flat.specs.Calls.{FileReply, Flag}
@@ -8,10 +8,12 @@ use Rattle.py_flat.specs.Refusals.{is_getter}
 use Rattle.py_flat.specs.BinaryStep.{Settled, BinaryStep}
 use Rattle.py_plain.specs.TextFile.{TextFile}
 use Rattle.py_plain.specs.TextStep.{TextSettled, TextStep}
-use Rattle.py_raw.specs.RawStream.{Raw}
-use Rattle.py_stream.specs.Stream.{Stream, file_of}
+use Rattle.py_raw.specs.RawStream.{Raw, WhereBytes}
+use Rattle.py_stream.specs.Stream.{Stream, file_of, nothing_owed}
 use Rattle.py_calls.specs.declared.call.Call.{Call}
+use Rattle.py_calls.specs.declared.call.Call.TheVariants as call
 use Rattle.py_calls.specs.declared.reply.Reply.{Reply}
+use Rattle.py_calls.specs.declared.reply.Reply.TheVariants as reply
 use Rattle.py_calls.specs.Calls.{text_call, file_call, said}
 use Rattle.py_textio.specs.TextState.{TextState}
 use Rattle.py_textio.specs.Answers as text
@@ -76,6 +78,33 @@ abbrev pub Answers : SessionView → Call → Reply → SessionView → Type 0
 Answers (TextSession before) call reply (TextSession after) = AnswersText before call reply after
 Answers (BinarySession before) call reply (BinarySession after) = AnswersBinary before call reply after
 Answers before call reply after = ⊥
+
+-- What holds of a session between calls.
+
+-- a session is in step with its raw, as every session is from its opening on: the bytes of a text's flat file are the raw's,
+-- where that tells them; and a stream that doesn't write, or has no buffer, owes nothing
+abbrev pub IsInStep : SessionView → Type 0
+IsInStep (TextSession text) = WhereBytes text.raw (text.file.bytes ≡ text.raw.bytes)
+IsInStep (BinarySession stream) = (stream.can.writable ≡ false) ⊎ (stream.buffer ≡ None) → stream.owed ≡ nothing_owed stream.place
+
+-- the raw is open as long as its session isn't closed
+abbrev pub HasOpenRaw : SessionView → Type 0
+HasOpenRaw session = life_of session ≢ life.Closed → (raw_of session).closed ≡ false
+
+-- a session is in step with its raw, which is open as long as the session isn't closed
+pub record IsKept (session : SessionView) : Type 0 where
+  pub in_step : IsInStep session
+  pub has_open : HasOpenRaw session
+
+-- nothing is owed, and the raw is closed
+pub record IsShut (session : SessionView) : Type 0 where
+  pub none : owed_of session ≡ []
+  pub closed : (raw_of session).closed ≡ true
+
+-- a `close` of a live session that was done closed the raw, of every kind of session; of other calls nothing
+abbrev pub ClosesRaw : SessionView → Call → Reply → SessionView → Type 0
+ClosesRaw before call.Close reply.Done after = life_of before ≡ life.Live → IsShut after
+ClosesRaw before call reply after = Unit {0}
 
 -- What the model says of a call.
 

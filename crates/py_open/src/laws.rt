@@ -1,20 +1,22 @@
 //! Laws of the definitions that the contracts cite: what any run of a session has to be.
 //!
 //! No function here does anything; what each ensures is a law.
-ghost use Rattle.std.specs.Prelude.{◌≡◌, ◌≢◌, ℕ, ◌≤◌, IsTrue, List, ◌++◌, length};
+ghost use Rattle.std.specs.Prelude.{◌≡◌, ◌≢◌, ℕ, ◌≤◌, true, IsTrue, List, ◌++◌, length};
 ghost use Rattle.py_flat.specs.declared.life.Life.TheVariants as life;
 ghost use Rattle.py_flat.specs.Calls.{FileReply};
 ghost use Rattle.py_plain.specs.TextFile.{TextFile};
 ghost use Rattle.py_raw.specs.RawStream.{Raw, Keeps, AnswersFor, tells};
 ghost use Rattle.py_stream.specs.Answers.{ClosedWith};
 ghost use Rattle.py_calls.specs.declared.call.Call.{Call};
+ghost use Rattle.py_calls.specs.declared.call.Call.TheVariants.{Close};
 ghost use Rattle.py_calls.specs.declared.reply.Reply.{Reply};
+ghost use Rattle.py_calls.specs.declared.reply.Reply.TheVariants.{Done};
 ghost use Rattle.py_calls.specs.Calls.{file_call, said};
-ghost use Rattle.py_open.specs.Session.{SessionFile, OfText, SessionView, Answers, file_seen, raw_of, life_of};
+ghost use Rattle.py_open.specs.Session.{SessionFile, OfText, SessionView, Answers, IsInStep, HasOpenRaw, file_seen, raw_of, life_of};
 ghost use Rattle.py_mode.specs.declared.plan.OpenPlan.{OpenPlan};
 ghost use Rattle.py_open.specs.Opening.{OpensSession};
 ghost use Rattle.py_open.specs.Run.{Entry, IsRun, IsHistory, IsCalm, IsSmooth, NoneLacksMemory, AllSettle, all_said, calls_of, replies_of};
-ghost use Rattle.py_open.specs.Laws.{IsExact, HasHistory, RunsInTwo, RunsComplete, KeepsSettings, OnlyReads, IsInStep, PassesAll, HoldsFlat, StaysClosed};
+ghost use Rattle.py_open.specs.Laws.{IsExact, HasHistory, RunsInTwo, RunsComplete, KeepsSettings, OnlyReads, PassesAll, HoldsFlat, StaysClosed};
 
 /// A run over a raw that tells, in which no count of the raw rose and no call ran out of memory, is the model's: there is a flat
 /// file between any two calls, and each reply is what the file there answers, exactly, but that a single transfer gives some front
@@ -98,6 +100,14 @@ pub fn an_ended_session_calls_no_raw()
 /// each that closes the session does, after a fault too.
 pub fn a_raw_is_closed_with_its_session()
     ensures { (before : SessionView) (calls : List Call) (replies : List Reply) (after : SessionView) → IsRun before calls replies after → OnlyReads before → ClosedWith (life_of before) (raw_of before) → ClosedWith (life_of after) (raw_of after) }
+{}
+
+/// In a run from its opening a `Close` of a live session that is done closes the raw, of every kind of session, a text as well as a
+/// stream of bytes with a buffer or without; and it stays closed, whatever calls come after. As long as the session isn't closed, its
+/// raw is open.
+pub fn a_done_close_closes_its_raw()
+    ensures closed { (raw : Raw) (plan : OpenPlan) (chunk : ℕ) (opened mid next session : SessionView) (front rest : List Call) (replies others : List Reply) → OpensSession raw plan chunk opened → IsRun opened front replies mid → life_of mid ≡ life.Live → Answers mid Close Done next → IsRun next rest others session → (raw_of session).closed ≡ true }
+    ensures opened { (raw : Raw) (plan : OpenPlan) (chunk : ℕ) (opened session : SessionView) (calls : List Call) (replies : List Reply) → OpensSession raw plan chunk opened → IsRun opened calls replies session → HasOpenRaw session }
 {}
 
 /// A run from a closed session answers `Done` to each further `Close`, the four questions as ever, and refuses every other call, by

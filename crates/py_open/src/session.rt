@@ -2,8 +2,8 @@
 ghost use Rattle.std.specs.Prelude.{◌≡◌};
 ghost use Rattle.py_stream.specs.Opening.{StandsAtStart, first_refusal};
 ghost use Rattle.py_stream.specs.Access.{is_able};
-ghost use Rattle.py_open.specs.Session.{Answers, life_of, short_of, raw_of, owed_of};
-ghost use Rattle.py_open.specs.Kinds.{IsPlanned};
+ghost use Rattle.py_open.specs.Session.{Answers, ClosesRaw, life_of, short_of, raw_of, owed_of};
+ghost use Rattle.py_open.specs.Kinds.{seen, IsSession, IsPlanned};
 ghost use Rattle.py_open.specs.Opening.{SessionOutcome, access_of, place_handed};
 
 use crate::text_calls::answer_text;
@@ -39,11 +39,13 @@ pub struct Session<R: RawStream> {
 
 impl<R: RawStream> Model for Session<R> {
     ghost use Rattle.py_open.specs.Session.{SessionView};
-    ghost use Rattle.py_open.specs.Kinds.{seen};
+    ghost use Rattle.py_open.specs.Kinds.{seen, IsSession};
 
     ghost Value = { SessionView };
 
     ghost view = { λ s. seen s.kind };
+
+    ghost invariant = { λ s. IsSession s.kind };
 }
 
 impl<R: RawStream> Session<R> {
@@ -115,15 +117,15 @@ impl<R: RawStream> Session<R> {
     /// - `NoMemory`: place and life stay, and the call may be made again; but a `Read`, `ReadInto`, `ReadLine` or `ReadLines` of bytes
     ///   fails the session once bytes left the raw, and a write once the raw took some of its bytes.
     ///
+    /// A `Close` of a live session that is `Done` has closed the raw, of every kind of session, and leaves nothing owed.
+    ///
     /// The rules are those of Python's `io`; what waits, faults and refused ranges leave is this project's choice
     /// (docs/DECISIONS.md).
     pub fn call(&mut self, alloc: Global, call: &Call) -> Reply
-        ensures { Answers self.old call.now result self.new }
+        ensures answers { Answers self.old call.now result self.new }
+        ensures closes { ClosesRaw self.old call.now result self.new }
     {
-        match &mut self.kind {
-            Kind::Text(text) => answer_text(alloc, text, call),
-            Kind::Binary(session) => session.call(alloc, call),
-        }
+        answer_kind(alloc, &mut self.kind, call)
     }
 
     /// Whether the raw would have blocked before the last call was answered in full: its answer is what came by then, or was taken,
@@ -163,6 +165,19 @@ impl<R: RawStream> Session<R> {
             Kind::Text(text) => text.into_parts(alloc),
             Kind::Binary(session) => session.into_parts(),
         }
+    }
+}
+
+/// Makes one call on what a session calls.
+fn answer_kind<R: RawStream>(alloc: Global, kind: &mut Kind<R>, call: &Call) -> Reply
+    requires kept { IsSession kind.old }
+    ensures answers { Answers (seen kind.old) call.now result (seen kind.new) }
+    ensures kept { IsSession kind.new }
+    ensures closes { ClosesRaw (seen kind.old) call.now result (seen kind.new) }
+{
+    match kind {
+        Kind::Text(text) => answer_text(alloc, text, call),
+        Kind::Binary(session) => session.call(alloc, call),
     }
 }
 

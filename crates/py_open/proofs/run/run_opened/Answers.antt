@@ -45,7 +45,7 @@ loop-call-preserved g c =
       run = record {
         opened = ran.opened;
         opens = ran.opens;
-        run = subst (λ (rs : List Reply). IsRun ran.opened (take (at + 1) calls) rs c.call-reply.new.self) (sym replied) (subst (λ (cs : List Call). IsRun ran.opened cs (replies ++ c.call-reply.result ∷ []) c.call-reply.new.self) (sym more) (run_on (take at calls) replies ran.opened c.loop-call.session c.call-reply.new.self c.call-item.result c.call-reply.result ran.run c.call-reply.ensures));
+        run = subst (λ (rs : List Reply). IsRun ran.opened (take (at + 1) calls) rs c.call-reply.new.self) (sym replied) (subst (λ (cs : List Call). IsRun ran.opened cs (replies ++ c.call-reply.result ∷ []) c.call-reply.new.self) (sym more) (run_on (take at calls) replies ran.opened c.loop-call.session c.call-reply.new.self c.call-item.result c.call-reply.result ran.run c.call-reply.ensures.answers));
       };
       room = grind arith;
     }
