@@ -30,7 +30,7 @@ starved_attached false before after same was is = was (sym same ∙ is)
 abbrev pub Stays : FileCall → FileReply → Type 0
 Stays call reply = call ≡ Detach → (bytes : List ℕ) (place : Option ℕ) → reply ≢ Unwritten bytes place
 
-attached_on : (buffer : Option ℕ) (call : FileCall) (reply : FileReply) (before after : Life) → LifeMoves buffer call reply before after → Stays call reply → before ≢ life.Detached → after ≢ life.Detached
+pub attached_on : (buffer : Option ℕ) (call : FileCall) (reply : FileReply) (before after : Life) → LifeMoves buffer call reply before after → Stays call reply → before ≢ life.Detached → after ≢ life.Detached
 attached_on buffer Close Done before after moves stays was is = let wrong : life.Closed ≡ life.Detached = sym moves ∙ is in absurd (cc)
 attached_on buffer Close (Refused fault.RawFault) before after moves stays was is = let wrong : life.Closed ≡ life.Detached = sym moves ∙ is in absurd (cc)
 attached_on buffer Detach (Unwritten bytes place) before after moves stays was is = stays refl bytes place refl
@@ -45,23 +45,22 @@ held_on room old call reply new is stays a = record {
   attached = attached_on old.buffer call reply old.life new.life a.moves.life_is stays is.attached;
 }
 
-left_same : (current : Life) (stream : Stream) → current ≢ life.Detached → left_by current stream ≡ stream
-left_same life.Live stream attached = refl
-left_same life.Failed stream attached = refl
-left_same life.Closed stream attached = refl
-left_same life.Detached stream attached = absurd (attached refl)
+left_same : (was current : Life) (stream : Stream) → current ≢ life.Detached → left_by was current stream ≡ stream
+left_same life.Detached current stream attached = refl
+left_same was life.Detached stream attached = absurd (attached refl)
+left_same was current stream attached = refl
 
-hands_none : (before : Stream) (call : FileCall) (reply : FileReply) → Stays call reply → HandsOwed before call reply
-hands_none before Detach (Unwritten bytes place) stays = absurd (stays refl bytes place refl)
-hands_none before call reply stays = tt
+hands_none : (before : Stream) (call : FileCall) (reply : FileReply) (answered : Stream) → Stays call reply → HandsOwed before call reply answered
+hands_none before Detach (Unwritten bytes place) answered stays = absurd (stays refl bytes place refl)
+hands_none before call reply answered stays = tt
 
 -- a call of a stream that keeps its raw is one of its session
 pub answers_call : (old : Stream) (call : FileCall) (reply : FileReply) (new : Stream) → IsHeld old → Stays call reply → AnswersWith has_reply_room old call reply new → AnswersCall old call reply new
 answers_call old call reply new is stays a = record {
   answered = new;
   answers = a;
-  hands = hands_none old call reply stays;
-  leaves = sym (left_same new.life new (held_on has_reply_room old call reply new is stays a).attached);
+  hands = hands_none old call reply new stays;
+  leaves = sym (left_same old.life new.life new (held_on has_reply_room old call reply new is stays a).attached);
   marks = refl;
 }
 
@@ -124,17 +123,23 @@ gone_answers can buffer raw call asks =
     record {
       answered = gone;
       answers = with_reply_room gone call (Refused (detached_fault call)) gone a;
-      hands = hands_none gone call (Refused (detached_fault call)) (no_answer call (detached_fault call));
+      hands = hands_none gone call (Refused (detached_fault call)) gone (no_answer call (detached_fault call));
       leaves = refl;
       marks = refl;
     }
 
 -- A `detach` that was answered.
-pub detach_answers : (old new : Stream) (raw : Raw) (unwritten : List ℕ) (place : Option ℕ) → HandsOver old raw unwritten place new → AnswersCall old Detach (Unwritten unwritten place) (gone_stream new.can new.buffer raw)
-detach_answers old new raw unwritten place hands = record {
+
+-- what is left of a stream that wasn't detached before
+left_gone : (was : Life) (stream : Stream) → was ≢ life.Detached → left_by was life.Detached stream ≡ gone_stream stream.can stream.buffer stream.raw
+left_gone life.Detached stream attached = absurd (attached refl)
+left_gone was stream attached = refl
+
+pub detach_answers : (old new : Stream) (raw : Raw) (unwritten : List ℕ) (place : Option ℕ) → old.life ≢ life.Detached → HandsOver old raw unwritten place new → AnswersCall old Detach (Unwritten unwritten place) (gone_stream new.can new.buffer raw)
+detach_answers old new raw unwritten place attached hands = record {
   answered = handed_over old raw (owed_then old.life old);
   answers = with_reply_room old Detach (Unwritten unwritten place) (handed_over old raw (owed_then old.life old)) hands.answers;
-  hands = (hands.unwritten_is, hands.place_is);
-  leaves = ap (λ (left : Stream). gone_stream left.can left.buffer raw) hands.left;
+  hands = (hands.unwritten_is, hands.place_is, refl);
+  leaves = ap (λ (left : Stream). gone_stream left.can left.buffer raw) hands.left ∙ sym (left_gone old.life (handed_over old raw (owed_then old.life old)) attached);
   marks = refl;
 }

@@ -38,18 +38,20 @@ flag_of can current call = false
 abbrev pub gone_stream : Abilities → Option ℕ → Raw → Stream
 gone_stream can buffer raw = record (detached_stream can buffer) { raw = raw }
 
-abbrev pub left_by : Life → Stream → Stream
-left_by life.Detached stream = gone_stream stream.can stream.buffer stream.raw
-left_by current stream = stream
+-- what is left of a stream, by its session's life before the call and its own after it: one that was detached before stays as it is
+abbrev pub left_by : (was is : Life) → Stream → Stream
+left_by life.Detached is stream = stream
+left_by was life.Detached stream = gone_stream stream.can stream.buffer stream.raw
+left_by was is stream = stream
 
--- what a call leaves of the stream that answered it
-abbrev pub left_of : Stream → Stream
-left_of stream = left_by stream.life stream
+-- what a call leaves of the stream that answered it, by the session's life before
+abbrev pub left_of : Life → Stream → Stream
+left_of was stream = left_by was stream.life stream
 
--- a `detach` hands over what the stream owed: nothing of a live one, and all of a failed one
-abbrev pub HandsOwed : Stream → FileCall → FileReply → Type 0
-HandsOwed before Detach (Unwritten bytes place) = (bytes ≡ (owed_then before.life before).bytes) × (place ≡ place_handed before (owed_then before.life before))
-HandsOwed before call reply = Unit {0}
+-- a `detach` hands over what the stream owed: nothing of a live one, and all of a failed one; the stream that answered owes just that
+abbrev pub HandsOwed : Stream → FileCall → FileReply → Stream → Type 0
+HandsOwed before Detach (Unwritten bytes place) answered = (bytes ≡ (owed_then before.life before).bytes) × (place ≡ place_handed before (owed_then before.life before)) × (answered.owed ≡ owed_then before.life before)
+HandsOwed before call reply answered = Unit {0}
 
 -- The one clause of every call.
 
@@ -57,8 +59,8 @@ HandsOwed before call reply = Unit {0}
 pub record AnswersCall (before : Stream) (call : FileCall) (reply : FileReply) (after : Stream) : Type 0 where
   pub answered : Stream
   pub answers : AnswersWith has_reply_room before call reply answered
-  pub hands : HandsOwed before call reply
-  pub leaves : after ≡ left_of answered
+  pub hands : HandsOwed before call reply answered
+  pub leaves : after ≡ left_of before.life answered
   pub marks : after.short ≡ answered.short
 
 -- a question leaves all as it was; every other call is one of the stream

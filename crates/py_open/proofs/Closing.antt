@@ -57,8 +57,8 @@ binary_open : (getter : Bool) (before : Stream) (call : FileCall) (reply : FileR
 binary_open true before call reply after step in_step was is lives = ap (λ (s : Stream). s.raw.closed) step.same ∙ is
 binary_open false before call reply after step in_step was is lives =
     let a : Stream = step.answered in
-    ap (λ (s : Stream). s.raw.closed) step.leaves ∙ ap (λ (raw : Raw). raw.closed) (left_raw a.life a)
-    ∙ answered_open a.owed.bytes before call reply a refl step.answers in_step was is (λ closed. lives (ap (λ (s : Stream). s.life) step.leaves ∙ left_life a.life a refl ∙ closed))
+    ap (λ (s : Stream). s.raw.closed) step.leaves ∙ ap (λ (raw : Raw). raw.closed) (left_raw before.life a.life a)
+    ∙ answered_open a.owed.bytes before call reply a refl step.answers in_step was is (λ closed. lives (ap (λ (s : Stream). s.life) step.leaves ∙ left_life before.life a.life a refl ∙ closed))
 
 text_open : (getter : Bool) (before : TextState) (call : Call) (reply : FileReply) (after : TextState) → AnswersTextBy getter before call reply after → before.file.life ≢ life.Closed → before.raw.closed ≡ false → after.file.life ≢ life.Closed → after.raw.closed ≡ false
 text_open true before call reply after step was is lives = ap (λ (t : TextState). t.raw.closed) step.same ∙ is
@@ -91,7 +91,7 @@ binary_closes : (before : Stream) (after : Stream) → AnswersBy false before Cl
 binary_closes before after step live is none =
     let a : Stream = step.answered in
     let closed : a.life ≡ life.Closed = step.answers.moves.life_is in
-    let same : after ≡ a = step.leaves ∙ left_closed a closed in
+    let same : after ≡ a = step.leaves ∙ left_closed before.life a closed in
     let was : ClosedWith before.life before.raw = open_with before.life before.raw (live_open before.life live) is in
     ap (λ (s : Stream). s.raw.closed) same ∙ step.answers.shut refl (ap (λ (s : Stream). s.owed.bytes) (sym same) ∙ none) was ∙ ap is_closed closed
 
@@ -114,7 +114,7 @@ done_closes before after step is live =
 -- a session whose close was done isn't live
 close_ends : (before : SessionView) (after : SessionView) → Answers before call.Close reply.Done after → life_of after ≡ life.Closed
 close_ends (TextSession before) (TextSession after) step = step.answers.moves.life_is
-close_ends (BinarySession before) (BinarySession after) step = ap (λ (s : Stream). s.life) step.leaves ∙ left_life step.answered.life step.answered refl ∙ step.answers.moves.life_is
+close_ends (BinarySession before) (BinarySession after) step = ap (λ (s : Stream). s.life) step.leaves ∙ left_life before.life step.answered.life step.answered refl ∙ step.answers.moves.life_is
 close_ends (TextSession before) (BinarySession after) step = absurd step
 close_ends (BinarySession before) (TextSession after) step = absurd step
 

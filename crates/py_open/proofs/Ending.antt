@@ -68,8 +68,8 @@ binary_passes false before call reply after is step is_in live all =
     let a : Stream = step.answered in
     let passes = passes_by before.can.writable before call reply a refl step.answers is_in live all in
     record {
-      none = ap (λ (s : Stream). s.owed.bytes) step.leaves ∙ left_none a.life a passes.none;
-      holds = λ tells. ap (λ (s : Stream). s.raw.bytes) step.leaves ∙ ap (λ (raw : Raw). raw.bytes) (left_raw a.life a) ∙ passes.holds tells;
+      none = ap (λ (s : Stream). s.owed.bytes) step.leaves ∙ left_none before.life a.life a passes.none;
+      holds = λ tells. ap (λ (s : Stream). s.raw.bytes) step.leaves ∙ ap (λ (raw : Raw). raw.bytes) (left_raw before.life a.life a) ∙ passes.holds tells;
     }
 
 text_holds : (getter : Bool) (before : TextState) (call : Call) (reply : FileReply) (after : TextState) → AnswersTextBy getter before call reply after → IsInStep (TextSession before) → HoldsFlat (TextSession before) (TextSession after)
@@ -128,15 +128,19 @@ closed_leaves before Seekable reply answered closed asks a = absurd (cc)
 closed_leaves before Closed reply answered closed asks a = absurd (cc)
 closed_leaves before call reply answered closed asks a = a.refused fault.Closed (closed_refuses before call closed asks (λ is. cc) (λ is. cc))
 
-pub left_closed : (stream : Stream) → stream.life ≡ life.Closed → left_of stream ≡ stream
-left_closed stream closed = ap (λ (current : Life). left_by current stream) closed
+left_whole : (was : Life) (stream : Stream) → left_by was life.Closed stream ≡ stream
+left_whole life.Detached stream = refl
+left_whole was stream = refl
+
+pub left_closed : (was : Life) (stream : Stream) → stream.life ≡ life.Closed → left_of was stream ≡ stream
+left_closed was stream closed = ap (λ (current : Life). left_by was current stream) closed ∙ left_whole was stream
 
 binary_closed : (getter : Bool) (before : Stream) (call : Call) (reply : FileReply) (after : Stream) → is_getter (file_call call) ≡ getter → before.life ≡ life.Closed → AnswersBy getter before (file_call call) reply after → (reply ≡ closed_by getter (OfBinary (file_of before)) call) × (after ≡ record before { short = false })
 binary_closed true before call reply after is closed step = (step.says, step.same)
 binary_closed false before call reply after is closed step =
     let a : Stream = step.answered in
     let left = closed_leaves before (file_call call) reply a closed is step.answers in
-    (left.says, step.leaves ∙ left_closed a (ap (λ (s : Stream). s.life) left.same ∙ closed) ∙ left.same)
+    (left.says, step.leaves ∙ left_closed before.life a (ap (λ (s : Stream). s.life) left.same ∙ closed) ∙ left.same)
 
 pub step_closed : (before : SessionView) (call : Call) (reply : Reply) (after : SessionView) → life_of before ≡ life.Closed → Answers before call reply after → Unmoved before call (said reply) after
 step_closed (TextSession before) call reply (TextSession after) closed step =

@@ -4,3 +4,4 @@ pub mod Resting
 pub mod Runs
 pub mod Running
 pub mod Closing
+pub mod Gone

@@ -38,7 +38,7 @@ failed_refuses stream Seekable failed asks stays known = absurd (cc)
 failed_refuses stream Closed failed asks stays known = absurd (cc)
 failed_refuses stream call failed asks stays known = rw failed refl
 
-detached_refuses : (stream : Stream) (call : FileCall) → stream.life ≡ life.Detached → is_getter call ≡ false → call ≢ OtherGetter → refused_by stream call ≡ Some fault.Detached
+pub detached_refuses : (stream : Stream) (call : FileCall) → stream.life ≡ life.Detached → is_getter call ≡ false → call ≢ OtherGetter → refused_by stream call ≡ Some fault.Detached
 detached_refuses stream (Seek offset (pos (suc (suc zero)))) gone asks known = rw gone refl
 detached_refuses stream OtherGetter gone asks known = absurd (known refl)
 detached_refuses stream Readable gone asks known = absurd (cc)
@@ -88,8 +88,8 @@ binary_rests true before call reply after is dead step = record { raw = ap (λ (
 binary_rests false before call reply after is dead step =
     let a : Stream = step.answered in
     record {
-      raw = ap (λ (s : Stream). s.raw) step.leaves ∙ left_raw a.life a ∙ dead_raw before.life before call reply a refl dead is step.answers;
-      dead = λ live. dead_on before.buffer call reply before.life a.life step.answers.moves.life_is dead (sym (ap (λ (s : Stream). s.life) step.leaves ∙ left_life a.life a refl) ∙ live);
+      raw = ap (λ (s : Stream). s.raw) step.leaves ∙ left_raw before.life a.life a ∙ dead_raw before.life before call reply a refl dead is step.answers;
+      dead = λ live. dead_on before.buffer call reply before.life a.life step.answers.moves.life_is dead (sym (ap (λ (s : Stream). s.life) step.leaves ∙ left_life before.life a.life a refl) ∙ live);
     }
 
 -- Texts.

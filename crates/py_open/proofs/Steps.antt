@@ -1,14 +1,14 @@
 -- What one call of a session does, by its kind.
-use Rattle.std.proofs.Common.{inl, inr, ◌≡◌, ◌≢◌, ◌⊎◌, ℕ, Bool, true, false, not, IsTrue, List, [], length, Option, Some, None, refl, sym, ap, ◌∙◌, subst, arith}
+use Rattle.std.proofs.Common.{inl, inr, ◌≡◌, ◌≢◌, ◌⊎◌, ℕ, Bool, true, false, not, IsTrue, List, [], length, Option, Some, None, refl, sym, ap, ◌∙◌, subst, if◌then◌else◌, arith}
 use Rattle.std.proofs.lemmas.Bool.{le-leb}
 use Rattle.py_flat.specs.declared.fault.IoFault.{IoFault}
 use Rattle.py_flat.specs.declared.fault.IoFault.TheVariants as fault
 use Rattle.py_flat.specs.declared.life.Life.{Life}
 use Rattle.py_flat.specs.declared.life.Life.TheVariants as life
-use Rattle.py_flat.specs.Bytes.{first_of}
+use Rattle.py_flat.specs.Bytes.{lay, first_of}
 use Rattle.py_flat.specs.Lines.{first_line, is_ended}
 use Rattle.py_flat.specs.Causes.{Rose, rose}
-use Rattle.py_flat.specs.Calls.{FileCall, FileReply, Refused}
+use Rattle.py_flat.specs.Calls.{FileCall, Detach, FileReply, Unwritten, Refused}
 use Rattle.py_flat.specs.FlatFile.{Abilities, FlatFile}
 use Rattle.py_flat.specs.Owed.{Owed}
 use Rattle.py_flat.specs.Refusals.{is_getter}
@@ -23,46 +23,74 @@ use Rattle.py_raw.specs.RawStream.{Raw, Keeps, tells, AnswersFor}
 use Rattle.py_raw.proofs.Telling.{keeps_same, tells_its_bytes, tells_still}
 use Rattle.py_stream.specs.Stream.{Stream, file_of, nothing_owed}
 use Rattle.py_stream.specs.Kinds.{says_fault}
-use Rattle.py_stream.specs.Answers.{HasCauses, ClosedWith}
+use Rattle.py_stream.specs.Answers.{HasCauses, ClosedWith, LifeMoves}
+use Rattle.py_stream.specs.Handing.{owed_then}
 use Rattle.py_calls.specs.declared.call.Call.{Call}
 use Rattle.py_calls.specs.declared.reply.Reply.{Reply}
 use Rattle.py_calls.specs.Calls.{text_call, file_call, said}
 use Rattle.py_textio.specs.TextState.{TextState}
-use Rattle.py_binary.specs.Binary.{left_by, left_of, AnswersCall, AnswersBy}
-use Rattle.py_open.specs.Session.{SessionFile, OfText, OfBinary, SessionView, TextSession, BinarySession, FileLeftBy, FileLeft, StepBy, SessionStep, SettlesBy, Settles, file_seen, raw_of, life_of, short_of, AnswersTextBy, Answers, IsInStep}
+use Rattle.py_binary.specs.Binary.{gone_stream, left_by, left_of, HandsOwed, AnswersCall, AnswersBy}
+use Rattle.py_binary.proofs.Leaving.{attached_on}
+use Rattle.py_open.specs.Session.{SessionFile, OfText, OfBinary, SessionView, TextSession, BinarySession, IsDetached, FileLeftBy, FileLeft, StepBy, SessionStep, SettlesBy, Settles, file_seen, raw_of, life_of, short_of, AnswersTextBy, Answers, IsInStep}
 use Rattle.py_open.specs.Run.{IsSmooth}
 use Rattle.py_open.specs.Laws.{CompletesBy, Completes, KeepsSettings, OnlyReads}
 use Rattle.py_stream.proofs.Closing.{closes_whole}
 
 -- What is left of a stream.
 
-pub left_raw : (current : Life) (stream : Stream) → (left_by current stream).raw ≡ stream.raw
-left_raw life.Detached stream = refl
-left_raw current stream = refl
+pub left_raw : (was current : Life) (stream : Stream) → (left_by was current stream).raw ≡ stream.raw
+left_raw life.Detached current stream = refl
+left_raw was life.Detached stream = refl
+left_raw was current stream = refl
 
-left_can : (current : Life) (stream : Stream) → (left_by current stream).can ≡ stream.can
-left_can life.Detached stream = refl
-left_can current stream = refl
+left_can : (was current : Life) (stream : Stream) → (left_by was current stream).can ≡ stream.can
+left_can life.Detached current stream = refl
+left_can was life.Detached stream = refl
+left_can was current stream = refl
 
-left_buffer : (current : Life) (stream : Stream) → (left_by current stream).buffer ≡ stream.buffer
-left_buffer life.Detached stream = refl
-left_buffer current stream = refl
+left_buffer : (was current : Life) (stream : Stream) → (left_by was current stream).buffer ≡ stream.buffer
+left_buffer life.Detached current stream = refl
+left_buffer was life.Detached stream = refl
+left_buffer was current stream = refl
 
-pub left_life : (current : Life) (stream : Stream) → stream.life ≡ current → (left_by current stream).life ≡ current
-left_life life.Detached stream is = refl
-left_life current stream is = is
+pub left_life : (was current : Life) (stream : Stream) → stream.life ≡ current → (left_by was current stream).life ≡ current
+left_life life.Detached current stream is = is
+left_life was life.Detached stream is = refl
+left_life was current stream is = is
 
-pub left_none : (current : Life) (stream : Stream) → stream.owed.bytes ≡ [] → (left_by current stream).owed.bytes ≡ []
-left_none life.Detached stream none = refl
-left_none current stream none = none
+pub left_none : (was current : Life) (stream : Stream) → stream.owed.bytes ≡ [] → (left_by was current stream).owed.bytes ≡ []
+left_none life.Detached current stream none = none
+left_none was life.Detached stream none = refl
+left_none was current stream none = none
 
-left_settled : (current : Life) (stream : Stream) → stream.owed ≡ nothing_owed stream.place → (left_by current stream).owed ≡ nothing_owed (left_by current stream).place
-left_settled life.Detached stream none = refl
-left_settled current stream none = none
+left_settled : (was current : Life) (stream : Stream) → stream.owed ≡ nothing_owed stream.place → (left_by was current stream).owed ≡ nothing_owed (left_by was current stream).place
+left_settled life.Detached current stream none = none
+left_settled was life.Detached stream none = refl
+left_settled was current stream none = none
 
-left_file : (current : Life) (stream : Stream) → FileLeftBy current (file_of stream) (file_of (left_by current stream))
-left_file life.Detached stream = (refl, refl, refl)
-left_file current stream = refl
+-- where what is handed over belongs, if that is told
+told_at : (seekable : Bool) (at place : ℕ) → (if seekable then Some at else None) ≡ Some place → at ≡ place
+told_at true at place is = cc
+told_at false at place is = cc
+
+-- a stream is detached by nothing but a `detach` that was answered, which leaves its bytes without those that it hands over
+detached_left : (before : Stream) (call : FileCall) (reply : FileReply) (a : Stream) → before.life ≢ life.Detached → a.life ≡ life.Detached → LifeMoves before.buffer call reply before.life a.life → HandsOwed before call reply a → IsDetached (file_of a) reply (file_of (gone_stream a.can a.buffer a.raw))
+detached_left before Detach (Unwritten bytes place) a was is moves hands = record {
+  life_is = refl;
+  can = refl;
+  buffering = refl;
+  at = a.owed.place;
+  told = λ there same. ap (λ (owed : Owed). owed.place) hands.2 ∙ told_at before.can.seekable (owed_then before.life before).place there (sym hands.1 ∙ same);
+  bytes = ap (λ (owed : List ℕ). lay a.raw.bytes a.owed.place owed) (ap (λ (owed : Owed). owed.bytes) hands.2 ∙ sym hands.0);
+}
+detached_left before call reply a was is moves hands = absurd (attached_on before.buffer call reply before.life a.life moves (λ it bytes place says. cc) was is)
+
+left_file : (was current : Life) (before : Stream) (call : FileCall) (reply : FileReply) (a : Stream) → before.life ≡ was → a.life ≡ current → LifeMoves before.buffer call reply before.life a.life → HandsOwed before call reply a → FileLeftBy was current (file_of a) reply (file_of (left_by was current a))
+left_file life.Detached current before call reply a was is moves hands = refl
+left_file life.Live life.Detached before call reply a was is moves hands = detached_left before call reply a (λ gone. let wrong : life.Live ≡ life.Detached = sym was ∙ gone in absurd (cc)) is moves hands
+left_file life.Failed life.Detached before call reply a was is moves hands = detached_left before call reply a (λ gone. let wrong : life.Failed ≡ life.Detached = sym was ∙ gone in absurd (cc)) is moves hands
+left_file life.Closed life.Detached before call reply a was is moves hands = detached_left before call reply a (λ gone. let wrong : life.Closed ≡ life.Detached = sym was ∙ gone in absurd (cc)) is moves hands
+left_file was current before call reply a was_is is moves hands = refl
 
 -- What every call keeps.
 
@@ -80,8 +108,8 @@ binary_keeps true before call reply after step = (
 )
 binary_keeps false before call reply after step =
     let a : Stream = step.answered in (
-      subst (λ (raw : Raw). Keeps before.raw raw) (sym (ap (λ (s : Stream). s.raw) step.leaves ∙ left_raw a.life a)) step.answers.keeps.raw,
-      (ap (λ (s : Stream). s.can) step.leaves ∙ left_can a.life a ∙ step.answers.keeps.can, ap (λ (s : Stream). s.buffer) step.leaves ∙ left_buffer a.life a ∙ step.answers.keeps.buffer),
+      subst (λ (raw : Raw). Keeps before.raw raw) (sym (ap (λ (s : Stream). s.raw) step.leaves ∙ left_raw before.life a.life a)) step.answers.keeps.raw,
+      (ap (λ (s : Stream). s.can) step.leaves ∙ left_can before.life a.life a ∙ step.answers.keeps.can, ap (λ (s : Stream). s.buffer) step.leaves ∙ left_buffer before.life a.life a ∙ step.answers.keeps.buffer),
     )
 
 pub step_keeps : (before : SessionView) (call : Call) (reply : Reply) (after : SessionView) → Answers before call reply after → Keeps (raw_of before) (raw_of after) × KeepsSettings before after
@@ -105,7 +133,7 @@ binary_causes true before call reply after step = caused_none before.raw after.r
 binary_causes false before call reply after step =
     let a : Stream = step.answered in
     subst (λ (short : Bool). HasCauses before.raw reply after.raw short) (sym step.marks)
-    (subst (λ (raw : Raw). HasCauses before.raw reply raw a.short) (sym (ap (λ (s : Stream). s.raw) step.leaves ∙ left_raw a.life a)) step.answers.causes)
+    (subst (λ (raw : Raw). HasCauses before.raw reply raw a.short) (sym (ap (λ (s : Stream). s.raw) step.leaves ∙ left_raw before.life a.life a)) step.answers.causes)
 
 pub step_causes : (before : SessionView) (call : Call) (reply : Reply) (after : SessionView) → Answers before call reply after → HasCauses (raw_of before) (said reply) (raw_of after) (short_of after)
 step_causes (TextSession before) call reply (TextSession after) step = text_causes (is_getter (file_call call)) before call (said reply) after step
@@ -126,7 +154,7 @@ binary_told false before call reply after step tells =
     record {
       file = file_of a;
       step = subst (λ (short : Bool). BinaryStep (file_of before) (file_call call) reply short (says_fault reply) (file_of a)) (sym step.marks) (step.answers.told tells);
-      left = subst (λ (s : Stream). FileLeft (file_of a) (file_of s)) (sym step.leaves) (left_file a.life a);
+      left = subst (λ (s : Stream). FileLeft before.life (file_of a) reply (file_of s)) (sym step.leaves) (left_file before.life a.life before (file_call call) reply a refl refl step.answers.moves.life_is step.hands);
     }
 
 pub step_told : (before : SessionView) (call : Call) (reply : Reply) (after : SessionView) → Answers before call reply after → IsTrue (tells (raw_of before)) → SessionStep (file_seen before) call (said reply) (short_of after) (says_fault (said reply)) (file_seen after)
@@ -186,7 +214,7 @@ binary_completes : (getter : Bool) (before : Stream) (call : Call) (reply : File
 binary_completes true before call reply after step smooth = step.says
 binary_completes false before call reply after step smooth =
     let a : Stream = step.answered in
-    let same : IsSmooth before.raw a.raw = subst (λ (raw : Raw). IsSmooth before.raw raw) (ap (λ (s : Stream). s.raw) step.leaves ∙ left_raw a.life a) smooth in
+    let same : IsSmooth before.raw a.raw = subst (λ (raw : Raw). IsSmooth before.raw raw) (ap (λ (s : Stream). s.raw) step.leaves ∙ left_raw before.life a.life a) smooth in
     λ accepted. (step.answers.complete accepted same.waits same.faults).0
 
 pub step_completes : (before : SessionView) (call : Call) (reply : Reply) (after : SessionView) → Answers before call reply after → IsSmooth (raw_of before) (raw_of after) → Completes before call (said reply)
@@ -255,16 +283,16 @@ text_in_step false before call reply after step is = λ now.
 owes_none : (before : Stream) (call : FileCall) (reply : FileReply) (after : Stream) → (step : AnswersCall before call reply after) → IsInStep (BinarySession before) → (after.can.writable ≡ false) ⊎ (after.buffer ≡ None) → step.answered.owed ≡ nothing_owed step.answered.place
 owes_none before call reply after step is (inl reads) =
     let a : Stream = step.answered in
-    let read : before.can.writable ≡ false = sym (ap (λ (s : Stream). s.can.writable) step.leaves ∙ ap (λ (can : Abilities). can.writable) (left_can a.life a ∙ step.answers.keeps.can)) ∙ reads in
+    let read : before.can.writable ≡ false = sym (ap (λ (s : Stream). s.can.writable) step.leaves ∙ ap (λ (can : Abilities). can.writable) (left_can before.life a.life a ∙ step.answers.keeps.can)) ∙ reads in
     (step.answers.spares read (is (inl read))).owed
 owes_none before call reply after step is (inr bare) =
     let a : Stream = step.answered in
-    let none : before.buffer ≡ None = sym (ap (λ (s : Stream). s.buffer) step.leaves ∙ left_buffer a.life a ∙ step.answers.keeps.buffer) ∙ bare in
+    let none : before.buffer ≡ None = sym (ap (λ (s : Stream). s.buffer) step.leaves ∙ left_buffer before.life a.life a ∙ step.answers.keeps.buffer) ∙ bare in
     step.answers.keeps.bare none (is (inr none))
 
 binary_in_step : (getter : Bool) (before : Stream) (call : FileCall) (reply : FileReply) (after : Stream) → AnswersBy getter before call reply after → IsInStep (BinarySession before) → IsInStep (BinarySession after)
 binary_in_step true before call reply after step is = subst (λ (s : Stream). IsInStep (BinarySession s)) (sym step.same) is
-binary_in_step false before call reply after step is = λ none. subst (λ (s : Stream). s.owed ≡ nothing_owed s.place) (sym step.leaves) (left_settled step.answered.life step.answered (owes_none before call reply after step is none))
+binary_in_step false before call reply after step is = λ none. subst (λ (s : Stream). s.owed ≡ nothing_owed s.place) (sym step.leaves) (left_settled before.life step.answered.life step.answered (owes_none before call reply after step is none))
 
 pub step_in_step : (before : SessionView) (call : Call) (reply : Reply) (after : SessionView) → Answers before call reply after → IsInStep before → IsInStep after
 step_in_step (TextSession before) call reply (TextSession after) step is = text_in_step (is_getter (file_call call)) before call (said reply) after step is
@@ -285,7 +313,7 @@ binary_bytes : (getter : Bool) (before : Stream) (call : FileCall) (reply : File
 binary_bytes true before call reply after step reads tells = ap (λ (s : Stream). s.raw.bytes) step.same
 binary_bytes false before call reply after step reads tells =
     let a : Stream = step.answered in
-    ap (λ (s : Stream). s.raw.bytes) step.leaves ∙ ap (λ (raw : Raw). raw.bytes) (left_raw a.life a) ∙ (step.answers.spares reads.0 reads.1).bytes tells
+    ap (λ (s : Stream). s.raw.bytes) step.leaves ∙ ap (λ (raw : Raw). raw.bytes) (left_raw before.life a.life a) ∙ (step.answers.spares reads.0 reads.1).bytes tells
 
 pub step_spares : (before : SessionView) (call : Call) (reply : Reply) (after : SessionView) → Answers before call reply after → OnlyReads before → IsTrue (raw_of before).tells_bytes → (raw_of after).bytes ≡ (raw_of before).bytes
 step_spares (TextSession before) call reply (TextSession after) step reads tells = text_bytes (is_getter (file_call call)) before call (said reply) after step tells
@@ -297,7 +325,7 @@ binary_writes_none : (getter : Bool) (before : Stream) (call : FileCall) (reply 
 binary_writes_none true before call reply after step reads = subst (λ (s : Stream). AnswersFor 0 before.raw s.raw) (sym step.same) (λ _. refl)
 binary_writes_none false before call reply after step reads =
     let a : Stream = step.answered in
-    subst (λ (s : Stream). AnswersFor 0 before.raw s.raw) (sym step.leaves) (subst (AnswersFor 0 before.raw) (sym (left_raw a.life a)) (step.answers.spares reads.0 reads.1).written)
+    subst (λ (s : Stream). AnswersFor 0 before.raw s.raw) (sym step.leaves) (subst (AnswersFor 0 before.raw) (sym (left_raw before.life a.life a)) (step.answers.spares reads.0 reads.1).written)
 
 text_writes_none : (getter : Bool) (before : TextState) (call : Call) (reply : FileReply) (after : TextState) → AnswersTextBy getter before call reply after → AnswersFor 0 before.raw after.raw
 text_writes_none true before call reply after step = subst (λ (t : TextState). AnswersFor 0 before.raw t.raw) (sym step.same) (λ _. refl)
@@ -321,7 +349,7 @@ binary_shuts false before call reply after step reads shut =
     let none : a.owed.bytes ≡ [] = ap (λ (owed : Owed). owed.bytes) (step.answers.spares reads.0 reads.1).owed in
     let closed : ClosedWith a.life a.raw = step.answers.shut (closes_whole before call reply reads.0) none shut in
     subst (λ (s : Stream). ClosedWith s.life s.raw) (sym step.leaves)
-    (subst (λ (raw : Raw). ClosedWith (left_of a).life raw) (sym (left_raw a.life a)) (subst (λ (current : Life). ClosedWith current a.raw) (sym (left_life a.life a refl)) closed))
+    (subst (λ (raw : Raw). ClosedWith (left_of before.life a).life raw) (sym (left_raw before.life a.life a)) (subst (λ (current : Life). ClosedWith current a.raw) (sym (left_life before.life a.life a refl)) closed))
 
 pub step_shuts : (before : SessionView) (call : Call) (reply : Reply) (after : SessionView) → Answers before call reply after → OnlyReads before → ClosedWith (life_of before) (raw_of before) → ClosedWith (life_of after) (raw_of after)
 step_shuts (TextSession before) call reply (TextSession after) step reads shut = text_shuts (is_getter (file_call call)) before call (said reply) after step shut

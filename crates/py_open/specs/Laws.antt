@@ -1,5 +1,6 @@
 -- What holds of whole runs, whatever raw is below.
 use Rattle.std.specs.Prelude.{◌≡◌, Bool, true, false, List, [], ◌∷◌, None}
+use Rattle.py_flat.specs.declared.fault.IoFault.{IoFault}
 use Rattle.py_flat.specs.declared.fault.IoFault.TheVariants as fault
 use Rattle.py_flat.specs.Calls.{FileCall, Close, Detach, Flush, OtherGetter, FileReply, Done, Unwritten, Refused}
 use Rattle.py_flat.specs.Refusals.{is_getter}
@@ -135,5 +136,36 @@ closed_replies file (call ∷ calls) = closed_reply file call ∷ closed_replies
 -- a closed session answers so, and the session, with its raw, stays as it was
 pub record StaysClosed (before : SessionView) (calls : List Call) (replies : List Reply) (after : SessionView) : Type 0 where
   pub says : all_said replies ≡ closed_replies (file_seen before) calls
+  pub file : file_seen after ≡ file_seen before
+  pub raw : raw_of after ≡ raw_of before
+
+-- Detached sessions.
+
+-- what a detached stream refuses a call by, but for the four questions: by that, and as it lacks some questions
+abbrev pub detached_fault : FileCall → IoFault
+detached_fault OtherGetter = fault.Unsupported
+detached_fault call = fault.Detached
+
+abbrev pub detached_by : Bool → SessionFile → Call → FileReply
+detached_by true file call = flag_seen file call
+detached_by false (OfText file) call = Refused fault.Detached
+detached_by false (OfBinary file) call = Refused (detached_fault (file_call call))
+
+-- what a detached session answers: the four questions as ever, all else is refused
+abbrev pub detached_reply : SessionFile → Call → FileReply
+detached_reply file call = detached_by (is_getter (file_call call)) file call
+
+abbrev pub detached_replies : SessionFile → List Call → List FileReply
+detached_replies file [] = []
+detached_replies file (call ∷ calls) = detached_reply file call ∷ detached_replies file calls
+
+-- a detached file answers so, and stays as it was, its bytes and its place too
+pub record FileStaysDetached (before : SessionFile) (entries : List Entry) (after : SessionFile) : Type 0 where
+  pub says : all_said (replies_of entries) ≡ detached_replies before (calls_of entries)
+  pub same : after ≡ before
+
+-- a detached session answers so, and its file, with its raw, stays as it was
+pub record StaysDetached (before : SessionView) (calls : List Call) (replies : List Reply) (after : SessionView) : Type 0 where
+  pub says : all_said replies ≡ detached_replies (file_seen before) calls
   pub file : file_seen after ≡ file_seen before
   pub raw : raw_of after ≡ raw_of before

@@ -1,8 +1,9 @@
 -- A session: what it is seen as, and what one call of it may do.
-use Rattle.std.specs.Prelude.{◌≡◌, ◌≢◌, ◌⊎◌, ℕ, Bool, true, false, List, [], None}
+use Rattle.std.specs.Prelude.{◌≡◌, ◌≢◌, ◌⊎◌, ℕ, Bool, true, false, List, [], Option, Some, None}
 use Rattle.py_flat.specs.declared.life.Life.{Life}
 use Rattle.py_flat.specs.declared.life.Life.TheVariants as life
-use Rattle.py_flat.specs.Calls.{FileReply, Flag}
+use Rattle.py_flat.specs.Bytes.{lay}
+use Rattle.py_flat.specs.Calls.{FileReply, Flag, Unwritten}
 use Rattle.py_flat.specs.FlatFile.{FlatFile}
 use Rattle.py_flat.specs.Refusals.{is_getter}
 use Rattle.py_flat.specs.BinaryStep.{Settled, BinaryStep}
@@ -33,6 +34,11 @@ pub data SessionFile : Type 0 where
 abbrev pub file_seen : SessionView → SessionFile
 file_seen (TextSession text) = OfText text.file
 file_seen (BinarySession stream) = OfBinary (file_of stream)
+
+-- the life of a session's file
+abbrev pub life_in : SessionFile → Life
+life_in (OfText file) = file.life
+life_in (OfBinary file) = file.life
 
 -- the raw under a session, with its counts
 abbrev pub raw_of : SessionView → Raw
@@ -108,25 +114,46 @@ ClosesRaw before call reply after = Unit {0}
 
 -- What the model says of a call.
 
--- what a call leaves of a flat file: all, but that of a detached one only the life, and what it could do, is told
-abbrev pub FileLeftBy : Life → FlatFile → FlatFile → Type 0
-FileLeftBy life.Detached file after = (after.life ≡ life.Detached) × (after.can ≡ file.can) × (after.buffering ≡ file.buffering)
-FileLeftBy current file after = after ≡ file
+-- the bytes that a reply hands over as unwritten, and their place; of other replies none
+abbrev pub unwritten_in : FileReply → List ℕ
+unwritten_in (Unwritten bytes place) = bytes
+unwritten_in reply = []
 
-abbrev pub FileLeft : FlatFile → FlatFile → Type 0
-FileLeft file after = FileLeftBy file.life file after
+abbrev pub place_in : FileReply → Option ℕ
+place_in (Unwritten bytes place) = place
+place_in reply = None
+
+-- what a `detach` leaves of the flat file that it detached, now without a stream: what it could do; and its bytes, but for those that
+-- it handed over as unwritten, of a live one none. The place was handed over, and isn't told any more
+pub record IsDetached (file : FlatFile) (reply : FileReply) (after : FlatFile) : Type 0 where
+  pub life_is : after.life ≡ life.Detached
+  pub can : after.can ≡ file.can
+  pub buffering : after.buffering ≡ file.buffering
+  pub at : ℕ
+  pub told : (place : ℕ) → place_in reply ≡ Some place → at ≡ place
+  pub bytes : file.bytes ≡ lay after.bytes at (unwritten_in reply)
+
+-- what a call leaves of a flat file, by its life before and after: all, but of one that it detached what is told of that. A file that
+-- was detached before stays as it is, its bytes and its place too
+abbrev pub FileLeftBy : (was is : Life) → FlatFile → FileReply → FlatFile → Type 0
+FileLeftBy life.Detached is file reply after = after ≡ file
+FileLeftBy was life.Detached file reply after = IsDetached file reply after
+FileLeftBy was is file reply after = after ≡ file
+
+abbrev pub FileLeft : Life → FlatFile → FileReply → FlatFile → Type 0
+FileLeft was file reply after = FileLeftBy was file.life file reply after
 
 -- the allowed step of a flat file
 pub record LeavesFile (before : FlatFile) (call : Call) (reply : FileReply) (waited faulted : Bool) (after : FlatFile) : Type 0 where
   pub file : FlatFile
   pub step : BinaryStep before (file_call call) reply waited faulted file
-  pub left : FileLeft file after
+  pub left : FileLeft before.life file reply after
 
 -- what a flat file answers and leaves where nothing waits, fails or runs out of memory
 pub record SettlesFile (before : FlatFile) (call : Call) (reply : FileReply) (after : FlatFile) : Type 0 where
   pub file : FlatFile
   pub settled : Settled before (file_call call) reply file
-  pub left : FileLeft file after
+  pub left : FileLeft before.life file reply after
 
 -- what a session answers to one of the four questions
 abbrev pub flag_seen : SessionFile → Call → FileReply

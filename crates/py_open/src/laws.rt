@@ -12,11 +12,11 @@ ghost use Rattle.py_calls.specs.declared.call.Call.TheVariants.{Close};
 ghost use Rattle.py_calls.specs.declared.reply.Reply.{Reply};
 ghost use Rattle.py_calls.specs.declared.reply.Reply.TheVariants.{Done};
 ghost use Rattle.py_calls.specs.Calls.{file_call, said};
-ghost use Rattle.py_open.specs.Session.{SessionFile, OfText, SessionView, Answers, IsInStep, HasOpenRaw, file_seen, raw_of, life_of};
+ghost use Rattle.py_open.specs.Session.{SessionFile, OfText, SessionView, Answers, IsInStep, HasOpenRaw, file_seen, raw_of, life_of, life_in};
 ghost use Rattle.py_mode.specs.declared.plan.OpenPlan.{OpenPlan};
 ghost use Rattle.py_open.specs.Opening.{OpensSession};
 ghost use Rattle.py_open.specs.Run.{Entry, IsRun, IsHistory, IsCalm, IsSmooth, NoneLacksMemory, AllSettle, all_said, calls_of, replies_of};
-ghost use Rattle.py_open.specs.Laws.{IsExact, HasHistory, RunsInTwo, RunsComplete, KeepsSettings, OnlyReads, PassesAll, HoldsFlat, StaysClosed};
+ghost use Rattle.py_open.specs.Laws.{IsExact, HasHistory, RunsInTwo, RunsComplete, KeepsSettings, OnlyReads, PassesAll, HoldsFlat, StaysClosed, StaysDetached, FileStaysDetached};
 
 /// A run over a raw that tells, in which no count of the raw rose and no call ran out of memory, is the model's: there is a flat
 /// file between any two calls, and each reply is what the file there answers, exactly, but that a single transfer gives some front
@@ -115,4 +115,12 @@ pub fn a_done_close_closes_its_raw()
 /// (Python's documentation of `close`).
 pub fn a_closed_session_stays_closed()
     ensures { (before : SessionView) (calls : List Call) (replies : List Reply) (after : SessionView) → IsRun before calls replies after → life_of before ≡ life.Closed → StaysClosed before calls replies after }
+{}
+
+/// A detached file stays as it is over every later call, its bytes and its place too: the four questions are answered as ever, and
+/// every other call is refused, by `Detached` but for the questions that a stream lacks. So it is in the model, whatever the marks
+/// of the entries are, and over every raw, told or not, which stays as it was too (Python's documentation of `detach`).
+pub fn a_detached_file_stays_as_it_is()
+    ensures history { (before : SessionFile) (entries : List Entry) (after : SessionFile) → IsHistory before entries after → life_in before ≡ life.Detached → FileStaysDetached before entries after }
+    ensures run { (before : SessionView) (calls : List Call) (replies : List Reply) (after : SessionView) → IsRun before calls replies after → life_of before ≡ life.Detached → StaysDetached before calls replies after }
 {}

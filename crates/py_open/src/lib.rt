@@ -11,11 +11,12 @@ mod session;
 mod text_calls;
 
 pub use laws::{
-    a_calm_history_settles, a_closed_session_stays_closed, a_done_close_closes_its_raw,
-    a_raw_is_closed_with_its_session, a_run_answers_each_call, a_run_is_a_history,
-    a_run_keeps_the_settings, a_run_splits_anywhere, a_session_that_reads_spares_the_bytes,
-    a_settled_text_is_exact, a_smooth_run_is_complete, a_smooth_run_settles,
-    an_ended_session_calls_no_raw, counts_never_fall, what_is_passed_on_is_in_the_raw,
+    a_calm_history_settles, a_closed_session_stays_closed, a_detached_file_stays_as_it_is,
+    a_done_close_closes_its_raw, a_raw_is_closed_with_its_session, a_run_answers_each_call,
+    a_run_is_a_history, a_run_keeps_the_settings, a_run_splits_anywhere,
+    a_session_that_reads_spares_the_bytes, a_settled_text_is_exact, a_smooth_run_is_complete,
+    a_smooth_run_settles, an_ended_session_calls_no_raw, counts_never_fall,
+    what_is_passed_on_is_in_the_raw,
 };
 pub use open_refused::OpenRefused;
 pub use py_calls::{Call, Reply};

@@ -14,7 +14,9 @@ returns-then-is_some g c =
     rw is (gone_answers (shown c.self.inside.stream).can (shown c.self.inside.stream).buffer gone.0 Detach refl)
 
 pub returns-in-None : goal.returns-in-None
-returns-in-None g c = rw (sym c.self.view_is, seen_kept _ c.self.inside.stream c.self.inside.raw (sym c.if-is_some.ensures), c.replace.ensures.after, c.from_vec.ensures) (detach_answers (shown c.self.inside.stream) (shown c.detach_stream.new.stream) _ c.in-Ok.detached.unwritten.items c.in-Ok.detached.place c.in-Ok.ensures.0)
+returns-in-None g c =
+    let attached = (served_held c.self.inside.stream (session_served c.self.inside.stream c.self.inside.raw (sym c.if-is_some.ensures) c.self.invariant)).attached in
+    rw (sym c.self.view_is, seen_kept _ c.self.inside.stream c.self.inside.raw (sym c.if-is_some.ensures), c.replace.ensures.after, c.from_vec.ensures) (detach_answers (shown c.self.inside.stream) (shown c.detach_stream.new.stream) _ c.in-Ok.detached.unwritten.items c.in-Ok.detached.place attached c.in-Ok.ensures.0)
 
 pub returns-in-Err : goal.returns-in-Err
 returns-in-Err g c =
