@@ -5,3 +5,4 @@ pub mod Runs
 pub mod Running
 pub mod Closing
 pub mod Gone
+pub mod InRaw

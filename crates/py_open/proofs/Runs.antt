@@ -102,13 +102,13 @@ unrisen_up_to limit first mid last up none = let below = leb-false (min (first +
 unrisen_from : (limit first mid last : ℕ) → first ≤ mid → nat_le (min (first + 1) limit) last ≡ false → nat_le (min (mid + 1) limit) last ≡ false
 unrisen_from limit first mid last up none = let below = leb-false (min (first + 1) limit) last none in lt-leb (min (mid + 1) limit) last (omega arith)
 
-smooth_up_to : (first mid last : Raw) → Keeps mid last → IsSmooth first last → IsSmooth first mid
+pub smooth_up_to : (first mid last : Raw) → Keeps mid last → IsSmooth first last → IsSmooth first mid
 smooth_up_to first mid last keeps smooth = record {
   waits = unrisen_up_to greatest_count first.waits mid.waits last.waits keeps.waits smooth.waits;
   faults = unrisen_up_to greatest_count first.faults mid.faults last.faults keeps.faults smooth.faults;
 }
 
-smooth_from : (first mid last : Raw) → Keeps first mid → IsSmooth first last → IsSmooth mid last
+pub smooth_from : (first mid last : Raw) → Keeps first mid → IsSmooth first last → IsSmooth mid last
 smooth_from first mid last keeps smooth = record {
   waits = unrisen_from greatest_count first.waits mid.waits last.waits keeps.waits smooth.waits;
   faults = unrisen_from greatest_count first.faults mid.faults last.faults keeps.faults smooth.faults;

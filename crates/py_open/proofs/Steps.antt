@@ -188,7 +188,7 @@ pub step_settles : (before : SessionFile) (call : Call) (reply : FileReply) (wai
 step_settles before call reply waited faulted after no_wait no_fault had step = settles_by (is_getter (file_call call)) before call reply waited faulted after no_wait no_fault had step
 
 -- what has no cause isn't so
-uncaused : (said : Bool) (old new : ℕ) → (IsTrue said → Rose old new) → rose old new ≡ false → said ≡ false
+pub uncaused : (said : Bool) (old new : ℕ) → (IsTrue said → Rose old new) → rose old new ≡ false → said ≡ false
 uncaused true old new cause none =
     let risen : Rose old new = cause refl in
     let tested : rose old new ≡ true = le-leb _ new risen in

@@ -35,6 +35,11 @@ abbrev pub file_seen : SessionView → SessionFile
 file_seen (TextSession text) = OfText text.file
 file_seen (BinarySession stream) = OfBinary (file_of stream)
 
+-- the bytes of a session's file
+abbrev pub bytes_in : SessionFile → List ℕ
+bytes_in (OfText file) = file.bytes
+bytes_in (OfBinary file) = file.bytes
+
 -- the life of a session's file
 abbrev pub life_in : SessionFile → Life
 life_in (OfText file) = file.life

@@ -1,7 +1,7 @@
 //! Laws of the definitions that the contracts cite: what any run of a session has to be.
 //!
 //! No function here does anything; what each ensures is a law.
-ghost use Rattle.std.specs.Prelude.{◌≡◌, ◌≢◌, ℕ, ◌≤◌, true, IsTrue, List, ◌++◌, length};
+ghost use Rattle.std.specs.Prelude.{◌≡◌, ◌≢◌, ℕ, ◌≤◌, true, IsTrue, List, [], ◌∷◌, ◌++◌, length};
 ghost use Rattle.py_flat.specs.declared.life.Life.TheVariants as life;
 ghost use Rattle.py_flat.specs.Calls.{FileReply};
 ghost use Rattle.py_plain.specs.TextFile.{TextFile};
@@ -12,7 +12,7 @@ ghost use Rattle.py_calls.specs.declared.call.Call.TheVariants.{Close};
 ghost use Rattle.py_calls.specs.declared.reply.Reply.{Reply};
 ghost use Rattle.py_calls.specs.declared.reply.Reply.TheVariants.{Done};
 ghost use Rattle.py_calls.specs.Calls.{file_call, said};
-ghost use Rattle.py_open.specs.Session.{SessionFile, OfText, SessionView, Answers, IsInStep, HasOpenRaw, file_seen, raw_of, life_of, life_in};
+ghost use Rattle.py_open.specs.Session.{SessionFile, OfText, SessionView, Answers, IsInStep, HasOpenRaw, file_seen, raw_of, life_of, life_in, bytes_in};
 ghost use Rattle.py_mode.specs.declared.plan.OpenPlan.{OpenPlan};
 ghost use Rattle.py_open.specs.Opening.{OpensSession};
 ghost use Rattle.py_open.specs.Run.{Entry, IsRun, IsHistory, IsCalm, IsSmooth, NoneLacksMemory, AllSettle, all_said, calls_of, replies_of};
@@ -123,4 +123,10 @@ pub fn a_closed_session_stays_closed()
 pub fn a_detached_file_stays_as_it_is()
     ensures history { (before : SessionFile) (entries : List Entry) (after : SessionFile) → IsHistory before entries after → life_in before ≡ life.Detached → FileStaysDetached before entries after }
     ensures run { (before : SessionView) (calls : List Call) (replies : List Reply) (after : SessionView) → IsRun before calls replies after → life_of before ≡ life.Detached → StaysDetached before calls replies after }
+{}
+
+/// A run over a raw that tells, from a live session, that ends in a `Close`, leaves the bytes of its file in the raw, where no count of
+/// the raw rose and no call ran out of memory. So what settled of such a run is what the raw holds in the end.
+pub fn a_smooth_run_that_closes_leaves_its_file_in_the_raw()
+    ensures { (before : SessionView) (calls : List Call) (replies : List Reply) (after : SessionView) → IsRun before (calls ++ Close ∷ []) replies after → IsInStep before → life_of before ≡ life.Live → IsTrue (tells (raw_of before)) → IsSmooth (raw_of before) (raw_of after) → NoneLacksMemory (all_said replies) → bytes_in (file_seen after) ≡ (raw_of after).bytes }
 {}

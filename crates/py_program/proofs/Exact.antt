@@ -32,17 +32,18 @@ use Rattle.py_mode.specs.Mode.{letter_of}
 use Rattle.py_mode.specs.Plan.{plan_of}
 use Rattle.py_mode.proofs.Planning.{planned_text_is_read}
 use Rattle.py_textio.specs.Opening.{text_opened, OpensText}
-use Rattle.py_open.specs.Session.{SessionFile, OfText, OfBinary, SessionView, TextSession, BinarySession, file_seen, raw_of}
+use Rattle.py_open.specs.Session.{SessionFile, OfText, OfBinary, SessionView, TextSession, BinarySession, file_seen, raw_of, life_of, bytes_in}
 use Rattle.py_open.specs.Opening.{access_of, OpensBy}
 use Rattle.py_open.specs.Run.{IsRun, IsSmooth, NoneLacksMemory, RunsCalls, AllSettle, all_said}
-use Rattle.py_open.specs.Laws.{IsExact}
-use Rattle.py_open.proofs.Runs.{smooth_completes}
+use Rattle.py_open.specs.Laws.{IsExact, OnlyReads}
+use Rattle.py_open.proofs.Runs.{smooth_completes, run_spares, opened_in_step}
+use Rattle.py_open.proofs.InRaw.{close_leaves_in_raw}
 use Rattle.py_script.specs.CommandWords.{Command, Run, command_of}
 use Rattle.py_program.specs.declared.status.Status.{Status}
 use Rattle.py_program.specs.declared.status.Status.TheVariants as status
 use Rattle.py_program.specs.Status.{code_of}
 use Rattle.py_program.specs.Outcome.{Outside, raw_mode, asked_by, own_text, closed_calls, OpensPath, FollowsPlan, PlannedOutcome, RunsScript, Outcome, Ends}
-use Rattle.py_program.specs.Meaning.{RawsAreReady, PrintsReplies, PrintsSettled, PrintsExactly, begins_with, file_by, opened_file}
+use Rattle.py_program.specs.Meaning.{RawsAreReady, PrintsReplies, PrintsSettled, PrintsExactly, SettlesAtPath, begins_with, file_by, opened_file}
 use Rattle.py_program.proofs.Planned.{one_plan}
 use Rattle.py_program.proofs.Keeping.{opening_keeps}
 
@@ -125,6 +126,19 @@ settles_over law raw plan chunk session calls replies bytes run smooth told seek
     subst (λ (file : SessionFile). AllSettle file calls (all_said replies) (file_seen session)) (file_opened plan.mode.encode raw plan chunk bytes run.opened run.opens told seeks place are)
     (law run.opened calls replies session run.run (tells_still raw (raw_of run.opened) (opening_keeps plan.mode.encode raw plan chunk run.opened run.opens).keeps ∙ told) smooth memory)
 
+-- a session is live as it was opened
+opened_live : (encode : EncodeMode) (raw : Raw) (plan : OpenPlan) (chunk : ℕ) (session : SessionView) → OpensBy encode raw plan chunk session → life_of session ≡ life.Live
+opened_live Text raw plan chunk (TextSession text) opens = ap (λ (file : TextFile). file.life) opens.file
+opened_live Bytes raw plan chunk (BinarySession stream) opens = opens.life_is
+opened_live Text raw plan chunk (BinarySession stream) opens = absurd opens
+opened_live Bytes raw plan chunk (TextSession text) opens = absurd opens
+
+-- what the session comes to by the calls and a Close is in the raw
+closed_in_raw : (raw : Raw) (plan : OpenPlan) (chunk : ℕ) (session : SessionView) (calls : List Call) (replies : List Reply) → (run : RunsCalls raw plan chunk (closed_calls calls) session replies) → IsSmooth (raw_of run.opened) (raw_of session) → tells raw ≡ true → NoneLacksMemory (all_said replies) → bytes_in (file_seen session) ≡ (raw_of session).bytes
+closed_in_raw raw plan chunk session calls replies run smooth told memory =
+    close_leaves_in_raw run.opened calls replies session run.run (opened_in_step raw plan chunk run.opened run.opens) (opened_live plan.mode.encode raw plan chunk run.opened run.opens)
+    (tells_still raw (raw_of run.opened) (opening_keeps plan.mode.encode raw plan chunk run.opened run.opens).keeps ∙ told) smooth memory
+
 -- what the path holds is what the raw gives
 raw_bytes : (held : Option (List ℕ)) (bytes : List ℕ) → held ≡ Some bytes → unwrap_or held [] ≡ bytes
 raw_bytes held bytes is = ap (λ (some : Option (List ℕ)). unwrap_or some []) is
@@ -198,7 +212,11 @@ settled law path mode args old new before after printed told tells ready =
       form = (printed.reads told).form;
       replies = printed.replies;
       prints = printed.prints;
-      says = λ memory. (file_seen printed.session, settles_over law printed.raw printed.plan args.chunk_size printed.session (closed_calls printed.calls) printed.replies (opened_bytes (raw_mode printed.plan) (before.opener.holds path)) printed.run smooth begun.tells begun.seeks begun.place begun.bytes_are memory);
+      says = λ memory. record {
+        last = file_seen printed.session;
+        settles = settles_over law printed.raw printed.plan args.chunk_size printed.session (closed_calls printed.calls) printed.replies (opened_bytes (raw_mode printed.plan) (before.opener.holds path)) printed.run smooth begun.tells begun.seeks begun.place begun.bytes_are memory;
+        holds = printed.holds tells ∙ ap Some (sym (closed_in_raw printed.raw printed.plan args.chunk_size printed.session printed.calls printed.replies printed.run smooth begun.tells memory));
+      };
     }
 
 -- with the number 0 a run in which no raw failed or waited printed what settles
@@ -218,8 +236,31 @@ text_opened_of plan chunk held bytes is_text reads holds =
 abbrev pub SettledTextsAreExact : Type 0
 SettledTextsAreExact = (before : TextFile) (calls : List Call) (replies : List FileReply) (after : SessionFile) → AllSettle (OfText before) calls replies after → IsExact before calls replies after
 
+-- a text only reads
+text_only_reads : (encode : EncodeMode) (raw : Raw) (plan : OpenPlan) (chunk : ℕ) (session : SessionView) → encode ≡ Text → OpensBy encode raw plan chunk session → OnlyReads session
+text_only_reads Text raw plan chunk (TextSession text) is opens = tt
+text_only_reads Text raw plan chunk (BinarySession stream) is opens = absurd opens
+text_only_reads Bytes raw plan chunk session is opens = let wrong : Bytes ≡ Text = is in absurd (cc)
+
+-- what a run of a text leaves at the path is what it held
+held_still : (path : List ℕ) (plan : OpenPlan) (chunk : ℕ) (calls : List Call) (replies : List Reply) (raw : Raw) (session : SessionView) (held : Option (List ℕ)) (bytes : List ℕ) → plan.mode.encode ≡ Text → plan.mode.file ≡ Read → held ≡ Some bytes → tells raw ≡ true → raw.bytes ≡ opened_bytes (raw_mode plan) held → (run : RunsCalls raw plan chunk calls session replies) → (raw_of session).bytes ≡ bytes
+held_still path plan chunk calls replies raw session held bytes is_text reads holds told are run =
+    let opened = opening_keeps plan.mode.encode raw plan chunk run.opened run.opens in
+    run_spares run.opened calls replies session run.run (text_only_reads plan.mode.encode raw plan chunk run.opened is_text run.opens) (opened.keeps.tells_bytes ∙ tells_its_bytes raw told)
+    ∙ opened.bytes (tells_its_bytes raw told)
+    ∙ are
+    ∙ ap (λ (file : FileMode). opened_bytes (raw_mode_text (letter_of file) plan.mode.plus) held) reads
+    ∙ ap (λ (some : Option (List ℕ)). unwrap_or some []) holds
+
+text_holds : (path mode : List ℕ) (args : OpenArgs) (old new : SourceView) (before after : Outside) (plan : OpenPlan) (bytes : List ℕ) → PrintsReplies path mode args old new before after → plan_of mode args ≡ Ok plan → plan.mode.encode ≡ Text → IsTrue before.opener.tells → before.opener.holds path ≡ Some bytes → after.opener.holds path ≡ Some bytes
+text_holds path mode args old new before after plan bytes printed accepted is_text tells holds =
+    let begun = printed.begins tells in
+    let one : printed.plan ≡ plan = one_plan (plan_of mode args) printed.plan plan printed.planned accepted in
+    let text : printed.plan.mode.encode ≡ Text = ap (λ (by : OpenPlan). by.mode.encode) one ∙ is_text in
+    printed.holds tells ∙ ap Some (held_still path printed.plan args.chunk_size (closed_calls printed.calls) printed.replies printed.raw printed.session (before.opener.holds path) bytes text (planned_text_is_read mode args printed.plan printed.planned text) holds begun.tells begun.bytes_are printed.run)
+
 -- with the number 0 a run of a text in which no raw failed or waited printed the exact replies
-pub prints_exactly : SmoothRunsSettle → SettledTextsAreExact → (words : List (List ℕ)) (old new : SourceView) (before after : Outside) (path mode bytes : List ℕ) (args : OpenArgs) (plan : OpenPlan) → Ends 0 words old new before after → command_of words ≡ Some (Run path mode args) → plan_of mode args ≡ Ok plan → plan.mode.encode ≡ Text → IsTrue old.tells → IsTrue before.opener.tells → before.opener.holds path ≡ Some bytes → RawsAreReady before after → PrintsExactly bytes args.chunk_size old before after
+pub prints_exactly : SmoothRunsSettle → SettledTextsAreExact → (words : List (List ℕ)) (old new : SourceView) (before after : Outside) (path mode bytes : List ℕ) (args : OpenArgs) (plan : OpenPlan) → Ends 0 words old new before after → command_of words ≡ Some (Run path mode args) → plan_of mode args ≡ Ok plan → plan.mode.encode ≡ Text → IsTrue old.tells → IsTrue before.opener.tells → before.opener.holds path ≡ Some bytes → RawsAreReady before after → PrintsExactly path bytes args.chunk_size old before after
 prints_exactly law exact words old new before after path mode bytes args plan ends form accepted is_text told tells holds ready =
     let printed = prints_settled law words old new before after path mode args plan ends form accepted told tells ready in
     let file = text_opened_of plan args.chunk_size (before.opener.holds path) bytes is_text (planned_text_is_read mode args plan accepted is_text) holds in
@@ -229,5 +270,6 @@ prints_exactly law exact words old new before after path mode bytes args plan en
       replies = printed.replies;
       prints = printed.prints;
       says = λ memory. let settles = printed.says memory in
-          (exact (text_opened bytes 0 true args.chunk_size) (closed_calls printed.calls) (all_said printed.replies) settles.0 (subst (λ (begun : SessionFile). AllSettle begun (closed_calls printed.calls) (all_said printed.replies) settles.0) file settles.1)).says;
+          (exact (text_opened bytes 0 true args.chunk_size) (closed_calls printed.calls) (all_said printed.replies) settles.last (subst (λ (begun : SessionFile). AllSettle begun (closed_calls printed.calls) (all_said printed.replies) settles.last) file settles.settles)).says;
+      holds = text_holds path mode args old new before after plan bytes (prints_replies words old new before after path mode args ends form) accepted is_text tells holds;
     }

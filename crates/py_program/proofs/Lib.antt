@@ -6,3 +6,4 @@ mod Opened
 mod Keeping
 mod Ending
 mod Exact
+mod Smooth

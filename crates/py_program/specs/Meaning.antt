@@ -17,7 +17,7 @@ use Rattle.py_mode.specs.declared.open_args.OpenArgs.{OpenArgs}
 use Rattle.py_mode.specs.declared.plan.OpenPlan.{OpenPlan}
 use Rattle.py_mode.specs.Plan.{plan_of}
 use Rattle.py_textio.specs.Opening.{text_opened}
-use Rattle.py_open.specs.Session.{SessionFile, OfText, OfBinary, SessionView, raw_of}
+use Rattle.py_open.specs.Session.{SessionFile, OfText, OfBinary, SessionView, raw_of, bytes_in}
 use Rattle.py_open.specs.Opening.{access_of}
 use Rattle.py_open.specs.Run.{NoneLacksMemory, RunsCalls, AllSettle, all_said}
 use Rattle.py_open.specs.Laws.{RunsComplete, exact_replies}
@@ -25,7 +25,7 @@ use Rattle.py_script.specs.CommandWords.{Command, Run, Help, Version}
 use Rattle.py_script.specs.Help.{help_text, version_text}
 use Rattle.py_script.specs.Script.{script_calls}
 use Rattle.py_script.specs.ReplyLine.{reply_lines}
-use Rattle.py_program.specs.Outside.{IsMalformed, ReadsScript, Prints}
+use Rattle.py_program.specs.Outside.{script_limit, IsMalformed, ReadsScript, Prints}
 use Rattle.py_program.specs.Outcome.{Outside, raw_mode, closed_calls, PathHoldsFlat}
 
 -- the opener tells what each path holds
@@ -137,23 +137,51 @@ file_by Bytes plan chunk bytes = OfBinary (record {
 abbrev pub opened_file : OpenPlan → ℕ → List ℕ → SessionFile
 opened_file plan chunk bytes = file_by plan.mode.encode plan chunk bytes
 
+-- replies settle on the file that a plan opens over bytes, from there to a last file, of which the path holds the bytes in the end
+pub record SettlesAtPath (path : List ℕ) (plan : OpenPlan) (chunk : ℕ) (bytes : List ℕ) (calls : List Call) (replies : List Reply) (after : OpenerView) : Type 0 where
+  pub last : SessionFile
+  pub settles : AllSettle (opened_file plan chunk bytes) calls (all_said replies) last
+  pub holds : after.holds path ≡ Some (bytes_in last)
+
 -- what was printed is the lines of replies to the script's calls and a Close; unless one says out of memory, they settle on the
--- file that the mode opens of what the path held
+-- file that the mode opens of what the path held, and the path holds the bytes of the file that they come to
 pub record PrintsSettled (path : List ℕ) (plan : OpenPlan) (chunk : ℕ) (old : SourceView) (before after : Outside) : Type 0 where
   pub calls : List Call
   pub form : script_calls old.left ≡ Some calls
   pub replies : List Reply
   pub prints : Prints before.sink (reply_lines replies) after.sink
-  pub says : NoneLacksMemory (all_said replies) → (last : SessionFile) × AllSettle (opened_file plan chunk (opened_bytes (raw_mode plan) (before.opener.holds path))) (closed_calls calls) (all_said replies) last
+  pub says : NoneLacksMemory (all_said replies) → SettlesAtPath path plan chunk (opened_bytes (raw_mode plan) (before.opener.holds path)) (closed_calls calls) replies after.opener
 
 -- what was printed is the lines of replies to the script's calls and a Close; unless one says out of memory, they are the exact ones
--- of a text on these bytes, begun at place 0, with chunks of this size
-pub record PrintsExactly (bytes : List ℕ) (chunk : ℕ) (old : SourceView) (before after : Outside) : Type 0 where
+-- of a text on these bytes, begun at place 0, with chunks of this size; and the path holds these bytes
+pub record PrintsExactly (path bytes : List ℕ) (chunk : ℕ) (old : SourceView) (before after : Outside) : Type 0 where
   pub calls : List Call
   pub form : script_calls old.left ≡ Some calls
   pub replies : List Reply
   pub prints : Prints before.sink (reply_lines replies) after.sink
   pub says : NoneLacksMemory (all_said replies) → all_said replies ≡ exact_replies (text_opened bytes 0 true chunk) (closed_calls calls)
+  pub holds : after.opener.holds path ≡ Some bytes
+
+-- the source tells a script that is well formed, and has these calls
+pub record TellsCalls (source : SourceView) (calls : List Call) : Type 0 where
+  pub told : IsTrue source.tells
+  pub short : length source.left ≤ script_limit
+  pub form : script_calls source.left ≡ Some calls
+
+-- no count rose: no count of faults, of the source, the sink, the opener or its raws, and no count of the raws' waits
+pub record IsSmoothOutside (old new : SourceView) (before after : Outside) : Type 0 where
+  pub fails : NothingFails old new before after
+  pub waits : rose before.opener.raw_waits after.opener.raw_waits ≡ false
+
+-- The program does what the model says: it ends with 0; the lines of replies to these calls and a Close were printed; and, unless one of
+-- them says out of memory, they are the model's on the file that the mode opens of what the path held, and the path holds the
+-- bytes of the file that they come to. Every other path holds what it held
+pub record DoesAsTheModel (code : ℕ) (path : List ℕ) (plan : OpenPlan) (chunk : ℕ) (calls : List Call) (before after : Outside) : Type 0 where
+  pub done : code ≡ 0
+  pub replies : List Reply
+  pub prints : Prints before.sink (reply_lines replies) after.sink
+  pub says : NoneLacksMemory (all_said replies) → SettlesAtPath path plan chunk (opened_bytes (raw_mode plan) (before.opener.holds path)) (closed_calls calls) replies after.opener
+  pub others : OthersHoldTheSame path before.opener after.opener
 
 -- The program's promises.
 
@@ -181,6 +209,8 @@ pub record Promises (code : ℕ) (asked : Option Command) (old new : SourceView)
   pub others : TellsPaths before.opener → KeepsOthers asked before.opener after.opener
   pub left : (path : List ℕ) (plan : OpenPlan) → IsAcceptedAt path plan asked → code ≡ 4 → TellsPaths before.opener
       → after.opener.holds path ≡ Some (opened_bytes (raw_mode plan) (before.opener.holds path))
+  pub smooth : (path mode : List ℕ) (args : OpenArgs) (plan : OpenPlan) (calls : List Call) → asked ≡ Some (Run path mode args) → plan_of mode args ≡ Ok plan → TellsCalls old calls → TellsPaths before.opener
+      → IsSmoothOutside old new before after → code ≢ 7 → DoesAsTheModel code path plan args.chunk_size calls before after
   pub printed : (path mode : List ℕ) (args : OpenArgs) → code ≡ 0 → asked ≡ Some (Run path mode args) → PrintsReplies path mode args old new before after
   pub help : code ≡ 0 → asked ≡ Some Help → Prints before.sink help_text after.sink
   pub version : code ≡ 0 → asked ≡ Some Version → Prints before.sink version_text after.sink

@@ -50,6 +50,9 @@ use std::alloc::Global;
 ///   path is only read;
 /// - `others`: of an opener that tells, whatever the status is, every path but that of the words holds what it held;
 /// - `left`: of an opener that tells, with 4 of an opening that the plan accepts, the path holds what its opening left;
+/// - `smooth`: of a well-formed script that the source tells and an opener that tells, where the plan accepts the opening, no count of
+///   faults or waits rose and memory never ran out, it is 0, what was printed is the lines of the model's answers to the script's calls and
+///   a Close on the file that the mode opens of what the path held, and the path holds the bytes of the file that these come to;
 /// - `printed`: with 0, what was printed is the lines of a run of calls, those of the whole script, where the source tells it, and
 ///   a Close; of an opener that tells, the path holds the raw's bytes in the end, the flat ones where a `Close` or `Detach` of a live
 ///   session was done; where no raw failed or would have blocked, each call that isn't refused is answered by an answer of its own, or for

@@ -1,10 +1,12 @@
-use Rattle.std.proofs.Common.{subst, ℕ, rules, arith}
+use Rattle.std.proofs.Common.{◌≡◌, ◌≢◌, ◌⊎◌, IsTrue, None, subst, ℕ, rules, arith}
 use Rattle.std.proofs.lemmas.Grind.{common_steps}
 use Rattle.py_source_sink.specs.Source.{SourceView}
-use Rattle.py_program.specs.Outside.{texts}
-use Rattle.py_program.specs.Outcome.{Outside, Ends}
+use Rattle.py_program.specs.Outside.{texts, IsMalformed}
+use Rattle.py_program.specs.Outcome.{Outside, asked_in, Ends}
+use Rattle.py_program.specs.Meaning.{IsRefusedPlan, NothingFails}
 use Rattle.py_program.proofs.Ending.{paths_kept, others_kept, path_left_by, path_missed}
 use Rattle.py_program.proofs.Exact.{prints_replies}
+use Rattle.py_program.proofs.Smooth.{does_as_model}
 use Rattle.py_program.proofs.program.run_program.Goals as goal
 
 pub returns-clause-promises : goal.returns-clause-promises
@@ -14,6 +16,8 @@ returns-clause-promises g c =
     let before : Outside = record { opener = g.O.Opener.shows c.args.opener.now; sink = g.K.Sink.shows c.args.out.now } in
     let after : Outside = record { opener = g.O.Opener.shows c.run_to_status.new.opener; sink = g.K.Sink.shows c.run_to_status.new.out } in
     let ends : Ends c.code.result (texts c.args.words.now) old new before after = record { ended = c.run_to_status.result; code_is = c.code.ensures; outcome = c.run_to_status.ensures.outcome } in
+    let complete : asked_in c.args.words.now ≢ None → ¬ IsRefusedPlan (asked_in c.args.words.now) → NothingFails old new before after → (c.code.result ≡ 0) ⊎ ((c.code.result ≡ 3) ⊎ (c.code.result ≡ 7)) = first_of (search rules, grind (arith, common_steps)) in
+    let malformed : c.code.result ≡ 3 → IsTrue old.tells → IsMalformed old.left = first_of (search rules, grind (arith, common_steps)) in
     record {
       statuses = first_of (search rules, grind (arith, common_steps));
       malformed_words = first_of (search rules, grind (arith, common_steps));
@@ -27,14 +31,15 @@ returns-clause-promises g c =
       refused = first_of (search rules, grind (arith, common_steps));
       planned = first_of (search rules, grind (arith, common_steps));
       unopened = first_of (search rules, grind (arith, common_steps));
-      complete = first_of (search rules, grind (arith, common_steps));
-      malformed_script = first_of (search rules, grind (arith, common_steps));
+      complete = complete;
+      malformed_script = malformed;
       script = first_of (search rules, grind (arith, common_steps));
       missing = λ path plan accepted is tells. path_missed (texts c.args.words.now) old new before after path plan (subst (λ (code : ℕ). Ends code (texts c.args.words.now) old new before after) is ends) accepted tells;
       found = first_of (search rules, grind (arith, common_steps));
       kept = paths_kept c.code.result (texts c.args.words.now) old new before after ends;
       others = others_kept c.code.result (texts c.args.words.now) old new before after ends;
       left = λ path plan accepted is tells. path_left_by (texts c.args.words.now) old new before after path plan (subst (λ (code : ℕ). Ends code (texts c.args.words.now) old new before after) is ends) accepted tells;
+      smooth = does_as_model c.code.result (texts c.args.words.now) old new before after ends complete malformed;
       printed = λ path mode args is form. prints_replies (texts c.args.words.now) old new before after path mode args (subst (λ (code : ℕ). Ends code (texts c.args.words.now) old new before after) is ends) form;
       help = first_of (search rules, grind (arith, common_steps));
       version = first_of (search rules, grind (arith, common_steps));
