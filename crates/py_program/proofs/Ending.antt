@@ -174,7 +174,7 @@ all_refused status.NoMemory words old new before after is did = absurd (omega ar
 all_refused status.OpenerFailed words old new before after is did = absurd (omega arith)
 
 -- what the words ask for, if they were accepted at a path
-accepted_path : (path named mode : List ℕ) (args : OpenArgs) (plan : OpenPlan) (command : Option Command) → command ≡ Some (Run named mode args) → IsAcceptedAt path plan command → (named ≡ path) × (plan_of mode args ≡ Ok plan)
+pub accepted_path : (path named mode : List ℕ) (args : OpenArgs) (plan : OpenPlan) (command : Option Command) → command ≡ Some (Run named mode args) → IsAcceptedAt path plan command → (named ≡ path) × (plan_of mode args ≡ Ok plan)
 accepted_path path named mode args plan command form accepted = subst (λ (asked : Option Command). IsAcceptedAt path plan asked) form accepted
 
 left_by : (path named mode : List ℕ) (args : OpenArgs) (plan : OpenPlan) (calls : List Call) (before after : Outside) → named ≡ path → plan_of mode args ≡ Ok plan → PlannedOutcome named mode args calls status.Refused before after → IsTrue before.opener.tells → after.opener.holds path ≡ Some (opened_bytes (raw_mode plan) (before.opener.holds path))

@@ -7,3 +7,4 @@ mod Keeping
 mod Ending
 mod Exact
 mod Smooth
+mod Counting

@@ -54,6 +54,24 @@ pub record RawsAreReady (before after : Outside) : Type 0 where
   pub faults : rose before.opener.raw_faults after.opener.raw_faults ≡ false
   pub waits : rose before.opener.raw_waits after.opener.raw_waits ≡ false
 
+-- What became of the opener's counts.
+
+-- no count fell: of the opener's own faults, and of the faults and waits of its raws
+pub record CountsNeverFall (old new : OpenerView) : Type 0 where
+  pub faults : old.faults ≤ new.faults
+  pub raw_faults : old.raw_faults ≤ new.raw_faults
+  pub raw_waits : old.raw_waits ≤ new.raw_waits
+
+-- no raw was opened, and none was taken back
+pub record OpensNone (old new : OpenerView) : Type 0 where
+  pub opened : new.opened ≡ old.opened
+  pub taken_back : new.taken_back ≡ old.taken_back
+
+-- one raw was opened, and one was taken back
+pub record OpensOne (old new : OpenerView) : Type 0 where
+  pub opened : RoseBy 1 old.opened new.opened
+  pub taken_back : RoseBy 1 old.taken_back new.taken_back
+
 -- What was printed, and what the path holds in the end.
 
 -- a raw that tells, can seek, and stands at the start of these bytes
@@ -196,6 +214,10 @@ pub record Promises (code : ℕ) (asked : Option Command) (old new : SourceView)
   pub source_exact : code ≢ 5 → NoSourceFault old new
   pub sink_exact : code ≢ 6 → NoSinkFault before.sink after.sink
   pub opener_exact : code ≡ 0 → NoOpenerFault before.opener after.opener
+  pub counts : CountsNeverFall before.opener after.opener
+  pub once : OpensNone before.opener after.opener ⊎ OpensOne before.opener after.opener
+  pub opened : (path : List ℕ) (plan : OpenPlan) → IsAcceptedAt path plan asked → (code ≡ 0) ⊎ ((code ≡ 4) ⊎ (code ≡ 6)) → OpensOne before.opener after.opener
+  pub none_opened : (code ≡ 2) ⊎ ((code ≡ 3) ⊎ ((code ≡ 5) ⊎ ((code ≡ 8) × TellsPaths before.opener))) → OpensNone before.opener after.opener
   pub refused : code ≡ 4 → IsRefusedPlan asked ⊎ Rose before.opener.raw_faults after.opener.raw_faults
   pub planned : IsRefusedPlan asked → TellsWellFormed old → (code ≡ 4) ⊎ ((code ≡ 5) ⊎ ((code ≡ 6) ⊎ (code ≡ 7)))
   pub unopened : IsRefusedPlan asked → after.opener ≡ before.opener

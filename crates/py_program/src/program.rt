@@ -36,6 +36,9 @@ use std::alloc::Global;
 /// - `source`, `sink`, `opener`: 5, 6 and 8 come only where a count of faults rose, of the source, the sink, the opener;
 /// - `source_exact`, `sink_exact`, `opener_exact`: a source that counts exactly counted no fault, unless it is 5; such a sink none,
 ///   unless it is 6; and such an opener none, where it is 0: so 0 hides no fault of the three;
+/// - `counts`: no count of the opener falls, neither that of its own faults nor those of its raws' faults and waits;
+/// - `once`, `opened`, `none_opened`: at most one raw is opened, and it is taken back again; of a run whose opening the plan accepts exactly
+///   one with 0, 4 and 6, and none with 2, 3 and 5, and with 8 of an opener that tells;
 /// - `refused`: 4 comes only where the plan refuses the opening, or the raw's count of faults rose;
 /// - `planned`, `unopened`: an opening that the plan refuses opens nothing, and with a script that the source tells to be
 ///   well formed it ends with 4 unless the source or the sink failed or memory ran out;

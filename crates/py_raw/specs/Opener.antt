@@ -7,14 +7,16 @@ use Rattle.py_raw.specs.Reads.{no_reads}
 use Rattle.py_raw.specs.RawStream.{Raw, WherePlace, WhereTransfers, tells}
 use Rattle.py_raw.specs.RawMode.{letter_r, letter_w, letter_x, file_letter, mode_reads, mode_writes}
 
--- what each path holds means something only where the opener tells it; a path is the bytes of its text. An opener that counts
--- exactly counts a fault of its own only where a call answers it
+-- what each path holds means something only where the opener tells it; a path is the bytes of its text. It counts the raws that it
+-- opened and those that it took back. An opener that counts exactly counts a fault of its own only where a call answers it
 pub record OpenerView : Type 0 where
   pub tells : Bool
   pub holds : List ℕ → Option (List ℕ)
   pub faults : ℕ
   pub raw_faults : ℕ
   pub raw_waits : ℕ
+  pub opened : ℕ
+  pub taken_back : ℕ
   pub counts_exactly : Bool
 
 -- every path holds what it held
@@ -31,13 +33,14 @@ NoOpenerFault old new = IsTrue old.counts_exactly → new.faults ≡ old.faults
 
 -- `open_raw`
 
--- what every opening keeps: the counts of raws, whether the opener tells, and whether it counts exactly; the opener's
--- faults don't fall
+-- what every opening keeps: the counts of the raws that were taken back, whether the opener tells, and whether it counts exactly; the
+-- opener's faults don't fall
 pub record OpenKeeps (old new : OpenerView) : Type 0 where
   pub tells : new.tells ≡ old.tells
   pub faults : old.faults ≤ new.faults
   pub raw_faults : new.raw_faults ≡ old.raw_faults
   pub raw_waits : new.raw_waits ≡ old.raw_waits
+  pub taken_back : new.taken_back ≡ old.taken_back
   pub counts_exactly : new.counts_exactly ≡ old.counts_exactly
 
 -- whether a mode can't open what a path holds: x finds it, or r misses it
@@ -70,19 +73,23 @@ pub record OpensTold (old : OpenerView) (path mode : List ℕ) (raw : Raw) (new 
   pub held : new.holds path ≡ Some (opened_bytes mode (old.holds path))
   pub others : OthersHoldTheSame path old new
 
+-- a raw was opened, which is counted
 pub record Opens (old : OpenerView) (path mode : List ℕ) (raw : Raw) (new : OpenerView) : Type 0 where
   pub opened : IsOpened mode raw
+  pub counted : RoseBy 1 old.opened new.opened
   pub told : IsTrue old.tells → OpensTold old path mode raw new
 
 -- refused by the outside, with its cause; told, exactly where the mode can't open the path
 pub record OpenFaults (old : OpenerView) (path mode : List ℕ) (new : OpenerView) : Type 0 where
   pub cause : Rose old.faults new.faults
+  pub none : new.opened ≡ old.opened
   pub missed : IsTrue old.tells → misses mode (old.holds path) ≡ true
   pub same : IsTrue old.tells → HoldsTheSame old new
 
 -- refused when out of memory
 pub record OpenLacksMemory (old : OpenerView) (path mode : List ℕ) (new : OpenerView) : Type 0 where
   pub faults : new.faults ≡ old.faults
+  pub none : new.opened ≡ old.opened
   pub found : IsTrue old.tells → misses mode (old.holds path) ≡ false
   pub same : IsTrue old.tells → HoldsTheSame old new
 
@@ -93,12 +100,16 @@ OpenOutcome shows old path mode (Err Memory) new = OpenLacksMemory old path mode
 
 -- `done`
 
--- the counts of raws rise by those of the raw that is taken back
+-- the counts of raws rise by those of the raw that is taken back, and none of them falls; one raw more was taken back
 pub record DoneKeeps (raw : Raw) (old new : OpenerView) : Type 0 where
   pub tells : new.tells ≡ old.tells
   pub faults : old.faults ≤ new.faults
   pub raw_faults : RoseBy raw.faults old.raw_faults new.raw_faults
   pub raw_waits : RoseBy raw.waits old.raw_waits new.raw_waits
+  pub keeps_raw_faults : old.raw_faults ≤ new.raw_faults
+  pub keeps_raw_waits : old.raw_waits ≤ new.raw_waits
+  pub opened : new.opened ≡ old.opened
+  pub taken_back : RoseBy 1 old.taken_back new.taken_back
   pub counts_exactly : new.counts_exactly ≡ old.counts_exactly
 
 -- told: the path holds the raw's bytes, every other what it held

@@ -22,8 +22,8 @@ pub trait Opener {
     /// The raw streams that it opens.
     type Raw: RawStream + Send;
 
-    /// What the opener shows: its own count of faults, whether that is exact, the counts of the raws that it took back and,
-    /// where it tells it, what each path holds.
+    /// What the opener shows: its own count of faults, whether that is exact, how many raws it opened and how many it took back,
+    /// the counts of those that it took back and, where it tells it, what each path holds.
     ghost shows: { Self → OpenerView };
 
     /// Opens a path by one of the modes `rb`, `rb+`, `wb`, `wb+`, `xb`, `xb+`, `ab`, `ab+`: `r` an existing path as it
@@ -31,7 +31,7 @@ pub trait Opener {
     ///
     /// The raw is open, its counts are 0, those of its transfers too where it tells them, and where it can't seek it stands at
     /// place 0. Refused, all paths hold what they held. An opener that tells answers `Fault` exactly where `x` finds the path
-    /// or `r` misses it, and one that counts exactly counts no fault in an opening that succeeds.
+    /// or `r` misses it, and one that counts exactly counts no fault in an opening that succeeds. A raw that it opens is counted.
     fn open_raw(&mut self, alloc: Global, path: &str, mode: &str) -> Result<Self::Raw, OpenError>
         requires { IsRawMode mode.now }
         ensures keeps { OpenKeeps (shows self.old) (shows self.new) }
@@ -39,7 +39,7 @@ pub trait Opener {
         ensures exact { OnOk result (NoOpenerFault (shows self.old) (shows self.new)) };
 
     /// Takes a raw back that was opened at that path. Whatever it answers, the opener's two counts of raws rise by that
-    /// raw's counts, and of an opener that tells the path holds the raw's bytes. One that counts exactly counts no fault where
+    /// raw's counts, neither of them falls, one raw more was taken back, and of an opener that tells the path holds the raw's bytes. One that counts exactly counts no fault where
     /// it answers `Ok`.
     fn done(&mut self, path: &str, raw: Self::Raw) -> Result<(), OpenError>
         ensures keeps { DoneKeeps (Self.Raw.shows raw) (shows self.old) (shows self.new) }

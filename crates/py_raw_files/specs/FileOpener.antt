@@ -15,6 +15,8 @@ shown_file_opener opener = record {
   faults = opener.faults;
   raw_faults = opener.raw_faults;
   raw_waits = opener.raw_waits;
+  opened = opener.opened;
+  taken_back = opener.taken_back;
   counts_exactly = true;
 }
 

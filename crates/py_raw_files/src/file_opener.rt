@@ -21,6 +21,8 @@ pub struct FileOpener<'a, R: Files> {
     faults: u64,
     raw_faults: u64,
     raw_waits: u64,
+    opened: u64,
+    taken_back: u64,
     /// What the system said of the last fault.
     last_error: Option<ErrorKind>,
     /// What the system said of the last fault of the file that was put away last.
@@ -46,13 +48,15 @@ impl<'a, R: Files> FileOpener<'a, R> {
 
     /// An opener of the files that these give.
     pub fn new(files: &'a R) -> Self
-        ensures { shown_file_opener result ≡ record { tells = false; holds = λ path. None; faults = 0; raw_faults = 0; raw_waits = 0; counts_exactly = true } }
+        ensures { shown_file_opener result ≡ record { tells = false; holds = λ path. None; faults = 0; raw_faults = 0; raw_waits = 0; opened = 0; taken_back = 0; counts_exactly = true } }
     {
         FileOpener {
             files,
             faults: 0,
             raw_faults: 0,
             raw_waits: 0,
+            opened: 0,
+            taken_back: 0,
             last_error: None,
             last_file_error: None,
         }
@@ -141,12 +145,13 @@ where
         ensures keeps { OpenKeeps (shown_file_opener self.old) (shown_file_opener self.new) }
         ensures outcome { OpenOutcome shown (shown_file_opener self.old) path.now mode.now result (shown_file_opener self.new) }
         ensures exact { OnOk result (NoOpenerFault (shown_file_opener self.old) (shown_file_opener self.new)) }
-        ensures counts { OnOk result (shown_file_opener self.new ≡ shown_file_opener self.old) }
+        ensures counts { OnOk result (shown_file_opener self.new ≡ record (shown_file_opener self.old) { opened = counted (shown_file_opener self.old).opened 1 }) }
         ensures one_fault { OnErr result (shown_file_opener self.new ≡ record (shown_file_opener self.old) { faults = counted (shown_file_opener self.old).faults 1 }) }
         ensures fault { IfErr result (λ error. error ≡ OpenError.Fault) }
     {
         match open_file(self.files, path, mode) {
             Ok((file, seekable)) => {
+                self.opened = self.opened.saturating_add(1);
                 let readable = mode_reads(mode);
                 let writable = mode_writes(mode);
                 Ok(FileRaw::new(file, readable, writable, seekable))
@@ -172,6 +177,7 @@ where
         let counts = raw.counts();
         self.raw_faults = self.raw_faults.saturating_add(counts.faults);
         self.raw_waits = self.raw_waits.saturating_add(counts.waits);
+        self.taken_back = self.taken_back.saturating_add(1);
         Ok(())
     }
 }

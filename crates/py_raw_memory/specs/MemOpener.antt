@@ -23,14 +23,18 @@ shown_opener opener = record {
   faults = opener.faults;
   raw_faults = opener.raw_faults;
   raw_waits = opener.raw_waits;
+  opened = opener.opened;
+  taken_back = opener.taken_back;
   counts_exactly = true;
 }
 
--- an opener's own faults, and the faults and waits of the raws that it took back, are as many as before
+-- an opener's own faults, the raws that it opened and took back, and the faults and waits of these, are as many as before
 pub record KeepsCounts (old new : OpenerView) : Type 0 where
   pub faults : new.faults ≡ old.faults
   pub raw_faults : new.raw_faults ≡ old.raw_faults
   pub raw_waits : new.raw_waits ≡ old.raw_waits
+  pub opened : new.opened ≡ old.opened
+  pub taken_back : new.taken_back ≡ old.taken_back
 
 -- a path holds these bytes now; every other, and every count, is as before
 pub record Puts (old : OpenerView) (path bytes : List ℕ) (new : OpenerView) : Type 0 where

@@ -27,6 +27,8 @@ pub struct MemOpener {
     faults: u64,
     raw_faults: u64,
     raw_waits: u64,
+    opened: u64,
+    taken_back: u64,
 }
 
 // Only how many paths hold something, and not what: their bytes would hide all else.
@@ -126,7 +128,7 @@ impl MemOpener {
     /// An opener none of whose paths holds anything or has a plan.
     pub fn new(alloc: Global) -> Self
         ensures plans { (path : List ℕ) → plan_at result path ≡ no_plan }
-        ensures shows { shown_opener result ≡ record { tells = true; holds = λ path. None; faults = 0; raw_faults = 0; raw_waits = 0; counts_exactly = true } }
+        ensures shows { shown_opener result ≡ record { tells = true; holds = λ path. None; faults = 0; raw_faults = 0; raw_waits = 0; opened = 0; taken_back = 0; counts_exactly = true } }
     {
         MemOpener {
             alloc,
@@ -135,6 +137,8 @@ impl MemOpener {
             faults: 0,
             raw_faults: 0,
             raw_waits: 0,
+            opened: 0,
+            taken_back: 0,
         }
     }
 
@@ -196,6 +200,7 @@ impl MemOpener {
     {
         self.raw_faults = self.raw_faults.saturating_add(faults);
         self.raw_waits = self.raw_waits.saturating_add(waits);
+        self.taken_back = self.taken_back.saturating_add(1);
         match put_bytes(&mut self.entries, self.alloc, path, bytes) {
             Ok(()) => Ok(()),
             Err(_) => Err(OpenError::Memory),
@@ -232,7 +237,10 @@ impl Opener for MemOpener {
             return Err(OpenError::Fault);
         }
         match open_stream(&mut self.entries, &self.plans, alloc, path, mode) {
-            Ok(raw) => Ok(raw),
+            Ok(raw) => {
+                self.opened = self.opened.saturating_add(1);
+                Ok(raw)
+            }
             Err(_) => Err(OpenError::Memory),
         }
     }

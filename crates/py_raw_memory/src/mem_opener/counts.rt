@@ -11,6 +11,20 @@ impl MemOpener {
         self.faults
     }
 
+    /// How many streams were opened; the count stops at 18446744073709551615.
+    pub fn opened_count(&self) -> u64
+        ensures { result ≡ (shown_opener self.now).opened }
+    {
+        self.opened
+    }
+
+    /// How many streams `done` took back; the count stops at 18446744073709551615.
+    pub fn taken_back_count(&self) -> u64
+        ensures { result ≡ (shown_opener self.now).taken_back }
+    {
+        self.taken_back
+    }
+
     /// How many faults the streams had that `done` took back; the count stops at 18446744073709551615.
     pub fn raw_fault_count(&self) -> u64
         ensures { result ≡ (shown_opener self.now).raw_faults }

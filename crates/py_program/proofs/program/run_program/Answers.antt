@@ -7,6 +7,7 @@ use Rattle.py_program.specs.Meaning.{IsRefusedPlan, NothingFails}
 use Rattle.py_program.proofs.Ending.{paths_kept, others_kept, path_left_by, path_missed}
 use Rattle.py_program.proofs.Exact.{prints_replies}
 use Rattle.py_program.proofs.Smooth.{does_as_model}
+use Rattle.py_program.proofs.Counting.{all_counts, opens_one, opens_none}
 use Rattle.py_program.proofs.program.run_program.Goals as goal
 
 pub returns-clause-promises : goal.returns-clause-promises
@@ -28,6 +29,10 @@ returns-clause-promises g c =
       source_exact = first_of (search rules, grind (arith, common_steps));
       sink_exact = first_of (search rules, grind (arith, common_steps));
       opener_exact = first_of (search rules, grind (arith, common_steps));
+      counts = (all_counts c.code.result (texts c.args.words.now) old new before after ends).0;
+      once = (all_counts c.code.result (texts c.args.words.now) old new before after ends).1;
+      opened = opens_one c.code.result (texts c.args.words.now) old new before after ends;
+      none_opened = opens_none c.code.result (texts c.args.words.now) old new before after ends;
       refused = first_of (search rules, grind (arith, common_steps));
       planned = first_of (search rules, grind (arith, common_steps));
       unopened = first_of (search rules, grind (arith, common_steps));
