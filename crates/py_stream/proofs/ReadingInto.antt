@@ -2,7 +2,7 @@
 use Rattle.std.proofs.Common.{◌≡◌, ◌≢◌, ℕ, ◌+◌, ◌-◌, ◌^◌, ◌<◌, ◌≤◌, ◌⊎◌, replicate, inl, inr, ⊎_elim, Bool, true, false, List, [], ◌++◌, length, take, drop, max, Ok, Err, refl, sym, ap, ◌∙◌, subst, arith}
 use Rattle.std.specs.Bool.{◌==◌}
 use Rattle.std.proofs.lemmas.Bool.{true≢false}
-use Rattle.std.proofs.lemmas.List.{append-nil, take-take, take-append-le, take-append-drop, take_all, length-replicate, length-take, length-take-le, length-append, drop_all, length-drop, take_at}
+use Rattle.std.proofs.lemmas.List.{append-nil, append_assoc, replicate-append-replicate, take-take, take-append-le, take-append-drop, take_all, length-replicate, length-take, length-take-le, length-append, drop_all, length-drop, take_at}
 use borrow.Rule.Slice.PartMut.{put_mid}
 use Rattle.py_flat.specs.declared.fault.IoFault.{IoFault}
 use Rattle.py_flat.specs.declared.fault.IoFault.TheVariants as fault
@@ -33,19 +33,29 @@ pub end_written : (count : ℕ) (buffer left : List ℕ) → count < length buff
 end_written count buffer left fits long = grind (arith, drop_all, length-drop, append-nil)
 
 -- a list that was lengthened by zeros
-abbrev pub lengthened : ℕ → ℕ → List ℕ → List ℕ
-lengthened start more before = take (start + more) before ++ replicate (start + more - start) 0
+abbrev pub lengthened : ℕ → List ℕ → List ℕ
+lengthened more before = before ++ replicate more 0
+
+-- a list that was lengthened by no zeros is as it was
+pub lengthened_by_none : (count : ℕ) (before : List ℕ) → count ≡ 0 → before ≡ lengthened count before
+lengthened_by_none count before none = sym (append-nil before) ∙ ap (λ (n : ℕ). lengthened n before) (sym none)
+
+-- zeros after those that a list was lengthened by: it is lengthened by as many more
+pub lengthened_on : (before now : List ℕ) (count more end : ℕ) → now ≡ lengthened count before → length now ≡ end → take (end + more) now ++ replicate (end + more - end) 0 ≡ lengthened (count + more) before
+lengthened_on before now count more end is size =
+    ap (λ (xs : List ℕ). xs ++ replicate (end + more - end) 0) (take_all (end + more) now (omega arith) ∙ is)
+    ∙ (append_assoc before (replicate count 0) (replicate (end + more - end) 0)
+    ∙ ap (λ (zeros : List ℕ). before ++ zeros) (replicate-append-replicate count (end + more - end) 0 ∙ ap (λ (n : ℕ). replicate n 0) (omega arith)))
 
 -- a list that was lengthened by zeros is as much longer
-pub length-lengthened : (start more : ℕ) (before : List ℕ) → length before ≡ start → length (lengthened start more before) ≡ start + more
-length-lengthened start more before size = length-append (take (start + more) before) (replicate (start + more - start) 0) ∙ omega (arith, ap length (take_all (start + more) before (omega arith)), length-replicate {A = ℕ} (start + more - start) 0)
+pub length-lengthened : (more : ℕ) (before : List ℕ) → length (lengthened more before) ≡ length before + more
+length-lengthened more before = length-append before (replicate more 0) ∙ omega (arith, length-replicate {A = ℕ} more 0)
 
 -- a vector that was lengthened, read into and cut after the bytes that came has what it had, then these
-pub vector_read : (before resized buffer after : List ℕ) (start more count long : ℕ) → length before ≡ start → resized ≡ lengthened start more before → length buffer ≡ length resized → take start buffer ≡ take start resized → long ≡ length resized → count ≤ length (drop start buffer) → after ≡ take (start + count) (take long (buffer ++ drop (length buffer) resized)) → after ≡ before ++ take count (drop start buffer)
+pub vector_read : (before resized buffer after : List ℕ) (start more count long : ℕ) → length before ≡ start → resized ≡ lengthened more before → length buffer ≡ length resized → take start buffer ≡ take start resized → long ≡ length resized → count ≤ length (drop start buffer) → after ≡ take (start + count) (take long (buffer ++ drop (length buffer) resized)) → after ≡ before ++ take count (drop start buffer)
 vector_read before resized buffer after start more count long size is same front whole fits cut =
-    let all : length resized ≡ start + more = ap length is ∙ length-lengthened start more before size in
-    let zeros : List ℕ = replicate (start + more - start) 0 in
-    let begins : take start buffer ≡ before = front ∙ (ap (take start) (is ∙ ap (λ (xs : List ℕ). xs ++ zeros) (take_all (start + more) before (omega arith))) ∙ take_at before zeros start size) in
+    let all : length resized ≡ start + more = omega (arith, ap length is, length-lengthened more before, size) in
+    let begins : take start buffer ≡ before = front ∙ (ap (take start) is ∙ take_at before (replicate more 0) start size) in
     cut
     ∙ (take-take (start + count) long (buffer ++ drop (length buffer) resized) (omega (arith, length-drop start buffer))
     ∙ (take-append-le (start + count) buffer (drop (length buffer) resized) (omega (arith, length-drop start buffer))
@@ -223,7 +233,7 @@ refused_into old new call size buffer why several wants long begun outcome = abs
 
 -- Readings of all that is left.
 
--- all that was asked for so far has come: nothing was, at first; then as much as is asked for next
+-- all that was asked for so far has come: nothing was, at first; then some bytes
 pub record ReadsAll (before : Stream) (bytes : List ℕ) (more : ℕ) (moved : Bool) (now : Stream) : Type 0 where
   pub may : MayRead before
   pub gives : Gives before bytes now
@@ -231,12 +241,12 @@ pub record ReadsAll (before : Stream) (bytes : List ℕ) (more : ℕ) (moved : B
   pub no_wait : NoWait before.raw now.raw
   pub each : EachBrings 0 0 before now
   pub some : 0 < more
-  pub fits : more < 2 ^ 64
+  pub fits : length bytes + more < 2 ^ 64
   pub first : moved ≡ false → (now ≡ before) × (before.raw_place < before.place + more)
-  pub later : moved ≡ true → (more ≡ length bytes) × (before.raw_place < now.place)
+  pub later : moved ≡ true → (0 < length bytes) × (before.raw_place < now.place)
 
 -- a reading of all begins
-pub all_begins : (stream : Stream) (bytes : List ℕ) (more : ℕ) → bytes ≡ [] → MayRead stream → stream.raw_place < stream.place + more → more < 2 ^ 64 → ReadsAll stream bytes more false stream
+pub all_begins : (stream : Stream) (bytes : List ℕ) (more : ℕ) → bytes ≡ [] → MayRead stream → stream.raw_place < stream.place + more → length bytes + more < 2 ^ 64 → ReadsAll stream bytes more false stream
 all_begins stream bytes more none may past fits = grind (arith, uncounted, keeps_same, each_still, true≢false)
 
 module _ (before : Stream) (bytes : List ℕ) (more : ℕ) (moved : Bool) (now new : Stream) (reads : ReadsAll before bytes more moved now) where
@@ -254,8 +264,12 @@ module _ (before : Stream) (bytes : List ℕ) (more : ℕ) (moved : Bool) (now n
   past_held true is = omega (arith, (reads.later is).1)
 
   -- a turn of a reading brought all that it asked for
-  pub all_on : (after : List ℕ) (next : ℕ) → ReadsMore now bytes more stop.Enough after new → next ≡ length after → next < 2 ^ 64 → ReadsAll before after next true new
-  all_on after next brings size fits = grind (arith, length-append, gives_then, no_wait_then, each_then, true≢false, past_held)
+  pub all_on : (after : List ℕ) (next : ℕ) → ReadsMore now bytes more stop.Enough after new → 0 < next → length after + next < 2 ^ 64 → ReadsAll before after next true new
+  all_on after next brings some fits = grind (arith, length-append, gives_then, no_wait_then, each_then, true≢false, past_held)
+
+  -- a turn that brought all that it asked for leaves some bytes
+  pub some_came : (after : List ℕ) → ReadsMore now bytes more stop.Enough after new → 0 < length after
+  some_came after brings = omega (arith, reads.some, brings.full refl, ap length brings.behind, length-append bytes brings.part)
 
   -- a turn of a reading brought the last bytes
   pub all_read : (why : Stop) (after : List ℕ) → why ≢ stop.Enough → ReadsMore now bytes more why after new → RestOutcome before (Ok why) after new
@@ -285,7 +299,7 @@ module _ (before : Stream) (bytes : List ℕ) (more : ℕ) (moved : Bool) (now n
       (λ tells.
       let told = reads.gives.kept.raw.tells_place ∙ tells in
       omega (arith, reads.may.near.stands tells, later.1, reads.to, (reads.gives.kept.near reads.gives.live).stands told, fails.stands told))
-      (λ tells none. absurd (omega (arith, later.0, reads.some, ap length (reads.gives.told tells), ap (λ (left : List ℕ). length (take (length bytes) left)) none, length-take {A = ℕ} (length bytes) [])))
+      (λ tells none. absurd (omega (arith, later.0, ap length (reads.gives.told tells), ap (λ (left : List ℕ). length (take (length bytes) left)) none, length-take {A = ℕ} (length bytes) [])))
 
   -- in the first
   first_moved : moved ≡ false → FailsStarved false now new → FailsMoved before new

@@ -1,5 +1,5 @@
 //! Readings that go on until they have all that is wanted, of any stream that can go on so.
-ghost use Rattle.std.specs.Prelude.{◌≡◌, ◌≢◌, ◌+◌, ◌^◌, ◌<◌, ◌≤◌, ℕ, List, Bool, [], true, false, None, IfOk, IfSome, length, take, drop, vec_len};
+ghost use Rattle.std.specs.Prelude.{◌≡◌, ◌≢◌, ◌+◌, ◌^◌, ◌<◌, ◌≤◌, ℕ, List, Bool, [], true, false, None, IfOk, IfSome, OnOk, ◌++◌, length, take, drop, replicate, vec_len};
 ghost use Rattle.py_flat.specs.declared.life.Life.TheVariants.{Live};
 ghost use Rattle.py_flat.specs.Calls.{Read, ReadLine, ReadLines};
 ghost use Rattle.py_stream.specs.Stream.{Stream};
@@ -12,7 +12,14 @@ ghost use Rattle.py_stream.specs.Replies.{bytes_reply, lines_reply};
 use crate::{Progress, Step, Stop};
 use py_lines::{Collector, LineCollector, LinesCollector};
 use py_raw::{IoFault, Lines};
-use std::alloc::Global;
+use std::alloc::{AllocError, Global};
+
+/// How many bytes a reading of all asks for in one turn, where more are left: so few that the zeros which are written first are
+/// still in the processor's cache when the transfer overwrites them.
+const PIECE: usize = 256 * 1024;
+
+/// How many zeros are written at once: longer runs are slower into memory that is new.
+const RUN: usize = 1024;
 
 /// A stream that reads on, transfer by transfer, until a reading has all that it wants.
 pub trait ReadsOn {
@@ -134,6 +141,20 @@ fn read_behind<S: ReadsOn>(
     read_into(stream, &mut buffer[start..], moved)
 }
 
+/// Appends n zeros to a vector.
+fn append_zeros(bytes: &mut Vec<u8>, more: usize) -> Result<(), AllocError>
+    requires fits { vec_len bytes.old + more < 2 ^ 64 }
+    ensures { OnOk result (bytes.new.items ≡ bytes.old.items ++ replicate more 0) }
+{
+    bytes.reserve(more)?;
+    let mut left = more;
+    while RUN < left {
+        bytes.resize(bytes.len() + RUN, 0)?;
+        left -= RUN;
+    }
+    bytes.resize(bytes.len() + left, 0)
+}
+
 /// Reads n bytes more after what a vector has, whose space is taken first. `moved` tells whether bytes had moved in this call.
 fn read_more<S: ReadsOn>(
     stream: &mut S,
@@ -148,7 +169,7 @@ fn read_more<S: ReadsOn>(
     ensures reads { IfOk result (λ stop. S.reads stream.new ≡ true) }
 {
     let length = bytes.len();
-    if bytes.resize(length + more, 0).is_err() {
+    if append_zeros(bytes, more).is_err() {
         return Err(stream.starve(moved));
     }
     let progress = read_behind(stream, bytes.as_mut_slice(), length, moved)?;
@@ -156,37 +177,51 @@ fn read_more<S: ReadsOn>(
     Ok(progress.stop)
 }
 
-/// How many bytes a reading of all asks for at first: by the raw's guess of its end, where there is memory for so many. A vector that has
-/// nothing yet is given the space.
-fn first_space<S: ReadsOn>(stream: &S, bytes: &mut Vec<u8>) -> usize
+/// How many bytes a reading of all asks for at first: by the raw's guess of its end, where there is memory for so many, but one piece
+/// at most. A vector that has nothing yet is given the space for all of them.
+fn first_space<S: ReadsOn>(stream: &S, bytes: &mut Vec<u8>, piece: usize) -> usize
     requires live { (S.shows stream.now).life ≡ Live }
     requires reads { S.reads stream.now ≡ true }
+    requires past_held { (S.shows stream.now).raw_place < (S.shows stream.now).place + piece }
     ensures past { (S.shows stream.now).raw_place < (S.shows stream.now).place + result }
     ensures bytes { bytes.new.items ≡ bytes.old.items }
 {
     if let Some(more) = stream.guessed_more() {
         if bytes.reserve(more).is_ok() {
-            return more;
+            return more.min(piece);
         }
     }
     stream.first_more()
 }
 
-/// Reads all that is left into a vector that has nothing yet: what the stream asks for at first, and then as much as came, until
-/// the end is met.
+/// How many bytes a reading of all asks for once it has some: what there is space for, or else as many as it has, but one piece at
+/// most.
+fn next_more(bytes: &Vec<u8>, piece: usize) -> usize
+    requires some { 0 < vec_len bytes.now }
+    requires piece { 0 < piece }
+    ensures some { 0 < result }
+    ensures fits { vec_len bytes.now + result < 2 ^ 64 }
+{
+    let space = bytes.capacity() - bytes.len();
+    let more = if space == 0 { bytes.len() } else { space };
+    more.min(piece)
+}
+
+/// Reads all that is left into a vector that has nothing yet, piece by piece, until the end is met.
 fn read_all<S: ReadsOn>(stream: &mut S, bytes: &mut Vec<u8>) -> Result<Stop, IoFault>
     requires may { MayRead (S.shows stream.old) }
     requires reads { S.reads stream.old ≡ true }
     requires none { bytes.old.items ≡ [] }
     ensures { RestOutcome (S.shows stream.old) result bytes.new.items (S.shows stream.new) }
 {
+    let piece = stream.first_more().max(PIECE);
     let mut moved = false;
-    let mut more = first_space(stream, bytes);
+    let mut more = first_space(stream, bytes, piece);
     loop {
         match read_more(stream, bytes, more, moved)? {
             Stop::Enough => {
                 moved = true;
-                more = bytes.len();
+                more = next_more(bytes, piece);
             }
             stop => return Ok(stop),
         }

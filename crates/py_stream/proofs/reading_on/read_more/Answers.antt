@@ -11,12 +11,12 @@ returns-clause-outcome g c =
     let progress = c.in_ok-progress.progress in
     let read = c.in_ok-progress.ensures.outcome in
     let size : length before ≡ start = omega (arith, c.args.bytes.now.ok.0) in
-    let resized : c.resize.new.self.items ≡ lengthened start c.args.more before = search rules in
-    let long : length buffer ≡ length c.resize.new.self.items = c.read_behind.ensures.length ∙ ap length c.as_mut_slice.ensures.value in
-    let all : length c.resize.new.self.items ≡ start + c.args.more = ap length resized ∙ length-lengthened start c.args.more before size in
+    let resized : c.append_zeros.new.bytes.items ≡ lengthened c.args.more before = search rules in
+    let long : length buffer ≡ length c.append_zeros.new.bytes.items = c.read_behind.ensures.length ∙ ap length c.as_mut_slice.ensures.value in
+    let all : length c.append_zeros.new.bytes.items ≡ start + c.args.more = omega (arith, ap length resized, length-lengthened c.args.more before, size) in
     record {
       part = take progress.count (drop start buffer);
-      behind = vector_read before c.resize.new.self.items buffer c.truncate.new.self.items start c.args.more progress.count c.resize.new.self.len size resized long (c.read_behind.ensures.front ∙ ap (take start) c.as_mut_slice.ensures.value) (omega (arith, c.resize.new.self.ok.0)) read.fits c.truncate.ensures.items;
+      behind = vector_read before c.append_zeros.new.bytes.items buffer c.truncate.new.self.items start c.args.more progress.count c.append_zeros.new.bytes.len size resized long (c.read_behind.ensures.front ∙ ap (take start) c.as_mut_slice.ensures.value) (omega (arith, c.append_zeros.new.bytes.ok.0)) read.fits c.truncate.ensures.items;
       full = λ enough. omega (arith, length-take-le progress.count (drop start buffer) read.fits, read.full enough, length-drop start buffer);
       to = read.to;
       stops = read.stops;
