@@ -1,5 +1,5 @@
 -- How a reading into a buffer comes from one transfer to the next, and one of all that is left from one buffer to the next.
-use Rattle.std.proofs.Common.{◌≡◌, ◌≢◌, ℕ, ◌+◌, ◌-◌, ◌^◌, ◌<◌, ◌≤◌, ◌⊎◌, replicate, inl, inr, ⊎_elim, Bool, true, false, List, [], ◌++◌, length, take, drop, max, Ok, Err, refl, sym, ap, ◌∙◌, subst, arith}
+use Rattle.std.proofs.Common.{◌≡◌, ◌≢◌, ℕ, ◌+◌, ◌-◌, ◌^◌, ◌<◌, ◌≤◌, ◌⊎◌, replicate, inl, inr, ⊎_elim, Bool, true, false, List, [], ◌++◌, length, take, drop, min, max, Ok, Err, refl, sym, ap, ◌∙◌, subst, arith}
 use Rattle.std.specs.Bool.{◌==◌}
 use Rattle.std.proofs.lemmas.Bool.{true≢false}
 use Rattle.std.proofs.lemmas.List.{append-nil, append_assoc, replicate-append-replicate, take-take, take-append-le, take-append-drop, take_all, length-replicate, length-take, length-take-le, length-append, drop_all, length-drop, take_at}
@@ -267,9 +267,9 @@ module _ (before : Stream) (bytes : List ℕ) (more : ℕ) (moved : Bool) (now n
   pub all_on : (after : List ℕ) (next : ℕ) → ReadsMore now bytes more stop.Enough after new → 0 < next → length after + next < 2 ^ 64 → ReadsAll before after next true new
   all_on after next brings some fits = grind (arith, length-append, gives_then, no_wait_then, each_then, true≢false, past_held)
 
-  -- a turn that brought all that it asked for leaves some bytes
-  pub some_came : (after : List ℕ) → ReadsMore now bytes more stop.Enough after new → 0 < length after
-  some_came after brings = omega (arith, reads.some, brings.full refl, ap length brings.behind, length-append bytes brings.part)
+  -- a turn that brought all that it asked for has as many bytes more
+  pub long_after : (after : List ℕ) → ReadsMore now bytes more stop.Enough after new → length after ≡ length bytes + more
+  long_after after brings = omega (arith, brings.full refl, ap length brings.behind, length-append bytes brings.part)
 
   -- a turn of a reading brought the last bytes
   pub all_read : (why : Stop) (after : List ℕ) → why ≢ stop.Enough → ReadsMore now bytes more why after new → RestOutcome before (Ok why) after new
@@ -304,6 +304,10 @@ module _ (before : Stream) (bytes : List ℕ) (more : ℕ) (moved : Bool) (now n
   -- in the first
   first_moved : moved ≡ false → FailsStarved false now new → FailsMoved before new
   first_moved is fails = grind (arith, fails_on, still_tells, same_bytes)
+
+-- a turn asks for one piece of what is wanted, which is more than was held at first
+pub all_cut : (before : Stream) (bytes : List ℕ) (wanted piece more : ℕ) (moved : Bool) (now : Stream) → ReadsAll before bytes wanted moved now → before.raw_place < before.place + piece → more ≡ min wanted piece → ReadsAll before bytes more moved now
+all_cut before bytes wanted piece more moved now reads past is = grind arith
 
 -- a stream that memory failed between two turns
 fails_between : (before : Stream) (bytes : List ℕ) (more : ℕ) (now : Stream) → ReadsAll before bytes more true now → FailsStarved true now (record now { life = life.Failed })

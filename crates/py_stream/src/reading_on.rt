@@ -14,7 +14,7 @@ use py_lines::{Collector, LineCollector, LinesCollector};
 use py_raw::{IoFault, Lines};
 use std::alloc::{AllocError, Global};
 
-/// How many bytes a reading of all asks for in one turn, where more are left: so few that the zeros which are written first are
+/// How many bytes a reading of all asks for in one turn, where it wants more: so few that the zeros which are written first are
 /// still in the processor's cache when the transfer overwrites them.
 const PIECE: usize = 256 * 1024;
 
@@ -177,37 +177,24 @@ fn read_more<S: ReadsOn>(
     Ok(progress.stop)
 }
 
-/// How many bytes a reading of all asks for at first: by the raw's guess of its end, where there is memory for so many, but one piece
-/// at most. A vector that has nothing yet is given the space for all of them.
-fn first_space<S: ReadsOn>(stream: &S, bytes: &mut Vec<u8>, piece: usize) -> usize
+/// How many bytes a reading of all wants at first: by the raw's guess of its end, where there is memory for so many. A vector that has
+/// nothing yet is given the space.
+fn first_space<S: ReadsOn>(stream: &S, bytes: &mut Vec<u8>) -> usize
     requires live { (S.shows stream.now).life ≡ Live }
     requires reads { S.reads stream.now ≡ true }
-    requires past_held { (S.shows stream.now).raw_place < (S.shows stream.now).place + piece }
     ensures past { (S.shows stream.now).raw_place < (S.shows stream.now).place + result }
     ensures bytes { bytes.new.items ≡ bytes.old.items }
 {
     if let Some(more) = stream.guessed_more() {
         if bytes.reserve(more).is_ok() {
-            return more.min(piece);
+            return more;
         }
     }
     stream.first_more()
 }
 
-/// How many bytes a reading of all asks for once it has some: what there is space for, or else as many as it has, but one piece at
-/// most.
-fn next_more(bytes: &Vec<u8>, piece: usize) -> usize
-    requires some { 0 < vec_len bytes.now }
-    requires piece { 0 < piece }
-    ensures some { 0 < result }
-    ensures fits { vec_len bytes.now + result < 2 ^ 64 }
-{
-    let space = bytes.capacity() - bytes.len();
-    let more = if space == 0 { bytes.len() } else { space };
-    more.min(piece)
-}
-
-/// Reads all that is left into a vector that has nothing yet, piece by piece, until the end is met.
+/// Reads all that is left into a vector that has nothing yet: what the stream wants at first, and then as much as came, until the end
+/// is met, and each piece by piece.
 fn read_all<S: ReadsOn>(stream: &mut S, bytes: &mut Vec<u8>) -> Result<Stop, IoFault>
     requires may { MayRead (S.shows stream.old) }
     requires reads { S.reads stream.old ≡ true }
@@ -215,13 +202,18 @@ fn read_all<S: ReadsOn>(stream: &mut S, bytes: &mut Vec<u8>) -> Result<Stop, IoF
     ensures { RestOutcome (S.shows stream.old) result bytes.new.items (S.shows stream.new) }
 {
     let piece = stream.first_more().max(PIECE);
+    let mut wanted = first_space(stream, bytes);
     let mut moved = false;
-    let mut more = first_space(stream, bytes, piece);
     loop {
+        let more = wanted.min(piece);
         match read_more(stream, bytes, more, moved)? {
             Stop::Enough => {
                 moved = true;
-                more = next_more(bytes, piece);
+                wanted = if more < wanted {
+                    wanted - more
+                } else {
+                    bytes.len()
+                };
             }
             stop => return Ok(stop),
         }

@@ -4,7 +4,7 @@ use Rattle.py_stream.proofs.reading_on.read_all.Given as goal
 
 abbrev pub invariant-loop-moved : goal.invariant-loop-moved
 invariant-loop-moved g l = record {
-  came : ReadsAll (g.S.ReadsOn.shows l.fn.stream) l.bytes.items l.more l.moved (g.S.ReadsOn.shows l.stream);
+  came : ReadsAll (g.S.ReadsOn.shows l.fn.stream) l.bytes.items l.wanted l.moved (g.S.ReadsOn.shows l.stream);
   reads : g.S.ReadsOn.reads l.stream ≡ true;
 }
 
