@@ -8,10 +8,8 @@ use Rattle.py_flat.specs.declared.fault.IoFault.{IoFault}
 use Rattle.py_flat.specs.declared.fault.IoFault.TheVariants as fault
 use Rattle.py_flat.specs.declared.life.Life.TheVariants as life
 use Rattle.py_flat.specs.Bytes.{left_at}
-use Rattle.py_flat.specs.FlatFile.{Abilities}
 use Rattle.py_flat.specs.ExactStep.{rest}
 use Rattle.py_raw.specs.RawStream.{WhereTold, WherePlace, WhereTransfers, NoWait, LeavesCounts}
-use Rattle.py_raw.proofs.Telling.{keeps_same}
 use Rattle.py_raw.proofs.ReadingOn.{no_fault_then, no_wait_then, uncounted_then}
 use Rattle.py_stream.specs.declared.stop.Stop.{Stop}
 use Rattle.py_stream.specs.declared.stop.Stop.TheVariants as stop
@@ -23,8 +21,8 @@ use Rattle.py_stream.specs.Stream.{Stream, file_of}
 use Rattle.py_stream.specs.Answers.{Answers, EachBrings, ahead}
 use Rattle.py_stream.specs.Reading.{KeepsReading, Reaches, Gives, FailsReading, FailsMoved, StarvesReading, StopOutcome, RestOutcome, wanted_by, reply_by, has_answer, answered_at, GatherOutcome}
 use Rattle.py_stream.specs.ReadingOn.{MayRead, StepsOn, StepsNone, StepFails, StarvesWith, StepOutcome, ReadsInto, FailsStarved, StarvesIn, ReadIntoOutcome, ReadsMore, ReadMoreOutcome}
-use Rattle.py_stream.proofs.Coming.{each_still, each_seen, each_then}
-use Rattle.py_stream.proofs.ReadingSteps.{more_taken, next_behind, within_end, next_reaches, same_bytes, gives_then, waits_once_then, still_tells, uncounted, keeps_then, keeps_failed}
+use Rattle.py_stream.proofs.Coming.{each_seen, each_then}
+use Rattle.py_stream.proofs.ReadingSteps.{more_taken, next_behind, within_end, next_reaches, same_bytes, gives_then, waits_once_then, still_tells, keeps_then, keeps_failed}
 use Rattle.py_stream.proofs.ReadingAnswers.{Reads, ReadingBegins}
 use Rattle.py_stream.proofs.ReadingOn.{none_counted, some_counted, answered_from, unready_from, WantsSize, gathers_size, refuses_size, refused_stop}
 
@@ -62,10 +60,6 @@ vector_read before resized buffer after start more count long size is same front
     ∙ (ap (take (start + count)) (sym (take-append-drop start buffer))
     ∙ (more_taken start count (take start buffer) (drop start buffer) (length-take-le start buffer (omega arith))
     ∙ ap (λ (xs : List ℕ). xs ++ take count (drop start buffer)) begins))))
-
--- a stream that reads on may still be read
-pub still_may : (before now : Stream) → MayRead before → KeepsReading before now → now.life ≡ life.Live → now.place ≤ now.raw_place → MayRead now
-still_may before now may kept live to = record { live = live; readable = ap (λ (can : Abilities). can.readable) kept.can ∙ may.readable; bare = kept.owed; far = kept.far; near = kept.near live; to = to }
 
 -- n bytes have come into the front of a buffer that isn't full: all that were held, and those of the transfers since
 pub record ReadsTo (old : Stream) (was : Bool) (count : ℕ) (buffer : List ℕ) (moved : Bool) (now : Stream) : Type 0 where
@@ -245,15 +239,7 @@ pub record ReadsAll (before : Stream) (bytes : List ℕ) (more : ℕ) (moved : B
   pub first : moved ≡ false → (now ≡ before) × (before.raw_place < before.place + more)
   pub later : moved ≡ true → (0 < length bytes) × (before.raw_place < now.place)
 
--- a reading of all begins
-pub all_begins : (stream : Stream) (bytes : List ℕ) (more : ℕ) → bytes ≡ [] → MayRead stream → stream.raw_place < stream.place + more → length bytes + more < 2 ^ 64 → ReadsAll stream bytes more false stream
-all_begins stream bytes more none may past fits = grind (arith, uncounted, keeps_same, each_still, true≢false)
-
 module _ (before : Stream) (bytes : List ℕ) (more : ℕ) (moved : Bool) (now new : Stream) (reads : ReadsAll before bytes more moved now) where
-  -- the stream may be read between two turns
-  pub may_on : MayRead now
-  may_on = still_may before now reads.may reads.gives.kept reads.gives.live reads.to
-
   -- told, a place that lies before the end after what was given lies before it at first
   reaches_on : Reaches now new → Reaches before new
   reaches_on reach tells = omega (arith, next_reaches before now bytes reads.gives.place reads.gives.told tells, reach (still_tells before now reads.gives.kept tells), ap length (same_bytes before now reads.may.bare reads.gives.kept tells))
