@@ -15,8 +15,8 @@ use Rattle.py_stream.specs.Answers.{AnswersWith, Answers, LifeMoves, StarvesTo, 
 use Rattle.py_stream.specs.Handing.{HandsOver, owed_then, handed_over}
 use Rattle.py_stream.proofs.Refused.{is_own}
 use Rattle.py_stream.proofs.Refusing.{IsPlaced, refused_with}
-use Rattle.py_binary.specs.Binary.{has_reply_room, gone_stream, left_by, HandsOwed, AnswersCall}
-use Rattle.py_binary.specs.Kinds.{IsHeld, IsReader, IsWriter, IsUnbuffered, detached_fault}
+use Rattle.py_binary.specs.Binary.{has_reply_room, gone_stream, left_by, HandsOwed, detached_fault, AnswersCall}
+use Rattle.py_binary.specs.Kinds.{IsHeld, IsReader, IsWriter, IsUnbuffered}
 use Rattle.py_binary.proofs.Answering.{with_reply_room}
 
 -- The life after a call that isn't a `detach` which was answered.

@@ -55,10 +55,10 @@ starved_into stream size is live reads = record {
   moves = record { life_is = starves_alive stream.buffer (ReadInto size) stream.life; place = starves_there stream.buffer (ReadInto size) stream.life stream.place; far = is.far; within = tt };
   ends = tt;
   wants = λ wanting room. absurd (cc);
-  starves = λ wanting reading. record {
-    unmoved = λ lives none. refl;
-    moved = λ failed none. let wrong : life.Live ≡ life.Failed = sym live ∙ failed in absurd (cc);
-    stands = λ failed none. let wrong : life.Live ≡ life.Failed = sym live ∙ failed in absurd (cc);
+  starves = λ wanting reading ahead. record {
+    unmoved = λ lives. refl;
+    moved = λ failed. let wrong : life.Live ≡ life.Failed = sym live ∙ failed in absurd (cc);
+    stands = λ failed. let wrong : life.Live ≡ life.Failed = sym live ∙ failed in absurd (cc);
   };
   first = λ wanting takes. absurd (cc);
   nothing = λ asks. record { raw = refl; fault = refl };

@@ -1,8 +1,10 @@
 -- A binary session: what one call of it may do.
 use Rattle.std.specs.Prelude.{◌≡◌, ℕ, Bool, true, false, Option, None}
+use Rattle.py_flat.specs.declared.fault.IoFault.{IoFault}
+use Rattle.py_flat.specs.declared.fault.IoFault.TheVariants as fault
 use Rattle.py_flat.specs.declared.life.Life.{Life}
 use Rattle.py_flat.specs.declared.life.Life.TheVariants as life
-use Rattle.py_flat.specs.Calls.{FileCall, Peek, ReadInto, ReadInto1, Detach, Readable, Writable, Seekable, Closed, FileReply, Flag, Unwritten}
+use Rattle.py_flat.specs.Calls.{FileCall, Peek, ReadInto, ReadInto1, Detach, Readable, Writable, Seekable, Closed, OtherGetter, FileReply, Flag, Unwritten}
 use Rattle.py_flat.specs.FlatFile.{Abilities}
 use Rattle.py_flat.specs.Refusals.{is_getter}
 use Rattle.py_flat.specs.ExactStep.{is_closed}
@@ -52,6 +54,11 @@ left_of was stream = left_by was stream.life stream
 abbrev pub HandsOwed : Stream → FileCall → FileReply → Stream → Type 0
 HandsOwed before Detach (Unwritten bytes place) answered = (bytes ≡ (owed_then before.life before).bytes) × (place ≡ place_handed before (owed_then before.life before)) × (answered.owed ≡ owed_then before.life before)
 HandsOwed before call reply answered = Unit {0}
+
+-- what a detached session answers to a call that is none of the four questions
+abbrev pub detached_fault : FileCall → IoFault
+detached_fault OtherGetter = fault.Unsupported
+detached_fault call = fault.Detached
 
 -- The one clause of every call.
 

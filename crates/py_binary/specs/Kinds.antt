@@ -1,9 +1,7 @@
 -- Private: the streams that a binary session may call, and what holds of each between calls.
 use Rattle.std.specs.Prelude.{◌≡◌, ◌≢◌, ℕ, ◌≤◌, true, false, Option, Some, None, Result, Ok, Err}
 use Rattle.py_flat.specs.declared.fault.IoFault.{IoFault}
-use Rattle.py_flat.specs.declared.fault.IoFault.TheVariants as fault
 use Rattle.py_flat.specs.declared.life.Life.TheVariants as life
-use Rattle.py_flat.specs.Calls.{FileCall, OtherGetter}
 use Rattle.py_flat.specs.Limits.{greatest_place}
 use Rattle.py_raw.specs.RawStream.{Raw}
 use Rattle.py_stream.specs.Stream.{Stream, detached_stream}
@@ -57,11 +55,6 @@ IsServed (kind.Unbuffered stream) = IsUnbuffered stream
 abbrev pub IsSession : {R : Type 0} → Kind R → Option R → Type 0
 IsSession stream None = IsServed stream
 IsSession stream (Some raw) = shown stream ≡ detached_stream (shown stream).can (shown stream).buffer
-
--- what a detached session answers to a call that is no question
-abbrev pub detached_fault : FileCall → IoFault
-detached_fault OtherGetter = fault.Unsupported
-detached_fault call = fault.Detached
 
 -- a `detach` that is refused leaves the stream served
 abbrev pub DetachLeaves : {R : Type 0} → Result (Detached R) IoFault → Kind R → Type 0

@@ -6,8 +6,8 @@ ghost use Rattle.py_stream.specs.Handing.{PartsOutcome};
 ghost use Rattle.py_stream.specs.Opening.{StandsAtStart, NewOutcome};
 ghost use Rattle.py_stream.specs.Access.{can_of, is_able};
 ghost use Rattle.py_calls.specs.Calls.{file_call, said};
-ghost use Rattle.py_binary.specs.Binary.{AnswersBinary, AnswersCall, place_left};
-ghost use Rattle.py_binary.specs.Kinds.{shown, IsServed, detached_fault, DetachesKind};
+ghost use Rattle.py_binary.specs.Binary.{AnswersBinary, AnswersCall, detached_fault, place_left};
+ghost use Rattle.py_binary.specs.Kinds.{shown, IsServed, DetachesKind};
 
 use crate::kind::Kind;
 use crate::reader_calls::answer_reader;

@@ -1,11 +1,13 @@
 -- A buffered stream: its engine or, once its raw was handed back, what is left of it.
-use Rattle.std.specs.Prelude.{◌≡◌, ℕ, Bool, true, false, List, [], Option, Some, None, Result, Ok, Err}
+use Rattle.std.specs.Prelude.{◌≡◌, ◌&&◌, ℕ, Bool, true, false, List, [], Option, Some, None, Result, Ok, Err}
 use Rattle.py_flat.specs.declared.fault.IoFault.{IoFault}
 use Rattle.py_flat.specs.declared.fault.IoFault.TheVariants as fault
+use Rattle.py_raw.specs.RawStream.{Raw}
 use Rattle.py_stream.specs.declared.access.Access.{Access}
-use Rattle.py_stream.specs.Access.{can_of}
+use Rattle.py_stream.specs.declared.access.Access.TheVariants as access
+use Rattle.py_stream.specs.Access.{can_of, is_able}
 use Rattle.py_stream.specs.Stream.{Stream, detached_stream}
-use Rattle.py_engine.specs.Window.{ahead_of}
+use Rattle.py_window.specs.Window.{ahead_of}
 use Rattle.py_engine.specs.Engine.{EngineView, stream_of, Stands}
 use Rattle.py_engine.specs.Passing.{BeginsDetachIn}
 
@@ -29,15 +31,15 @@ seen_of view = seen_as view.engine view.access view.seekable view.size
 
 -- what is kept beside the engine is the engine's own
 abbrev pub IsBuffered : Option EngineView → Access → Bool → ℕ → Type 0
-IsBuffered (Some engine) access seekable size = (can_of engine.access engine.raw.seekable ≡ can_of access seekable) × (engine.window.size ≡ size)
-IsBuffered None access seekable size = Unit {0}
+IsBuffered (Some engine) opened seekable size = (can_of engine.access engine.raw.seekable ≡ can_of opened seekable) × (engine.window.size ≡ size)
+IsBuffered None opened seekable size = Unit {0}
 
--- a stream that is written: the stream, and how many bytes of the last write it took, 0 before the first
+-- a stream that writes: the stream, and how many bytes of the last write it took, 0 before the first
 pub record WriterView : Type 0 where
   pub stream : Stream
   pub taken : ℕ
 
--- the stream that a writer is
+-- the stream that one that writes is
 abbrev pub stream_in : WriterView → Stream
 stream_in writer = writer.stream
 
@@ -50,6 +52,10 @@ Reads stream = (stream.can.readable ≡ true) × (stream.can.writable ≡ false)
 -- a stream that is only written
 abbrev pub Writes : Stream → Type 0
 Writes stream = (stream.can.readable ≡ false) × (stream.can.writable ≡ true)
+
+-- a stream that is read and written
+abbrev pub ReadsAndWrites : Stream → Type 0
+ReadsAndWrites stream = (stream.can.readable ≡ true) × (stream.can.writable ≡ true)
 
 -- Looking.
 
@@ -67,6 +73,11 @@ BeginsDetach None result None = result ≡ Err fault.Detached
 BeginsDetach old result new = ⊥
 
 -- Opening.
+
+-- whether a raw is able to do what a buffered stream over it is opened for: one that is read and written moves it
+abbrev pub suits_buffered : Access → Raw → Bool
+suits_buffered access.Update raw = raw.readable && raw.writable && raw.seekable
+suits_buffered opened raw = is_able opened raw
 
 -- an opening's outcome, with the stream that what was opened is seen as
 abbrev pub opened_as : {V E : Type 0} → (V → Stream) → Result V E → Result Stream E

@@ -3,20 +3,20 @@
 ghost use Rattle.std.specs.Prelude.{◌≡◌, ◌≢◌, ◌≤◌, ◌-◌, true, false, Some, None, IfOk, length, vec_len, if◌then◌else◌};
 ghost use Rattle.py_flat.specs.Lines.{joined};
 ghost use Rattle.py_flat.specs.Calls.{FileCall, Read, Read1, ReadLine, ReadLines, Peek, ReadInto, ReadInto1, Write, WriteLines, Seek, Tell, Truncate, Flush, Close, Refused};
-ghost use Rattle.py_stream.specs.Access.{can_of, is_able};
+ghost use Rattle.py_stream.specs.Access.{can_of};
 ghost use Rattle.py_stream.specs.Answers.{Answers, RefusesAlone};
 ghost use Rattle.py_stream.specs.Replies.{bytes_reply, into_reply, CountFits, KeepsBuffer, KeepsUnread, look_reply, lines_reply, count_reply, place_reply, done_reply};
 ghost use Rattle.py_stream.specs.Taken.{taken_of};
 ghost use Rattle.py_stream.specs.Opening.{StandsAtStart, MayOpen, NewOutcome};
 ghost use Rattle.py_stream.specs.Handing.{DetachOutcome, PartsOutcome, LendsRaw};
-ghost use Rattle.py_buffered.specs.Buffered.{seen_of, held_of, opened_as, BeginsDetach};
+ghost use Rattle.py_buffered.specs.Buffered.{seen_of, held_of, opened_as, suits_buffered, BeginsDetach};
 ghost use Rattle.py_engine.specs.Engine.{stream_of};
 
 use py_engine::BufferedData;
 use py_raw::{IoFault, Life, Lines, RawStream};
 use py_stream::{
-    Access, Detached, NewRefused, first_place, read_line, read_lines, refuse, refused_at_first,
-    refused_raw, seek, tell, truncate,
+    Access, Detached, NewRefused, first_place, refuse, refused_at_first, refused_raw, seek, tell,
+    truncate,
 };
 use std::alloc::Global;
 use std::marker::Model;
@@ -42,17 +42,14 @@ impl<R: RawStream> Model for Buffered<R> {
     ghost invariant = { λ b. IsBuffered b.data b.access b.seekable b.size };
 }
 
-// What an engine answers to a reading is said of one that reads ahead: `assured`, before and after it, says that the stream is one.
 impl<R: RawStream> Buffered<R> {
-    /// A stream over a raw one, from where that stands, with a buffer of `size` bytes; one that appends begins at the end. It either
-    /// reads or writes.
+    /// A stream over a raw one, from where that stands, with a buffer of `size` bytes; one that appends begins at the end.
     pub fn new(alloc: Global, raw: R, size: usize, access: Access) -> Result<Self, NewRefused<R>>
         requires start { StandsAtStart (R.shows raw) }
-        requires alone { access ≢ Access.Update }
-        ensures outcome { NewOutcome R.shows (is_able access) (can_of access) raw (Some size) (opened_as seen_of result) }
+        ensures outcome { NewOutcome R.shows (suits_buffered access) (can_of access) raw (Some size) (opened_as seen_of result) }
         ensures taken { IfOk result (λ stream. stream.taken ≡ 0) }
     {
-        if let Some(fault) = refused_at_first(&raw, access.suits(&raw), Some(size)) {
+        if let Some(fault) = refused_at_first(&raw, suits(access, &raw), Some(size)) {
             return Err(NewRefused { raw, fault });
         }
         match vec![in alloc; 0u8; size] {
@@ -67,9 +64,8 @@ impl<R: RawStream> Buffered<R> {
     /// A stream with this buffer.
     fn over(raw: R, buffer: Vec<u8>, access: Access) -> Result<Self, NewRefused<R>>
         requires start { StandsAtStart (R.shows raw) }
-        requires may { MayOpen (is_able access) (R.shows raw) (Some (vec_len buffer)) }
-        requires alone { access ≢ Access.Update }
-        ensures outcome { NewOutcome R.shows (is_able access) (can_of access) raw (Some (vec_len buffer)) (opened_as seen_of result) }
+        requires may { MayOpen (suits_buffered access) (R.shows raw) (Some (vec_len buffer)) }
+        ensures outcome { NewOutcome R.shows (suits_buffered access) (can_of access) raw (Some (vec_len buffer)) (opened_as seen_of result) }
         ensures taken { IfOk result (λ stream. stream.taken ≡ 0) }
     {
         let mut raw = raw;
@@ -94,12 +90,7 @@ impl<R: RawStream> Buffered<R> {
         ensures taken { self.new.taken ≡ self.old.taken }
     {
         match &mut self.data {
-            Some(data) => {
-                data.assured();
-                let answer = data.read(alloc, size);
-                data.assured();
-                answer
-            }
+            Some(data) => data.read(alloc, size),
             None => Err(IoFault::Detached),
         }
     }
@@ -111,12 +102,7 @@ impl<R: RawStream> Buffered<R> {
         ensures taken { self.new.taken ≡ self.old.taken }
     {
         match &mut self.data {
-            Some(data) => {
-                data.assured();
-                let answer = data.read1(alloc, size);
-                data.assured();
-                answer
-            }
+            Some(data) => data.read1(alloc, size),
             None => Err(IoFault::Detached),
         }
     }
@@ -128,12 +114,7 @@ impl<R: RawStream> Buffered<R> {
         ensures taken { self.new.taken ≡ self.old.taken }
     {
         match &mut self.data {
-            Some(data) => {
-                data.assured();
-                let answer = data.look();
-                data.assured();
-                answer
-            }
+            Some(data) => data.look(),
             None => Err(IoFault::Detached),
         }
     }
@@ -158,12 +139,7 @@ impl<R: RawStream> Buffered<R> {
         ensures refused { KeepsBuffer result buffer.old buffer.new }
     {
         match &mut self.data {
-            Some(data) => {
-                data.assured();
-                let answer = data.readinto(buffer);
-                data.assured();
-                answer
-            }
+            Some(data) => data.readinto(buffer),
             None => Err(IoFault::Detached),
         }
     }
@@ -178,12 +154,7 @@ impl<R: RawStream> Buffered<R> {
         ensures unread { KeepsUnread result buffer.old buffer.new }
     {
         match &mut self.data {
-            Some(data) => {
-                data.assured();
-                let answer = data.readinto1(buffer);
-                data.assured();
-                answer
-            }
+            Some(data) => data.readinto1(buffer),
             None => Err(IoFault::Detached),
         }
     }
@@ -199,12 +170,7 @@ impl<R: RawStream> Buffered<R> {
         ensures taken { self.new.taken ≡ self.old.taken }
     {
         match &mut self.data {
-            Some(data) => {
-                data.assured();
-                let answer = read_line(data, alloc, limit);
-                data.assured();
-                answer
-            }
+            Some(data) => data.readline(alloc, limit),
             None => Err(IoFault::Detached),
         }
     }
@@ -220,19 +186,14 @@ impl<R: RawStream> Buffered<R> {
         ensures taken { self.new.taken ≡ self.old.taken }
     {
         match &mut self.data {
-            Some(data) => {
-                data.assured();
-                let answer = read_lines(data, alloc, hint);
-                data.assured();
-                answer
-            }
+            Some(data) => data.readlines(alloc, hint),
             None => Err(IoFault::Detached),
         }
     }
 
     /// Takes bytes, and passes on what the buffer has no room for.
     pub fn write(&mut self, bytes: &[u8]) -> Result<usize, IoFault>
-        requires alone { (seen_of self.old).can.readable ≡ false }
+        requires writes { (seen_of self.old).can.writable ≡ true }
         ensures answers { Answers (seen_of self.old) (Write bytes.now) (count_reply result) (seen_of self.new) }
         ensures taken { self.new.taken ≡ taken_of bytes.now (count_reply result) (seen_of self.old).place (seen_of self.new).place }
     {
@@ -245,7 +206,7 @@ impl<R: RawStream> Buffered<R> {
 
     /// Takes lines, as one write of them joined.
     pub fn writelines(&mut self, lines: &Lines) -> Result<(), IoFault>
-        requires alone { (seen_of self.old).can.readable ≡ false }
+        requires writes { (seen_of self.old).can.writable ≡ true }
         ensures answers { Answers (seen_of self.old) (WriteLines lines.now) (done_reply result) (seen_of self.new) }
         ensures taken { self.new.taken ≡ taken_of (joined lines.now) (done_reply result) (seen_of self.old).place (seen_of self.new).place }
     {
@@ -258,7 +219,7 @@ impl<R: RawStream> Buffered<R> {
 
     /// Takes bytes, and doesn't count them.
     fn put(&mut self, bytes: &[u8]) -> Result<usize, IoFault>
-        requires alone { (seen_of self.old).can.readable ≡ false }
+        requires writes { (seen_of self.old).can.writable ≡ true }
         ensures { Answers (seen_of self.old) (Write bytes.now) (count_reply result) (seen_of self.new) }
     {
         match &mut self.data {
@@ -269,7 +230,7 @@ impl<R: RawStream> Buffered<R> {
 
     /// Takes lines, and doesn't count them.
     fn put_lines(&mut self, lines: &Lines) -> Result<(), IoFault>
-        requires alone { (seen_of self.old).can.readable ≡ false }
+        requires writes { (seen_of self.old).can.writable ≡ true }
         ensures { Answers (seen_of self.old) (WriteLines lines.now) (done_reply result) (seen_of self.new) }
     {
         match &mut self.data {
@@ -451,6 +412,13 @@ impl<R: RawStream> Buffered<R> {
             None => None,
         }
     }
+}
+
+/// Whether a buffered stream can be opened for an access over a raw: one that is read and written needs a raw that can seek too.
+fn suits<R: RawStream>(access: Access, raw: &R) -> bool
+    ensures { result ≡ suits_buffered access (R.shows raw.now) }
+{
+    access.suits(raw) && (access != Access::Update || raw.seekable())
 }
 
 /// Whether the raw may be handed back: of a live stream once nothing is owed, and of a failed one.

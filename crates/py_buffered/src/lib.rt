@@ -2,10 +2,12 @@
 #![tactic(auto)]
 
 mod buffered;
+mod buffered_random;
 mod buffered_reader;
 mod buffered_writer;
 mod lines;
 
+pub use buffered_random::BufferedRandom;
 pub use buffered_reader::BufferedReader;
 pub use buffered_writer::BufferedWriter;
 pub use lines::BufferedLines;

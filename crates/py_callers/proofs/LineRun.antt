@@ -83,7 +83,7 @@ accepts raw stream opens = reads stream.life (file_of stream).buffering stream.c
 stream_line : (raw : Raw) (stream : Stream) (reply : Reply) (after : Stream) → OpensToRead raw stream → AnswersBinary stream (call.ReadLine None) reply after → AnswersLine raw (said reply) after.raw
 stream_line raw stream reply after opens step =
     let answered : Stream = step.answered in
-    let back : after.raw ≡ answered.raw = ap (λ (s : Stream). s.raw) step.leaves ∙ left_raw answered.life answered in
+    let back : after.raw ≡ answered.raw = ap (λ (s : Stream). s.raw) step.leaves ∙ left_raw stream.life answered.life answered in
     subst (λ (shown : Raw). AnswersLine raw (said reply) shown) (sym back) (record {
       line = λ seen smooth.
           let whole : answered.short ≡ false = uncaused raw.waits stream.raw.waits answered.raw.waits answered.short opens.untouched.keeps.waits step.answers.causes.waits smooth.waits in

@@ -1,11 +1,13 @@
 -- The calls that give nothing, or bytes, by what the stream is opened for: what holds when a call begins, and what its steps come to.
-use Rattle.std.proofs.Common.{[], ◌≡◌, ℕ, Bool, true, false, length, Result, Ok, Err, IfOk, refl, sym, ap, subst, arith}
+use Rattle.std.proofs.Common.{◌≡◌, ℕ, Bool, true, false, Result, Ok, Err, IfOk, refl, sym, ap, subst, arith}
 use Rattle.py_flat.specs.declared.fault.IoFault.{IoFault}
 use Rattle.py_flat.specs.declared.life.Life.TheVariants as life
 use Rattle.py_flat.specs.Calls.{Flush, Close, Refused}
 use Rattle.py_stream.specs.declared.access.Access.{Access}
 use Rattle.py_stream.specs.declared.access.Access.TheVariants as access
-use Rattle.py_stream.specs.Access.{can_of, is_read, is_written}
+use Rattle.py_stream.specs.Access.{can_of, is_written}
+use Rattle.py_stream.specs.Stream.{nothing_owed}
+use Rattle.py_stream.specs.Settling.{SettleOutcome}
 use Rattle.py_stream.specs.Replies.{done_reply}
 use Rattle.py_stream.specs.Answers.{Answers}
 use Rattle.py_stream.specs.Moving.{Begins, keeps_pending, OwesBy, SettlesBy}
@@ -16,20 +18,16 @@ use Rattle.py_stream.proofs.Showing.{IsWriting}
 use Rattle.py_stream.proofs.PassingOn.{begun}
 use Rattle.py_stream.proofs.Flushing.{flush_answers}
 use Rattle.py_stream.proofs.Shutting.{flush_passes_on, close_stops, close_answers, close_answers_at_once}
-use Rattle.py_engine.specs.Window.{place_of}
-use Rattle.py_engine.specs.Engine.{EngineView, stream_of, HasShape, Stands, BeginOutcome}
+use Rattle.py_window.specs.Window.{place_of}
+use Rattle.py_engine.specs.Engine.{EngineView, stream_of, Stands, IsBehind, BeginOutcome}
 use Rattle.py_engine.specs.Passing.{PassesAll, PassesToClose}
-use Rattle.py_engine.proofs.Standing.{is_placed, is_sound, owes_behind, owes_nothing}
+use Rattle.py_engine.proofs.Standing.{is_placed, is_sound, owes_behind, owes_nothing, reads_alone}
 
 -- What each access can do.
 
--- a stream that isn't opened to be read writes, and doesn't read
-pub writes_only : (opened : Access) (seekable : Bool) → is_read opened ≡ false → ((can_of opened seekable).writable ≡ true) × ((can_of opened seekable).readable ≡ false)
-writes_only opened seekable other = grind arith
-
--- no engine both reads and writes
-no_update : (engine : EngineView) → engine.access ≡ access.Update → Stands engine → ⊥
-no_update engine opened is = subst (λ (access : Access). HasShape access engine.raw_place engine.window) opened is.shape
+-- a stream that is opened to be written writes
+pub writes_able : (opened : Access) (seekable : Bool) → is_written opened ≡ true → (can_of opened seekable).writable ≡ true
+writes_able opened seekable writes = grind arith
 
 -- How a call begins.
 
@@ -42,74 +40,67 @@ pub stands_whole : (engine : EngineView) → Stands engine → Stands (record en
 stands_whole engine is = is
 
 -- a live stream that is written
-pub is_writing_live : (engine : EngineView) → Stands engine → is_read engine.access ≡ false → engine.life ≡ life.Live → IsWriting (begun (stream_of engine))
-is_writing_live engine is writes live = grind (arith, is_sound, stands_whole, writes_only)
+pub is_writing_live : (engine : EngineView) → Stands engine → is_written engine.access ≡ true → engine.life ≡ life.Live → IsWriting (begun (stream_of engine))
+is_writing_live engine is writes live = grind (arith, is_sound, stands_whole, writes_able)
+
+-- an engine that is opened to be read alone reads on from the bytes held
+reads_there : (engine : EngineView) → Stands engine → engine.access ≡ access.Read → (stream_of engine).owed ≡ nothing_owed (stream_of engine).place
+reads_there engine is opened = owes_nothing engine (reads_alone engine is opened)
 
 -- Flushing.
 
--- the raw of a stream that is written stands at the place, once nothing is owed
-pub stands_there : (engine : EngineView) → Stands engine → is_read engine.access ≡ false → (stream_of engine).owed.bytes ≡ [] → engine.raw_place ≡ place_of engine.window
-stands_there engine is writes none = omega (arith, (owes_behind engine is writes).ends, (owes_behind engine is writes).stands, ap length none)
-
-written_there : (opened : Access) (result : Result (Unit {0}) IoFault) (raw_place place : ℕ) → is_read opened ≡ false → IfOk result (λ done. is_read opened ≡ false → raw_place ≡ place) → IfOk result (λ done. raw_place ≡ place)
+written_there : (opened : Access) (result : Result (Unit {0}) IoFault) (raw_place place : ℕ) → is_written opened ≡ true → IfOk result (λ done. is_written opened ≡ true → raw_place ≡ place) → IfOk result (λ done. raw_place ≡ place)
 written_there opened (Ok done) raw_place place writes stands = stands writes
 written_there opened (Err why) raw_place place writes stands = tt
 
 -- a `flush` answers what passing all on came to
-pub flushes : (opened : Access) (old started new : EngineView) (result : Result (Unit {0}) IoFault) → old.access ≡ opened → Stands old → BeginOutcome old (Ok tt) started → PassesAll opened (stream_of started) result (stream_of new) → IfOk result (λ done. is_read opened ≡ false → new.raw_place ≡ place_of new.window) → Answers (stream_of old) Flush (done_reply result) (stream_of new)
-flushes access.Read old started new result opened is began passed stands = grind (arith, flush_answers, is_placed, owes_nothing, begins)
-flushes access.Update old started new result opened is began passed stands = absurd (no_update old opened is)
+pub flushes : (opened : Access) (old started new : EngineView) (result : Result (Unit {0}) IoFault) → old.access ≡ opened → Stands old → BeginOutcome old (Ok tt) started → PassesAll opened (stream_of started) result (stream_of new) → IfOk result (λ done. is_written opened ≡ true → new.raw_place ≡ place_of new.window) → Answers (stream_of old) Flush (done_reply result) (stream_of new)
+flushes access.Read old started new result opened is began passed stands = grind (arith, flush_answers, is_placed, reads_there, begins)
 flushes other old started new result opened is began passed stands =
-    flush_passes_on (stream_of old) (stream_of started) (stream_of new) result (is_writing_live old is (ap is_read opened) began.0) (begins old started (Ok tt) began) passed (written_there old.access result new.raw_place (place_of new.window) (ap is_read opened) (subst (λ (access : Access). IfOk result (λ done. is_read access ≡ false → new.raw_place ≡ place_of new.window)) (sym opened) stands))
+    flush_passes_on (stream_of old) (stream_of started) (stream_of new) result (is_writing_live old is (ap is_written opened) began.0) (begins old started (Ok tt) began) passed (written_there old.access result new.raw_place (place_of new.window) (ap is_written opened) (subst (λ (access : Access). IfOk result (λ done. is_written access ≡ true → new.raw_place ≡ place_of new.window)) (sym opened) stands))
 
 -- Closing.
 
 -- a `close` that passing all on refused answers that refusal
 pub closing_stops : (opened : Access) (old started new : EngineView) (why : IoFault) → old.access ≡ opened → Stands old → BeginOutcome old (Ok tt) started → PassesToClose opened (stream_of started) (Err why) (stream_of new) → Answers (stream_of old) Close (Refused why) (stream_of new)
 closing_stops access.Read old started new why opened is began stops = let never : Err why ≡ Ok tt = stops.0 in absurd (cc)
-closing_stops access.Update old started new why opened is began stops = absurd (no_update old opened is)
-closing_stops other old started new why opened is began stops = close_stops (stream_of old) (stream_of started) (stream_of new) why (is_writing_live old is (ap is_read opened) began.0) (begins old started (Ok tt) began) stops
+closing_stops other old started new why opened is began stops = close_stops (stream_of old) (stream_of started) (stream_of new) why (is_writing_live old is (ap is_written opened) began.0) (begins old started (Ok tt) began) stops
 
 -- a `close` that passed all on answers what the closing of the raw came to
 pub closes : (opened : Access) (old started mid new : EngineView) (result : Result (Unit {0}) IoFault) → old.access ≡ opened → Stands old → BeginOutcome old (Ok tt) started → PassesToClose opened (stream_of started) (Ok tt) (stream_of mid) → CloseRawOutcome (stream_of mid) result (stream_of new) → Answers (stream_of old) Close (done_reply result) (stream_of new)
-closes access.Read old started mid new result opened is began passed shut = grind (arith, close_answers_at_once, is_sound, stands_whole, owes_nothing, begins)
-closes access.Update old started mid new result opened is began passed shut = absurd (no_update old opened is)
+closes access.Read old started mid new result opened is began passed shut = grind (arith, close_answers_at_once, is_sound, stands_whole, reads_there, begins)
 closes other old started mid new result opened is began passed shut =
-    close_answers (stream_of old) (stream_of started) (stream_of mid) (stream_of new) result (is_writing_live old is (ap is_read opened) began.0) (begins old started (Ok tt) began) passed shut
+    close_answers (stream_of old) (stream_of started) (stream_of mid) (stream_of new) result (is_writing_live old is (ap is_written opened) began.0) (begins old started (Ok tt) began) passed shut
 
 -- Moving.
 
 owes_in : (opened : Access) (engine : EngineView) → engine.access ≡ opened → Stands engine → OwesBy (keeps_pending (stream_of engine)) (stream_of engine)
-owes_in access.Read engine opened is = grind (arith, owes_nothing)
-owes_in access.Update engine opened is = absurd (no_update engine opened is)
+owes_in access.Read engine opened is = grind (arith, reads_there)
 owes_in other engine opened is = grind arith
 
--- a stream that is written doesn't read, and another owes nothing
+-- a stream that keeps no bytes owes nothing
 pub owes_by : (engine : EngineView) → Stands engine → OwesBy (keeps_pending (stream_of engine)) (stream_of engine)
 owes_by engine is = owes_in engine.access engine refl is
 
--- passing all on, by what the stream is opened for, is what a seek goes by
+-- passing all on, by what the stream is opened for, is what a call that needs it goes by
 pub settles_by : (opened : Access) (old new : EngineView) (result : Result (Unit {0}) IoFault) → old.access ≡ opened → PassesAll opened (stream_of old) result (stream_of new) → SettlesBy (keeps_pending (stream_of old)) (stream_of old) result (stream_of new)
 settles_by opened old new result is passed = grind arith
+
+-- a stream that is written passes all on
+pub settles_writing : (old new : EngineView) (result : Result (Unit {0}) IoFault) → is_written old.access ≡ true → SettleOutcome (stream_of old) result (stream_of new) → SettlesBy (keeps_pending (stream_of old)) (stream_of old) result (stream_of new)
+settles_writing old new result writes settles = grind arith
+
+-- another has nothing to pass on
+pub settles_reading : (engine : EngineView) → is_written engine.access ≡ false → SettlesBy (keeps_pending (stream_of engine)) (stream_of engine) (Ok tt) (stream_of engine)
+settles_reading engine reads = grind arith
 
 -- Giving bytes.
 
 -- a call that gives bytes begins, or is refused
-pub begins_writing : (old new : EngineView) (result : Result (Unit {0}) IoFault) → Stands old → is_read old.access ≡ false → BeginOutcome old result new → BeginsWriting (stream_of old) result (stream_of new)
+pub begins_writing : (old new : EngineView) (result : Result (Unit {0}) IoFault) → Stands old → IsBehind old → BeginOutcome old result new → BeginsWriting (stream_of old) result (stream_of new)
 begins_writing old new (Ok done) is writes began =
     let started : EngineView = record old { short = false } in
     let stands : Stands started = stands_whole old is in
-    (subst (λ (engine : EngineView). MayTake (stream_of engine)) (sym began.1) (record { live = began.0; writes = (writes_only old.access old.raw.seekable writes).0; sound = is_sound started stands; behind = owes_behind started stands writes }), ap stream_of began.1)
+    let behind : IsBehind started = record { writes = writes.writes; owes = writes.owes } in
+    (subst (λ (engine : EngineView). MayTake (stream_of engine)) (sym began.1) (record { live = began.0; writes = writes_able old.access old.raw.seekable writes.writes; sound = is_sound started stands; behind = owes_behind started stands behind }), ap stream_of began.1)
 begins_writing old new (Err why) is writes began = writing_refused (stream_of old) (stream_of new) why (is_placed old is) (begins old new (Err why) began)
-
--- an engine that reads doesn't write
-pub reads_alone : (opened : Access) (engine : EngineView) → engine.access ≡ opened → Stands engine → is_read opened ≡ true → is_written opened ≡ false
-reads_alone access.Read engine opened is reads = refl
-reads_alone access.Update engine opened is reads = absurd (no_update engine opened is)
-reads_alone other engine opened is reads = absurd (cc)
-
--- an engine that writes doesn't read
-pub writes_alone : (opened : Access) (engine : EngineView) → engine.access ≡ opened → Stands engine → is_written opened ≡ true → is_read opened ≡ false
-writes_alone access.Read engine opened is writes = absurd (cc)
-writes_alone access.Update engine opened is writes = absurd (no_update engine opened is)
-writes_alone other engine opened is writes = refl

@@ -1,22 +1,20 @@
 -- What one transfer of the window makes of an engine.
-use Rattle.std.proofs.Common.{◌≡◌, ℕ, ◌≤◌, Bool, true, length, Result, Ok, Err, arith}
-use Rattle.std.proofs.lemmas.Bool.{eq-eqb}
-use Rattle.std.proofs.lemmas.List.{length-drop}
+use Rattle.std.proofs.Common.{◌≡◌, ℕ, ◌≤◌, Bool, length, Result, Ok, Err, arith}
 use Rattle.py_flat.specs.declared.fault.IoFault.{IoFault}
 use Rattle.py_flat.specs.declared.fault.IoFault.TheVariants as fault
 use Rattle.py_flat.specs.declared.life.Life.TheVariants as life
 use Rattle.py_raw.specs.RawStream.{Keeps, StaysOpen}
-use Rattle.py_stream.specs.Access.{is_read}
 use Rattle.py_stream.specs.LiveRaw.{LiveView}
 use Rattle.py_stream.proofs.Coming.{came_unread, came_more, came_none, each_brought, last_brought}
-use Rattle.py_engine.specs.declared.window.Filled.{Filled}
-use Rattle.py_engine.specs.declared.window.Filled.TheVariants as filled
-use Rattle.py_engine.specs.Window.{WindowView, end_of, ahead_of, advanced, FillOutcome}
+use Rattle.py_window.specs.declared.window.Filled.{Filled}
+use Rattle.py_window.specs.declared.window.Filled.TheVariants as filled
+use Rattle.py_window.specs.Window.{WindowView, end_of, ahead_of, advanced, FillOutcome}
 use Rattle.py_engine.specs.Engine.{EngineView, Stands}
 use Rattle.py_engine.specs.Reading.{IsReading, FillsOutcome}
 use Rattle.py_lines.proofs.Asking.{some_length}
 use Rattle.py_engine.proofs.Stepping.{engine_of}
-use Rattle.py_engine.proofs.Transfers.{window_advanced, settled_advanced}
+use Rattle.py_engine.proofs.Standing.{stands_reading}
+use Rattle.py_engine.proofs.Transfers.{keeps_advanced}
 
 -- one transfer into the window
 pub fills_so : (live new : LiveView) (raw_place : ℕ) (moved : Bool) (before after : WindowView) (result : Result Filled IoFault) → IsReading (engine_of live raw_place before) → live.life ≡ life.Live → Keeps live.raw new.raw → StaysOpen live.raw new.raw → FillOutcome live moved before result new after → FillsOutcome (engine_of live raw_place before) moved result (engine_of new (end_of after) after)
@@ -28,5 +26,5 @@ fills_so live new raw_place moved before after (Err fault.NoMemory) is lives kee
 fills_so live new raw_place moved before after (Err why) is lives keeps stays never = absurd never
 
 -- an engine that reads stands as each does once its cursor moved on over bytes held
-pub stands_advanced : (engine : EngineView) (used : ℕ) → Stands engine → is_read engine.access ≡ true → used ≤ length (ahead_of engine.window) → Stands (record engine { window = advanced used engine.window })
-stands_advanced engine used stands reads fits = grind (arith, window_advanced, settled_advanced, eq-eqb, length-drop)
+pub stands_advanced : (engine : EngineView) (used : ℕ) → IsReading engine → used ≤ length (ahead_of engine.window) → Stands (record engine { window = advanced used engine.window })
+stands_advanced engine used is fits = stands_reading (record engine { window = advanced used engine.window }) (keeps_advanced engine used is fits).is

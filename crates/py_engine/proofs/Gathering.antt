@@ -14,7 +14,7 @@ use Rattle.py_stream.specs.Answers.{ahead, EachBrings, LastIsNeeded}
 use Rattle.py_stream.specs.Reading.{ComesNext, Gives, GathersEnough, WantsHeld, GatherOutcome}
 use Rattle.py_stream.proofs.ReadingSteps.{next_behind, next_parts, next_reaches, waits_once_then}
 use Rattle.py_stream.proofs.ReadingOn.{WantsOn, gathers_at_end, gathers_waiting, open_asking, gathers_ok, wants_past}
-use Rattle.py_engine.specs.Window.{place_of, end_of, ahead_of, advanced}
+use Rattle.py_window.specs.Window.{place_of, end_of, ahead_of, advanced}
 use Rattle.py_engine.specs.Engine.{EngineView}
 use Rattle.py_engine.specs.Reading.{reading_of, KeepsEngine, UsesUp, IsLast, Fills, FillsOutcome, StarvesWith}
 use Rattle.py_lines.specs.Collecting.{HasEnough, WantsMore}

@@ -1,6 +1,5 @@
-mod Held
-pub mod Collecting
 pub mod Standing
+pub mod Holding
 pub mod Stepping
 pub mod PassingOn
 pub mod Putting
@@ -12,3 +11,8 @@ pub mod Gathering
 pub mod Reading
 pub mod SingleReading
 pub mod Calls
+pub mod Draining
+pub mod Settling
+pub mod Pushing
+pub mod Random
+pub mod RandomWriting

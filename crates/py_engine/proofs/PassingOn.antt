@@ -1,66 +1,95 @@
 -- Passing on what a stream owes, transfer by transfer.
-use Rattle.std.proofs.Common.{[], ◌≡◌, IsTrue, Bool, true, false, Result, Ok, Err, refl, ap, sym, subst, arith}
+use Rattle.std.proofs.Common.{[], ◌≡◌, ℕ, ◌<◌, IsTrue, Bool, true, List, length, drop, Ok, Err, refl, ap, sym, ◌∙◌, subst, arith, length-drop}
 use Rattle.py_flat.specs.declared.fault.IoFault.{IoFault}
 use Rattle.py_flat.specs.declared.fault.IoFault.TheVariants as fault
+use Rattle.py_flat.specs.declared.life.Life.TheVariants as life
 use Rattle.py_raw.specs.RawStream.{NoWait}
 use Rattle.py_raw.proofs.ReadingOn.{no_wait_then}
 use Rattle.py_stream.specs.Stream.{Stream}
-use Rattle.py_stream.specs.Taking.{Took, Lacks}
-use Rattle.py_stream.specs.Settling.{LivesOn, SettleOutcome}
-use Rattle.py_stream.proofs.PassingOn.{took_passes, failing_passes}
-use Rattle.py_stream.proofs.Taking.{took_on, fails_on, calm_of, waited_then, waits_once_then}
+use Rattle.py_stream.specs.Keeping.{IsSound}
+use Rattle.py_stream.specs.Writing.{OwesBehind, NoneAtPlace}
+use Rattle.py_stream.specs.Taking.{Took, FailsTaking, Lacks}
+use Rattle.py_stream.specs.Settling.{PassesJust, LivesOn, SettleOutcome}
+use Rattle.py_stream.proofs.PassingOn.{just_none, just_then, just_some, just_passes, just_took, some_fails}
+use Rattle.py_stream.proofs.Taking.{waited_then, waits_once_then, faulted_then}
 use Rattle.py_engine.specs.declared.data.passing_on.Passed.TheVariants as passing
-use Rattle.py_stream.specs.declared.access.Access.{Access}
-use Rattle.py_stream.specs.declared.access.Access.TheVariants as access
-use Rattle.py_stream.specs.Access.{is_read}
-use Rattle.py_engine.specs.Passing.{DrainOutcome, FlushOutcome, PassesAll}
+use Rattle.py_engine.specs.Passing.{StandsAtOwed, DrainOutcome, FlushOutcome}
 
--- how far a passing on came: no wait was asked for yet
+-- how far a passing on came: no wait was asked for yet, and the raw stands where what is left begins
 pub record PassesSoFar (old now : Stream) : Type 0 where
-  pub took : Took old [] now
+  pub just : PassesJust old now
   pub no_wait : NoWait old.raw now.raw
+  pub there : StandsAtOwed now
+
+-- a passing on begins
+pub passes_none : (old : Stream) → IsSound old → old.life ≡ life.Live → NoneAtPlace old → StandsAtOwed old → PassesSoFar old old
+passes_none old sound live at there = record { just = just_none old sound live at; no_wait = λ _. refl; there = there }
+
+some_before : (bytes : List ℕ) (count : ℕ) → 0 < length (drop count bytes) → 0 < length bytes
+some_before bytes count some = omega (arith, some, length-drop count bytes)
+
+-- where the raw stands once some was passed on
+stands_still : (now new : Stream) → StandsAtOwed now → PassesJust now new → StandsAtOwed new
+stands_still now new there just some = omega (arith, just.raw_place, there (some_before now.owed.bytes just.passed (subst (λ (bytes : List ℕ). 0 < length bytes) just.owed some)), just.place (λ none. omega (arith, some, ap length none)))
 
 -- one more transfer of what is owed went
 pub passes_more : (old now new : Stream) → PassesSoFar old now → DrainOutcome now (Ok passing.All) new → PassesSoFar old new
-passes_more old now new so drained = grind (arith, took_on, no_wait_then)
+passes_more old now new so drained = record { just = just_then old now new so.just drained.0; no_wait = no_wait_then old.raw now.raw new.raw so.just.kept.raw so.no_wait drained.1; there = stands_still now new so.there drained.0 }
 
 -- a passing on that a wait stops
 pub passes_waiting : (old now new : Stream) → PassesSoFar old now → DrainOutcome now (Ok passing.Waits) new → FlushOutcome old (Ok passing.Waits) new
-passes_waiting old now new so drained = (took_on old now new [] so.took drained.0, waited_then old.raw now.raw new.raw so.took.kept.raw drained.1, waits_once_then old.raw now.raw new.raw so.took.kept.raw so.no_wait drained.2)
-
--- running out of memory in between
-lacks_so_far : (old now new : Stream) → PassesSoFar old now → IsTrue now.raw.takes_memory → new ≡ now → Lacks old [] new × NoWait old.raw new.raw
-lacks_so_far old now new so takes same = subst (λ (view : Stream). Lacks old [] view × NoWait old.raw view.raw) (sym same) (record { takes = subst IsTrue so.took.kept.raw.takes_memory takes; took = so.took }, so.no_wait)
+passes_waiting old now new so waits = record {
+  just = just_then old now new so.just waits.just;
+  cause = waited_then old.raw now.raw new.raw so.just.kept.raw waits.cause;
+  once = waits_once_then old.raw now.raw new.raw so.just.kept.raw so.no_wait waits.once;
+  some = waits.some;
+}
 
 -- a passing on that is refused
 pub passes_refused : (old now new : Stream) (why : IoFault) → PassesSoFar old now → DrainOutcome now (Err why) new → FlushOutcome old (Err why) new
-passes_refused old now new fault.RawFault so refused = (fails_on old now new [] (record { took = so.took; calm = calm_of old.buffer old.raw now.raw so.no_wait }) refused.0, no_wait_then old.raw now.raw new.raw so.took.kept.raw so.no_wait refused.1, refused.2)
-passes_refused old now new fault.NoMemory so refused = lacks_so_far old now new so refused.0 refused.1
-passes_refused old now new why so refused = absurd refused
+passes_refused old now new fault.RawFault so fails = record {
+  passes = just_some old now new so.just fails.passes;
+  failed = fails.failed;
+  cause = faulted_then old.raw now.raw new.raw so.just.kept.raw fails.cause;
+  no_wait = no_wait_then old.raw now.raw new.raw so.just.kept.raw so.no_wait fails.no_wait;
+  some = fails.some;
+}
+passes_refused old now new fault.NoMemory so wants = subst (λ (view : Stream). IsTrue old.raw.takes_memory × PassesJust old view × NoWait old.raw view.raw) (sym wants.1) (sym so.just.kept.raw.takes_memory ∙ wants.0, so.just, so.no_wait)
+passes_refused old now new why so never = absurd never
 
 -- Passing on all that is owed, for a call that needs it.
 
--- a stream that a step took nothing of lives on
-lives_on : (old new : Stream) → Took old [] new → LivesOn old new
-lives_on old new took = record { passes = took_passes old new took; live = took.live; no_fault = took.no_fault }
+-- a stream that passed on just what the raw answered for lives on
+pub lives_on : (old new : Stream) → PassesJust old new → LivesOn old new
+lives_on old new just = record { passes = just_passes old new just; live = just.live; no_fault = just.no_fault }
+
+-- a wait is remembered
+lives_waiting : (old new : Stream) → PassesJust old new → LivesOn old (record (record new { short = true }) { short = old.short })
+lives_waiting old new just = subst (LivesOn old) (ap (λ (short : Bool). record new { short = short }) just.kept.short) (lives_on old new just)
 
 -- what a passing on of all came to
 pub settles : (old new : Stream) → FlushOutcome old (Ok passing.All) new → SettleOutcome old (Ok tt) new
 settles old new passed = (lives_on old new passed.0, passed.1, passed.2)
 
--- a wait is remembered
 pub settles_later : (old mid : Stream) → FlushOutcome old (Ok passing.Waits) mid → SettleOutcome old (Err (fault.WouldBlock 0)) (record mid { short = true })
-settles_later old mid waits = (refl, subst (LivesOn old) (ap (λ (short : Bool). record mid { short = short }) waits.0.kept.short) (lives_on old mid waits.0), refl, waits.1, waits.2)
+settles_later old mid waits = (refl, lives_waiting old mid waits.just, refl, waits.cause, waits.once, waits.some)
 
 -- a passing on of all that is refused
 pub settling_refused : (old new : Stream) (why : IoFault) → FlushOutcome old (Err why) new → SettleOutcome old (Err why) new
-settling_refused old new fault.RawFault fails = (failing_passes old new fails.0, fails.0.failed, fails.0.cause, fails.1, fails.2)
-settling_refused old new fault.NoMemory lacks = (lacks.0.takes, lives_on old new lacks.0.took, lacks.1)
+settling_refused old new fault.RawFault fails = (fails.passes, fails.failed, fails.cause, fails.no_wait, λ none. absurd (omega (arith, fails.some, ap length none)))
+settling_refused old new fault.NoMemory lacks = (lacks.0, lives_on old new lacks.1, lacks.2)
 settling_refused old new why never = absurd never
 
--- a stream that is written passes all on
-pub passes_all : (opened : Access) (old new : Stream) (result : Result (Unit {0}) IoFault) → is_read opened ≡ false → SettleOutcome old result new → PassesAll opened old result new
-passes_all access.Read old new result other passed = absurd (cc)
-passes_all access.Write old new result other passed = passed
-passes_all access.Append old new result other passed = passed
-passes_all access.Update old new result other passed = absurd (cc)
+-- Of a stream that owes what lies right before its place.
+
+-- what a passing on of all is to it, which took nothing
+pub flush_took : (old new : Stream) → OwesBehind old → FlushOutcome old (Ok passing.All) new → Took old [] new
+flush_took old new behind passed = just_took old new behind passed.0
+
+-- what running out of memory left of it
+pub flush_lacks : (old new : Stream) → OwesBehind old → FlushOutcome old (Err fault.NoMemory) new → Lacks old [] new
+flush_lacks old new behind lacks = record { takes = lacks.0; took = just_took old new behind lacks.1 }
+
+-- what a failing of the raw left of it
+pub flush_fails : (old new : Stream) → OwesBehind old → FlushOutcome old (Err fault.RawFault) new → FailsTaking old [] new
+flush_fails old new behind fails = some_fails old new behind fails.passes fails.failed fails.cause fails.no_wait fails.some

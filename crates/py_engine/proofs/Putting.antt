@@ -1,5 +1,5 @@
 -- Taking the bytes of a call: into the buffer, or straight to the raw.
-use Rattle.std.proofs.Common.{[], ◌≡◌, ℕ, ◌+◌, ◌≤◌, inr, Bool, true, false, List, ◌++◌, length, take, drop, Option, None, Some, Result, Ok, Err, sym, ap, ◌∙◌, subst, arith, length-append}
+use Rattle.std.proofs.Common.{[], ◌≡◌, ℕ, ◌+◌, ◌≤◌, Bool, true, false, List, ◌++◌, length, take, drop, Option, None, Some, Result, Ok, Err, sym, ap, ◌∙◌, subst, arith, length-append}
 use Rattle.std.proofs.Math.Seq.{take-nil}
 use Rattle.std.proofs.lemmas.List.{take-append-le, take_all, drop_all, drop-drop, append-nil}
 use Rattle.py_flat.specs.declared.fault.IoFault.{IoFault}
@@ -12,6 +12,7 @@ use Rattle.py_stream.proofs.Taking.{take_behind, took_then, took_on, fails_then,
 use Rattle.py_stream.proofs.Putting.{put_then}
 use Rattle.py_stream.proofs.Flat.{fails_ends, took_none_ends}
 use Rattle.py_engine.specs.Passing.{FlushOutcome, HandOnOutcome, FitOutcome, StopOutcome, room_behind}
+use Rattle.py_engine.proofs.PassingOn.{flush_lacks, flush_fails}
 
 -- a buffer's own waits end no call
 pub all_taken : (size : ℕ) (old new : Stream) (bytes : List ℕ) → old.buffer ≡ Some size → Took old bytes new → TookAll old bytes new
@@ -27,12 +28,13 @@ owes_nothing old new behind none = record {
     bytes = none ∙ sym (drop_all (length old.owed.bytes) old.owed.bytes (omega arith));
     place = λ some. absurd (some none);
   };
-  stands = λ up_to left. omega (arith, behind.stands, behind.ends, ap length left);
+  stands = λ was left. omega (arith, behind.stands, behind.ends, ap length left);
   moved = λ elsewhere. none;
+  came = λ elsewhere. omega (arith, behind.stands, behind.ends, ap length none);
 }
 
 rest_of : (old new : Stream) → OwesBehind new → new.place ≡ old.place → OwesRest old.owed new.owed → OwesOld old new
-rest_of old new behind same rest = grind arith
+rest_of old new behind same rest = record { rest = rest; stands = λ was left. omega (arith, behind.stands, behind.ends, ap length left); moved = λ elsewhere. absurd (elsewhere same); came = λ elsewhere. absurd (elsewhere same) }
 
 -- some of the bytes that were owed were passed on
 pub owes_passing : (old new : Stream) → Took old [] new → OwesOld old new
@@ -51,8 +53,9 @@ owes_then old mid new first owes = record {
     bytes = owes.rest.bytes ∙ (ap (drop owes.rest.passed) (first.owed ∙ ap (drop first.passed) (append-nil old.owed.bytes)) ∙ drop-drop owes.rest.passed first.passed old.owed.bytes);
     place = λ some. omega (arith, owes.rest.place some, first.place);
   };
-  stands = λ up_to left. owes.stands (inr first.behind.ends) left;
+  stands = λ was left. owes.stands first.behind left;
   moved = λ elsewhere. owes.moved (λ same. elsewhere (same ∙ took_none_ends old mid first));
+  came = λ elsewhere. owes.came (λ same. elsewhere (same ∙ took_none_ends old mid first));
 }
 
 -- Putting one piece.
@@ -90,10 +93,10 @@ pub stopped : (size : ℕ) (old mid new : Stream) (bytes : List ℕ) (start : �
 stopped size old mid new bytes start why buffered stops left = grind arith
 
 -- a passing on of what was owed before
-pub flush_stops : (old mid : Stream) (bytes : List ℕ) (why : IoFault) → FlushOutcome old (Err why) mid → StopsAt old bytes why mid
-flush_stops old mid bytes fault.RawFault flush = (fails_more old mid [] bytes flush.0, owes_failing old mid flush.0)
-flush_stops old mid bytes fault.NoMemory flush = (0, omega arith, flush.0, owes_passing old mid flush.0.took)
-flush_stops old mid bytes why flush = absurd flush
+pub flush_stops : (old mid : Stream) (bytes : List ℕ) (why : IoFault) → OwesBehind old → FlushOutcome old (Err why) mid → StopsAt old bytes why mid
+flush_stops old mid bytes fault.RawFault behind flush = (fails_more old mid [] bytes (flush_fails old mid behind flush), owes_failing old mid (flush_fails old mid behind flush))
+flush_stops old mid bytes fault.NoMemory behind flush = (0, omega arith, flush_lacks old mid behind flush, owes_passing old mid (flush_lacks old mid behind flush).took)
+flush_stops old mid bytes why behind flush = absurd flush
 
 -- a giving of the caller's bytes, after some were taken, while nothing is owed
 pub hand_on_stops : (old now mid : Stream) (front more : List ℕ) (why : IoFault) → TookAll old front now → now.owed.bytes ≡ [] → HandOnOutcome now more (Err why) mid → StopsAt old (front ++ more) why mid

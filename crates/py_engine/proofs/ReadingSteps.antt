@@ -10,9 +10,9 @@ use Rattle.py_stream.specs.declared.stop.Step.{Step}
 use Rattle.py_stream.specs.declared.stop.Step.TheVariants as step
 use Rattle.py_stream.specs.ReadingOn.{StepsNone, StepOutcome, ReadsInto, HoldsLess}
 use Rattle.py_stream.proofs.Coming.{each_still, each_seen}
-use Rattle.py_engine.specs.declared.window.Filled.{Filled}
-use Rattle.py_engine.specs.declared.window.Filled.TheVariants as filled
-use Rattle.py_engine.specs.Window.{end_of, ahead_of, advanced}
+use Rattle.py_window.specs.declared.window.Filled.{Filled}
+use Rattle.py_window.specs.declared.window.Filled.TheVariants as filled
+use Rattle.py_window.specs.Window.{end_of, ahead_of, advanced}
 use Rattle.py_engine.specs.Engine.{EngineView}
 use Rattle.py_engine.specs.Reading.{reading_of, IsReading, UsesUp, Fills, FillsOutcome, stepped}
 use Rattle.py_engine.proofs.Transfers.{held_next, keeps_reading, keeps_then, keeps_advanced, each_but_last}

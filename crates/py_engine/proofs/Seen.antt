@@ -6,10 +6,10 @@ use Rattle.py_stream.specs.declared.access.Access.{Access}
 use Rattle.py_stream.specs.Access.{can_of, is_read}
 use Rattle.py_stream.specs.Answers.{IsNear}
 use Rattle.py_stream.proofs.Refusing.{IsPlaced}
-use Rattle.py_engine.specs.Window.{WindowView, IsWindow, place_of}
-use Rattle.py_engine.specs.Engine.{EngineView, stream_of, Stands}
+use Rattle.py_window.specs.Window.{WindowView, IsWindow, place_of}
+use Rattle.py_engine.specs.Engine.{EngineView, stream_of}
 use Rattle.py_engine.specs.Reading.{reading_of, IsReading}
-use Rattle.py_engine.proofs.Standing.{reads_ahead, owes_nothing}
+use Rattle.py_engine.proofs.Standing.{owes_nothing}
 
 -- Where an engine stands.
 
@@ -29,12 +29,6 @@ placed engine is = record { far = within_window engine.window is.window_is; near
 pub readable : (opened : Access) (seekable : Bool) → is_read opened ≡ true → (can_of opened seekable).readable ≡ true
 readable opened seekable reads = grind arith
 
--- From what holds of every engine, and back.
-
--- an engine that is opened to be read is one that reads ahead
-pub seen_reading : (engine : EngineView) → Stands engine → is_read engine.access ≡ true → IsReading engine
-seen_reading engine is reads = grind (arith, reads_ahead)
-
--- the stream of an engine that is opened to be read is its stream as an engine that reads ahead
-pub same_stream : (engine : EngineView) → Stands engine → is_read engine.access ≡ true → stream_of engine ≡ reading_of engine
-same_stream engine is reads = grind (arith, reads_ahead, owes_nothing)
+-- the stream of an engine that reads on from the bytes held is its stream as such an engine
+pub same_stream : (engine : EngineView) → IsReading engine → stream_of engine ≡ reading_of engine
+same_stream engine is = grind (arith, owes_nothing)

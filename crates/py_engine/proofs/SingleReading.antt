@@ -1,22 +1,23 @@
 -- The answers of readings by at most one transfer.
-use Rattle.std.proofs.Common.{[], ◌≡◌, ◌≢◌, ℕ, suc, zero, ◌<◌, ◌≤◌, Bool, true, false, List, ◌∷◌, ◌++◌, length, take, drop, min, Some, Ok, Err, refl, sym, ap, ◌∙◌, subst, arith}
+use Rattle.std.proofs.Common.{[], ◌≡◌, ◌≢◌, ℕ, suc, zero, ◌<◌, ◌≤◌, Bool, true, false, List, ◌∷◌, ◌++◌, length, take, drop, min, Option, Some, Ok, Err, refl, sym, ap, ◌∙◌, subst, arith}
 use Rattle.std.proofs.lemmas.List.{length-take, length-drop, take_all, take_min, take-append-drop, drop_all}
 use Rattle.py_flat.specs.declared.fault.IoFault.{IoFault}
+use Rattle.py_flat.specs.declared.fault.IoFault.TheVariants as fault
 use Rattle.py_flat.specs.declared.life.Life.TheVariants as life
 use Rattle.py_flat.specs.Bytes.{left_at}
-use Rattle.py_flat.specs.Calls.{FileCall, Peek, FileReply, Bytes, NotReady, Refused}
+use Rattle.py_flat.specs.Calls.{FileCall, Read1, Peek, FileReply, Bytes, NotReady, Refused}
 use Rattle.py_flat.specs.BinaryStep.{IsFrontOf}
 use Rattle.py_raw.specs.RawStream.{WhereTold, LeavesCounts}
 use Rattle.py_stream.specs.declared.stop.Stop.{Stop}
 use Rattle.py_stream.specs.declared.stop.Stop.TheVariants as stops
-use Rattle.py_stream.specs.Stream.{Stream}
+use Rattle.py_stream.specs.Stream.{Stream, file_of}
 use Rattle.py_stream.specs.Kinds.{is_single, asks_nothing}
 use Rattle.py_stream.specs.Answers.{Answers}
 use Rattle.py_stream.specs.Replies.{look_reply}
 use Rattle.py_stream.specs.Reading.{has_answer, is_wait}
-use Rattle.py_stream.proofs.ReadingAnswers.{answers_begun, reading_refused}
+use Rattle.py_stream.proofs.ReadingAnswers.{Reads, answers_begun, answers_coming, reading_refused}
 use Rattle.py_stream.proofs.SingleReading.{asks_for, moves_by, moves_within, single_call, GivesOnce, answers_once, unready_once, faulted_once, unmoved_once}
-use Rattle.py_engine.specs.Window.{WindowView, IsWindow, place_of, end_of, ahead_of, advanced}
+use Rattle.py_window.specs.Window.{WindowView, IsWindow, place_of, end_of, ahead_of, advanced}
 use Rattle.py_engine.specs.Engine.{EngineView, BeginOutcome}
 use Rattle.py_engine.specs.Reading.{reading_of, IsReading, KeepsEngine, Transferred, ReadyOutcome}
 use Rattle.py_engine.proofs.Seen.{placed}
@@ -99,6 +100,16 @@ gives_held old mid call stop asks is ready answered =
     let moved : Transferred old mid × (place_of mid.window ≡ place_of old.window) = moved_to_ready old mid stop ready in
     grind (arith, keeps_reading old new (keeps_then old mid new moved.0.kept (keeps_advanced mid (moves_by call (length part)) moved.0.kept.is (omega (arith, moves_within call (length part), size)))), ready_counts old mid stop ready answered, ready_still, moved.1, size, front_held, ahead_next, nothing_left)
 
+-- An engine that reads on from the bytes held goes on so.
+
+-- once it has an answer
+pub answered_reads : (begun mid new : EngineView) (stop : Stop) → ReadyOutcome begun (Ok stop) mid → new ≡ record mid { short = is_wait stop } → IsReading new
+answered_reads begun mid new stop ready is = subst IsReading (sym is) (reading_whole mid (is_wait stop) (moved_to_ready begun mid stop ready).0.kept.is)
+
+-- once it gave some of these
+pub advanced_reads : (engine new : EngineView) (count : ℕ) → IsReading engine → count ≤ length (ahead_of engine.window) → new ≡ record engine { window = advanced count engine.window } → IsReading new
+advanced_reads engine new count reads fits is = subst IsReading (sym is) (keeps_advanced engine count reads fits).is
+
 -- The calls.
 
 -- a call that asks for nothing
@@ -137,6 +148,18 @@ once_unready first begun mid new call stop single asks is began ready unready ne
 -- a call whose one transfer failed, or wanted memory
 pub once_failed : (first begun new : EngineView) (call : FileCall) (why : IoFault) → is_single call ≡ true → asks_nothing call ≡ false → IsReading first → BeginOutcome first (Ok tt) begun → ReadyOutcome begun (Err why) new → Answers (reading_of first) call (Refused why) (reading_of new)
 once_failed first begun new call why single asks is began wants = grind (arith, from_begun, faulted_once, reading_begins, keeps_reading, each_but_failed, unmoved_once)
+
+-- a `read1` that had no memory for what is held
+pub once_starved : (first begun mid new : EngineView) (size : Option ℕ) (stop : Stop) → asks_nothing (Read1 size) ≡ false → IsReading first → BeginOutcome first (Ok tt) begun → ReadyOutcome begun (Ok stop) mid → has_answer stop true ≡ true → new ≡ record mid { short = is_wait stop } → Answers (reading_of first) (Read1 size) (Refused fault.NoMemory) (reading_of new)
+once_starved first begun mid new size stop asks is began ready answers new_is =
+    let same : new ≡ record mid { short = false } = new_is ∙ whole_answer stop mid answers in
+    let moved = moved_to_ready begun mid stop ready in
+    let counts = ready_counts begun mid stop ready answers in
+    let reads : Reads (reading_of begun) = (reading_begins first begun is began).reads in
+    from_begun first begun (Read1 size) (Refused fault.NoMemory) (reading_of new) began
+    (subst (λ (engine : EngineView). Answers (reading_of begun) (Read1 size) (Refused fault.NoMemory) (reading_of engine)) (sym same)
+    (answers_coming (reading_of begun) (reading_of mid) (Read1 size) (Refused fault.NoMemory) false refl ((single_call (reading_of begun).buffer (Read1 size) refl).suits (file_of (reading_of begun)) reads.readable) reads
+    (grind (arith, keeps_reading, ready_still))))
 
 -- the bytes held are shown, or the raw made the call wait
 pub once_look : (first begun mid new : EngineView) (stop : Stop) (shown : Bool) → IsReading first → BeginOutcome first (Ok tt) begun → ReadyOutcome begun (Ok stop) mid → shown ≡ has_answer stop true → new ≡ record mid { short = is_wait stop } → Answers (reading_of first) Peek (look_reply (Ok shown) (ahead_of new.window)) (reading_of new)

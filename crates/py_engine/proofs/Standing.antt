@@ -1,9 +1,8 @@
 -- Where an engine and its raw stand, as a stream.
-use Rattle.std.proofs.Common.{◌≡◌, ℕ, ◌≤◌, true, false, Err, ap, arith}
+use Rattle.std.proofs.Common.{◌≡◌, ℕ, ◌≤◌, List, false, Err, ap, arith}
 use Rattle.py_flat.specs.declared.fault.IoFault.{IoFault}
 use Rattle.py_flat.specs.declared.fault.IoFault.TheVariants as fault
 use Rattle.py_flat.specs.declared.life.Life.TheVariants as life
-use Rattle.py_stream.specs.declared.access.Access.{Access}
 use Rattle.py_stream.specs.declared.access.Access.TheVariants as access
 use Rattle.py_stream.specs.Access.{is_read}
 use Rattle.py_stream.specs.Stream.{nothing_owed}
@@ -12,21 +11,10 @@ use Rattle.py_stream.specs.Keeping.{IsSound}
 use Rattle.py_stream.specs.Writing.{OwesBehind}
 use Rattle.py_stream.specs.Moving.{EndOutcome}
 use Rattle.py_stream.proofs.Refusing.{IsPlaced}
-use Rattle.py_engine.specs.Window.{WindowView, IsWindow, place_of, owed_of}
-use Rattle.py_engine.specs.Engine.{EngineView, stream_of, ReadsAhead, OwesBefore, HasShape, Stands, RawEndOutcome}
-use Rattle.py_engine.proofs.Collecting.{pending_ends}
-
--- By what the stream is opened for.
-
--- a stream that is read has its raw after the bytes held
-pub reads_ahead : (opened : Access) (raw_place : ℕ) (window : WindowView) → is_read opened ≡ true → HasShape opened raw_place window → ReadsAhead raw_place window
-reads_ahead access.Read raw_place window reads shape = shape
-reads_ahead access.Update raw_place window reads shape = absurd shape
-reads_ahead other raw_place window reads shape = absurd (cc)
-
--- a stream that is written has its raw where what is owed begins
-pub owes_before : (opened : Access) (raw_place : ℕ) (window : WindowView) → is_read opened ≡ false → HasShape opened raw_place window → OwesBefore raw_place window
-owes_before opened raw_place window writes shape = grind arith
+use Rattle.py_window.specs.Window.{WindowView, IsWindow, place_of, end_of, owed_of, flat_over}
+use Rattle.py_engine.specs.Engine.{EngineView, stream_of, Stands, IsBehind, RawEndOutcome}
+use Rattle.py_engine.specs.Reading.{IsReading}
+use Rattle.py_window.proofs.Collecting.{pending_ends}
 
 -- How near the raw stands to the place.
 
@@ -55,12 +43,34 @@ end_refused old new why is never = absurd never
 -- What is owed.
 
 -- a stream that is written owes what ends at its place
-pub owes_behind : (engine : EngineView) → Stands engine → is_read engine.access ≡ false → OwesBehind (stream_of engine)
-owes_behind engine is writes = grind (arith, owes_before, pending_ends)
+pub owes_behind : (engine : EngineView) → Stands engine → IsBehind engine → OwesBehind (stream_of engine)
+owes_behind engine is writes = grind (arith, pending_ends)
 
 none_between : (window : WindowView) → window.from ≡ window.to → IsWindow window → owed_of window ≡ nothing_owed (place_of window)
 none_between window settled is = grind arith
 
--- a stream that is read owes nothing
-pub owes_nothing : (engine : EngineView) → Stands engine → is_read engine.access ≡ true → (stream_of engine).owed ≡ nothing_owed (stream_of engine).place
-owes_nothing engine is reads = none_between engine.window (reads_ahead engine.access engine.raw_place engine.window reads is.shape).settled is.window_is
+-- a stream that reads on from the bytes held owes nothing
+pub owes_nothing : (engine : EngineView) → IsReading engine → (stream_of engine).owed ≡ nothing_owed (stream_of engine).place
+owes_nothing engine is = none_between engine.window is.ahead.settled is.window_is
+
+-- By what the stream is opened for.
+
+-- a window that owes nothing leaves the raw's bytes the flat ones
+pub none_over : (bytes : List ℕ) (window : WindowView) → window.from ≡ window.to → flat_over bytes window ≡ bytes
+none_over bytes window settled = grind arith
+
+-- an engine that reads on from the bytes held stands as each does
+pub stands_reading : (engine : EngineView) → IsReading engine → Stands engine
+stands_reading engine is = grind (arith, none_over)
+
+-- an engine that is opened to be read and not written reads on from the bytes held
+pub reads_alone : (engine : EngineView) → Stands engine → engine.access ≡ access.Read → IsReading engine
+reads_alone engine is opened = grind arith
+
+-- so does one that is opened for both, where it owes nothing and its raw stands after the bytes held
+pub reads_both : (engine : EngineView) → Stands engine → engine.access ≡ access.Update → engine.window.from ≡ engine.window.to → engine.raw_place ≡ end_of engine.window → IsReading engine
+reads_both engine is opened settled stands = grind (arith, none_over)
+
+-- an engine that takes bytes behind those that it owes
+pub writes_alone : (engine : EngineView) → Stands engine → is_read engine.access ≡ false → IsBehind engine
+writes_alone engine is opened = grind arith

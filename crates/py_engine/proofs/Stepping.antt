@@ -1,25 +1,25 @@
 -- What a step of a stream that is written leaves: by its raw, where that stands, its window and its life.
-use Rattle.std.proofs.Common.{[], ◌≡◌, ◌≢◌, ℕ, ◌+◌, ◌-◌, ◌<◌, ◌≤◌, false, IsTrue, List, ◌++◌, length, take, drop, Option, None, Some, Result, Ok, Err, refl, sym, ap, ◌∙◌, subst, arith, add-zero, length-append}
-use Rattle.std.proofs.lemmas.List.{append-nil, length-drop, length-take-le, take_all, drop_all}
+use Rattle.std.proofs.Common.{[], ◌≡◌, ◌≢◌, ℕ, ◌+◌, ◌-◌, ◌<◌, ◌≤◌, IsTrue, List, ◌++◌, length, take, Option, None, Some, Result, Ok, Err, refl, sym, ap, ◌∙◌, subst, arith, add-zero, length-append}
+use Rattle.std.proofs.lemmas.List.{append-nil, length-take-le, take_all, drop_all}
 use Rattle.py_flat.specs.declared.fault.IoFault.{IoFault}
 use Rattle.py_flat.specs.declared.fault.IoFault.TheVariants as fault
 use Rattle.py_flat.specs.declared.life.Life.TheVariants as life
 use Rattle.py_flat.specs.Bytes.{lay}
-use Rattle.py_raw.specs.RawStream.{Raw, Keeps, StaysOpen, KeepsReads, AsksToWait, WritesBytes}
+use Rattle.py_raw.specs.RawStream.{Raw, tells as tells_of, WhereTold, Keeps, StaysOpen, KeepsReads, AsksToWait, WritesBytes}
 use Rattle.py_stream.specs.LiveRaw.{LiveView, Calls, FailsGiven, GiveOutcome}
 use Rattle.py_stream.proofs.Pieces.{some_taken}
-use Rattle.py_raw.proofs.Telling.{keeps_same, tells_its_place, tells_its_bytes}
-use Rattle.py_stream.specs.Access.{is_read}
+use Rattle.py_raw.proofs.Telling.{keeps_same, tells_still, tells_its_place, tells_its_bytes}
+use Rattle.py_stream.specs.Access.{is_written}
 use Rattle.py_stream.specs.Keeping.{KeepsOn}
 use Rattle.py_stream.specs.Writing.{OwesBehind}
 use Rattle.py_stream.specs.Taking.{Took, FailsTaking, CutsBack}
 use Rattle.py_stream.proofs.Taking.{calm_of}
-use Rattle.py_engine.specs.Window.{WindowView, place_of, pending_of, pushed, passed_on, emptied_at, cut_at, room_of}
-use Rattle.py_engine.specs.Engine.{EngineView, stream_of, Stands}
-use Rattle.py_engine.proofs.Collecting.{Shows, shows_itself, passed_shows, pushed_shows, cut_shows, room_left}
-use Rattle.py_engine.specs.declared.data.passing_on.Passed.TheVariants as passing
-use Rattle.py_engine.specs.Passing.{room_behind, DrainOutcome, HandOnOutcome}
-use Rattle.py_engine.proofs.Standing.{owes_before, owes_behind, is_sound}
+use Rattle.py_window.specs.Window.{WindowView, place_of, pending_of, pushed, emptied_at, cut_at, room_of}
+use Rattle.py_engine.specs.Engine.{EngineView, stream_of, HoldsRead, Stands, IsBehind}
+use Rattle.py_window.proofs.Collecting.{Shows, shows_itself, pushed_shows, cut_shows, room_left}
+use Rattle.py_engine.specs.Passing.{room_behind, HandOnOutcome}
+use Rattle.py_engine.proofs.Standing.{owes_behind, is_sound}
+use Rattle.py_engine.proofs.Holding.{behind_shape, holds_none, holds_pushed, holds_cut}
 
 -- By what the stream is opened for.
 
@@ -37,6 +37,7 @@ pub record Leaves (old new : EngineView) (place : ℕ) (owed : List ℕ) : Type 
   pub attached : new.life ≢ life.Detached
   pub stands : new.life ≡ life.Live → IsTrue new.raw.tells_place → new.raw.place ≡ place
   pub lives : new.life ≡ life.Live → old.life ≡ life.Live
+  pub holds : WhereTold new.raw (new.life ≡ life.Live → HoldsRead new.access new.raw.bytes new.window)
 
 -- the stream after a step, with what it owes
 pub record Stepped (old new : EngineView) (place : ℕ) (owed : List ℕ) : Type 0 where
@@ -46,62 +47,63 @@ pub record Stepped (old new : EngineView) (place : ℕ) (owed : List ℕ) : Type
   pub behind : OwesBehind (stream_of new)
   pub place_is : (stream_of new).owed.place ≡ place
   pub bytes_are : (stream_of new).owed.bytes ≡ owed
+  pub writes : IsBehind new
 
 -- what a step leaves of an engine makes the stream after the step
-pub stepped : (old new : EngineView) (place : ℕ) (owed : List ℕ) → Stands old → is_read old.access ≡ false → Leaves old new place owed → Stepped old new place owed
-stepped old new place owed is writes leaves = grind (arith, is_sound, owes_behind)
+pub stepped : (old new : EngineView) (place : ℕ) (owed : List ℕ) → Stands old → IsBehind old → Leaves old new place owed → Stepped old new place owed
+stepped old new place owed is writes leaves =
+    let behind : IsBehind new = record { writes = ap is_written leaves.access ∙ writes.writes; owes = record { collects = leaves.shows.collects; stands = leaves.raw_place ∙ sym leaves.shows.place_is } } in
+    let stands : Stands new = record {
+      window_is = leaves.shows.is;
+      is_open = λ live. leaves.stays ∙ is.is_open (leaves.lives live);
+      attached = leaves.attached;
+      shape = behind_shape new.access new.raw_place new.window behind.writes leaves.shows.is behind.owes;
+      stands = λ tells live. leaves.stands live tells ∙ sym leaves.raw_place;
+      told = leaves.holds;
+    } in
+    record {
+      is = stands;
+      kept = record { raw = leaves.raw; stays = leaves.stays; reads = leaves.reads; buffer = ap Some leaves.shows.size_is; can = rw (leaves.access, leaves.raw.seekable) refl; short = leaves.short; sound = is_sound new stands };
+      was = owes_behind old is writes;
+      behind = owes_behind new stands behind;
+      place_is = leaves.shows.place_is;
+      bytes_are = leaves.shows.bytes_are;
+      writes = behind;
+    }
 
 -- what the window of a stream that is written shows
-pub shows_now : (engine : EngineView) → Stands engine → is_read engine.access ≡ false → Shows engine.window engine.window.size (stream_of engine).owed.place (stream_of engine).owed.bytes
-shows_now engine is writes = shows_itself engine.window is.window_is (owes_before engine.access engine.raw_place engine.window writes is.shape).collects
+pub shows_now : (engine : EngineView) → Stands engine → IsBehind engine → Shows engine.window engine.window.size (stream_of engine).owed.place (stream_of engine).owed.bytes
+shows_now engine is writes = shows_itself engine.window is.window_is writes.owes.collects
 
 -- told, the raw of a live engine stands where what it is owed begins
-pub stands_there : (engine : EngineView) → Stands engine → is_read engine.access ≡ false → engine.life ≡ life.Live → IsTrue engine.raw.tells_place → engine.raw.place ≡ (stream_of engine).owed.place
-stands_there engine is writes live tells = is.stands tells live ∙ (owes_before engine.access engine.raw_place engine.window writes is.shape).stands
+pub stands_there : (engine : EngineView) → Stands engine → IsBehind engine → engine.life ≡ life.Live → IsTrue engine.raw.tells_place → engine.raw.place ≡ (stream_of engine).owed.place
+stands_there engine is writes live tells = is.stands tells live ∙ writes.owes.stands
 
 -- a step that leaves the life as it was
-steps_on : (old : EngineView) (raw : Raw) (raw_place : ℕ) (window : WindowView) (place : ℕ) (owed : List ℕ) → Stands old → is_read old.access ≡ false → Keeps old.raw raw → StaysOpen old.raw raw → KeepsReads old.raw raw → Shows window old.window.size place owed → raw_place ≡ place → (old.life ≡ life.Live → IsTrue raw.tells_place → raw.place ≡ place) → Stepped old (record old { raw = raw; raw_place = raw_place; window = window }) place owed
-steps_on old raw raw_place window place owed is writes keeps stays reads shows at there = stepped old (record old { raw = raw; raw_place = raw_place; window = window }) place owed is writes (grind arith)
-
--- The raw took some of what it was owed.
-
--- the engine after its raw took n of the bytes that it was owed
-pub drained : (old : EngineView) (raw : Raw) (count : ℕ) → Stands old → is_read old.access ≡ false → old.life ≡ life.Live → Keeps old.raw raw → StaysOpen old.raw raw → 0 < count → WritesBytes old.raw (pending_of old.window) count raw →
-    Stepped old (record old { raw = raw; raw_place = old.raw_place + count; window = passed_on count old.window }) ((stream_of old).owed.place + count) (drop count (pending_of old.window))
-drained old raw count is writes live keeps stays some wrote =
-    steps_on old raw (old.raw_place + count) (passed_on count old.window) ((stream_of old).owed.place + count) (drop count (pending_of old.window)) is writes keeps stays wrote.reads
-    (passed_shows old.window count old.window.size (stream_of old).owed.place (stream_of old).owed.bytes wrote.fits (shows_now old is writes))
-    (ap (λ (n : ℕ). n + count) (owes_before old.access old.raw_place old.window writes is.shape).stands)
-    (λ lives tells.
-    let told : IsTrue old.raw.tells_place = sym keeps.tells_place ∙ tells in
-    wrote.place told ∙ ap (λ (n : ℕ). n + count) (stands_there old is writes live told))
-
--- the stream took nothing, and passed on n of the bytes that it owed
-pub took_drained : (old : EngineView) (raw : Raw) (count : ℕ) → Stands old → is_read old.access ≡ false → old.life ≡ life.Live → Keeps old.raw raw → StaysOpen old.raw raw → 0 < count → WritesBytes old.raw (pending_of old.window) count raw →
-    Took (stream_of old) [] (stream_of (record old { raw = raw; raw_place = old.raw_place + count; window = passed_on count old.window }))
-took_drained old raw count is writes live keeps stays some wrote =
-    let step = drained old raw count is writes live keeps stays some wrote in
-    let all : (stream_of old).owed.bytes ++ [] ≡ pending_of old.window = append-nil (pending_of old.window) in
-    grind (arith, stands_there, tells_its_place)
+steps_on : (old : EngineView) (raw : Raw) (raw_place : ℕ) (window : WindowView) (place : ℕ) (owed : List ℕ) → Stands old → IsBehind old → Keeps old.raw raw → StaysOpen old.raw raw → KeepsReads old.raw raw → Shows window old.window.size place owed → raw_place ≡ place → (old.life ≡ life.Live → IsTrue raw.tells_place → raw.place ≡ place) → WhereTold raw (old.life ≡ life.Live → HoldsRead old.access raw.bytes window) → Stepped old (record old { raw = raw; raw_place = raw_place; window = window }) place owed
+steps_on old raw raw_place window place owed is writes keeps stays reads shows at there holds = stepped old (record old { raw = raw; raw_place = raw_place; window = window }) place owed is writes (record { access = refl; short = refl; raw = keeps; stays = stays; reads = reads; shows = shows; raw_place = at; attached = is.attached; stands = there; lives = λ live. live; holds = holds })
 
 -- The raw would have blocked.
 
 -- the stream took nothing, and passed nothing on, where the raw would have blocked
-pub waited : (old : EngineView) (raw : Raw) → Stands old → is_read old.access ≡ false → old.life ≡ life.Live → Keeps old.raw raw → StaysOpen old.raw raw → AsksToWait old.raw raw → Took (stream_of old) [] (stream_of (record old { raw = raw }))
+pub waited : (old : EngineView) (raw : Raw) → Stands old → IsBehind old → old.life ≡ life.Live → Keeps old.raw raw → StaysOpen old.raw raw → AsksToWait old.raw raw → Took (stream_of old) [] (stream_of (record old { raw = raw }))
 waited old raw is writes live keeps stays waits =
-    let step = steps_on old raw old.raw_place old.window (stream_of old).owed.place (stream_of old).owed.bytes is writes keeps stays waits.reads (shows_now old is writes) (owes_before old.access old.raw_place old.window writes is.shape).stands
+    let step = steps_on old raw old.raw_place old.window (stream_of old).owed.place (stream_of old).owed.bytes is writes keeps stays waits.reads (shows_now old is writes) writes.owes.stands
     (λ lives tells.
     let told : IsTrue old.raw.tells_place = sym keeps.tells_place ∙ tells in
-    waits.still.place told ∙ stands_there old is writes live told) in
+    waits.still.place told ∙ stands_there old is writes live told)
+    (λ tells lives.
+    let told : IsTrue (tells_of old.raw) = subst IsTrue (tells_still old.raw raw keeps) tells in
+    subst (λ (bytes : List ℕ). HoldsRead old.access bytes old.window) (sym (waits.still.bytes (tells_its_bytes old.raw told))) (is.told told live)) in
     grind (arith, add-zero, append-nil, tells_its_bytes)
 
 -- The raw failed while it was given what it was owed and some bytes more, or took none of them.
 
 -- a stream whose raw fails while it is given bytes fails too, and owes what it owed
-pub fails_giving : (old : EngineView) (raw : Raw) (bytes : List ℕ) → Stands old → is_read old.access ≡ false → old.life ≡ life.Live → (0 < length (pending_of old.window) → bytes ≡ []) → Keeps old.raw raw → StaysOpen old.raw raw → FailsGiven old.raw (pending_of old.window ++ bytes) raw → FailsTaking (stream_of old) bytes (stream_of (record old { raw = raw; life = life.Failed }))
+pub fails_giving : (old : EngineView) (raw : Raw) (bytes : List ℕ) → Stands old → IsBehind old → old.life ≡ life.Live → (0 < length (pending_of old.window) → bytes ≡ []) → Keeps old.raw raw → StaysOpen old.raw raw → FailsGiven old.raw (pending_of old.window ++ bytes) raw → FailsTaking (stream_of old) bytes (stream_of (record old { raw = raw; life = life.Failed }))
 fails_giving old raw bytes is writes live alone keeps stays faults =
     let owed : List ℕ = pending_of old.window in
-    let step = stepped old (record old { raw = raw; life = life.Failed }) (stream_of old).owed.place owed is writes (grind (arith, shows_now old is writes, owes_before)) in
+    let step = stepped old (record old { raw = raw; life = life.Failed }) (stream_of old).owed.place owed is writes (grind (arith, shows_now old is writes)) in
     record {
       kept = step.kept;
       was = step.was;
@@ -127,28 +129,24 @@ fails_giving old raw bytes is writes live alone keeps stays faults =
           };
     }
 
--- the raw failed while it was given only what it was owed
-pub fails_draining : (old : EngineView) (raw : Raw) (piece : List ℕ) → Stands old → is_read old.access ≡ false → old.life ≡ life.Live → piece ≡ pending_of old.window → Keeps old.raw raw → StaysOpen old.raw raw → FailsGiven old.raw piece raw → FailsTaking (stream_of old) [] (stream_of (record old { raw = raw; life = life.Failed }))
-fails_draining old raw piece is writes live same keeps stays faults =
-    fails_giving old raw [] is writes live (λ some. refl) keeps stays (subst (λ (all : List ℕ). FailsGiven old.raw all raw) (same ∙ sym (append-nil (pending_of old.window))) faults)
-
 -- of a caller's bytes, while nothing is owed
-pub fails_passing : (old : EngineView) (raw : Raw) (bytes : List ℕ) → Stands old → is_read old.access ≡ false → old.life ≡ life.Live → pending_of old.window ≡ [] → Keeps old.raw raw → StaysOpen old.raw raw → FailsGiven old.raw bytes raw → FailsTaking (stream_of old) bytes (stream_of (record old { raw = raw; life = life.Failed }))
+pub fails_passing : (old : EngineView) (raw : Raw) (bytes : List ℕ) → Stands old → IsBehind old → old.life ≡ life.Live → pending_of old.window ≡ [] → Keeps old.raw raw → StaysOpen old.raw raw → FailsGiven old.raw bytes raw → FailsTaking (stream_of old) bytes (stream_of (record old { raw = raw; life = life.Failed }))
 fails_passing old raw bytes is writes live none keeps stays faults =
     fails_giving old raw bytes is writes live (λ some. absurd (omega (arith, some, ap length none))) keeps stays (subst (λ (owed : List ℕ). FailsGiven old.raw (owed ++ bytes) raw) (sym none) faults)
 
 -- Bytes are kept behind what is owed.
 
 -- the engine after bytes were put behind those that it owed
-pub kept_behind : (old : EngineView) (bytes : List ℕ) → Stands old → is_read old.access ≡ false → 0 < length bytes → length bytes ≤ room_of old.window → place_of old.window + length bytes ≤ 9223372036854775807 →
+pub kept_behind : (old : EngineView) (bytes : List ℕ) → Stands old → IsBehind old → 0 < length bytes → length bytes ≤ room_of old.window → place_of old.window + length bytes ≤ 9223372036854775807 →
     Stepped old (record old { window = pushed bytes old.window }) (stream_of old).owed.place (pending_of old.window ++ bytes)
 kept_behind old bytes is writes some room far =
     steps_on old old.raw old.raw_place (pushed bytes old.window) (stream_of old).owed.place (pending_of old.window ++ bytes) is writes (keeps_same old.raw) refl (λ tells. refl)
     (pushed_shows old.window bytes old.window.size (stream_of old).owed.place (pending_of old.window) some room far (shows_now old is writes))
-    (owes_before old.access old.raw_place old.window writes is.shape).stands (stands_there old is writes)
+    writes.owes.stands (stands_there old is writes)
+    (λ tells lives. holds_pushed old.access old.raw.bytes bytes old.window writes.writes is.window_is some room far (is.told tells lives))
 
 -- the stream took bytes that the buffer has room for
-pub took_kept : (old : EngineView) (bytes : List ℕ) → Stands old → is_read old.access ≡ false → old.life ≡ life.Live → 0 < length bytes → length bytes ≤ room_of old.window → place_of old.window + length bytes ≤ 9223372036854775807 →
+pub took_kept : (old : EngineView) (bytes : List ℕ) → Stands old → IsBehind old → old.life ≡ life.Live → 0 < length bytes → length bytes ≤ room_of old.window → place_of old.window + length bytes ≤ 9223372036854775807 →
     Took (stream_of old) bytes (stream_of (record old { window = pushed bytes old.window }))
 took_kept old bytes is writes live some room far =
     let step = kept_behind old bytes is writes some room far in
@@ -156,24 +154,42 @@ took_kept old bytes is writes live some room far =
 
 -- Bytes are given straight to the raw, while nothing is owed.
 
+-- where nothing is owed, its place is the stream's
+at_place : (old : EngineView) → Stands old → IsBehind old → pending_of old.window ≡ [] → (stream_of old).owed.place ≡ place_of old.window
+at_place old is writes none = omega (arith, (owes_behind old is writes).ends, ap length none)
+
 -- the stream took n bytes that went straight to the raw
-pub took_given : (old : EngineView) (raw : Raw) (bytes : List ℕ) (count : ℕ) → Stands old → is_read old.access ≡ false → old.life ≡ life.Live → pending_of old.window ≡ [] → Keeps old.raw raw → StaysOpen old.raw raw → place_of old.window + length bytes ≤ 9223372036854775807 → 0 < count → WritesBytes old.raw bytes count raw →
+pub took_given : (old : EngineView) (raw : Raw) (bytes : List ℕ) (count : ℕ) → Stands old → IsBehind old → old.life ≡ life.Live → pending_of old.window ≡ [] → Keeps old.raw raw → StaysOpen old.raw raw → place_of old.window + length bytes ≤ 9223372036854775807 → 0 < count → WritesBytes old.raw bytes count raw →
     Took (stream_of old) (take count bytes) (stream_of (record old { raw = raw; raw_place = place_of old.window + count; window = emptied_at (place_of old.window + count) old.window }))
-took_given old raw bytes count is writes live none keeps stays far some wrote = grind (arith, length-take-le, owes_behind, drop_all, stands_there, tells_its_place, take_all)
+took_given old raw bytes count is writes live none keeps stays far some wrote =
+    let place : ℕ = place_of old.window + count in
+    let step = steps_on old raw place (emptied_at place old.window) place [] is writes keeps stays wrote.reads
+    (record { is = record { some = is.window_is.some; cursor = omega arith; held = omega arith; far = omega (arith, far, wrote.fits); ordered = omega arith; within = omega arith; rests = λ _. refl }; collects = record { to = refl; end = refl }; size_is = refl; place_is = add-zero place; bytes_are = refl }) refl
+    (λ lives tells.
+    let told : IsTrue old.raw.tells_place = sym keeps.tells_place ∙ tells in
+    wrote.place told ∙ ap (λ (n : ℕ). n + count) (stands_there old is writes live told ∙ at_place old is writes none))
+    (λ tells lives. holds_none old.access raw.bytes place old.window) in
+    let at : (stream_of old).owed.place ≡ place_of old.window = at_place old is writes none in
+    grind (arith, length-take-le, drop_all, stands_there, tells_its_place, take_all)
 
 -- What is owed is cut back.
 
--- the stream drops what it owes from a place on
-pub cut_back : (old : EngineView) (start : ℕ) → Stands old → is_read old.access ≡ false → (stream_of old).owed.place ≤ start → start ≤ place_of old.window → CutsBack start (stream_of old) (stream_of (record old { window = cut_at start old.window }))
-cut_back old start is writes behind within =
-    let step = steps_on old old.raw old.raw_place (cut_at start old.window) (stream_of old).owed.place (take (start - (stream_of old).owed.place) (pending_of old.window)) is writes (keeps_same old.raw) refl (λ tells. refl)
+-- the engine after what it owed was cut back to a place
+pub cut_step : (old : EngineView) (start : ℕ) → Stands old → IsBehind old → (stream_of old).owed.place ≤ start → start ≤ place_of old.window → Stepped old (record old { window = cut_at start old.window }) (stream_of old).owed.place (take (start - (stream_of old).owed.place) (pending_of old.window))
+cut_step old start is writes behind within = steps_on old old.raw old.raw_place (cut_at start old.window) (stream_of old).owed.place (take (start - (stream_of old).owed.place) (pending_of old.window)) is writes (keeps_same old.raw) refl (λ tells. refl)
     (cut_shows old.window start old.window.size (stream_of old).owed.place (pending_of old.window) behind within (shows_now old is writes))
-    (owes_before old.access old.raw_place old.window writes is.shape).stands (stands_there old is writes) in
+    writes.owes.stands (stands_there old is writes)
+    (λ tells lives. holds_cut old.access old.raw.bytes start old.window writes.writes (shows_now old is writes) behind within (is.told tells lives))
+
+-- the stream drops what it owes from a place on
+pub cut_back : (old : EngineView) (start : ℕ) → Stands old → IsBehind old → (stream_of old).owed.place ≤ start → start ≤ place_of old.window → CutsBack start (stream_of old) (stream_of (record old { window = cut_at start old.window }))
+cut_back old start is writes behind within =
+    let step = cut_step old start is writes behind within in
     record { kept = step.kept; behind = step.behind; raw = refl; life_is = refl; place = step.place_is; owed = step.bytes_are }
 
 -- the room behind what is owed is the window's
-pub room_there : (engine : EngineView) (bytes : List ℕ) → Stands engine → is_read engine.access ≡ false → length bytes ≤ room_behind (stream_of engine) → length bytes ≤ room_of engine.window
-room_there engine bytes is writes room = omega (arith, room, room_left engine.window (owes_before engine.access engine.raw_place engine.window writes is.shape).collects)
+pub room_there : (engine : EngineView) (bytes : List ℕ) → Stands engine → IsBehind engine → length bytes ≤ room_behind (stream_of engine) → length bytes ≤ room_of engine.window
+room_there engine bytes is writes room = omega (arith, room, room_left engine.window writes.owes.collects)
 
 -- What giving the raw some bytes makes of an engine.
 
@@ -185,25 +201,7 @@ engine_of live at window = record { raw = live.raw; raw_place = at; window = win
 abbrev pub Gives : LiveView → List ℕ → Result (Option ℕ) IoFault → LiveView → Type 0
 Gives live piece result new = Calls (GiveOutcome live.raw piece) live.life life.Failed live.life live result new
 
-module _ (live : LiveView) (at : ℕ) (window : WindowView) (new : LiveView) (is : Stands (engine_of live at window)) (writes : is_read live.access ≡ false) (lives : live.life ≡ life.Live) (keeps : Keeps live.raw new.raw) (stays : StaysOpen live.raw new.raw) where
-  -- some of what is owed went
-  pub drains_some : (piece : List ℕ) (count : ℕ) → 0 < length (pending_of window) → piece ≡ pending_of window → Gives live piece (Ok (Some count)) new → DrainOutcome (stream_of (engine_of live at window)) (Ok passing.All) (stream_of (engine_of new (at + count) (passed_on count window)))
-  drains_some piece count some same gives =
-      let old : EngineView = engine_of live at window in
-      let gave : Gives live (pending_of window) (Ok (Some count)) new = subst (λ (all : List ℕ). Gives live all (Ok (Some count)) new) same gives in
-      let more : 0 < count = some_taken (pending_of window) count some gave.0.1 in
-      let left = drained old new.raw count is writes lives keeps stays more gave.0.0 in
-      subst (λ (seen : LiveView). DrainOutcome (stream_of old) (Ok passing.All) (stream_of (engine_of seen (at + count) (passed_on count window)))) (sym gave.1)
-      (took_drained old new.raw count is writes lives keeps stays more gave.0.0, gave.0.0.no_wait, omega (arith, ap length left.bytes_are, length-drop count (pending_of window), more, gave.0.0.fits))
-
-  -- the raw refused what is owed
-  pub drains_not : (piece : List ℕ) (why : IoFault) → 0 < length (pending_of window) → piece ≡ pending_of window → Gives live piece (Err why) new → DrainOutcome (stream_of (engine_of live at window)) (Err why) (stream_of (engine_of new at window))
-  drains_not piece fault.RawFault some same gives =
-      subst (λ (seen : LiveView). DrainOutcome (stream_of (engine_of live at window)) (Err fault.RawFault) (stream_of (engine_of seen at window))) (sym gives.1)
-      (fails_draining (engine_of live at window) new.raw piece is writes lives same keeps stays gives.0, gives.0.no_wait, some)
-  drains_not piece fault.NoMemory some same gives = (gives.0.takes, ap (λ (seen : LiveView). stream_of (engine_of seen at window)) gives.1)
-  drains_not piece why some same gives = absurd gives
-
+module _ (live : LiveView) (at : ℕ) (window : WindowView) (new : LiveView) (is : Stands (engine_of live at window)) (writes : IsBehind (engine_of live at window)) (lives : live.life ≡ life.Live) (keeps : Keeps live.raw new.raw) (stays : StaysOpen live.raw new.raw) where
   -- some of a caller's bytes went
   pub hands_some : (bytes : List ℕ) (count : ℕ) → 0 < length bytes → pending_of window ≡ [] → place_of window + length bytes ≤ 9223372036854775807 → Gives live bytes (Ok (Some count)) new → HandOnOutcome (stream_of (engine_of live at window)) bytes (Ok (Some count)) (stream_of (engine_of new (place_of window + count) (emptied_at (place_of window + count) window)))
   hands_some bytes count some none far gives =

@@ -1,5 +1,5 @@
 -- What an engine holds, and what stays of it from transfer to transfer.
-use Rattle.std.proofs.Common.{◌≡◌, ℕ, ◌+◌, ◌≤◌, Bool, IsTrue, length, take, drop, if◌then◌else◌, refl, sym, ap, ◌∙◌, arith}
+use Rattle.std.proofs.Common.{List, ◌≡◌, ℕ, ◌+◌, ◌≤◌, Bool, IsTrue, length, take, drop, if◌then◌else◌, refl, sym, ap, ◌∙◌, arith}
 use Rattle.std.proofs.lemmas.List.{length-drop, take-take, drop-take, drop-drop}
 use Rattle.std.proofs.lemmas.Bool.{eq-eqb}
 use Rattle.py_flat.specs.Bytes.{left_at}
@@ -8,8 +8,8 @@ use Rattle.py_flat.specs.declared.life.Life.TheVariants as life
 use Rattle.py_raw.specs.RawStream.{Raw, tells, WhereTold}
 use Rattle.py_raw.proofs.Telling.{tells_its_bytes, tells_still, keeps_same}
 use Rattle.py_raw.proofs.ReadingOn.{Keeps-then}
-use Rattle.py_engine.specs.Window.{WindowView, IsWindow, place_of, ahead_of, is_settled, advanced}
-use Rattle.py_engine.specs.Engine.{EngineView, HoldsBytes}
+use Rattle.py_window.specs.Window.{WindowView, IsWindow, place_of, ahead_of, is_settled, advanced, HoldsBytes}
+use Rattle.py_engine.specs.Engine.{EngineView}
 use Rattle.py_engine.specs.Reading.{reading_of, IsReading, KeepsEngine, FailsByRaw, UsesUp}
 use Rattle.py_stream.specs.declared.access.Access.{Access}
 use Rattle.py_stream.specs.Answers.{EachBrings}
@@ -19,14 +19,18 @@ use Rattle.py_engine.proofs.Seen.{near}
 
 -- Engines.
 
+-- the bytes held from the place on come next among those of which the window holds some
+pub bytes_ahead : (bytes : List ℕ) (window : WindowView) → window.cursor ≤ length window.held → HoldsBytes bytes window → take (length (ahead_of window)) (left_at bytes (place_of window)) ≡ ahead_of window
+bytes_ahead bytes window within told =
+    let count : ℕ = length (ahead_of window) in
+    ap (take count) (sym (drop-drop window.cursor window.begin bytes))
+    ∙ (sym (drop-take window.cursor count (left_at bytes window.begin))
+    ∙ (ap (λ (n : ℕ). drop window.cursor (take n (left_at bytes window.begin))) (sym (omega (arith, length-drop window.cursor window.held)))
+    ∙ ap (drop window.cursor) told))
+
 -- the bytes held from the place on are the raw's
 pub ahead_told : (raw : Raw) (window : WindowView) → window.cursor ≤ length window.held → HoldsBytes raw.bytes window → take (length (ahead_of window)) (left_at raw.bytes (place_of window)) ≡ ahead_of window
-ahead_told raw window within told =
-    let count : ℕ = length (ahead_of window) in
-    ap (take count) (sym (drop-drop window.cursor window.begin raw.bytes))
-    ∙ (sym (drop-take window.cursor count (left_at raw.bytes window.begin))
-    ∙ (ap (λ (n : ℕ). drop window.cursor (take n (left_at raw.bytes window.begin))) (sym (omega (arith, length-drop window.cursor window.held)))
-    ∙ ap (drop window.cursor) told))
+ahead_told raw window within told = bytes_ahead raw.bytes window within told
 
 -- a front of the bytes held from the place on is the raw's too
 pub held_next : (raw : Raw) (window : WindowView) (count : ℕ) → window.cursor ≤ length window.held → count ≤ length (ahead_of window) → HoldsBytes raw.bytes window → take count (left_at raw.bytes (place_of window)) ≡ take count (ahead_of window)

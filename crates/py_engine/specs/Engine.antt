@@ -1,17 +1,16 @@
 -- The engine of the buffered streams: what it is seen as, and what holds of it.
-use Rattle.std.specs.Prelude.{◌≡◌, ◌≢◌, ℕ, ◌+◌, Bool, false, IsTrue, List, length, take, Some, Result, Ok, Err}
+use Rattle.std.specs.Prelude.{◌≡◌, ◌≢◌, ℕ, ◌+◌, ◌≤◌, Bool, true, false, IsTrue, List, length, Some, Result, Ok, Err}
 use Rattle.py_flat.specs.declared.fault.IoFault.{IoFault}
 use Rattle.py_flat.specs.declared.fault.IoFault.TheVariants as fault
 use Rattle.py_flat.specs.declared.life.Life.{Life}
 use Rattle.py_flat.specs.declared.life.Life.TheVariants as life
-use Rattle.py_flat.specs.Bytes.{left_at}
 use Rattle.py_raw.specs.RawStream.{Raw, Keeps, StaysOpen, FailsWithout, Answers, WhereTold, WherePlace}
 use Rattle.py_stream.specs.declared.access.Access.{Access}
 use Rattle.py_stream.specs.declared.access.Access.TheVariants as access
-use Rattle.py_stream.specs.Access.{can_of}
+use Rattle.py_stream.specs.Access.{can_of, is_written}
 use Rattle.py_stream.specs.Stream.{Stream}
 use Rattle.py_stream.specs.LiveRaw.{LetsBegin}
-use Rattle.py_engine.specs.Window.{WindowView, IsWindow, Collects, place_of, end_of, owed_of}
+use Rattle.py_window.specs.Window.{WindowView, IsWindow, Collects, place_of, end_of, owed_of, HoldsBytes, flat_over}
 
 -- an engine: its raw, where the raw stands by the stream's own count, the window on the raw's bytes, what its stream is opened for, what
 -- became of it, and whether a wait cut the last answer short
@@ -37,10 +36,6 @@ stream_of engine = record {
   held = record { from = engine.window.begin; to = end_of engine.window };
 }
 
--- the bytes held are those of a list, from the window's place on
-abbrev pub HoldsBytes : List ℕ → WindowView → Type 0
-HoldsBytes bytes window = take (length window.held) (left_at bytes window.begin) ≡ window.held
-
 -- the shape of a window by what the stream is opened for. Of a stream that is read nothing is owed, and its raw stands after the
 -- bytes held
 pub record ReadsAhead (raw_place : ℕ) (window : WindowView) : Type 0 where
@@ -52,16 +47,29 @@ pub record OwesBefore (raw_place : ℕ) (window : WindowView) : Type 0 where
   pub collects : Collects window
   pub stands : raw_place ≡ window.begin + window.from
 
--- where an engine's raw stands beside its window, by what the stream is opened for. No engine both reads and writes
+-- of a stream that is read and written the raw stands where some byte is held, or right after these, and not before the first that is owed
+pub record StandsAmong (raw_place : ℕ) (window : WindowView) : Type 0 where
+  pub after_begin : window.begin ≤ raw_place
+  pub before_end : raw_place ≤ end_of window
+  pub owed : window.from ≢ window.to → window.begin + window.from ≤ raw_place
+
+-- where an engine's raw stands beside its window, by what the stream is opened for
 abbrev pub HasShape : Access → ℕ → WindowView → Type 0
 HasShape access.Read raw_place window = ReadsAhead raw_place window
-HasShape access.Update raw_place window = ⊥
+HasShape access.Update raw_place window = StandsAmong raw_place window
 HasShape other raw_place window = OwesBefore raw_place window
 
--- told, what a stream that is read holds are the raw's bytes
+-- told, what a stream that is read holds are the flat bytes
 abbrev pub HoldsRead : Access → List ℕ → WindowView → Type 0
 HoldsRead access.Read bytes window = HoldsBytes bytes window
+HoldsRead access.Update bytes window = HoldsBytes (flat_over bytes window) window
 HoldsRead other bytes window = Unit {0}
+
+-- an engine that takes bytes behind those that it owes: it is opened to be written, what it owes ends at its place, where all held bytes
+-- end, and its raw stands where that begins
+pub record IsBehind (engine : EngineView) : Type 0 where
+  pub writes : is_written engine.access ≡ true
+  pub owes : OwesBefore engine.raw_place engine.window
 
 -- what holds of every engine; of a live one that its raw is open, and stands where the stream counts
 pub record IsEngine (raw : Raw) (raw_place : ℕ) (window : WindowView) (opened : Access) (current : Life) : Type 0 where

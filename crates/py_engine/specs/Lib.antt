@@ -1,4 +1,5 @@
-pub mod Window
 pub mod Engine
 pub mod Passing
 pub mod Reading
+pub mod Random
+pub mod RandomWriting

@@ -13,12 +13,12 @@ use Rattle.py_stream.specs.Answers.{CameByReads, EachBrings}
 use Rattle.py_stream.specs.LiveRaw.{starved}
 use Rattle.py_stream.specs.declared.stop.Stop.{Stop}
 use Rattle.py_stream.specs.declared.stop.Stop.TheVariants as stop
-use Rattle.py_engine.specs.declared.window.Filled.{Filled}
-use Rattle.py_engine.specs.declared.window.Filled.TheVariants as filled
+use Rattle.py_window.specs.declared.window.Filled.{Filled}
+use Rattle.py_window.specs.declared.window.Filled.TheVariants as filled
 use Rattle.py_stream.specs.declared.stop.Step.{Step}
 use Rattle.py_stream.specs.declared.stop.Step.TheVariants as step
-use Rattle.py_engine.specs.Window.{IsWindow, place_of, end_of, ahead_of, advanced, emptied_at, HoldsNew}
-use Rattle.py_engine.specs.Engine.{EngineView, ReadsAhead, HoldsBytes}
+use Rattle.py_window.specs.Window.{IsWindow, place_of, end_of, ahead_of, advanced, emptied_at, HoldsNew, HoldsBytes}
+use Rattle.py_engine.specs.Engine.{EngineView, ReadsAhead}
 
 -- the stream that an engine is which reads ahead
 abbrev pub reading_of : EngineView → Stream

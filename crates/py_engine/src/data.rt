@@ -2,26 +2,28 @@
 ghost use Rattle.std.specs.Prelude.{◌≡◌, ◌≢◌, ◌<◌, ◌≤◌, true, false, length, vec_len, []};
 ghost use Rattle.py_flat.specs.Limits.{greatest_place};
 ghost use Rattle.py_raw.specs.RawStream.{WherePlace};
-ghost use Rattle.py_stream.specs.Access.{is_read};
-ghost use Rattle.py_engine.specs.Window.{ahead_of, place_of};
+ghost use Rattle.py_window.specs.Window.{ahead_of, place_of};
 ghost use Rattle.py_engine.specs.Engine.{stream_of, Stands, BeginOutcome, RawEndOutcome};
-ghost use Rattle.py_engine.specs.Reading.{FillsOutcome, PassesOutcome};
+ghost use Rattle.py_engine.specs.Reading.{IsReading, FillsOutcome, PassesOutcome};
 
+mod calls;
 mod ending;
 mod gathering;
 mod moving;
 mod passing_on;
+mod random;
+mod random_writing;
 mod reading;
 mod single;
 mod writing;
 
-use crate::window::{Filled, Window};
 use py_raw::{IoFault, Life, RawStream};
 use py_stream::{Access, LiveRaw};
+use py_window::{Filled, Window};
 use std::marker::Model;
 
 /// While the stream lives, `raw_place` is where its raw stands: of a stream that is read after all that the window holds, of one
-/// that is written where the pending bytes belong.
+/// that is written where the pending bytes belong, and of one that is both anywhere among these.
 #[derive(Debug, Drop)]
 pub struct BufferedData<R: RawStream> {
     live: LiveRaw<R>,
@@ -41,11 +43,10 @@ impl<R: RawStream> Model for BufferedData<R> {
 }
 
 impl<R: RawStream> BufferedData<R> {
-    /// An engine over an open raw that stands at a place, with an empty window there. It either reads or writes.
+    /// An engine over an open raw that stands at a place, with an empty window there.
     pub fn new(raw: R, buffer: Vec<u8>, place: u64, access: Access) -> Self
         requires open { (R.shows raw).closed ≡ false }
         requires some { 0 < vec_len buffer }
-        requires alone { access ≢ Access.Update }
         requires within { place ≤ greatest_place }
         requires stands { WherePlace (R.shows raw) ((R.shows raw).place ≡ place) }
         ensures { result ≡ record { raw = R.shows raw; raw_place = place; window = record { size = vec_len buffer; begin = place; held = []; cursor = 0; from = 0; to = 0 }; access = access; life = Life.Live; short = false } }
@@ -118,7 +119,7 @@ impl<R: RawStream> BufferedData<R> {
     /// Fills the window anew, by one transfer. `moved` tells whether bytes had moved in this call.
     fn fill(&mut self, moved: bool) -> Result<Filled, IoFault>
         requires live { self.old.life ≡ Life.Live }
-        requires reads { is_read self.old.access ≡ true }
+        requires reads { IsReading self.old }
         ensures { FillsOutcome self.old moved result self.new }
     {
         let filled = self.window.fill(&mut self.live, moved);
@@ -129,7 +130,7 @@ impl<R: RawStream> BufferedData<R> {
     /// Passes bytes straight into a caller's buffer, by one transfer. `moved` tells whether bytes had moved in this call.
     fn pass(&mut self, buffer: &mut [u8], moved: bool) -> Result<Filled, IoFault>
         requires live { self.old.life ≡ Life.Live }
-        requires reads { is_read self.old.access ≡ true }
+        requires reads { IsReading self.old }
         requires asks { 0 < length buffer.old }
         ensures outcome { PassesOutcome self.old moved result buffer.new self.new }
         ensures length { length buffer.new ≡ length buffer.old }
@@ -137,13 +138,6 @@ impl<R: RawStream> BufferedData<R> {
         let filled = self.window.pass(&mut self.live, buffer, moved);
         self.raw_place = self.window.end_place();
         filled
-    }
-
-    /// Does nothing: what calls it is known to hold an engine that stands as each does.
-    pub fn assured(&self)
-        ensures { Stands self.now }
-    {
-        let _ = &self.live;
     }
 
     /// The raw, what it is owed in the buffer that held it, and the place of that, in every life.

@@ -5,6 +5,5 @@
 #![tactic(auto)]
 
 mod data;
-mod window;
 
 pub use data::BufferedData;

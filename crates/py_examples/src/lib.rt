@@ -21,6 +21,8 @@ mod memory;
 #[cfg(test)]
 mod queue;
 #[cfg(test)]
+mod random;
+#[cfg(test)]
 mod refusals;
 #[cfg(test)]
 mod sessions;

@@ -1,5 +1,5 @@
 //! What the examples begin from: raw streams in memory, and buffered streams over them.
-use py_buffered::{BufferedReader, BufferedWriter};
+use py_buffered::{BufferedRandom, BufferedReader, BufferedWriter};
 use py_raw::{Data, IoFault, Lines, RawFlags};
 use py_raw_memory::{Cut, MemRaw};
 use std::alloc::{AllocError, Global};
@@ -34,6 +34,18 @@ pub(crate) fn writer_to(
     let plan = plan.to_vec(alloc)?;
     let raw = MemRaw::new(bytes, flags, plan, faults.to_vec(alloc)?);
     Ok(BufferedWriter::new(alloc, raw, buffer_size)?)
+}
+
+/// A stream that is read and written, over a stream in memory that moves all that is asked of it.
+pub(crate) fn random_over(
+    alloc: Global,
+    bytes: &[u8],
+    buffer_size: usize,
+) -> Result<BufferedRandom<MemRaw>, Fail> {
+    let flags = RawFlags::able(true, true, true);
+    let bytes = bytes.to_vec(alloc)?;
+    let raw = MemRaw::new(bytes, flags, Vec::new(alloc), Vec::new(alloc));
+    Ok(BufferedRandom::new(alloc, raw, buffer_size)?)
 }
 
 /// The lines `abc`, `def` and `ghi`, each with its LF.

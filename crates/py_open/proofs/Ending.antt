@@ -1,5 +1,5 @@
 -- Calls that end something: what is passed on, and what a closed session answers.
-use Rattle.std.proofs.Common.{inl, ◌≡◌, ◌≢◌, pos, suc, zero, Bool, true, false, IsTrue, [], Some, refl, sym, ap, ◌∙◌}
+use Rattle.std.proofs.Common.{inl, ◌≡◌, ◌≢◌, pos, suc, zero, Bool, true, false, [], Some, refl, sym, ap, ◌∙◌}
 use Rattle.py_flat.specs.declared.fault.IoFault.TheVariants as fault
 use Rattle.py_flat.specs.declared.life.Life.{Life}
 use Rattle.py_flat.specs.declared.life.Life.TheVariants as life

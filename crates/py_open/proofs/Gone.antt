@@ -1,6 +1,5 @@
 -- What a detached session answers, and that it leaves its file as it was.
-use Rattle.std.proofs.Common.{◌≡◌, ◌≢◌, pos, suc, zero, Bool, true, false, IsTrue, List, [], ◌∷◌, Some, refl, sym, ap, ◌∙◌, subst}
-use Rattle.py_flat.specs.declared.fault.IoFault.{IoFault}
+use Rattle.std.proofs.Common.{◌≡◌, pos, suc, zero, Bool, true, false, List, [], ◌∷◌, Some, refl, sym, ap, ◌∙◌, subst}
 use Rattle.py_flat.specs.declared.fault.IoFault.TheVariants as fault
 use Rattle.py_flat.specs.declared.life.Life.{Life}
 use Rattle.py_flat.specs.declared.life.Life.TheVariants as life
@@ -8,7 +7,7 @@ use Rattle.py_flat.specs.Calls.{FileCall, Seek, Readable, Writable, Seekable, Cl
 use Rattle.py_flat.specs.FlatFile.{FlatFile}
 use Rattle.py_flat.specs.Refusals.{is_getter, refusal}
 use Rattle.py_flat.specs.AllowedStep.{settled, waited_for, raw_faulted, out_of_memory}
-use Rattle.py_flat.specs.BinaryStep.{does_work, reaches_raw, SettledBy, BinaryStep}
+use Rattle.py_flat.specs.BinaryStep.{does_work, reaches_raw, BinaryStep}
 use Rattle.py_plain.specs.TextFile.{TextFile}
 use Rattle.py_plain.specs.TextStep.{TextCall, Read, ReadLine, Close, OtherKind, text_answered, text_refusal, text_reaches_raw, TextStep}
 use Rattle.py_stream.specs.Stream.{Stream, file_of}
@@ -17,11 +16,10 @@ use Rattle.py_calls.specs.declared.call.Call.{Call}
 use Rattle.py_calls.specs.declared.reply.Reply.{Reply}
 use Rattle.py_calls.specs.Calls.{text_call, file_call, said}
 use Rattle.py_textio.specs.TextState.{TextState}
-use Rattle.py_textio.specs.Answers as text
-use Rattle.py_binary.specs.Binary.{has_reply_room, left_by, AnswersBy}
-use Rattle.py_open.specs.Session.{SessionFile, OfText, OfBinary, SessionView, TextSession, BinarySession, FileLeftBy, StepBy, SessionStep, file_seen, raw_of, life_of, life_in, AnswersTextBy, Answers}
-use Rattle.py_open.specs.Run.{Entry, IsRun, IsHistory, all_said, calls_of, replies_of}
-use Rattle.py_open.specs.Laws.{detached_fault, detached_by, detached_reply, detached_replies, StaysDetached, FileStaysDetached}
+use Rattle.py_binary.specs.Binary.{has_reply_room, left_by, detached_fault, AnswersBy}
+use Rattle.py_open.specs.Session.{SessionFile, OfText, OfBinary, SessionView, TextSession, BinarySession, FileLeftBy, StepBy, file_seen, raw_of, life_of, life_in, AnswersTextBy, Answers}
+use Rattle.py_open.specs.Run.{Entry, IsRun, IsHistory, calls_of}
+use Rattle.py_open.specs.Laws.{detached_by, detached_reply, detached_replies, StaysDetached, FileStaysDetached}
 use Rattle.py_open.proofs.Resting.{detached_refuses}
 
 -- Flat files.

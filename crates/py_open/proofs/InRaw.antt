@@ -1,5 +1,5 @@
 -- A smooth run that ends in a close leaves the bytes of its file in the raw.
-use Rattle.std.proofs.Common.{◌≡◌, ◌≢◌, ◌⊎◌, inl, inr, ℕ, Bool, true, false, IsTrue, List, [], ◌∷◌, ◌++◌, Option, Some, None, refl, sym, ap, ◌∙◌, subst}
+use Rattle.std.proofs.Common.{◌≡◌, ◌≢◌, ◌⊎◌, inl, inr, ℕ, Bool, true, false, IsTrue, List, [], ◌∷◌, ◌++◌, Option, refl, sym, ap, ◌∙◌, subst}
 use Rattle.py_flat.specs.declared.fault.IoFault.TheVariants as fault
 use Rattle.py_flat.specs.declared.life.Life.{Life}
 use Rattle.py_flat.specs.declared.life.Life.TheVariants as life
@@ -21,7 +21,7 @@ use Rattle.py_calls.specs.Calls.{text_call, file_call, said}
 use Rattle.py_textio.specs.TextState.{TextState}
 use Rattle.py_textio.specs.Answers as text
 use Rattle.py_binary.specs.Binary.{AnswersBy}
-use Rattle.py_open.specs.Session.{SessionFile, SessionView, TextSession, BinarySession, file_seen, raw_of, life_of, owed_of, bytes_in, IsInStep, AnswersTextBy, Answers}
+use Rattle.py_open.specs.Session.{SessionView, TextSession, BinarySession, file_seen, raw_of, life_of, owed_of, bytes_in, IsInStep, AnswersTextBy, Answers}
 use Rattle.py_open.specs.Run.{IsRun, IsSmooth, NoneLacksMemory, all_said}
 use Rattle.py_open.specs.Laws.{PassesAll, Completes}
 use Rattle.py_open.proofs.Steps.{left_life, step_keeps, step_causes, step_completes, step_in_step, uncaused}

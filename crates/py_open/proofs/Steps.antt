@@ -1,5 +1,5 @@
 -- What one call of a session does, by its kind.
-use Rattle.std.proofs.Common.{inl, inr, ◌≡◌, ◌≢◌, ◌⊎◌, ℕ, Bool, true, false, not, IsTrue, List, [], length, Option, Some, None, refl, sym, ap, ◌∙◌, subst, if◌then◌else◌, arith}
+use Rattle.std.proofs.Common.{inl, inr, ◌≡◌, ◌≢◌, ◌⊎◌, ℕ, Bool, true, false, not, IsTrue, List, [], length, Option, Some, None, refl, sym, ap, ◌∙◌, subst, if◌then◌else◌}
 use Rattle.std.proofs.lemmas.Bool.{le-leb}
 use Rattle.py_flat.specs.declared.fault.IoFault.{IoFault}
 use Rattle.py_flat.specs.declared.fault.IoFault.TheVariants as fault
@@ -20,7 +20,7 @@ use Rattle.py_plain.specs.Rest.{Rest, text_rest}
 use Rattle.py_plain.specs.TextStep.{TextCall, Read, ReadLine, OtherKind, text_refusal, range_refusal, asks_past, asks_any, after_taking, after_text_read, answered_text, text_read, text_line, text_answered, ReadsTextPart, TextWaitedBy, TextSettled, TextStep}
 use Rattle.py_plain.specs.TextStep as plain
 use Rattle.py_raw.specs.RawStream.{Raw, Keeps, tells, AnswersFor}
-use Rattle.py_raw.proofs.Telling.{keeps_same, tells_its_bytes, tells_still}
+use Rattle.py_raw.proofs.Telling.{keeps_same}
 use Rattle.py_stream.specs.Stream.{Stream, file_of, nothing_owed}
 use Rattle.py_stream.specs.Kinds.{says_fault}
 use Rattle.py_stream.specs.Answers.{HasCauses, ClosedWith, LifeMoves}

@@ -1,6 +1,5 @@
 -- What holds of whole runs, whatever raw is below.
 use Rattle.std.specs.Prelude.{◌≡◌, Bool, true, false, List, [], ◌∷◌, None}
-use Rattle.py_flat.specs.declared.fault.IoFault.{IoFault}
 use Rattle.py_flat.specs.declared.fault.IoFault.TheVariants as fault
 use Rattle.py_flat.specs.Calls.{FileCall, Close, Detach, Flush, OtherGetter, FileReply, Done, Unwritten, Refused}
 use Rattle.py_flat.specs.Refusals.{is_getter}
@@ -14,6 +13,7 @@ use Rattle.py_calls.specs.declared.call.Call.{Call}
 use Rattle.py_calls.specs.declared.reply.Reply.{Reply}
 use Rattle.py_calls.specs.Calls.{text_call, file_call, said}
 use Rattle.py_textio.specs.Answers as text
+use Rattle.py_binary.specs.Binary.{detached_fault}
 use Rattle.py_open.specs.Session.{SessionFile, OfText, OfBinary, SessionView, TextSession, BinarySession, raw_of, file_seen, owed_of, flat_bytes, flag_seen, Answers}
 use Rattle.py_open.specs.Run.{Entry, IsRun, IsMarkedRun, IsHistory, calls_of, replies_of, all_said}
 
@@ -140,11 +140,6 @@ pub record StaysClosed (before : SessionView) (calls : List Call) (replies : Lis
   pub raw : raw_of after ≡ raw_of before
 
 -- Detached sessions.
-
--- what a detached stream refuses a call by, but for the four questions: by that, and as it lacks some questions
-abbrev pub detached_fault : FileCall → IoFault
-detached_fault OtherGetter = fault.Unsupported
-detached_fault call = fault.Detached
 
 abbrev pub detached_by : Bool → SessionFile → Call → FileReply
 detached_by true file call = flag_seen file call

@@ -1,5 +1,5 @@
 -- What the program leaves of its opener's counts: none falls, and one raw at most is opened.
-use Rattle.std.proofs.Common.{◌≡◌, ℕ, ◌≤◌, ◌⊎◌, inl, inr, true, false, IsTrue, List, Option, Some, None, Ok, Err, refl, sym, ◌∙◌, ap, subst, arith}
+use Rattle.std.proofs.Common.{◌≡◌, ℕ, ◌⊎◌, inl, inr, true, false, IsTrue, List, Option, Some, None, Ok, Err, refl, sym, ◌∙◌, ap, subst, arith}
 use Rattle.py_flat.specs.Causes.{counted}
 use Rattle.py_source_sink.specs.Source.{SourceView}
 use Rattle.py_raw.specs.Opener.{OpenerView}

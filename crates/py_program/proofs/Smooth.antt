@@ -1,20 +1,18 @@
 -- A run in which nothing went wrong does what the model says.
-use Rattle.std.proofs.Common.{◌≡◌, ◌≢◌, ℕ, ◌⊎◌, inl, inr, ◌<◌, ◌≤◌, IsTrue, List, length, Option, Some, None, Result, Ok, Err, IsErr, refl, sym, ◌∙◌, ap, subst, arith}
+use Rattle.std.proofs.Common.{◌≡◌, ◌≢◌, ℕ, ◌⊎◌, inl, inr, ◌≤◌, IsTrue, List, length, Option, Some, None, Result, Ok, IsErr, refl, sym, ◌∙◌, subst, arith}
 use Rattle.py_flat.specs.declared.fault.IoFault.{IoFault}
-use Rattle.py_raw.specs.Opener.{OthersHoldTheSame}
 use Rattle.py_source_sink.specs.Source.{SourceView}
 use Rattle.py_calls.specs.declared.call.Call.{Call}
 use Rattle.py_mode.specs.declared.open_args.OpenArgs.{OpenArgs}
 use Rattle.py_mode.specs.declared.plan.OpenPlan.{OpenPlan}
 use Rattle.py_mode.specs.Plan.{plan_of}
-use Rattle.py_open.specs.Run.{NoneLacksMemory, all_said}
 use Rattle.py_open.proofs.Runs.{smooth_settles}
 use Rattle.py_script.specs.CommandWords.{Command, Run, command_of}
 use Rattle.py_script.specs.Script.{script_calls}
 use Rattle.py_raw.specs.Opener.{opened_bytes}
 use Rattle.py_program.specs.Outside.{script_limit, IsMalformed}
 use Rattle.py_program.specs.Outcome.{Outside, raw_mode, closed_calls, Ends}
-use Rattle.py_program.specs.Meaning.{NothingFails, RawsAreReady, IsRefusedPlan, KeepsOthers, PrintsSettled, SettlesAtPath, TellsCalls, IsSmoothOutside, DoesAsTheModel}
+use Rattle.py_program.specs.Meaning.{NothingFails, IsRefusedPlan, KeepsOthers, SettlesAtPath, TellsCalls, IsSmoothOutside, DoesAsTheModel}
 use Rattle.py_program.proofs.Ending.{others_kept}
 use Rattle.py_program.proofs.Exact.{prints_settled}
 

@@ -1,14 +1,14 @@
 -- What a call answers doesn't hang on whether the answer before was short.
-use Rattle.std.proofs.Common.{◌≡◌, ℕ, ℤ, pos, suc, zero, Bool, true, false, IsTrue, List, refl, arith}
+use Rattle.std.proofs.Common.{◌≡◌, ℕ, ℤ, pos, suc, zero, ◌⊎◌, inl, inr, Bool, true, false, IsTrue, List, take, refl, arith}
 use Rattle.py_flat.specs.declared.fault.IoFault.TheVariants as fault
 use Rattle.py_flat.specs.Calls.{FileCall, Seek, FileReply, Done, Refused}
 use Rattle.py_flat.specs.BinaryStep.{payload}
 use Rattle.py_raw.specs.RawStream.{WhereTold}
 use Rattle.py_stream.specs.Stream.{Stream}
 use Rattle.py_stream.specs.Kinds.{is_writing, has_room}
-use Rattle.py_stream.specs.Writing.{OwesUpTo, OwesBehind, Takes, PassesFront, LaysInOrder, OwesBoth, PassesOn, OwesNoneOfIts, Writes}
+use Rattle.py_stream.specs.Writing.{OwesUpTo, OwesBehind, Takes, PassesFront, LaysInOrder, CoversBoth, OwesNewAlone, OwesBoth, PassesOn, OwesNoneOfIts, Writes}
 use Rattle.py_stream.proofs.Coming.{came_seen, each_seen}
-use Rattle.py_stream.specs.Answers.{Answers, AnswersWith, Leaves, SeeksFromEnd, EndMoves, SeeksByEnd, closes_again}
+use Rattle.py_stream.specs.Answers.{Answers, AnswersWith, Leaves, IsAhead, SeeksFromEnd, EndMoves, SeeksByEnd, closes_again}
 
 -- a stream whose last answer was short, or wasn't
 abbrev pub seen : Bool → Stream → Stream
@@ -38,14 +38,21 @@ module _ (short : Bool) where
   again : (before after : Stream) (call : FileCall) (reply : FileReply) → (closes_again (seen short before) call ≡ true → Leaves (seen short before) Done reply after) → closes_again before call ≡ true → Leaves before Done reply after
   again before after call reply closed closes = grind arith
 
+  ahead_as : (before : Stream) → IsAhead before → IsAhead (seen short before)
+  ahead_as before is = record { none = is.none; stands = is.stands }
+
   owed_behind : (before : Stream) → OwesBehind before → OwesBehind (seen short before)
   owed_behind before behind = record { ends = behind.ends; stands = behind.stands }
 
   taken : (before after : Stream) (call : FileCall) → (IsTrue (is_writing call) → OwesUpTo before.owed before.place → Takes (seen short before) (payload call) after) → IsTrue (is_writing call) → OwesUpTo before.owed before.place → Takes before (payload call) after
   taken before after call takes writing up_to = let is = takes writing up_to in record { taken = is.taken; within = is.within; place = is.place; passed = is.passed; most = is.most; answered = is.answered; forth = λ behind. is.forth (owed_behind before behind); owed = is.owed; up_to = is.up_to; told = is.told }
 
+  owed_so : (before after : Stream) (new : List ℕ) → CoversBoth before.owed before.place new after.owed ⊎ OwesNewAlone (seen short before) new after → CoversBoth before.owed before.place new after.owed ⊎ OwesNewAlone before new after
+  owed_so before after new (inl covers) = inl covers
+  owed_so before after new (inr alone) = inr (record { passed = alone.passed; most = alone.most; answered = alone.answered; bytes = alone.bytes; place = alone.place })
+
   owed_both : (before after : Stream) (bytes : List ℕ) → OwesBoth (seen short before) bytes after → OwesBoth before bytes after
-  owed_both before after bytes is = record { taken = is.taken; within = is.within; place = is.place; from = is.from; to = is.to; new = is.new; old = is.old; behind = is.behind }
+  owed_both before after bytes is = record { taken = is.taken; within = is.within; place = is.place; owes = λ some. owed_so before after (take is.taken bytes) (is.owes some) }
 
   front_passed : (before after : Stream) → PassesFront (seen short before) after → PassesFront before after
   front_passed before after is = record { passed = is.passed; most = is.most; answered = is.answered; bytes = is.bytes; place = is.place }
@@ -88,15 +95,15 @@ module _ (short : Bool) where
     moves = record { life_is = answers.moves.life_is; place = answers.moves.place; far = answers.moves.far; within = answers.moves.within };
     ends = by_end before after call reply answers.ends;
     wants = answers.wants;
-    starves = λ wanting reads. let starved = answers.starves wanting reads in record { unmoved = starved.unmoved; moved = starved.moved; stands = starved.stands };
+    starves = λ wanting reads ahead. let starved = answers.starves wanting reads (ahead_as before ahead) in record { unmoved = starved.unmoved; moved = starved.moved; stands = starved.stands };
     first = answers.first;
     nothing = λ asks. let none = answers.nothing asks in record { raw = none.raw; fault = none.fault };
     idle = λ keeps. let still = answers.idle keeps in record { raw = still.raw; fault = still.fault; memory = still.memory };
     single = answers.single;
     in_hand = λ has. let none = answers.in_hand (record { lives = has.lives; buffered = has.buffered; of = has.of }) in record { raw = none.raw; fault = none.fault };
-    brings = λ reads none. came_seen (seen short before) before after after 1 refl refl refl refl (answers.brings reads none);
+    brings = λ reads ahead. came_seen (seen short before) before after after 1 refl refl refl refl (answers.brings reads (ahead_as before ahead));
     unread = answers.unread;
-    needs = λ reads none. let asks = answers.needs reads none in record { enough = λ whole within buffered. let idle = asks.enough whole within buffered in record { raw = idle.raw; fault = idle.fault }; whole = λ whole. each_seen (seen short before) before after after 0 0 refl refl refl refl (asks.whole whole); needed = asks.needed; last = each_seen (seen short before) before after after 1 1 refl refl refl refl asks.last };
+    needs = λ reads ahead. let asks = answers.needs reads (ahead_as before ahead) in record { enough = λ whole within buffered. let idle = asks.enough whole within buffered in record { raw = idle.raw; fault = idle.fault }; whole = λ whole. each_seen (seen short before) before after after 0 0 refl refl refl refl (asks.whole whole); needed = asks.needed; last = each_seen (seen short before) before after after 1 1 refl refl refl refl asks.last };
     spares = λ reads none. let spared = answers.spares reads none in record { bytes = spared.bytes; written = spared.written; owed = spared.owed; still = spared.still };
     writes = λ can. writes_seen before after call reply (answers.writes can);
     answer = answers.answer;

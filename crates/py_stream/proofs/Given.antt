@@ -51,7 +51,8 @@ takes_front old new own taken current short fits took = record {
   told = λ tells. (taken, omega arith, fits, took_bytes old new (take taken own) took tells);
 }
 
-part_steps : (file after : FlatFile) (call : FileCall) (reply : FileReply) (short faulted : Bool) → IsTrue (does_work file call) → refusal file call ≡ None → StepsBy short file call reply after → BinaryStep file call reply short faulted after
+-- a step of the flat file that carried the call out, or that a wait cut short
+pub part_steps : (file after : FlatFile) (call : FileCall) (reply : FileReply) (short faulted : Bool) → IsTrue (does_work file call) → refusal file call ≡ None → StepsBy short file call reply after → BinaryStep file call reply short faulted after
 part_steps file after call reply true faulted work passes waited = waited_for refl (work, waited)
 part_steps file after call reply false faulted work passes carried = settled (subst (λ (refused : Option IoFault). SettledBy file call refused reply after) (sym passes) carried)
 
@@ -153,7 +154,7 @@ lets_go : (old between new : Stream) (front : List ℕ) → between.owed.place �
 lets_go old between new front before took cut = grind (arith, cut_bytes, take-append-le)
 
 -- a stream whose last answer is known to be short or not
-said_short : (stream : Stream) (short : Bool) → stream.short ≡ short → record stream { short = short } ≡ stream
+pub said_short : (stream : Stream) (short : Bool) → stream.short ≡ short → record stream { short = short } ≡ stream
 said_short stream short is = ap (λ (said : Bool). let left : Stream = record stream { short = said } in left) (sym is)
 
 -- a `write` owes none of its own bytes once the raw failed, nor where running out of memory fails the stream
@@ -223,7 +224,7 @@ pub record GoesOn (buffer : Option ℕ) (call : FileCall) : Type 0 where
   pub says : (taken : ℕ) → waited_reply buffer call taken ≡ Refused (fault.WouldBlock taken)
   pub fails : (taken : ℕ) → taken ≤ length (payload call) → FailsCount buffer call taken
 
-goes_on_all : (buffer : Option ℕ) (call : FileCall) → is_writing call ≡ true → goes_on buffer call ≡ true → GoesOn buffer call
+pub goes_on_all : (buffer : Option ℕ) (call : FileCall) → is_writing call ≡ true → goes_on buffer call ≡ true → GoesOn buffer call
 goes_on_all buffer call writing = grind arith
 
 -- a call that took all of its bytes

@@ -1,5 +1,6 @@
 -- The answers of `seek`, as its steps come: where it goes, what is passed on before, and the moving.
 use Rattle.std.proofs.Common.{◌≡◌, ℕ, ◌+◌, suc, zero, ℤ, pos, max, nat_eq, Bool, true, false, List, [], length, Option, Some, None, IsSome, Result, Ok, Err, ne_eqb, if◌then◌else◌, refl, sym, ap, ◌∙◌, subst, arith, zero-le, rules, IsTrue}
+use Rattle.std.proofs.lemmas.Bool.Decides.{eqb_tells}
 use Rattle.py_flat.specs.declared.fault.IoFault.{IoFault}
 use Rattle.py_flat.specs.declared.fault.IoFault.TheVariants as fault
 use Rattle.py_flat.specs.declared.life.Life.{Life}
@@ -14,20 +15,20 @@ use Rattle.py_flat.specs.AllowedStep.{settled}
 use Rattle.py_flat.specs.BinaryStep.{BinaryStep, SettledBy}
 use Rattle.py_flat.proofs.Laying.{length-lay}
 use Rattle.py_raw.specs.RawStream.{WhereTold, LeavesCounts}
-use Rattle.py_raw.proofs.Telling.{tells_its_bytes}
+use Rattle.py_raw.proofs.Telling.{keeps_same, tells_its_bytes}
 use Rattle.py_raw.proofs.ReadingOn.{no_fault_then, no_wait_then}
 use Rattle.py_stream.specs.Stream.{Span, Stream, file_of, nothing_owed}
 use Rattle.py_stream.specs.Writing.{Writes}
 use Rattle.py_stream.specs.Answers.{Answers, Leaves, SeeksTo, SeeksFromEnd, InHandOf, InHand, SparesBytes, IsCounted}
 use Rattle.py_stream.specs.Keeping.{KeepsOn}
 use Rattle.py_stream.specs.Settling.{PassesSome, LivesOn, SettleOutcome}
-use Rattle.py_stream.specs.Moving.{StandsAsBefore, AsksEnd, TargetFromEnd, TargetOutcome, IsHeld, GoesTo, GoOutcome, Begins}
+use Rattle.py_stream.specs.Moving.{StandsAsBefore, AsksEnd, TargetFromEnd, TargetOutcome, IsHeld, owed_at, StepsTo, GoesTo, GoOutcome, Begins}
 use Rattle.py_stream.proofs.Refused.{lays_nothing}
 use Rattle.py_stream.proofs.Begun.{answers_whole}
-use Rattle.py_stream.proofs.Taking.{keeps_then, waits_once_then, waited_then, faulted_then, answers_still}
+use Rattle.py_stream.proofs.Taking.{keeps_then, faulted_then, answers_still}
 use Rattle.py_stream.proofs.Flat.{flat_of, file_now}
-use Rattle.py_stream.proofs.Showing.{Asked, Accepts, Beside, beside_writing, shows_answers, passing_writes, seek_moves_none}
-use Rattle.py_stream.proofs.PassingOn.{begun, passes_nothing, FaultLeaves, passed_all, passing_front, passing_keeps, passing_file, stays_open, lacking_answers, lacks_refuse, fault_fails, settling_refuses}
+use Rattle.py_stream.proofs.Showing.{PassesBytes, Asked, Accepts, Beside, beside_writing, shows_answers, passing_writes, seek_moves_none}
+use Rattle.py_stream.proofs.PassingOn.{begun, laid_there, passes_nothing, FaultLeaves, passed_all, passing_front, passing_keeps, passing_file, stays_open, lacking_answers, lacks_refuse, fault_fails, settling_refuses, LeavesOwed, settles_then}
 use Rattle.py_stream.proofs.Seeking.{MaySeek, seek_refusal_is, target_why, bad_place_is_own, RefusesPlace, refuses_place, ReachesRaw, end_reaches, AnswersEnd, TargetOf, Goes, goes, seeks_nowhere, argument_refuses}
 
 -- Where the stream ends.
@@ -141,6 +142,55 @@ module _ (old found : Stream) (offset whence : ℤ) (target : ℕ) (finds : Find
   held_still : IsHeld found.held target
   held_still = subst (λ (held : Span). IsHeld held target) (sym finds.out.stands.held) covers.1
 
+-- a target lies beyond the bytes held, of a stream that reads through a buffer
+abbrev pub IsBeyond : Stream → ℕ → Type 0
+IsBeyond found target = found.can.readable ≡ true → IsSome found.buffer → IsHeld found.held target → ⊥
+
+-- a seek to a target beyond the bytes held isn't answered by these
+pub apart : (old found : Stream) (offset whence : ℤ) (target : ℕ) → Finds old offset whence target found → IsBeyond found target → InHand old (Seek offset whence) → ⊥
+apart old found offset whence target finds beyond has = beyond (reads_still old found offset whence target finds has) (buffered_still old found offset whence target finds has) (held_still old found offset whence target finds has)
+
+-- where the target lies, a seek goes there in the model
+sought_at : (file after : FlatFile) (sought target : ℕ) → sought ≡ target → after ≡ record file { place = target } → ◌≡◌ {A = FileReply × FlatFile} (Place target, after) (Place sought, record file { place = sought })
+sought_at file after sought target same is = grind arith
+
+-- The stream goes among the bytes held, and its raw isn't called.
+
+-- what a step among the bytes held keeps
+step_keeps : (found new : Stream) (target : ℕ) → StepsTo found target true new → KeepsOn found new
+step_keeps found new target steps = grind (arith, keeps_same)
+
+-- the flat file after a step among the bytes held
+stepped_file : (old found new : Stream) (target : ℕ) → FoundOut old found → StepsTo found target true new → WhereTold old.raw (file_of new ≡ record (file_of old) { place = target })
+stepped_file old found new target out steps tells =
+    let owed : new.owed ≡ owed_at target old.owed = ap (λ (stream : Stream). stream.owed) steps.2 ∙ ap (owed_at target) out.stands.owed in
+    let bytes : new.raw.bytes ≡ old.raw.bytes = ap (λ (stream : Stream). stream.raw.bytes) steps.2 ∙ out.stands.bytes (tells_its_bytes old.raw tells) in
+    let flat : flat_of new ≡ flat_of old = grind (arith, laid_there, eqb_tells) in
+    grind (arith, file_now)
+
+-- a front of what was owed was passed on: none of it
+step_passes : (old found new : Stream) (offset whence : ℤ) (target : ℕ) → Finds old offset whence target found → StepsTo found target true new → PassesBytes old (Seek offset whence) (Place target) new
+step_passes old found new offset whence target finds steps = grind (arith, lays_nothing, eqb_tells)
+
+-- the stream went there
+stepped : (old found new : Stream) (offset whence : ℤ) (target : ℕ) → MaySeek old → Finds old offset whence target found → StepsTo found target true new → Answers old (Seek offset whence) (Place target) new
+stepped old found new offset whence target may finds steps =
+    let call : FileCall = Seek offset whence in
+    let asked : Asked old call = reaching old offset whence may finds.to.asks in
+    let kept : KeepsOn old new = keeps_then old found new finds.out.stands.kept (step_keeps found new target steps) in
+    let short : new.short ≡ false = kept.short ∙ may.whole in
+    let writes : Writes old call (Place target) new = passing_writes old call (Place target) new asked.none (step_passes old found new offset whence target finds steps) in
+    let told : WhereTold old.raw (BinaryStep (file_of old) call (Place target) new.short false (file_of new)) = λ tells.
+    let lies : (seek_target (file_of old) offset whence ≡ target) × (refusal (file_of old) call ≡ None) = finds.to.lies (tells_its_bytes old.raw tells) in
+    subst (λ (said : Bool). BinaryStep (file_of old) call (Place target) said false (file_of new)) (sym short)
+    (settled (subst (λ (refused : Option IoFault). SettledBy (file_of old) call refused (Place target) (file_of new)) (sym lies.1)
+    (sought_at (file_of old) (file_of new) (seek_target (file_of old) offset whence) target lies.0 (stepped_file old found new target finds.out steps tells)))) in
+    shows_answers old call (Place target) new asked.none (grind (arith, stays_open))
+
+-- a seek to a target among the bytes held
+pub seek_steps : (old found new : Stream) (offset whence : ℤ) (target : ℕ) → MaySeek (begun old) → Finds (begun old) offset whence target found → StepsTo found target true new → Answers old (Seek offset whence) (Place target) new
+seek_steps old found new offset whence target may finds steps = answers_whole old new (Seek offset whence) (Place target) (stepped (begun old) found new offset whence target may finds steps)
+
 -- The raw is moved, once nothing is owed.
 
 gone_file : (old mid new : Stream) (target : ℕ) → old.life ≡ life.Live → PassesSome old mid → mid.owed.bytes ≡ [] → KeepsOn old new → GoesTo mid target new → WhereTold old.raw (file_of new ≡ record (file_of old) { place = target })
@@ -149,9 +199,6 @@ gone_file old mid new target live passes empty kept went tells =
     let bytes : new.raw.bytes ≡ mid.raw.bytes = went.bytes (passes.kept.raw.tells_bytes ∙ tells_its_bytes old.raw tells) in
     let flat : flat_of new ≡ flat_of old = ap (lay new.raw.bytes new.owed.place) none ∙ bytes ∙ passed_all old mid passes empty tells in
     grind (arith, file_now)
-
-sought_at : (file after : FlatFile) (sought target : ℕ) → sought ≡ target → after ≡ record file { place = target } → ◌≡◌ {A = FileReply × FlatFile} (Place target, after) (Place sought, record file { place = sought })
-sought_at file after sought target same is = grind arith
 
 -- the stream stands where it was to go
 gone : (old mid new : Stream) (offset whence : ℤ) (target : ℕ) → MaySeek old → Goes old offset whence target → Beside old (Seek offset whence) (Place target) new → SettleOutcome old (Ok tt) mid → GoesTo mid target new → Answers old (Seek offset whence) (Place target) new
@@ -176,77 +223,66 @@ gone old mid new offset whence target may to beside settled_by goes =
 -- A stream that owes nothing is moved at once.
 
 -- the raw failed to move, or wanted memory
-going_refused : (old found new : Stream) (offset whence : ℤ) (target : ℕ) (why : IoFault) → MaySeek old → Finds old offset whence target found → GoOutcome found target (Err why) new → Answers old (Seek offset whence) (Refused why) new
-going_refused old found new offset whence target why may finds fails = grind (arith, lays_nothing)
+going_refused : (old found new : Stream) (offset whence : ℤ) (target : ℕ) (why : IoFault) → MaySeek old → (InHand old (Seek offset whence) → ⊥) → Finds old offset whence target found → GoOutcome found target (Err why) new → Answers old (Seek offset whence) (Refused why) new
+going_refused old found new offset whence target why may apart finds fails = grind (arith, lays_nothing, apart)
 
 -- a stream that owes nothing fails to move
-pub going_fails : (old found new : Stream) (offset whence : ℤ) (target : ℕ) (why : IoFault) → MaySeek (begun old) → Finds (begun old) offset whence target found → GoOutcome found target (Err why) new → Answers old (Seek offset whence) (Refused why) new
-going_fails old found new offset whence target why may finds fails = answers_whole old new (Seek offset whence) (Refused why) (going_refused (begun old) found new offset whence target why may finds fails)
+pub going_fails : (old found new : Stream) (offset whence : ℤ) (target : ℕ) (why : IoFault) → MaySeek (begun old) → IsBeyond found target → Finds (begun old) offset whence target found → GoOutcome found target (Err why) new → Answers old (Seek offset whence) (Refused why) new
+going_fails old found new offset whence target why may beyond finds fails = answers_whole old new (Seek offset whence) (Refused why) (going_refused (begun old) found new offset whence target why may (apart (begun old) found offset whence target finds beyond) finds fails)
 
 -- a stream that owes nothing stands where it was to go
-pub going_answers : (old found new : Stream) (offset whence : ℤ) (target : ℕ) → MaySeek (begun old) → old.owed ≡ nothing_owed old.place → Finds (begun old) offset whence target found → GoesTo found target new → Answers old (Seek offset whence) (Place target) new
-going_answers old found new offset whence target may none finds goes =
+pub going_answers : (old found new : Stream) (offset whence : ℤ) (target : ℕ) → MaySeek (begun old) → old.owed ≡ nothing_owed old.place → IsBeyond found target → Finds (begun old) offset whence target found → GoesTo found target new → Answers old (Seek offset whence) (Place target) new
+going_answers old found new offset whence target may none beyond finds goes =
     let out : FoundOut (begun old) found = finds.out in
     answers_whole old new (Seek offset whence) (Place target)
     (gone (begun old) found new offset whence target may finds.to
-    (search (rules, goes, reads_still, begun, buffered_still, held_still, answers_still))
+    (record { in_hand = λ has. absurd (apart (begun old) found offset whence target finds beyond has); spares = search (rules, goes, begun, answers_still) })
     (found_on (begun old) found may out, out.counts.no_wait, ap (λ (owed : Owed). owed.bytes) (out.stands.owed ∙ none)) goes)
 
 -- A stream that writes passes on what it owes before it is moved.
 
--- a seek of a stream with a buffer that writes, and doesn't read
-pub record SeeksWriting (old : Stream) : Type 0 where
+-- a seek of a stream with a buffer that writes, which the bytes held don't answer
+pub record SeeksWriting (old : Stream) (offset whence : ℤ) : Type 0 where
   pub may : MaySeek old
   pub size : ℕ
   pub buffered : old.buffer ≡ Some size
   pub writes : old.can.writable ≡ true
-  pub reads : old.can.readable ≡ false
+  pub apart : InHand old (Seek offset whence) → ⊥
 
 -- what a seek of a stream that writes asks of the raw may work
-accepts_seek : (old : Stream) (offset whence : ℤ) (target : ℕ) → SeeksWriting old → Goes old offset whence target → Accepts old (Seek offset whence)
+accepts_seek : (old : Stream) (offset whence : ℤ) (target : ℕ) → SeeksWriting old offset whence → Goes old offset whence target → Accepts old (Seek offset whence)
 accepts_seek old offset whence target seeks to = record { asked = reaching old offset whence seeks.may to.asks; works = λ tells. to.works (tells_its_bytes old.raw tells) }
 
--- no seek of a stream that writes is answered by the bytes held
-not_held : (old : Stream) (offset whence : ℤ) → SeeksWriting old → InHand old (Seek offset whence) → ⊥
-not_held old offset whence seeks has = grind arith
-
--- some was passed on after nothing was
-passes_then : (old mid new : Stream) → StandsAsBefore old mid → PassesSome mid new → PassesSome old new
-passes_then old mid new stands passes = grind arith
-
-lives_then : (old mid new : Stream) → FoundOut old mid → LivesOn mid new → LivesOn old new
-lives_then old mid new out goes = record { passes = passes_then old mid new out.stands goes.passes; live = goes.live; no_fault = no_fault_then old.raw mid.raw new.raw out.stands.kept.raw out.counts.no_fault goes.no_fault }
+-- what was found out left what is owed
+found_leaves : (old found : Stream) → FoundOut old found → LeavesOwed old found
+found_leaves old found out = grind arith
 
 -- all was passed on after what was found out
-settles_then : (old mid new : Stream) (result : Result (Unit {0}) IoFault) → FoundOut old mid → SettleOutcome mid result new → SettleOutcome old result new
-settles_then old mid new (Ok done) out passed = (lives_then old mid new out passed.0, no_wait_then old.raw mid.raw new.raw out.stands.kept.raw out.counts.no_wait passed.1, passed.2)
-settles_then old mid new (Err (fault.WouldBlock taken)) out waits = grind (arith, lives_then, waited_then, waits_once_then)
-settles_then old mid new (Err fault.RawFault) out fails = (passes_then old mid new out.stands fails.0, fails.1, faulted_then old.raw mid.raw new.raw out.stands.kept.raw fails.2, no_wait_then old.raw mid.raw new.raw out.stands.kept.raw out.counts.no_wait fails.3, fails.4)
-settles_then old mid new (Err fault.NoMemory) out lacks = (sym out.stands.kept.raw.takes_memory ∙ lacks.0, lives_then old mid new out lacks.1, no_wait_then old.raw mid.raw new.raw out.stands.kept.raw out.counts.no_wait lacks.2)
-settles_then old mid new (Err why) out never = absurd never
+found_settles : (old mid new : Stream) (result : Result (Unit {0}) IoFault) → FoundOut old mid → SettleOutcome mid result new → SettleOutcome old result new
+found_settles old mid new result out settles = settles_then old mid new result (found_leaves old mid out) settles
 
 -- the raw was left alone after some was passed on
-passes_still : (old mid new : Stream) → PassesSome old mid → StandsAsBefore mid new → PassesSome old new
+pub passes_still : (old mid new : Stream) → PassesSome old mid → StandsAsBefore mid new → PassesSome old new
 passes_still old mid new passes stands = grind arith
 
 -- the raw failed to move, or wanted memory
-moving_fails : (old mid new : Stream) (offset whence : ℤ) (target : ℕ) (why : IoFault) → SeeksWriting old → Goes old offset whence target → SettleOutcome old (Ok tt) mid → GoOutcome mid target (Err why) new → Answers old (Seek offset whence) (Refused why) new
-moving_fails old mid new offset whence target fault.RawFault seeks to passed fails = search (rules, fault_fails, reaching, beside_writing, not_held, fault_fails_seek, passes_still, faulted_then, no_wait_then)
+moving_fails : (old mid new : Stream) (offset whence : ℤ) (target : ℕ) (why : IoFault) → SeeksWriting old offset whence → Goes old offset whence target → SettleOutcome old (Ok tt) mid → GoOutcome mid target (Err why) new → Answers old (Seek offset whence) (Refused why) new
+moving_fails old mid new offset whence target fault.RawFault seeks to passed fails = search (rules, fault_fails, reaching, beside_writing, seeks.apart, fault_fails_seek, passes_still, faulted_then, no_wait_then)
 moving_fails old mid new offset whence target fault.NoMemory seeks to passed wants =
     subst (λ (after : Stream). Answers old (Seek offset whence) (Refused fault.NoMemory) after) (sym wants.1)
-    (lacks_refuse old mid (Seek offset whence) (reaching old offset whence seeks.may to.asks) seeks.writes (not_held old offset whence seeks) (sym passed.0.passes.kept.raw.takes_memory ∙ wants.0, passed.0, passed.1))
+    (lacks_refuse old mid (Seek offset whence) (reaching old offset whence seeks.may to.asks) seeks.writes seeks.apart (sym passed.0.passes.kept.raw.takes_memory ∙ wants.0, passed.0, passed.1))
 moving_fails old mid new offset whence target why seeks to passed never = absurd never
 
 -- As the steps come.
 
 -- a stop of the passing on answers the seek
-pub seek_stops : (old found new : Stream) (offset whence : ℤ) (target : ℕ) (why : IoFault) → SeeksWriting (begun old) → Finds (begun old) offset whence target found → SettleOutcome found (Err why) new → Answers old (Seek offset whence) (Refused why) new
-seek_stops old found new offset whence target why seeks finds stops = search (rules, answers_whole, settling_refuses, accepts_seek, not_held, fault_fails_seek, settles_then)
+pub seek_stops : (old found new : Stream) (offset whence : ℤ) (target : ℕ) (why : IoFault) → SeeksWriting (begun old) offset whence → Finds (begun old) offset whence target found → SettleOutcome found (Err why) new → Answers old (Seek offset whence) (Refused why) new
+seek_stops old found new offset whence target why seeks finds stops = search (rules, answers_whole, settling_refuses, accepts_seek, seeks.apart, fault_fails_seek, found_settles)
 
 -- a failing of the moving answers the seek
-pub seek_fails : (old found mid new : Stream) (offset whence : ℤ) (target : ℕ) (why : IoFault) → SeeksWriting (begun old) → Finds (begun old) offset whence target found → SettleOutcome found (Ok tt) mid → GoOutcome mid target (Err why) new → Answers old (Seek offset whence) (Refused why) new
-seek_fails old found mid new offset whence target why seeks finds passed fails = search (rules, answers_whole, moving_fails, settles_then)
+pub seek_fails : (old found mid new : Stream) (offset whence : ℤ) (target : ℕ) (why : IoFault) → SeeksWriting (begun old) offset whence → Finds (begun old) offset whence target found → SettleOutcome found (Ok tt) mid → GoOutcome mid target (Err why) new → Answers old (Seek offset whence) (Refused why) new
+seek_fails old found mid new offset whence target why seeks finds passed fails = search (rules, answers_whole, moving_fails, found_settles)
 
 -- a stream that writes stands where it was to go
-pub seek_answers : (old found mid new : Stream) (offset whence : ℤ) (target : ℕ) → SeeksWriting (begun old) → Finds (begun old) offset whence target found → SettleOutcome found (Ok tt) mid → GoesTo mid target new → Answers old (Seek offset whence) (Place target) new
-seek_answers old found mid new offset whence target seeks finds passed goes = search (rules, answers_whole, gone, begun, beside_writing, not_held, settles_then)
+pub seek_answers : (old found mid new : Stream) (offset whence : ℤ) (target : ℕ) → SeeksWriting (begun old) offset whence → Finds (begun old) offset whence target found → SettleOutcome found (Ok tt) mid → GoesTo mid target new → Answers old (Seek offset whence) (Place target) new
+seek_answers old found mid new offset whence target seeks finds passed goes = search (rules, answers_whole, gone, begun, beside_writing, seeks.apart, found_settles)

@@ -34,3 +34,7 @@ pub mod LineReadings
 pub mod Movable
 pub mod Pieces
 pub mod Seeks
+pub mod Settled
+pub mod Holding
+pub mod LeftOwed
+pub mod Keeping

@@ -5,11 +5,12 @@ use Rattle.std.proofs.lemmas.Bool.{cases_lt}
 use Rattle.std.proofs.lemmas.List.{append-nil, take_all, take_min, drop_all, drop-append-le, take_at, length-take-le}
 use Rattle.py_flat.specs.Owed.{Owed}
 use Rattle.py_stream.specs.Stream.{Stream}
-use Rattle.py_stream.specs.Writing.{OwesUpTo, HasAt, first_of_both, end_of_both, Takes, OwesBoth}
+use Rattle.py_stream.specs.Writing.{OwesUpTo, HasAt, first_of_both, end_of_both, Takes, CoversBoth, OwesBoth}
 
 -- Parts of a list.
 
-has_none : (whole : List ℕ) (begins place : ℕ) → HasAt whole begins [] place
+-- a list has nothing at any place
+pub has_none : (whole : List ℕ) (begins place : ℕ) → HasAt whole begins [] place
 has_none whole begins place = grind arith
 
 -- a list that begins with what is left of a part, in or behind its beginning
@@ -21,7 +22,7 @@ has_behind : (front part : List ℕ) (begins place : ℕ) → place ≡ begins +
 has_behind front part begins place is = grind (arith, drop-append-add, take_all)
 
 -- a list that begins after the end of a part has what reaches into it of that part: none
-has_past : (whole : List ℕ) (begins : ℕ) (part : List ℕ) (place : ℕ) → place + length part ≤ begins → HasAt whole begins part place
+pub has_past : (whole : List ℕ) (begins : ℕ) (part : List ℕ) (place : ℕ) → place + length part ≤ begins → HasAt whole begins part place
 has_past whole begins part place past = grind (arith, drop_all)
 
 -- Where what is owed ends at the place.
@@ -90,11 +91,14 @@ owes_both before bytes after up_to takes =
       taken = takes.taken;
       within = takes.within;
       place = takes.place;
-      from = λ some. begins_by old start before.place after.owed.place up_to (omega (arith, ends some, left));
-      to = λ some. ends some ∙ ap (λ (n : ℕ). before.place + n) as_many ∙ sym (ends_by old start before.place takes.taken up_to (omega (arith, counts_some after.owed.bytes some, left, as_many)));
-      new = λ some. has_new old taken start before.place takes.passed after.owed.place after.owed.bytes up_to takes.owed (ends some) (counts_some after.owed.bytes some);
-      old = λ some. rw (up_to_place old start before.place up_to) (old_at old taken start before.place takes.passed after.owed.place after.owed.bytes up_to takes.owed (ends some) (counts_some after.owed.bytes some));
-      behind = λ some. rw (none_behind old start before.place takes.taken up_to) (has_none after.owed.bytes after.owed.place (max start (before.place + takes.taken)));
+      owes = λ some. let last : after.owed.place + length after.owed.bytes ≡ end_of_both old start before.place (length taken) = ends some ∙ sym (ends_by old start before.place (length taken) up_to (omega (arith, counts_some after.owed.bytes some, left, as_many))) in inl (record {
+        from = begins_by old start before.place after.owed.place up_to (omega (arith, ends some, left));
+        to = omega (arith, last);
+        most = omega (arith, last);
+        new_bytes = has_new old taken start before.place takes.passed after.owed.place after.owed.bytes up_to takes.owed (ends some) (counts_some after.owed.bytes some);
+        old_bytes = rw (up_to_place old start before.place up_to) (old_at old taken start before.place takes.passed after.owed.place after.owed.bytes up_to takes.owed (ends some) (counts_some after.owed.bytes some));
+        behind = rw (none_behind old start before.place (length taken) up_to) (has_none after.owed.bytes after.owed.place (max start (before.place + length taken)));
+      });
     }
 
 -- A call that took nothing, and left what was owed.
@@ -110,6 +114,10 @@ has_part whole begins part place behind is = grind arith
 front_of_all : (count : ℕ) (whole : List ℕ) → take (length (take count whole)) whole ≡ take count whole
 front_of_all count whole = ap (λ (n : ℕ). take n whole) (length-take count whole) ∙ take_min count whole
 
+-- what was owed, and is owed still, covers itself and nothing new
+covers_old : (was : Owed) (place : ℕ) → was.bytes ≢ [] → CoversBoth was place [] was
+covers_old was place some = grind (arith, first_owed, has_none, has_part, front_of_all, take_all)
+
 -- a call that took nothing, and left what was owed, owes what is owed after a write of none
 pub owes_as_before : (before after : Stream) (bytes : List ℕ) → after.place ≡ before.place → after.owed ≡ before.owed → OwesBoth before bytes after
-owes_as_before before after bytes place same = grind (arith, first_owed, has_none, has_part, front_of_all, take_all)
+owes_as_before before after bytes place same = record { taken = 0; within = omega arith; place = omega (arith, place); owes = λ some. inl (subst (CoversBoth before.owed before.place []) (sym same) (covers_old before.owed before.place (λ none. some (ap (λ (owed : Owed). owed.bytes) same ∙ none)))) }

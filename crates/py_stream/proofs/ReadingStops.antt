@@ -39,18 +39,18 @@ some_lines : (part : List ℕ) → part ≢ [] → lines_of part ≢ []
 some_lines part some none = some (sym (joined_lines part) ∙ ap joined none)
 
 -- a short answer is never none
-short_part : (call : FileCall) (part : List ℕ) (short : Bool) → reads_on call ≡ true → (IsTrue short → part ≢ []) → IsShort call (reply_by call part) short
+pub short_part : (call : FileCall) (part : List ℕ) (short : Bool) → reads_on call ≡ true → (IsTrue short → part ≢ []) → IsShort call (reply_by call part) short
 short_part call part short on some = grind (arith, some_lines)
 
 -- a reading that goes on moves the place by as many bytes as it gives
-part_moves : (buffer : Option ℕ) (call : FileCall) (part : List ℕ) (current : Life) (before after : ℕ) → reads_on call ≡ true → after ≡ before + length part → PlaceMoves buffer call (reply_by call part) current before after
+pub part_moves : (buffer : Option ℕ) (call : FileCall) (part : List ℕ) (current : Life) (before after : ℕ) → reads_on call ≡ true → after ≡ before + length part → PlaceMoves buffer call (reply_by call part) current before after
 part_moves buffer call part current before after on is = grind (arith, joined_lines)
 
 taken_within : (size : ℕ) (part : List ℕ) → take size part ≡ part → length part ≤ size
 taken_within size part alone = omega (arith, ap length alone, length-take size part)
 
 -- no more is given than is asked for
-part_within : (size : ℕ) (call : FileCall) (part : List ℕ) → reads_on call ≡ true → wanted_by call part ≡ part → GivesWithin size call (reply_by call part)
+pub part_within : (size : ℕ) (call : FileCall) (part : List ℕ) → reads_on call ≡ true → wanted_by call part ≡ part → GivesWithin size call (reply_by call part)
 part_within size call part on alone = grind (arith, taken_within, joined_lines, lines_left, cut_again)
 
 -- a wait allows a front of what is wanted
@@ -58,7 +58,7 @@ part_waited : (file : FlatFile) (call : FileCall) (part : List ℕ) (after : Fla
 part_waited file call part after on gives_part = grind arith
 
 -- the exact answer
-carried : (buffer : Option ℕ) (file : FlatFile) (call : FileCall) (part : List ℕ) (after : FlatFile) → file.buffering ≡ buffering_of buffer → by_several buffer call ≡ true → wanted_by call (rest file) ≡ part → after ≡ after_read file (length part) → Accepted file call (reply_by call part) after
+pub carried : (buffer : Option ℕ) (file : FlatFile) (call : FileCall) (part : List ℕ) (after : FlatFile) → file.buffering ≡ buffering_of buffer → by_several buffer call ≡ true → wanted_by call (rest file) ≡ part → after ≡ after_read file (length part) → Accepted file call (reply_by call part) after
 carried buffer file (ReadLines hint) part after buffered several exact is =
     ap (λ (left : FlatFile). (Lines (lines_of part), left)) is
     ∙ ap (λ (bytes : List ℕ). (Lines (lines_of part), after_read file (length bytes))) (sym exact)

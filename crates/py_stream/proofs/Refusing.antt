@@ -30,7 +30,7 @@ place_stays buffer call why current place own = grind arith
 never_short : (call : FileCall) (why : IoFault) → is_own why ≡ true → IsShort call (Refused why) false
 never_short call why own = grind arith
 
-gives_nothing : (size : ℕ) (call : FileCall) (why : IoFault) → GivesWithin size call (Refused why)
+pub gives_nothing : (size : ℕ) (call : FileCall) (why : IoFault) → GivesWithin size call (Refused why)
 gives_nothing size call why = grind arith
 
 no_fault : (why : IoFault) → is_own why ≡ true → says_fault (Refused why) ≡ false

@@ -1,6 +1,6 @@
 -- The answers of `flush` and `close` of a stream with a buffer that writes.
 use Rattle.py_stream.specs.Keeping.{IsSound, KeepsOn}
-use Rattle.std.proofs.Common.{◌≡◌, ℕ, ◌≤◌, IsTrue, Bool, true, false, [], length, Option, Result, Ok, Err, IfOk, refl, sym, ap, ◌∙◌, subst, arith, zero-le, rules}
+use Rattle.std.proofs.Common.{◌≡◌, ℕ, ◌≤◌, IsTrue, Bool, true, false, [], Option, Result, Ok, Err, IfOk, refl, sym, ap, ◌∙◌, subst, arith, zero-le, rules}
 use Rattle.py_flat.specs.declared.fault.IoFault.{IoFault}
 use Rattle.py_flat.specs.declared.fault.IoFault.TheVariants as fault
 use Rattle.py_flat.specs.declared.life.Life.{Life}
@@ -79,7 +79,7 @@ closing_refuses : (old new : Stream) (why : IoFault) → IsWriting old → Closi
 closing_refuses old new (fault.WouldBlock taken) is waits = waits_refuse old new Close is.size taken (close_asked old is.sound is.live is.whole) is.buffered is.writes (λ has. has.of) waits
 closing_refuses old new fault.RawFault is fails =
     subst (λ (after : Stream). Answers old Close (Refused fault.RawFault) after) (sym fails.2)
-    (failing_answers old fails.0 Close life.Closed (close_asked old is.sound is.live is.whole).asked (beside_writing old Close (Refused fault.RawFault) (record fails.0 { life = life.Closed }) is.writes (λ has. has.of)) fault_closes fails.1.0 fails.1.2 fails.1.3 (λ none. absurd (omega (arith, fails.1.4, ap length none))))
+    (failing_answers old fails.0 Close life.Closed (close_asked old is.sound is.live is.whole).asked (beside_writing old Close (Refused fault.RawFault) (record fails.0 { life = life.Closed }) is.writes (λ has. has.of)) fault_closes fails.1.0 fails.1.2 fails.1.3 (λ parts none. absurd (cc (parts, fails.1.4 none))))
 closing_refuses old new fault.NoMemory is lacks = lacks_refuse old new Close (close_asked old is.sound is.live is.whole).asked is.writes (λ has. has.of) lacks
 closing_refuses old new why is never = absurd never
 

@@ -78,7 +78,7 @@ buffer_of : (size : ℕ) (bytes : List ℕ) → 0 < size → take size bytes ≡
 buffer_of size bytes some = grind arith
 
 -- the flat file gives a first part by one transfer
-once_carried : (buffer : Option ℕ) (file : FlatFile) (call : FileCall) (part : List ℕ) (after : FlatFile) → reads_once buffer call ≡ true → ((size : ℕ) → buffer ≡ Some size → 0 < size) → IsPartOf part (take (asks_for (unwrap_or buffer 0) call) (rest file)) → after ≡ after_read (record file { buffering = buffering_of buffer }) (moves_by call (length part)) → Accepted (record file { buffering = buffering_of buffer }) call (Bytes part) after
+pub once_carried : (buffer : Option ℕ) (file : FlatFile) (call : FileCall) (part : List ℕ) (after : FlatFile) → reads_once buffer call ≡ true → ((size : ℕ) → buffer ≡ Some size → 0 < size) → IsPartOf part (take (asks_for (unwrap_or buffer 0) call) (rest file)) → after ≡ after_read (record file { buffering = buffering_of buffer }) (moves_by call (length part)) → Accepted (record file { buffering = buffering_of buffer }) call (Bytes part) after
 once_carried buffer file call part after once some is leaves = grind (arith, buffer_of)
 
 -- some first part of what is asked was given: nothing only where nothing is asked or left

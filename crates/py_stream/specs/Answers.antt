@@ -32,10 +32,13 @@ pub record Leaves (before : Stream) (expected reply : FileReply) (after : Stream
   pub says : reply ≡ expected
   pub same : after ≡ record before { short = false }
 
--- a stream with a buffer that reads and writes moves its raw back to the place before it closes it: where that fails, it is closed,
--- and its raw isn't asked to close
+-- a stream with a buffer that reads and writes has to move its raw back to its place, once all is passed on
+abbrev pub moves_back : Stream → Bool
+moves_back stream = is_some stream.buffer && (stream.can.readable && stream.can.writable)
+
+-- a stream that has to move its raw back does so before it closes it: where that fails, it is closed, and its raw isn't asked to close
 abbrev pub parts_at_close : Stream → FileCall → FileReply → Bool
-parts_at_close stream Close (Refused fault.RawFault) = is_some stream.buffer && (stream.can.readable && stream.can.writable)
+parts_at_close stream Close (Refused fault.RawFault) = moves_back stream
 parts_at_close stream call reply = false
 
 -- a raw is closed where its stream is, and only there
@@ -240,12 +243,17 @@ SeeksByEnd before call reply after = Unit {0}
 abbrev pub WantsMemory : Bool → FileReply → Raw → Type 0
 WantsMemory room reply raw = IsTrue (says_no_memory reply) → IsTrue room → IsTrue raw.takes_memory
 
--- running out of memory leaves a reading that goes on as it was, or fails it; where nothing was owed it leaves the raw too, and fails the
--- stream only where bytes left the raw in this call
+-- a reading goes on from the bytes held: nothing is owed, and of a stream that also writes the raw stands after them
+pub record IsAhead (stream : Stream) : Type 0 where
+  pub none : stream.owed.bytes ≡ []
+  pub stands : stream.can.writable ≡ true → stream.raw_place ≡ stream.held.to
+
+-- running out of memory leaves a reading that goes on as it was, the raw too, or fails it, and that only where bytes left the raw in this
+-- call
 pub record Starves (before after : Stream) : Type 0 where
-  pub unmoved : after.life ≡ life.Live → before.owed.bytes ≡ [] → after ≡ record before { short = false }
-  pub moved : after.life ≡ life.Failed → before.owed.bytes ≡ [] → before.raw_place < after.raw_place
-  pub stands : after.life ≡ life.Failed → before.owed.bytes ≡ [] → WherePlace before.raw (before.raw.place < after.raw.place)
+  pub unmoved : after.life ≡ life.Live → after ≡ record before { short = false }
+  pub moved : after.life ≡ life.Failed → before.raw_place < after.raw_place
+  pub stands : after.life ≡ life.Failed → WherePlace before.raw (before.raw.place < after.raw.place)
 
 -- where the space is taken first, the call's own running out of memory leaves all as it was
 abbrev pub StarvesFirst : Stream → FileCall → FileReply → Stream → Type 0
@@ -376,8 +384,8 @@ pub record AnswersWith (room : FileCall → Bool) (before : Stream) (call : File
   pub ends : SeeksByEnd before call reply after
   -- a call that has its room wants memory only where its raw takes some
   pub wants : WantsMemory (room call) reply before.raw
-  -- running out of memory leaves a reading that goes on as it was, or fails it once bytes left the raw
-  pub starves : IsTrue (says_no_memory reply) → IsTrue (reads_on call) → Starves before after
+  -- running out of memory leaves a reading that goes on from the bytes held as it was, or fails it once bytes left the raw
+  pub starves : IsTrue (says_no_memory reply) → IsTrue (reads_on call) → IsAhead before → Starves before after
   -- a call that takes its space first leaves all as it was where there is none
   pub first : StarvesFirst before call reply after
   -- calls that ask no raw leave the raw as it was, and answer no fault
@@ -386,14 +394,14 @@ pub record AnswersWith (room : FileCall → Bool) (before : Stream) (call : File
   pub idle : IsTrue (calls_none before.buffer before.can.writable call) → IsIdle before reply after
   -- calls that make at most one transfer, where nothing was owed
   pub single : IsTrue (profile before.buffer call).one → before.owed.bytes ≡ [] → AtMostOne before after
-  -- a reading, where nothing was owed, moves the raw by as many bytes as its reads bring, and meets the end once at most
-  pub brings : IsTrue (is_reading call) → before.owed.bytes ≡ [] → CameByReads 1 before after
+  -- a reading that goes on from the bytes held moves the raw by as many bytes as its reads bring, and meets the end once at most
+  pub brings : IsTrue (is_reading call) → IsAhead before → CameByReads 1 before after
   -- a call that gives no bytes reads none from the raw
   pub unread : is_reading call ≡ false → KeepsReads before.raw after.raw
   -- what the bytes held answer by themselves asks the raw for nothing
   pub in_hand : InHand before call → AsksNothing before reply after
-  -- a reading that goes on asks for no more than it answers with
-  pub needs : IsTrue (by_several before.buffer call) → before.owed.bytes ≡ [] → AsksNoMore before call reply after
+  -- a reading that goes on from the bytes held asks for no more than it answers with
+  pub needs : IsTrue (by_several before.buffer call) → IsAhead before → AsksNoMore before call reply after
   -- a stream that doesn't write leaves the raw's bytes, and owes nothing; only its readings and seeks move the raw
   pub spares : before.can.writable ≡ false → before.owed ≡ nothing_owed before.place → SparesBytes before call after
   -- what a stream that writes does with the bytes that it took

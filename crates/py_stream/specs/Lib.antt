@@ -18,3 +18,4 @@ pub mod Moving
 pub mod Ending
 pub mod Buffer
 pub mod Laws
+pub mod Held

@@ -1,13 +1,13 @@
 -- How a call begins; a place moved by an offset, or by lines; and the steps of moving a stream.
-use Rattle.std.specs.Prelude.{◌≡◌, ℕ, ◌+◌, ◌<◌, ◌≤◌, max, nat_eq, ℤ, pos, suc, zero, Bool, true, false, ◌&&◌, IsTrue, length, Option, Some, None, IsSome, is_some, Result, Ok, Err, if◌then◌else◌}
+use Rattle.std.specs.Prelude.{◌≡◌, ◌≢◌, ℕ, ◌+◌, ◌<◌, ◌≤◌, max, nat_eq, ℤ, pos, suc, zero, Bool, true, false, ◌&&◌, IsTrue, length, Option, Some, None, IsSome, is_some, Result, Ok, Err, if◌then◌else◌}
 use Rattle.py_flat.specs.declared.fault.IoFault.{IoFault}
 use Rattle.py_flat.specs.declared.fault.IoFault.TheVariants as fault
 use Rattle.py_flat.specs.declared.life.Life.TheVariants as life
 use Rattle.py_flat.specs.Causes.{Rose}
 use Rattle.py_flat.specs.Owed.{Owed}
-use Rattle.py_raw.specs.RawStream.{WhereBytes, KeepsBytes, NoWait, LeavesCounts, AnswersFor}
+use Rattle.py_raw.specs.RawStream.{WhereBytes, WhereTransfers, KeepsBytes, NoWait, LeavesCounts, AnswersFor}
 use Rattle.py_stream.specs.Stream.{Span, Stream, nothing_owed}
-use Rattle.py_stream.specs.Keeping.{KeepsOn}
+use Rattle.py_stream.specs.Keeping.{IsSound, KeepsOn}
 use Rattle.py_flat.specs.Limits.{greatest_place}
 use Rattle.py_flat.specs.Refusals.{life_fault, moved_by, target_refusal}
 use Rattle.py_stream.specs.Settling.{SettleOutcome}
@@ -33,9 +33,9 @@ EndsWithin end None = greatest_place < end
 abbrev pub keeps_pending : Stream → Bool
 keeps_pending stream = stream.can.writable && is_some stream.buffer
 
--- what is owed, by that: a stream that may keep bytes doesn't read, and another owes nothing
+-- what is owed, by that: a stream that keeps no bytes owes nothing
 abbrev pub OwesBy : Bool → Stream → Type 0
-OwesBy true stream = stream.can.readable ≡ false
+OwesBy true stream = Unit {0}
 OwesBy false stream = stream.owed ≡ nothing_owed stream.place
 
 -- all that is owed is passed on before a stream is moved; one that keeps no bytes is left as it is
@@ -57,6 +57,19 @@ pub record StandsAsBefore (old new : Stream) : Type 0 where
   pub owed : new.owed ≡ old.owed
   pub held : new.held ≡ old.held
 
+-- the raw was moved to a place, or stood there, and the stream is as it was
+pub record MovesRaw (old : Stream) (place : ℕ) (new : Stream) : Type 0 where
+  pub kept : KeepsOn old new
+  pub counts : LeavesCounts old.raw new.raw
+  pub bytes : KeepsBytes old.raw new.raw
+  pub answered : AnswersFor 0 old.raw new.raw
+  pub transfers : WhereTransfers old.raw (new.raw.transfers ≤ old.raw.transfers)
+  pub life_is : new.life ≡ old.life
+  pub place_is : new.place ≡ old.place
+  pub raw_place : new.raw_place ≡ place
+  pub owed : new.owed ≡ old.owed
+  pub held : new.held ≡ old.held
+
 -- the raw was asked where it ends: the stream is as it was, but for the raw's counts
 pub record AsksEnd (old : Stream) (end : ℕ) (new : Stream) : Type 0 where
   pub stands : StandsAsBefore old new
@@ -71,6 +84,13 @@ pub record FailsMoving (old new : Stream) : Type 0 where
   pub cause : Rose old.raw.faults new.raw.faults
   pub no_wait : NoWait old.raw new.raw
   pub failed : new.life ≡ life.Failed
+
+-- the raw is to stand at a place: it does, or it failed when it had to be moved, or wanted memory
+abbrev pub MoveRawOutcome : Stream → ℕ → Result (Unit {0}) IoFault → Stream → Type 0
+MoveRawOutcome old place (Ok done) new = MovesRaw old place new
+MoveRawOutcome old place (Err fault.RawFault) new = FailsMoving old new × (old.raw_place ≢ place) × WhereTransfers old.raw (new.raw.transfers ≤ old.raw.transfers)
+MoveRawOutcome old place (Err fault.NoMemory) new = IsTrue old.raw.takes_memory × (new ≡ old)
+MoveRawOutcome old place (Err other) new = ⊥
 
 -- the raw was asked where it ends: it answered, failed, or wanted memory
 abbrev pub EndOutcome : Stream → Result ℕ IoFault → Stream → Type 0
@@ -100,7 +120,16 @@ TargetOutcome old offset whence result new = (result ≡ Err fault.BadWhence) ×
 abbrev pub IsHeld : Span → ℕ → Type 0
 IsHeld held target = (held.from ≤ target) × (target ≤ held.to)
 
--- the stream stands at the target, with nothing owed; one that reads doesn't move its raw for a target among the bytes held
+-- what is owed of a stream that is moved to a target: where that is nothing, its place is the target
+abbrev pub owed_at : ℕ → Owed → Owed
+owed_at target owed = if nat_eq (length owed.bytes) 0 then nothing_owed target else owed
+
+-- a stream goes to a target among the bytes held, if it reads, and keeps what it owes; or it stays, where the target isn't among them
+abbrev pub StepsTo : Stream → ℕ → Bool → Stream → Type 0
+StepsTo old target true new = (old.can.readable ≡ true) × IsSound new × (new ≡ record old { place = target; owed = owed_at target old.owed })
+StepsTo old target false new = (new ≡ old) × (old.can.readable ≡ true → IsSome old.buffer → IsHeld old.held target → ⊥)
+
+-- the stream stands at the target, with nothing owed
 pub record GoesTo (old : Stream) (target : ℕ) (new : Stream) : Type 0 where
   pub kept : KeepsOn old new
   pub counts : LeavesCounts old.raw new.raw
@@ -109,11 +138,10 @@ pub record GoesTo (old : Stream) (target : ℕ) (new : Stream) : Type 0 where
   pub live : new.life ≡ life.Live
   pub place : new.place ≡ target
   pub owed : new.owed ≡ nothing_owed target
-  pub still : old.can.readable ≡ true → IsSome old.buffer → IsHeld old.held target → new.raw ≡ old.raw
 
--- a stream is moved to a target: it stands there, or its raw failed, which none does that needn't be moved, or wanted memory
+-- a stream is moved to a target: it stands there, or its raw failed, or wanted memory
 abbrev pub GoOutcome : Stream → ℕ → Result (Unit {0}) IoFault → Stream → Type 0
 GoOutcome old target (Ok done) new = GoesTo old target new
-GoOutcome old target (Err fault.RawFault) new = FailsMoving old new × (old.can.readable ≡ true → IsSome old.buffer → IsHeld old.held target → ⊥)
+GoOutcome old target (Err fault.RawFault) new = FailsMoving old new
 GoOutcome old target (Err fault.NoMemory) new = IsTrue old.raw.takes_memory × (new ≡ old)
 GoOutcome old target (Err other) new = ⊥

@@ -63,11 +63,11 @@ first_of_both (byte ∷ more) start place = min start place
 abbrev pub first_place : Owed → ℕ → ℕ
 first_place owed place = first_of_both owed.bytes owed.place place
 
--- the place after the last of the bytes that were owed and of n that a write gives at a place: where what was owed ends for a write of
--- none
+-- the place after the last of the bytes that were owed and of n that a write gives at a place: for a write of none where what was owed
+-- ends, and that place where nothing was
 abbrev pub end_of_both : (owed : List ℕ) (start place count : ℕ) → ℕ
+end_of_both [] start place count = place + count
 end_of_both owed start place zero = start + length owed
-end_of_both [] start place (suc count) = place + suc count
 end_of_both owed start place (suc count) = max (start + length owed) (place + suc count)
 
 -- the place after the last of the bytes that were owed and of n that a write gives at a place
@@ -78,18 +78,32 @@ last_place owed place count = end_of_both owed.bytes owed.place place count
 abbrev pub HasAt : (whole : List ℕ) (begins : ℕ) (part : List ℕ) (place : ℕ) → Type 0
 HasAt whole begins part place = take (length part - (begins - place)) (drop (place - begins) whole) ≡ drop (begins - place) part
 
--- what is owed after a write that took n bytes, wherever its place lay: it begins no earlier than what was owed and what is new, and
--- ends where both end; it has the new bytes at their place, and before and after them what was owed. So it covers all of both that
--- isn't passed on
+-- bytes that are owed cover what was owed, at its place, and the new bytes that a write took, at the stream's: they begin no earlier than
+-- both, and end where both end; where a write of none was made behind that end they may reach on, up to its place. They have the new
+-- bytes at their place, and before and after them what was owed. So all of both that isn't passed on is among them
+pub record CoversBoth (was : Owed) (place : ℕ) (new : List ℕ) (owed : Owed) : Type 0 where
+  pub from : first_place was place ≤ owed.place
+  pub to : last_place was place (length new) ≤ owed.place + length owed.bytes
+  pub most : owed.place + length owed.bytes ≤ max (last_place was place (length new)) (place + length new)
+  pub new_bytes : HasAt owed.bytes owed.place new place
+  pub old_bytes : HasAt owed.bytes owed.place (take (place - was.place) was.bytes) was.place
+  pub behind : HasAt owed.bytes owed.place (drop (place + length new - was.place) was.bytes) (max was.place (place + length new))
+
+-- all that was owed is passed on, and of the new bytes that a write took a front: the rest is owed, up to the place
+pub record OwesNewAlone (before : Stream) (new : List ℕ) (after : Stream) : Type 0 where
+  pub passed : ℕ
+  pub most : passed ≤ length new
+  pub answered : AnswersFor (length before.owed.bytes + passed) before.raw after.raw
+  pub bytes : after.owed.bytes ≡ drop passed new
+  pub place : after.owed.place ≡ before.place + passed
+
+-- what is owed after a write that took n bytes, wherever its place lay: it covers what was owed and what is new, or all that was owed
+-- was passed on
 pub record OwesBoth (before : Stream) (bytes : List ℕ) (after : Stream) : Type 0 where
   pub taken : ℕ
   pub within : taken ≤ length bytes
   pub place : after.place ≡ before.place + taken
-  pub from : after.owed.bytes ≢ [] → first_place before.owed before.place ≤ after.owed.place
-  pub to : after.owed.bytes ≢ [] → after.owed.place + length after.owed.bytes ≡ last_place before.owed before.place taken
-  pub new : after.owed.bytes ≢ [] → HasAt after.owed.bytes after.owed.place (take taken bytes) before.place
-  pub old : after.owed.bytes ≢ [] → HasAt after.owed.bytes after.owed.place (take (before.place - before.owed.place) before.owed.bytes) before.owed.place
-  pub behind : after.owed.bytes ≢ [] → HasAt after.owed.bytes after.owed.place (drop (before.place + taken - before.owed.place) before.owed.bytes) (max before.owed.place (before.place + taken))
+  pub owes : after.owed.bytes ≢ [] → CoversBoth before.owed before.place (take taken bytes) after.owed ⊎ OwesNewAlone before (take taken bytes) after
 
 -- how many of the bytes that are owed lie before a place
 unfoldable pub owed_before : Owed → ℕ → ℕ
@@ -149,12 +163,13 @@ BlocksFull (WriteLines lines) (Refused (fault.WouldBlock taken)) after = length 
 BlocksFull call (Refused (fault.WouldBlock taken)) after = taken ≡ 0
 BlocksFull call reply after = Unit {0}
 
--- what is owed is left of what was owed. Once the place moved nothing is; and where what was owed ended at the place, the place is
--- where the raw had come to
+-- what is owed is left of what was owed. Once the place moved nothing is, and the place is where the raw had come to; so it is, with
+-- nothing owed, where the raw stood where what was owed up to the place began
 pub record OwesOld (before after : Stream) : Type 0 where
   pub rest : OwesRest before.owed after.owed
-  pub stands : OwesUpTo before.owed before.place → after.owed.bytes ≡ [] → after.raw_place ≡ after.place
+  pub stands : OwesBehind before → after.owed.bytes ≡ [] → after.raw_place ≡ after.place
   pub moved : after.place ≢ before.place → after.owed.bytes ≡ []
+  pub came : after.place ≢ before.place → after.raw_place ≡ after.place
 
 -- a `write` that failed the stream owes none of its own bytes: those that went straight to the raw aren't kept
 abbrev pub OwesNoneOfIts : Stream → FileCall → FileReply → Stream → Type 0

@@ -1,5 +1,5 @@
 //! Where a stream stands, moving it, and giving its bytes a size, of any stream over a raw.
-ghost use Rattle.std.specs.Prelude.{◌≡◌, ◌≤◌, true, false, []};
+ghost use Rattle.std.specs.Prelude.{◌≡◌, ◌≤◌, true, false, [], IfOk};
 ghost use Rattle.py_flat.specs.declared.life.Life.TheVariants.{Live};
 ghost use Rattle.py_flat.specs.Limits.{greatest_place};
 ghost use Rattle.py_flat.specs.Calls.{FileCall, Seek, Tell, Truncate, Refused};
@@ -8,7 +8,7 @@ ghost use Rattle.py_stream.specs.Keeping.{IsSound};
 ghost use Rattle.py_stream.specs.Access.{can_of};
 ghost use Rattle.py_stream.specs.Answers.{Answers, RefusesAlone};
 ghost use Rattle.py_stream.specs.Replies.{place_reply};
-ghost use Rattle.py_stream.specs.Moving.{Begins, keeps_pending, OwesBy, SettlesBy, TargetOutcome, EndOutcome, GoOutcome};
+ghost use Rattle.py_stream.specs.Moving.{Begins, keeps_pending, OwesBy, SettlesBy, TargetOutcome, EndOutcome, StepsTo, GoOutcome};
 ghost use Rattle.py_stream.specs.Sizing.{ResizeOutcome};
 
 use crate::{LiveRaw, moved_by};
@@ -21,6 +21,9 @@ pub trait Moves {
 
     /// What the stream is seen as.
     ghost shows: { Self → Stream };
+
+    /// What holds of a stream that is settled.
+    ghost rests: { Self → Type 0 };
 
     /// Begins a call: the life refuses it, or it may go on. No answer is short yet, and nothing else changes.
     fn begin_call(&mut self) -> Result<(), IoFault>
@@ -50,6 +53,20 @@ pub trait Moves {
         requires whole { (shows self.old).short ≡ false }
         ensures { SettlesBy (keeps_pending (shows self.old)) (shows self.old) result (shows self.new) };
 
+    /// Passes on all that is owed, and keeps the place, as `pass_on` does; of a stream that reads too, the raw then stands at the place,
+    /// and nothing is held.
+    fn settle(&mut self) -> Result<(), IoFault>
+        requires live { (shows self.old).life ≡ Live }
+        requires whole { (shows self.old).short ≡ false }
+        ensures settles { SettlesBy (keeps_pending (shows self.old)) (shows self.old) result (shows self.new) }
+        ensures rests { IfOk result (λ done. rests self.new) };
+
+    /// Moves to a place, in bytes from the start of the file, without a call of the raw, where the stream is read and holds bytes so far;
+    /// else it stays, and answers false.
+    fn step_to(&mut self, target: u64) -> bool
+        requires live { (shows self.old).life ≡ Live }
+        ensures { StepsTo (shows self.old) target result (shows self.new) };
+
     /// Moves to a place, in bytes from the start of the file, where nothing is owed. `RawFault` fails the stream; `NoMemory` leaves all as
     /// it was.
     fn go_to(&mut self, target: u64) -> Result<(), IoFault>
@@ -65,6 +82,7 @@ pub trait Moves {
         requires live { (shows self.old).life ≡ Live }
         requires writes { (shows self.old).can.writable ≡ true }
         requires none { (shows self.old).owed.bytes ≡ [] }
+        requires rests { rests self.old }
         requires within { size ≤ greatest_place }
         ensures { ResizeOutcome (shows self.old) size result (shows self.new) };
 }
@@ -87,7 +105,8 @@ fn target<S: Moves>(stream: &mut S, offset: i64, whence: i32) -> Result<u64, IoF
     }
 }
 
-/// Moves a stream by an offset from the start (0), the place (1) or the end (2), once nothing is owed, and answers the new place.
+/// Moves a stream by an offset from the start (0), the place (1) or the end (2), and answers the new place: among the bytes held, where it
+/// is read and they go so far; else once nothing is owed.
 pub fn seek<S: Moves>(stream: &mut S, offset: i64, whence: i32) -> Result<u64, IoFault>
     ensures { Answers (S.shows stream.old) (Seek offset whence) (place_reply result) (S.shows stream.new) }
 {
@@ -96,6 +115,9 @@ pub fn seek<S: Moves>(stream: &mut S, offset: i64, whence: i32) -> Result<u64, I
         return Err(IoFault::Unsupported);
     }
     let target = target(stream, offset, whence)?;
+    if stream.step_to(target) {
+        return Ok(target);
+    }
     stream.pass_on()?;
     stream.go_to(target)?;
     Ok(target)
@@ -130,7 +152,7 @@ pub fn truncate<S: Moves>(stream: &mut S, size: Option<u64>) -> Result<u64, IoFa
     if size > GREATEST_PLACE {
         return Err(IoFault::TooFar);
     }
-    stream.pass_on()?;
+    stream.settle()?;
     stream.resize(size)?;
     Ok(size)
 }

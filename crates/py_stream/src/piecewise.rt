@@ -22,10 +22,14 @@ pub trait TakesPieces {
     /// When a call that gives bytes may begin.
     ghost may_begin: { Self → Type 0 };
 
+    /// What holds of a stream while it takes the pieces of a call.
+    ghost takes: { Self → Type 0 };
+
     /// Begins a call that gives bytes, or refuses it, with all as it was. No answer is short yet.
     fn begin_writing(&mut self) -> Result<(), IoFault>
         requires may { may_begin self.old }
-        ensures { BeginsWriting (shows self.old) result (shows self.new) };
+        ensures begins { BeginsWriting (shows self.old) result (shows self.new) }
+        ensures takes { IfOk result (λ done. takes self.new) };
 
     /// The stream's place, in bytes from the start of the file; pending writes count.
     fn next_place(&self) -> u64
@@ -38,16 +42,17 @@ pub trait TakesPieces {
     /// Takes a piece for a call that began at a place; false where the raw would have blocked, and some of it is left over.
     fn take_piece(&mut self, piece: &[u8], start: u64) -> Result<bool, IoFault>
         requires live { (shows self.old).life ≡ Live }
-        requires writes { (shows self.old).can.writable ≡ true }
+        requires takes { takes self.old }
         requires start { start ≤ (shows self.old).place }
         requires within { (shows self.old).place + length piece.now ≤ greatest_place }
-        ensures { PutsOutcome (shows self.old) piece.now start result (shows self.new) };
+        ensures outcome { PutsOutcome (shows self.old) piece.now start result (shows self.new) }
+        ensures takes { takes self.new };
 }
 
 /// Takes each line, for a call that begins here; false where some of them are left over.
 fn take_lines<S: TakesPieces>(stream: &mut S, lines: &Lines, start: u64) -> Result<bool, IoFault>
     requires live { (S.shows stream.old).life ≡ Live }
-    requires writes { (S.shows stream.old).can.writable ≡ true }
+    requires takes { S.takes stream.old }
     requires sound { IsSound (S.shows stream.old) }
     requires behind { OwesBehind (S.shows stream.old) }
     requires start { start ≡ (S.shows stream.old).place }

@@ -1,5 +1,5 @@
 //! Readings that go on until they have all that is wanted, of any stream that can go on so.
-ghost use Rattle.std.specs.Prelude.{◌≡◌, ◌≢◌, ◌+◌, ◌^◌, ◌<◌, ◌≤◌, ℕ, List, Bool, [], true, false, None, IfOk, IfSome, OnOk, ◌++◌, length, take, drop, replicate, vec_len};
+ghost use Rattle.std.specs.Prelude.{◌≡◌, ◌≢◌, ◌+◌, ◌^◌, ◌<◌, ◌≤◌, ℕ, List, [], false, None, IfOk, IfSome, OnOk, ◌++◌, length, take, drop, replicate, vec_len};
 ghost use Rattle.py_flat.specs.declared.life.Life.TheVariants.{Live};
 ghost use Rattle.py_flat.specs.Calls.{Read, ReadLine, ReadLines};
 ghost use Rattle.py_stream.specs.Stream.{Stream};
@@ -26,8 +26,8 @@ pub trait ReadsOn {
     /// What the stream is seen as.
     ghost shows: { Self → Stream };
 
-    /// Whether the stream is opened to be read.
-    ghost reads: { Self → Bool };
+    /// What holds of a stream that reads on from the bytes that it holds.
+    ghost reads: { Self → Type 0 };
 
     /// When a reading may begin.
     ghost may_begin: { Self → Type 0 };
@@ -36,58 +36,62 @@ pub trait ReadsOn {
     fn begin_reading(&mut self) -> Result<(), IoFault>
         requires may { may_begin self.old }
         ensures begins { BeginsReading (shows self.old) result (shows self.new) }
-        ensures reads { IfOk result (λ done. reads self.new ≡ true) };
+        ensures reads { IfOk result (λ done. reads self.new) }
+        ensures kept { reads self.old → reads self.new };
 
     /// Reads on until the collector has enough.
     fn gather<C: Collector>(&mut self, collector: &mut C) -> Result<Stop, IoFault>
         requires live { (shows self.old).life ≡ Live }
-        requires reads { reads self.old ≡ true }
+        requires reads { reads self.old }
         requires none { C.collected collector.old ≡ [] }
         requires open { C.is_open collector.old }
         requires ends { C.wanted collector.old [] ≡ [] }
         requires asks { (more : List ℕ) → more ≢ [] → C.wanted collector.old more ≢ [] }
-        ensures { GatherOutcome (C.wanted collector.old) (shows self.old) result (C.collected collector.new) (shows self.new) };
+        ensures outcome { GatherOutcome (C.wanted collector.old) (shows self.old) result (C.collected collector.new) (shows self.new) }
+        ensures reads { reads self.new };
 
     /// How many bytes a reading of all asks for at first, by the raw's guess of its end: more than are held. `None` without a guess.
     fn guessed_more(&self) -> Option<usize>
         requires live { (shows self.now).life ≡ Live }
-        requires reads { reads self.now ≡ true }
+        requires reads { reads self.now }
         ensures { IfSome result (λ more. (shows self.now).raw_place < (shows self.now).place + more) };
 
     /// How many bytes a reading of all asks for at first where its raw has no guess, or there is no memory for so many: more than are
     /// held, so that bytes leave the raw before space is wanted again.
     fn first_more(&self) -> usize
         requires live { (shows self.now).life ≡ Live }
-        requires reads { reads self.now ≡ true }
+        requires reads { reads self.now }
         ensures { (shows self.now).raw_place < (shows self.now).place + result };
 
     /// Copies the front of what is held into the front of a buffer. Where that fills it, the place moves past these bytes.
     fn read_held(&mut self, buffer: &mut [u8]) -> Step
         requires live { (shows self.old).life ≡ Live }
-        requires reads { reads self.old ≡ true }
+        requires reads { reads self.old }
         ensures outcome { HeldOutcome (shows self.old) result buffer.new (shows self.new) }
         ensures length { length buffer.new ≡ length buffer.old }
-        ensures reads { reads self.new ≡ true };
+        ensures reads { reads self.new };
 
     /// One transfer for what is left of a buffer, after the bytes held, which were all taken. `moved` tells whether bytes had
     /// moved in this call.
     fn read_on(&mut self, rest: &mut [u8], moved: bool) -> Result<Step, IoFault>
         requires live { (shows self.old).life ≡ Live }
-        requires reads { reads self.old ≡ true }
+        requires reads { reads self.old }
         requires asks { 0 < length rest.old }
         ensures outcome { StepOutcome (shows self.old) moved result rest.new (shows self.new) }
         ensures length { length rest.new ≡ length rest.old }
-        ensures reads { IfOk result (λ step. reads self.new ≡ true) };
+        ensures reads { reads self.new };
 
     /// Memory was wanting: the stream fails where bytes had moved in this call.
     fn starve(&mut self, moved: bool) -> IoFault
         ensures fault { result ≡ IoFault.NoMemory }
-        ensures stream { shows self.new ≡ record (shows self.old) { life = starved moved (shows self.old).life } };
+        ensures stream { shows self.new ≡ record (shows self.old) { life = starved moved (shows self.old).life } }
+        ensures reads { reads self.old → reads self.new };
 
     /// Whether a reading has an answer: none where the raw would have blocked before anything came. A wait is remembered.
     fn answers(&mut self, stop: Stop, empty: bool) -> bool
         ensures answer { result ≡ has_answer stop empty }
-        ensures stream { shows self.new ≡ answered_at stop (shows self.old) };
+        ensures stream { shows self.new ≡ answered_at stop (shows self.old) }
+        ensures reads { reads self.old → reads self.new };
 }
 
 /// Reads into a buffer until it is full. `moved` tells whether bytes had moved in this call.
@@ -97,10 +101,10 @@ pub fn read_into<S: ReadsOn>(
     moved: bool,
 ) -> Result<Progress, IoFault>
     requires may { MayRead (S.shows stream.old) }
-    requires reads { S.reads stream.old ≡ true }
+    requires reads { S.reads stream.old }
     ensures outcome { ReadIntoOutcome (S.shows stream.old) moved result buffer.new (S.shows stream.new) }
     ensures length { length buffer.new ≡ length buffer.old }
-    ensures reads { IfOk result (λ progress. S.reads stream.new ≡ true) }
+    ensures reads { S.reads stream.new }
 {
     let mut count = match stream.read_held(buffer) {
         Step::On(held) => held,
@@ -131,12 +135,12 @@ fn read_behind<S: ReadsOn>(
     moved: bool,
 ) -> Result<Progress, IoFault>
     requires may { MayRead (S.shows stream.old) }
-    requires reads { S.reads stream.old ≡ true }
+    requires reads { S.reads stream.old }
     requires within { start ≤ length buffer.old }
     ensures outcome { ReadIntoOutcome (S.shows stream.old) moved result (drop start buffer.new) (S.shows stream.new) }
     ensures front { take start buffer.new ≡ take start buffer.old }
     ensures length { length buffer.new ≡ length buffer.old }
-    ensures reads { IfOk result (λ progress. S.reads stream.new ≡ true) }
+    ensures reads { S.reads stream.new }
 {
     read_into(stream, &mut buffer[start..], moved)
 }
@@ -163,10 +167,10 @@ fn read_more<S: ReadsOn>(
     moved: bool,
 ) -> Result<Stop, IoFault>
     requires may { MayRead (S.shows stream.old) }
-    requires reads { S.reads stream.old ≡ true }
+    requires reads { S.reads stream.old }
     requires fits { vec_len bytes.old + more < 2 ^ 64 }
     ensures outcome { ReadMoreOutcome (S.shows stream.old) moved bytes.old.items more result bytes.new.items (S.shows stream.new) }
-    ensures reads { IfOk result (λ stop. S.reads stream.new ≡ true) }
+    ensures reads { S.reads stream.new }
 {
     let length = bytes.len();
     if append_zeros(bytes, more).is_err() {
@@ -181,7 +185,7 @@ fn read_more<S: ReadsOn>(
 /// nothing yet is given the space.
 fn first_space<S: ReadsOn>(stream: &S, bytes: &mut Vec<u8>) -> usize
     requires live { (S.shows stream.now).life ≡ Live }
-    requires reads { S.reads stream.now ≡ true }
+    requires reads { S.reads stream.now }
     ensures past { (S.shows stream.now).raw_place < (S.shows stream.now).place + result }
     ensures bytes { bytes.new.items ≡ bytes.old.items }
 {
@@ -197,9 +201,10 @@ fn first_space<S: ReadsOn>(stream: &S, bytes: &mut Vec<u8>) -> usize
 /// is met, and each piece by piece.
 fn read_all<S: ReadsOn>(stream: &mut S, bytes: &mut Vec<u8>) -> Result<Stop, IoFault>
     requires may { MayRead (S.shows stream.old) }
-    requires reads { S.reads stream.old ≡ true }
+    requires reads { S.reads stream.old }
     requires none { bytes.old.items ≡ [] }
-    ensures { RestOutcome (S.shows stream.old) result bytes.new.items (S.shows stream.new) }
+    ensures outcome { RestOutcome (S.shows stream.old) result bytes.new.items (S.shows stream.new) }
+    ensures reads { S.reads stream.new }
 {
     let piece = stream.first_more().max(PIECE);
     let mut wanted = first_space(stream, bytes);
@@ -223,7 +228,8 @@ fn read_all<S: ReadsOn>(stream: &mut S, bytes: &mut Vec<u8>) -> Result<Stop, IoF
 /// Reads all that is left.
 pub fn read_rest<S: ReadsOn>(stream: &mut S, alloc: Global) -> Result<Option<Vec<u8>>, IoFault>
     requires may { S.may_begin stream.old }
-    ensures { Answers (S.shows stream.old) (Read None) (bytes_reply result) (S.shows stream.new) }
+    ensures answers { Answers (S.shows stream.old) (Read None) (bytes_reply result) (S.shows stream.new) }
+    ensures reads { S.reads stream.old → S.reads stream.new }
 {
     stream.begin_reading()?;
     let mut bytes = Vec::new(alloc);
@@ -242,7 +248,8 @@ pub fn read_line<S: ReadsOn>(
     limit: Option<usize>,
 ) -> Result<Option<Vec<u8>>, IoFault>
     requires may { S.may_begin stream.old }
-    ensures { Answers (S.shows stream.old) (ReadLine limit) (bytes_reply result) (S.shows stream.new) }
+    ensures answers { Answers (S.shows stream.old) (ReadLine limit) (bytes_reply result) (S.shows stream.new) }
+    ensures reads { S.reads stream.old → S.reads stream.new }
 {
     stream.begin_reading()?;
     if limit == Some(0) {
@@ -265,7 +272,8 @@ pub fn read_lines<S: ReadsOn>(
     hint: Option<usize>,
 ) -> Result<Option<Lines>, IoFault>
     requires may { S.may_begin stream.old }
-    ensures { Answers (S.shows stream.old) (ReadLines hint) (lines_reply result) (S.shows stream.new) }
+    ensures answers { Answers (S.shows stream.old) (ReadLines hint) (lines_reply result) (S.shows stream.new) }
+    ensures reads { S.reads stream.old → S.reads stream.new }
 {
     stream.begin_reading()?;
     let mut collector = LinesCollector::new(alloc, hint);

@@ -27,7 +27,7 @@ may_write old started bytes began fits = record { writing = refl; sound = began.
 
 -- nothing was owed, and nothing is
 owes_old : (old now : EngineView) (short : Bool) → OwesOld (stream_of old) (stream_of (record now { short = short }))
-owes_old old now short = record { rest = record { passed = 0; bytes = refl; place = λ some. absurd (some refl) }; stands = λ _ _. refl; moved = λ _. refl }
+owes_old old now short = record { rest = record { passed = 0; bytes = refl; place = λ some. absurd (some refl) }; stands = λ _ _. refl; moved = λ _. refl; came = λ _. refl }
 
 -- the raw took some, or would have blocked
 pub write_answers : (old started now : EngineView) (bytes : List ℕ) (result : Option ℕ) (waits : Bool) → Writing old started → started.place + length bytes ≤ greatest_place → PutOutcome started false bytes (Ok result) now → is_some result ≡ not waits → Answers (stream_of old) (Write bytes) (taken_reply (Ok result)) (stream_of (record now { short = waits }))

@@ -4,7 +4,7 @@ ghost use Rattle.py_flat.specs.Calls.{Close};
 ghost use Rattle.py_stream.specs.Answers.{Answers};
 ghost use Rattle.py_stream.specs.Replies.{done_reply};
 ghost use Rattle.py_stream.specs.Ending.{CloseRawOutcome};
-ghost use Rattle.py_engine.specs.Window.{pending_of};
+ghost use Rattle.py_window.specs.Window.{pending_of};
 ghost use Rattle.py_engine.specs.Engine.{stream_of, Stands};
 ghost use Rattle.py_engine.specs.Passing.{PassesToClose, BeginsDetachIn};
 

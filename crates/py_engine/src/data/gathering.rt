@@ -1,23 +1,22 @@
 //! Readings that go on until a collector has enough, or all that is left has come.
 ghost use Rattle.std.specs.Prelude.{◌≡◌, true};
-ghost use Rattle.py_stream.specs.Access.{is_read};
 ghost use Rattle.py_stream.specs.Reading.{answered_at, has_answer, is_wait};
 ghost use Rattle.py_stream.specs.LiveRaw.{starved};
-ghost use Rattle.py_engine.specs.Reading.{reading_of, StarvesWith};
+ghost use Rattle.py_engine.specs.Reading.{reading_of, IsReading, StarvesWith};
 
 use super::BufferedData;
 use super::reading::step_by;
-use crate::window::Filled;
 use py_lines::{Collected, Collector};
 use py_raw::{IoFault, RawStream};
 use py_stream::{ReadsOn, Step, Stop};
+use py_window::Filled;
 
 impl<R: RawStream> ReadsOn for BufferedData<R> {
     ghost shows = { reading_of };
 
-    ghost reads = { λ engine. is_read engine.access };
+    ghost reads = { IsReading };
 
-    ghost may_begin = { λ engine. is_read engine.access ≡ true };
+    ghost may_begin = { IsReading };
 
     fn begin_reading(&mut self) -> Result<(), IoFault> {
         let _ = &self.live;

@@ -1,4 +1,6 @@
 //! Where the stream stands, moving it, and giving its bytes a size.
+ghost use Rattle.std.specs.Prelude.{◌≡◌, true, []};
+ghost use Rattle.py_stream.specs.Access.{is_written};
 ghost use Rattle.py_engine.specs.Engine.{stream_of};
 
 use super::BufferedData;
@@ -9,6 +11,8 @@ impl<R: RawStream> Moves for BufferedData<R> {
     type Raw = R;
 
     ghost shows = { stream_of };
+
+    ghost rests = { λ engine. is_written engine.access ≡ true → engine.window.held ≡ [] };
 
     fn begin_call(&mut self) -> Result<(), IoFault> {
         let _ = &self.live;
@@ -35,15 +39,27 @@ impl<R: RawStream> Moves for BufferedData<R> {
 
     fn pass_on(&mut self) -> Result<(), IoFault> {
         let _ = &self.live;
+        if !self.live.writes() {
+            return Ok(());
+        }
+        self.pass_pending()
+    }
+
+    fn settle(&mut self) -> Result<(), IoFault> {
+        let _ = &self.live;
         self.pass_all()
     }
 
-    /// Among the bytes held, where the stream is read and they go so far, by the cursor alone; else the raw is moved.
-    fn go_to(&mut self, target: u64) -> Result<(), IoFault> {
-        if self.live.reads() && self.window.covers(target) {
-            self.window.move_to(target);
-            return Ok(());
+    fn step_to(&mut self, target: u64) -> bool {
+        let _ = &self.live;
+        if !self.live.reads() || !self.window.covers(target) {
+            return false;
         }
+        self.window.move_to(target);
+        true
+    }
+
+    fn go_to(&mut self, target: u64) -> Result<(), IoFault> {
         self.live.seek(target)?;
         self.window.restart_at(target);
         self.raw_place = target;

@@ -1,19 +1,19 @@
 //! Readings that go on until they have all that is asked for, or all that is left.
-ghost use Rattle.std.specs.Prelude.{◌≡◌, ◌<◌, IfOk, length, take, drop, min, true};
+ghost use Rattle.std.specs.Prelude.{◌≡◌, ◌<◌, IfOk, IsTrue, length, take, drop, min, vec_len};
 ghost use Rattle.py_flat.specs.declared.life.Life.TheVariants.{Live};
 ghost use Rattle.py_flat.specs.Calls.{Read, ReadInto};
-ghost use Rattle.py_stream.specs.Access.{is_read};
 ghost use Rattle.py_stream.specs.Answers.{Answers};
-ghost use Rattle.py_engine.specs.Window.{ahead_of};
+ghost use Rattle.py_stream.specs.Kinds.{says_no_memory};
+ghost use Rattle.py_window.specs.Window.{ahead_of};
 ghost use Rattle.py_engine.specs.Engine.{Stands};
-ghost use Rattle.py_engine.specs.Reading.{reading_of, stepped};
+ghost use Rattle.py_engine.specs.Reading.{reading_of, IsReading, stepped};
 ghost use Rattle.py_stream.specs.ReadingOn.{StepOutcome};
 ghost use Rattle.py_stream.specs.Replies.{bytes_reply, into_reply, CountFits, KeepsBuffer};
 
 use super::BufferedData;
-use crate::window::Filled;
 use py_raw::{IoFault, RawStream};
 use py_stream::{ReadsOn, Step, Stop, read_into, read_rest};
+use py_window::Filled;
 use std::alloc::Global;
 
 /// The step that a transfer makes which brought n bytes of as many as were wanted.
@@ -39,9 +39,14 @@ pub(super) fn step_by(filled: Filled, count: usize, wanted: usize) -> Step
 
 impl<R: RawStream> BufferedData<R> {
     /// Reads n bytes, or all that are left.
-    pub fn read(&mut self, alloc: Global, size: Option<usize>) -> Result<Option<Vec<u8>>, IoFault>
-        requires reads { is_read self.old.access ≡ true }
-        ensures { Answers (reading_of self.old) (Read size) (bytes_reply result) (reading_of self.new) }
+    pub(super) fn read_ahead(
+        &mut self,
+        alloc: Global,
+        size: Option<usize>,
+    ) -> Result<Option<Vec<u8>>, IoFault>
+        requires reads { IsReading self.old }
+        ensures answers { Answers (reading_of self.old) (Read size) (bytes_reply result) (reading_of self.new) }
+        ensures reads { IsReading self.new }
     {
         match size {
             Some(size) => self.read_size(alloc, size),
@@ -50,9 +55,10 @@ impl<R: RawStream> BufferedData<R> {
     }
 
     /// Reads into a buffer until it is full.
-    pub fn readinto(&mut self, buffer: &mut [u8]) -> Result<Option<usize>, IoFault>
-        requires reads { is_read self.old.access ≡ true }
+    pub(super) fn readinto_ahead(&mut self, buffer: &mut [u8]) -> Result<Option<usize>, IoFault>
+        requires reads { IsReading self.old }
         ensures answers { Answers (reading_of self.old) (ReadInto (length buffer.old)) (into_reply result buffer.new) (reading_of self.new) }
+        ensures reads { IsReading self.new }
         ensures length { length buffer.new ≡ length buffer.old }
         ensures fits { CountFits result buffer.new }
         ensures refused { KeepsBuffer result buffer.old buffer.new }
@@ -69,15 +75,33 @@ impl<R: RawStream> BufferedData<R> {
 
     /// Reads n bytes into a vector, whose space is taken first.
     fn read_size(&mut self, alloc: Global, size: usize) -> Result<Option<Vec<u8>>, IoFault>
-        requires reads { is_read self.old.access ≡ true }
-        ensures { Answers (reading_of self.old) (Read (Some size)) (bytes_reply result) (reading_of self.new) }
+        requires reads { IsReading self.old }
+        ensures answers { Answers (reading_of self.old) (Read (Some size)) (bytes_reply result) (reading_of self.new) }
+        ensures reads { IsReading self.new }
     {
         let _ = &self.live;
         self.begin_reading()?;
-        let Ok(bytes) = vec![in alloc; 0u8; size] else {
+        let Ok(space) = vec![in alloc; 0u8; size] else {
             return Err(IoFault::NoMemory);
         };
-        let mut bytes = bytes;
+        self.read_space(space, size)
+    }
+
+    /// Reads n bytes into a vector that has as many.
+    pub(super) fn read_space(
+        &mut self,
+        space: Vec<u8>,
+        size: usize,
+    ) -> Result<Option<Vec<u8>>, IoFault>
+        requires reads { IsReading self.old }
+        requires many { vec_len space ≡ size }
+        ensures answers { Answers (reading_of self.old) (Read (Some size)) (bytes_reply result) (reading_of self.new) }
+        ensures reads { IsReading self.new }
+        ensures memory { IsTrue (says_no_memory (bytes_reply result)) → IsTrue self.old.raw.takes_memory }
+    {
+        let _ = &self.live;
+        self.begin_reading()?;
+        let mut bytes = space;
         let progress = read_into(self, &mut bytes, false)?;
         bytes.truncate(progress.count);
         if self.answers(progress.stop, progress.count == 0) {
@@ -104,11 +128,11 @@ impl<R: RawStream> BufferedData<R> {
     /// One transfer for what is left of a buffer that is smaller than the window, by way of that.
     pub(super) fn read_by_window(&mut self, rest: &mut [u8], moved: bool) -> Result<Step, IoFault>
         requires live { self.old.life ≡ Live }
-        requires reads { is_read self.old.access ≡ true }
+        requires reads { IsReading self.old }
         requires asks { 0 < length rest.old }
         ensures outcome { StepOutcome (reading_of self.old) moved result rest.new (reading_of self.new) }
         ensures length { length rest.new ≡ length rest.old }
-        ensures reads { IfOk result (λ step. is_read self.new.access ≡ true) }
+        ensures reads { IsReading self.new }
     {
         let filled = self.fill(moved)?;
         let count = self.copy_ahead(rest);

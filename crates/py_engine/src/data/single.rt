@@ -5,21 +5,26 @@ ghost use Rattle.py_flat.specs.Calls.{Read1, ReadInto1, Peek};
 ghost use Rattle.py_stream.specs.Access.{is_read};
 ghost use Rattle.py_stream.specs.Answers.{Answers};
 ghost use Rattle.py_engine.specs.Reading.{reading_of};
-ghost use Rattle.py_engine.specs.Reading.{ReadyOutcome, GivesHeld};
-ghost use Rattle.py_engine.specs.Window.{ahead_of};
+ghost use Rattle.py_engine.specs.Reading.{IsReading, ReadyOutcome, GivesHeld};
+ghost use Rattle.py_window.specs.Window.{ahead_of};
 ghost use Rattle.py_stream.specs.Replies.{bytes_reply, into_reply, CountFits, KeepsUnread, look_reply};
 
 use super::BufferedData;
-use crate::window::Filled;
 use py_raw::{IoFault, RawStream};
 use py_stream::{ReadsOn, Stop};
+use py_window::Filled;
 use std::alloc::Global;
 
 impl<R: RawStream> BufferedData<R> {
     /// Reads at most n bytes, or a buffer's size.
-    pub fn read1(&mut self, alloc: Global, size: Option<usize>) -> Result<Option<Vec<u8>>, IoFault>
-        requires reads { is_read self.old.access ≡ true }
-        ensures { Answers (reading_of self.old) (Read1 size) (bytes_reply result) (reading_of self.new) }
+    pub(super) fn read1_ahead(
+        &mut self,
+        alloc: Global,
+        size: Option<usize>,
+    ) -> Result<Option<Vec<u8>>, IoFault>
+        requires reads { IsReading self.old }
+        ensures answers { Answers (reading_of self.old) (Read1 size) (bytes_reply result) (reading_of self.new) }
+        ensures reads { IsReading self.new }
     {
         let _ = &self.live;
         self.begin()?;
@@ -36,9 +41,10 @@ impl<R: RawStream> BufferedData<R> {
     }
 
     /// Reads at most as many bytes as a buffer is long.
-    pub fn readinto1(&mut self, buffer: &mut [u8]) -> Result<Option<usize>, IoFault>
-        requires reads { is_read self.old.access ≡ true }
+    pub(super) fn readinto1_ahead(&mut self, buffer: &mut [u8]) -> Result<Option<usize>, IoFault>
+        requires reads { IsReading self.old }
         ensures answers { Answers (reading_of self.old) (ReadInto1 (length buffer.old)) (into_reply result buffer.new) (reading_of self.new) }
+        ensures reads { IsReading self.new }
         ensures length { length buffer.new ≡ length buffer.old }
         ensures fits { CountFits result buffer.new }
         ensures unread { KeepsUnread result buffer.old buffer.new }
@@ -58,9 +64,10 @@ impl<R: RawStream> BufferedData<R> {
     }
 
     /// Whether the bytes held show some of what comes next, or that nothing does; else the raw would have blocked.
-    pub fn look(&mut self) -> Result<bool, IoFault>
-        requires reads { is_read self.old.access ≡ true }
-        ensures { Answers (reading_of self.old) Peek (look_reply result (ahead_of self.new.window)) (reading_of self.new) }
+    pub(super) fn look_ahead(&mut self) -> Result<bool, IoFault>
+        requires reads { IsReading self.old }
+        ensures answers { Answers (reading_of self.old) Peek (look_reply result (ahead_of self.new.window)) (reading_of self.new) }
+        ensures reads { IsReading self.new }
     {
         let _ = &self.live;
         self.begin()?;
@@ -71,7 +78,7 @@ impl<R: RawStream> BufferedData<R> {
     /// Sees to it that some bytes are held, by one transfer where none are.
     fn ready(&mut self) -> Result<Stop, IoFault>
         requires live { self.old.life ≡ Live }
-        requires reads { is_read self.old.access ≡ true }
+        requires reads { IsReading self.old }
         ensures { ReadyOutcome self.old result self.new }
     {
         if !self.window.is_used_up() {
@@ -85,7 +92,7 @@ impl<R: RawStream> BufferedData<R> {
     }
 
     /// Gives of what is held, at most n bytes.
-    fn give(&mut self, alloc: Global, size: usize) -> Result<Vec<u8>, IoFault>
+    pub(super) fn give(&mut self, alloc: Global, size: usize) -> Result<Vec<u8>, IoFault>
         requires live { self.old.life ≡ Live }
         requires reads { is_read self.old.access ≡ true }
         ensures { GivesHeld self.old size result self.new }

@@ -4,10 +4,9 @@ ghost use Rattle.py_flat.specs.Limits.{greatest_place};
 ghost use Rattle.py_flat.specs.Calls.{Write, WriteLines};
 ghost use Rattle.py_stream.specs.Answers.{Answers};
 ghost use Rattle.py_stream.specs.Replies.{count_reply, done_reply};
-ghost use Rattle.py_stream.specs.Access.{is_read};
 ghost use Rattle.py_stream.specs.Taking.{Took, PutOutcome};
-ghost use Rattle.py_engine.specs.Window.{place_of, pending_of};
-ghost use Rattle.py_engine.specs.Engine.{stream_of};
+ghost use Rattle.py_window.specs.Window.{place_of, pending_of};
+ghost use Rattle.py_engine.specs.Engine.{stream_of, IsBehind};
 ghost use Rattle.py_engine.specs.Passing.{room_behind, HandOnOutcome, FitOutcome, StopOutcome};
 
 use super::BufferedData;
@@ -18,7 +17,9 @@ use py_stream::{TakesPieces, write_lines};
 impl<R: RawStream> TakesPieces for BufferedData<R> {
     ghost shows = { stream_of };
 
-    ghost may_begin = { λ engine. is_read engine.access ≡ false };
+    ghost may_begin = { IsBehind };
+
+    ghost takes = { IsBehind };
 
     fn begin_writing(&mut self) -> Result<(), IoFault> {
         let _ = &self.live;
@@ -41,8 +42,8 @@ impl<R: RawStream> TakesPieces for BufferedData<R> {
 
 impl<R: RawStream> BufferedData<R> {
     /// Takes bytes, and passes on what the buffer has no room for.
-    pub fn write(&mut self, bytes: &[u8]) -> Result<usize, IoFault>
-        requires writes { is_read self.old.access ≡ false }
+    pub(super) fn write_behind(&mut self, bytes: &[u8]) -> Result<usize, IoFault>
+        requires writes { IsBehind self.old }
         ensures { Answers (stream_of self.old) (Write bytes.now) (count_reply result) (stream_of self.new) }
     {
         self.begin_writing()?;
@@ -58,8 +59,8 @@ impl<R: RawStream> BufferedData<R> {
     }
 
     /// Takes lines, as one write of them joined.
-    pub fn writelines(&mut self, lines: &Lines) -> Result<(), IoFault>
-        requires writes { is_read self.old.access ≡ false }
+    pub(super) fn writelines_behind(&mut self, lines: &Lines) -> Result<(), IoFault>
+        requires writes { IsBehind self.old }
         ensures { Answers (stream_of self.old) (WriteLines lines.now) (done_reply result) (stream_of self.new) }
     {
         write_lines(self, lines)
@@ -80,11 +81,11 @@ impl<R: RawStream> BufferedData<R> {
     /// Takes bytes for a call that began at a place; false where some of them couldn't be taken.
     fn put(&mut self, bytes: &[u8], start: u64) -> Result<bool, IoFault>
         requires live { self.old.life ≡ Life.Live }
-        requires writes { is_read self.old.access ≡ false }
+        requires writes { IsBehind self.old }
         requires start { start ≤ place_of self.old.window }
         requires within { place_of self.old.window + length bytes.now ≤ greatest_place }
         ensures outcome { PutOutcome (stream_of self.old) bytes.now start result (stream_of self.new) }
-        ensures access { self.new.access ≡ self.old.access }
+        ensures writes { IsBehind self.new }
     {
         if bytes.len() <= self.window.room() {
             self.keep(bytes);
@@ -100,12 +101,12 @@ impl<R: RawStream> BufferedData<R> {
     /// Takes bytes while nothing is owed: more than the buffer holds go straight to the raw.
     fn put_large(&mut self, bytes: &[u8], start: u64) -> Result<bool, IoFault>
         requires live { self.old.life ≡ Life.Live }
-        requires writes { is_read self.old.access ≡ false }
+        requires writes { IsBehind self.old }
         requires none { pending_of self.old.window ≡ [] }
         requires start { start ≤ place_of self.old.window }
         requires within { place_of self.old.window + length bytes.now ≤ greatest_place }
         ensures outcome { PutOutcome (stream_of self.old) bytes.now start result (stream_of self.new) }
-        ensures access { self.new.access ≡ self.old.access }
+        ensures writes { IsBehind self.new }
     {
         let _ = &self.live;
         let mut taken = 0;
@@ -123,12 +124,12 @@ impl<R: RawStream> BufferedData<R> {
     /// Hands a front of a caller's bytes on to the raw, by one transfer, while nothing is owed.
     fn hand_on(&mut self, bytes: &[u8]) -> Result<Option<usize>, IoFault>
         requires live { self.old.life ≡ Life.Live }
-        requires writes { is_read self.old.access ≡ false }
+        requires writes { IsBehind self.old }
         requires none { pending_of self.old.window ≡ [] }
         requires some { 0 < length bytes.now }
         requires within { place_of self.old.window + length bytes.now ≤ greatest_place }
         ensures outcome { HandOnOutcome (stream_of self.old) bytes.now result (stream_of self.new) }
-        ensures access { self.new.access ≡ self.old.access }
+        ensures writes { IsBehind self.new }
     {
         match self.live.write(bytes, false)? {
             Some(count) => {
@@ -144,13 +145,13 @@ impl<R: RawStream> BufferedData<R> {
     /// Keeps bytes after what is owed, for which there is room.
     fn keep(&mut self, bytes: &[u8])
         requires live { self.old.life ≡ Life.Live }
-        requires writes { is_read self.old.access ≡ false }
+        requires writes { IsBehind self.old }
         requires room { length bytes.now ≤ room_behind (stream_of self.old) }
         requires within { place_of self.old.window + length bytes.now ≤ greatest_place }
         ensures took { Took (stream_of self.old) bytes.now (stream_of self.new) }
         ensures more { length (pending_of self.new.window) ≡ length (pending_of self.old.window) + length bytes.now }
         ensures raw { self.new.raw ≡ self.old.raw }
-        ensures access { self.new.access ≡ self.old.access }
+        ensures writes { IsBehind self.new }
     {
         if !bytes.is_empty() {
             self.window.push(bytes);
@@ -160,10 +161,10 @@ impl<R: RawStream> BufferedData<R> {
     /// Takes as many bytes as the buffer has room for; whether these are all.
     fn take_what_fits(&mut self, bytes: &[u8]) -> bool
         requires live { self.old.life ≡ Life.Live }
-        requires writes { is_read self.old.access ≡ false }
+        requires writes { IsBehind self.old }
         requires within { place_of self.old.window + length bytes.now ≤ greatest_place }
         ensures outcome { FitOutcome (stream_of self.old) bytes.now result (stream_of self.new) }
-        ensures access { self.new.access ≡ self.old.access }
+        ensures writes { IsBehind self.new }
     {
         let room = self.window.room();
         if bytes.len() <= room {
@@ -178,11 +179,11 @@ impl<R: RawStream> BufferedData<R> {
     /// What a refusal by the raw leaves of a call that began at a place: after running out of memory the stream fails where the raw
     /// has bytes of the call's own; else it drops those again.
     fn stop(&mut self, fault: IoFault, start: u64) -> IoFault
-        requires writes { is_read self.old.access ≡ false }
+        requires writes { IsBehind self.old }
         requires start { start ≤ place_of self.old.window }
         ensures fault { result ≡ fault }
         ensures stream { StopOutcome fault start (stream_of self.old) (stream_of self.new) }
-        ensures access { self.new.access ≡ self.old.access }
+        ensures writes { IsBehind self.new }
     {
         if matches!(fault, IoFault::NoMemory) {
             if self.window.pending_place() <= start {

@@ -1,5 +1,5 @@
 //! Readings of lines, byte by byte, as nothing may be held after them, and of all that is left.
-ghost use Rattle.std.specs.Prelude.{◌≡◌};
+ghost use Rattle.std.specs.Prelude.{◌≡◌, true};
 ghost use Rattle.py_stream.specs.Access.{is_read};
 ghost use Rattle.py_stream.specs.LiveRaw.{starved};
 ghost use Rattle.py_unbuffered.specs.Engine.{stream_of, StarvesWith};
@@ -15,7 +15,7 @@ const FIRST_CHUNK: usize = 8192;
 impl<R: RawStream> ReadsOn for UnbufferedData<R> {
     ghost shows = { stream_of };
 
-    ghost reads = { λ engine. is_read engine.access };
+    ghost reads = { λ engine. is_read engine.access ≡ true };
 
     ghost may_begin = { λ engine. Unit {0} };
 
@@ -83,6 +83,7 @@ impl<R: RawStream> ReadsOn for UnbufferedData<R> {
         ensures fault { result ≡ IoFault.NoMemory }
         ensures stream { stream_of self.new ≡ record (stream_of self.old) { life = starved moved (stream_of self.old).life } }
         ensures engine { StarvesWith moved self.old self.new }
+        ensures reads { is_read self.old.access ≡ true → is_read self.new.access ≡ true }
     {
         self.live.starve(moved)
     }

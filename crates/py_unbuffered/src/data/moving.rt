@@ -8,6 +8,8 @@ use py_stream::{LiveRaw, Moves};
 impl<R: RawStream> Moves for UnbufferedData<R> {
     type Raw = R;
 
+    ghost rests = { λ engine. Unit {0} };
+
     ghost shows = { stream_of };
 
     fn begin_call(&mut self) -> Result<(), IoFault> {
@@ -27,6 +29,16 @@ impl<R: RawStream> Moves for UnbufferedData<R> {
     /// Nothing is owed.
     fn pass_on(&mut self) -> Result<(), IoFault> {
         Ok(())
+    }
+
+    /// Nothing is owed, and the raw stands at the place.
+    fn settle(&mut self) -> Result<(), IoFault> {
+        Ok(())
+    }
+
+    /// No byte is held: it always stays.
+    fn step_to(&mut self, _target: u64) -> bool {
+        false
     }
 
     fn go_to(&mut self, target: u64) -> Result<(), IoFault> {

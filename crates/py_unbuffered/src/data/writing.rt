@@ -17,6 +17,8 @@ impl<R: RawStream> TakesPieces for UnbufferedData<R> {
 
     ghost may_begin = { λ engine. Unit {0} };
 
+    ghost takes = { λ engine. (stream_of engine).can.writable ≡ true };
+
     fn begin_writing(&mut self) -> Result<(), IoFault> {
         let _ = &self.live;
         self.begin()?;

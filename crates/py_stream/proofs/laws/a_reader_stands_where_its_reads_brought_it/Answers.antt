@@ -14,7 +14,7 @@ came_in_one : (before : Stream) (call : FileCall) (reply : FileReply) (after : S
 came_in_one before call reply after can owed still answers = by (is_reading call) refl
   where
     by : (reads : Bool) → is_reading call ≡ reads → CameByReads 1 before after
-    by true reads = answers.brings (cc) (ap (λ (owed : Owed). owed.bytes) owed)
+    by true reads = answers.brings (cc) (record { none = ap (λ (owed : Owed). owed.bytes) owed; stands = λ writes. absurd (cc (can, writes)) })
     by false reads = came_more before after 0 1 (omega arith) (came_unread before after ((answers.spares can owed).still (cc)) (answers.unread reads))
 
 seeks_not : (here there : Bool) → (not here && there) ≡ true → (here ≡ false) × (there ≡ true)

@@ -7,7 +7,7 @@ use Rattle.py_stream.proofs.Alone.{begins_in_vain}
 use Rattle.py_stream.proofs.Refusing.{sound_placed}
 use Rattle.py_stream.proofs.Going.{seek_finds_nothing}
 use Rattle.py_stream.proofs.Movable.{seeks_on, seeks_not}
-use Rattle.py_stream.proofs.Seeks.{seek_found, seeking_stops, seeking_fails, seeking_arrives}
+use Rattle.py_stream.proofs.Seeks.{seek_found, seek_stepped, seek_goes_on, may_go, seeking_stops, seeking_fails, seeking_arrives}
 use Rattle.py_stream.proofs.moves.seek.Goals as goal
 
 pub returns-in_err-begin_call : goal.returns-in_err-begin_call
@@ -26,13 +26,32 @@ returns-in_err-target g c =
     let found = subst₂ (λ (offset : ℤ) (whence : ℤ). TargetOutcome (g.S.Moves.shows c.begin_call.new.self) offset whence (Err c.in_err-target.field-0.0) (g.S.Moves.shows c.target.new.stream)) (to_z-of_z c.ranges.offset) (to_z-of_z c.ranges.whence) c.in_err-target.ensures in
     rw (left.1, left.2) (seek_finds_nothing _ _ _ c.args.offset c.args.whence c.in_err-target.field-0.0 may began.begins found)
 
+pub returns-then-step_to : goal.returns-then-step_to
+returns-then-step_to g c =
+    let began = c.in_ok-begin_call.ensures in
+    let may = seeks_on _ _ _ c.is_movable.result began.sound began.begins refl (c.is_movable.ensures ∙ ap is_movable c.live.ensures) c.if-not-is_movable.false in
+    let found = subst₂ (λ (offset : ℤ) (whence : ℤ). TargetOutcome (g.S.Moves.shows c.begin_call.new.self) offset whence (Ok c.in_ok-target.target) (g.S.Moves.shows c.target.new.stream)) (to_z-of_z c.ranges.offset) (to_z-of_z c.ranges.whence) c.in_ok-target.ensures in
+    let seek = seek_found _ _ _ c.args.offset c.args.whence c.in_ok-target.target began.owes may began.begins found in
+    seek_stepped _ _ _ c.args.offset c.args.whence c.in_ok-target.target c.step_to.result seek c.step_to.ensures c.if-step_to.true
+
 pub returns-in_err-pass_on : goal.returns-in_err-pass_on
 returns-in_err-pass_on g c =
     let left = err_from_is_err_and c.from_residual-in_err-pass_on.result c.from_residual-in_err-pass_on.ensures.1 in
     let began = c.in_ok-begin_call.ensures in
     let may = seeks_on _ _ _ c.is_movable.result began.sound began.begins refl (c.is_movable.ensures ∙ ap is_movable c.live.ensures) c.if-not-is_movable.false in
     let found = subst₂ (λ (offset : ℤ) (whence : ℤ). TargetOutcome (g.S.Moves.shows c.begin_call.new.self) offset whence (Ok c.in_ok-target.target) (g.S.Moves.shows c.target.new.stream)) (to_z-of_z c.ranges.offset) (to_z-of_z c.ranges.whence) c.in_ok-target.ensures in
-    rw (left.1, left.2) (seeking_stops _ _ _ _ c.args.offset c.args.whence c.in_ok-target.target c.in_err-pass_on.field-0.0 refl (seek_found _ _ _ c.args.offset c.args.whence c.in_ok-target.target began.owes may began.begins found) c.in_err-pass_on.ensures)
+    let seek = seek_found _ _ _ c.args.offset c.args.whence c.in_ok-target.target began.owes may began.begins found in
+    let goes = seek_goes_on _ _ _ c.args.offset c.args.whence c.in_ok-target.target c.step_to.result seek c.step_to.ensures c.if-step_to.false in
+    rw (left.1, left.2) (seeking_stops _ _ _ _ c.args.offset c.args.whence c.in_ok-target.target c.in_err-pass_on.field-0.0 refl goes c.in_err-pass_on.ensures)
+
+pub go_to-requires-clause-can : goal.go_to-requires-clause-can
+go_to-requires-clause-can g c =
+    let began = c.in_ok-begin_call.ensures in
+    let may = seeks_on _ _ _ c.is_movable.result began.sound began.begins refl (c.is_movable.ensures ∙ ap is_movable c.live.ensures) c.if-not-is_movable.false in
+    let found = subst₂ (λ (offset : ℤ) (whence : ℤ). TargetOutcome (g.S.Moves.shows c.begin_call.new.self) offset whence (Ok c.in_ok-target.target) (g.S.Moves.shows c.target.new.stream)) (to_z-of_z c.ranges.offset) (to_z-of_z c.ranges.whence) c.in_ok-target.ensures in
+    let seek = seek_found _ _ _ c.args.offset c.args.whence c.in_ok-target.target began.owes may began.begins found in
+    let goes = seek_goes_on _ _ _ c.args.offset c.args.whence c.in_ok-target.target c.step_to.result seek c.step_to.ensures c.if-step_to.false in
+    may_go _ _ _ _ c.args.offset c.args.whence c.in_ok-target.target goes c.in_ok-pass_on.ensures
 
 pub returns-in_err-go_to : goal.returns-in_err-go_to
 returns-in_err-go_to g c =
@@ -40,11 +59,15 @@ returns-in_err-go_to g c =
     let began = c.in_ok-begin_call.ensures in
     let may = seeks_on _ _ _ c.is_movable.result began.sound began.begins refl (c.is_movable.ensures ∙ ap is_movable c.live.ensures) c.if-not-is_movable.false in
     let found = subst₂ (λ (offset : ℤ) (whence : ℤ). TargetOutcome (g.S.Moves.shows c.begin_call.new.self) offset whence (Ok c.in_ok-target.target) (g.S.Moves.shows c.target.new.stream)) (to_z-of_z c.ranges.offset) (to_z-of_z c.ranges.whence) c.in_ok-target.ensures in
-    rw (left.1, left.2) (seeking_fails _ _ _ _ _ c.args.offset c.args.whence c.in_ok-target.target c.in_err-go_to.field-0.0 refl (seek_found _ _ _ c.args.offset c.args.whence c.in_ok-target.target began.owes may began.begins found) c.in_ok-pass_on.ensures c.in_err-go_to.ensures)
+    let seek = seek_found _ _ _ c.args.offset c.args.whence c.in_ok-target.target began.owes may began.begins found in
+    let goes = seek_goes_on _ _ _ c.args.offset c.args.whence c.in_ok-target.target c.step_to.result seek c.step_to.ensures c.if-step_to.false in
+    rw (left.1, left.2) (seeking_fails _ _ _ _ _ c.args.offset c.args.whence c.in_ok-target.target c.in_err-go_to.field-0.0 refl goes c.in_ok-pass_on.ensures c.in_err-go_to.ensures)
 
 pub returns : goal.returns
 returns g c =
     let began = c.in_ok-begin_call.ensures in
     let may = seeks_on _ _ _ c.is_movable.result began.sound began.begins refl (c.is_movable.ensures ∙ ap is_movable c.live.ensures) c.if-not-is_movable.false in
     let found = subst₂ (λ (offset : ℤ) (whence : ℤ). TargetOutcome (g.S.Moves.shows c.begin_call.new.self) offset whence (Ok c.in_ok-target.target) (g.S.Moves.shows c.target.new.stream)) (to_z-of_z c.ranges.offset) (to_z-of_z c.ranges.whence) c.in_ok-target.ensures in
-    seeking_arrives _ _ _ _ _ c.args.offset c.args.whence c.in_ok-target.target refl (seek_found _ _ _ c.args.offset c.args.whence c.in_ok-target.target began.owes may began.begins found) c.in_ok-pass_on.ensures c.in_ok-go_to.ensures
+    let seek = seek_found _ _ _ c.args.offset c.args.whence c.in_ok-target.target began.owes may began.begins found in
+    let goes = seek_goes_on _ _ _ c.args.offset c.args.whence c.in_ok-target.target c.step_to.result seek c.step_to.ensures c.if-step_to.false in
+    seeking_arrives _ _ _ _ _ c.args.offset c.args.whence c.in_ok-target.target refl goes c.in_ok-pass_on.ensures c.in_ok-go_to.ensures

@@ -36,8 +36,8 @@ loop-moved-preserved g c =
       reads = c.in_ok-stop.ensures.reads;
     }
 
-pub returns-in_default : goal.returns-in_default
-returns-in_default g c =
+pub returns-in_default-clause-outcome : goal.returns-in_default-clause-outcome
+returns-in_default-clause-outcome g c =
     let loop = c.loop-moved in
     let first = g.S.ReadsOn.shows c.args.stream.now in
     let shown = g.S.ReadsOn.shows loop.stream in
@@ -45,8 +45,8 @@ returns-in_default g c =
     let turn = all_cut first loop.bytes.items loop.wanted c.max-piece.result c.min-more.result loop.moved shown loop.invariant.came (omega (arith, c.max-piece.ensures, c.first_more.ensures)) c.min-more.ensures in
     all_read first loop.bytes.items c.min-more.result loop.moved shown new turn c.in_ok-stop.stop c.read_more.new.bytes.items c.in_default.not-Enough c.in_ok-stop.ensures.outcome
 
-pub returns-in_err-stop : goal.returns-in_err-stop
-returns-in_err-stop g c =
+pub returns-in_err-stop-clause-outcome : goal.returns-in_err-stop-clause-outcome
+returns-in_err-stop-clause-outcome g c =
     let loop = c.loop-moved in
     let first = g.S.ReadsOn.shows c.args.stream.now in
     let shown = g.S.ReadsOn.shows loop.stream in

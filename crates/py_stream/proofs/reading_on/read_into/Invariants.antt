@@ -1,11 +1,11 @@
-use Rattle.std.proofs.Common.{◌≡◌, ◌-◌, true, length}
+use Rattle.std.proofs.Common.{◌-◌, length}
 use Rattle.py_stream.proofs.ReadingInto.{ReadsTo}
 use Rattle.py_stream.proofs.reading_on.read_into.Given as goal
 
 abbrev pub invariant-loop-more : goal.invariant-loop-more
 invariant-loop-more g l = record {
   came : ReadsTo (g.S.ReadsOn.shows l.fn.stream) l.fn.moved l.count l.buffer l.has_moved (g.S.ReadsOn.shows l.stream);
-  reads : g.S.ReadsOn.reads l.stream ≡ true;
+  reads : g.S.ReadsOn.reads l.stream;
 }
 
 abbrev pub decreases-loop-more : goal.decreases-loop-more

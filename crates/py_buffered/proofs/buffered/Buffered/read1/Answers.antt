@@ -2,13 +2,11 @@ use Rattle.std.proofs.Common.{Some, refl}
 use Rattle.py_flat.specs.Calls.{Read1}
 use Rattle.py_stream.specs.Access.{can_of}
 use Rattle.py_stream.proofs.Refused.{detached_answers}
-use Rattle.py_buffered.proofs.Outer.{reads_seen}
 use Rattle.py_buffered.proofs.buffered.Buffered.read1.Goals as goal
 use Rattle.py_buffered.proofs.buffered.Buffered.read1.Goals.{in-Some, in-None}
 
 pub returns-clause-answers : goal.returns-clause-answers
 returns-clause-answers g c = elim c.match-self.branch [
-  | in-Some w ↦ rw (← c.self.view_is, w.in-Some.is, w.result-is, w.self-inside-is)
-      (reads_seen w.in-Some.data w.read1-answer.new.self _ _ w.assured.ensures w.assured-in-Some.ensures (rw (← c.self.view_is, w.in-Some.is) at c.requires.reads) w.read1-answer.ensures)
+  | in-Some w ↦ rw (← c.self.view_is, w.in-Some.is, w.result-is, w.self-inside-is) w.read1.ensures
   | in-None w ↦ rw (← c.self.view_is, w.result-is, w.self-inside-is, w.in-None.is) (detached_answers (can_of c.self.inside.access c.self.inside.seekable) (Some c.self.inside.size) (Read1 c.args.size) refl refl)
 ]

@@ -1,21 +1,8 @@
-use Rattle.std.proofs.Common.{rules, refl, sym, subst}
-use Rattle.py_flat.specs.Calls.{FileReply, Peek}
-use Rattle.py_stream.specs.Answers.{Answers}
-use Rattle.py_engine.specs.Engine.{Stands}
-use Rattle.py_engine.specs.Reading.{reading_of}
-use Rattle.py_engine.proofs.SingleReading.{once_refused, once_failed, once_look}
-use Rattle.py_engine.proofs.Seen.{seen_reading}
+use Rattle.py_flat.specs.Calls.{Peek}
+use Rattle.py_stream.specs.Replies.{look_reply}
+use Rattle.py_window.specs.Window.{ahead_of}
+use Rattle.py_engine.proofs.Random.{reads_seen}
 use Rattle.py_engine.proofs.data.BufferedData.look.Goals as goal
 
-pub returns-in_err-begin : goal.returns-in_err-begin
-returns-in_err-begin g c =
-    subst (λ (reply : FileReply). Answers (reading_of c.args.self.now) Peek reply (reading_of c.begin.new.self)) (sym (search rules))
-    (once_refused c.args.self.now c.begin.new.self Peek c.in_err-begin.field-0.0 refl (seen_reading c.args.self.now (subst Stands c.self.view_is c.self.invariant) c.requires.reads) c.in_err-begin.ensures)
-
-pub returns-in_err-stop : goal.returns-in_err-stop
-returns-in_err-stop g c =
-    subst (λ (reply : FileReply). Answers (reading_of c.args.self.now) Peek reply (reading_of c.ready.new.self)) (sym (search rules))
-    (once_failed c.args.self.now c.begin.new.self c.ready.new.self Peek c.in_err-stop.field-0.0 refl refl (seen_reading c.args.self.now (subst Stands c.self.view_is c.self.invariant) c.requires.reads) c.in_ok-begin.ensures c.in_err-stop.ensures)
-
-pub returns : goal.returns
-returns g c = once_look c.args.self.now c.begin.new.self c.ready.new.self c.answers.new.self c.in_ok-stop.stop c.answers.result (seen_reading c.args.self.now (subst Stands c.self.view_is c.self.invariant) c.requires.reads) c.in_ok-begin.ensures c.in_ok-stop.ensures c.answers.ensures.answer c.answers.ensures.engine
+pub returns-then-is_ahead : goal.returns-then-is_ahead
+returns-then-is_ahead g c = reads_seen c.args.self.now c.look_ahead.new.self Peek (look_reply c.look_ahead.result (ahead_of c.look_ahead.new.self.window)) (c.is_ahead.ensures.yes c.if-is_ahead.true) c.look_ahead.ensures.reads c.look_ahead.ensures.answers

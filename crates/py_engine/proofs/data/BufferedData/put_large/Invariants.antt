@@ -1,7 +1,7 @@
 use Rattle.std.proofs.Common.{[], ◌≡◌, ◌-◌, ◌≤◌, length, take}
 use Rattle.py_stream.specs.Taking.{TookAll}
-use Rattle.py_engine.specs.Window.{pending_of}
-use Rattle.py_engine.specs.Engine.{stream_of}
+use Rattle.py_window.specs.Window.{pending_of}
+use Rattle.py_engine.specs.Engine.{stream_of, IsBehind}
 use Rattle.py_engine.proofs.data.BufferedData.put_large.Given as goal
 
 -- the first of the bytes went, and nothing is owed
@@ -10,7 +10,7 @@ invariant-loop-taken g l = record {
   fits : l.taken ≤ length l.bytes;
   took : TookAll (stream_of l.fn.self) (take l.taken l.bytes) (stream_of l.self);
   none : pending_of l.self.window ≡ [];
-  access : l.self.access ≡ l.fn.self.access;
+  writes : IsBehind l.self;
 }
 
 abbrev pub decreases-loop-taken : goal.decreases-loop-taken

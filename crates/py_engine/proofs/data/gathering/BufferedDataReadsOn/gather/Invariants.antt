@@ -1,6 +1,6 @@
 use Rattle.std.proofs.Common.{◌≡◌, ◌-◌, ℕ, List}
 use Rattle.py_flat.specs.Limits.{greatest_place}
-use Rattle.py_engine.specs.Window.{end_of}
+use Rattle.py_window.specs.Window.{end_of}
 use Rattle.py_engine.proofs.Gathering.{GatheredTo, MovedSome}
 use Rattle.py_engine.proofs.data.gathering.BufferedDataReadsOn.gather.Given as goal
 

@@ -15,24 +15,24 @@ loop-moved-init g c = record {
   stays = c.requires.open;
 }
 
-pub returns-in_err-transfer : goal.returns-in_err-transfer
-returns-in_err-transfer g c =
+pub returns-in_err-transfer-clause-outcome : goal.returns-in_err-transfer-clause-outcome
+returns-in_err-transfer-clause-outcome g c =
     let says : c.from_residual.result ≡ Err c.in_err-transfer.field-0.0 = search rules in
     subst (λ (result : Result Stop IoFault). GatherOutcome (g.C.Collector.wanted c.args.collector.now) (stream_of c.args.self.now) result (g.C.Collector.collected c.loop-moved.collector) (stream_of c.transfer.new.self)) (sym says)
     (gather_refused (g.C.Collector.wanted c.args.collector.now) c.args.self.now c.loop-moved.self (g.C.Collector.collected c.loop-moved.collector) c.loop-moved.moved c.loop-moved.invariant.gathered (0 ∷ []) c.in_err-transfer.field-0.0 c.transfer.new.buffer (g.C.Collector.collected c.loop-moved.collector) c.transfer.new.self c.in_err-transfer.ensures.outcome)
 
-pub returns-in-Some-eq0 : goal.returns-in-Some-eq0
-returns-in-Some-eq0 g c =
+pub returns-in-Some-eq0-clause-outcome : goal.returns-in-Some-eq0-clause-outcome
+returns-in-Some-eq0-clause-outcome g c =
     let brings : Brings c.loop-moved.self (0 ∷ []) c.in-Some-eq0.field-0 c.transfer.new.buffer c.transfer.new.self = rw c.in-Some-eq0.is at c.in_ok-transfer.ensures.outcome in
     gather_ends (g.C.Collector.wanted c.args.collector.now) c.args.self.now c.loop-moved.self (g.C.Collector.collected c.loop-moved.collector) c.loop-moved.moved c.loop-moved.invariant.gathered (0 ∷ []) c.in-Some-eq0.field-0 c.transfer.new.buffer c.transfer.new.self c.in-Some-eq0.field-0-test brings (λ (none : (0 ∷ []) ≡ []). cc)
 
-pub returns-in-None : goal.returns-in-None
-returns-in-None g c =
+pub returns-in-None-clause-outcome : goal.returns-in-None-clause-outcome
+returns-in-None-clause-outcome g c =
     let waits : Waits c.loop-moved.self c.transfer.new.self = rw c.in-None.is at c.in_ok-transfer.ensures.outcome in
     gather_waits (g.C.Collector.wanted c.args.collector.now) c.args.self.now c.loop-moved.self (g.C.Collector.collected c.loop-moved.collector) c.loop-moved.moved c.loop-moved.invariant.gathered c.transfer.new.self waits
 
-pub returns-in-Ok-Enough : goal.returns-in-Ok-Enough
-returns-in-Ok-Enough g c =
+pub returns-in-Ok-Enough-clause-outcome : goal.returns-in-Ok-Enough-clause-outcome
+returns-in-Ok-Enough-clause-outcome g c =
     let brings : Brings c.loop-moved.self (0 ∷ []) c.in-Some.field-0 c.transfer.new.buffer c.transfer.new.self = rw c.in-Some.is at c.in_ok-transfer.ensures.outcome in
     let some : 0 < c.in-Some.field-0 = grind (arith, c.in-Some.field-0-test) in
     let wants : List ℕ → List ℕ = g.C.Collector.wanted c.loop-moved.collector in
@@ -54,8 +54,8 @@ loop-moved-preserved g c =
       stays = rw c.in-Ok-All.field-0-is at c.in-Ok-All.ensures.open;
     }
 
-pub returns-in-Err : goal.returns-in-Err
-returns-in-Err g c =
+pub returns-in-Err-clause-outcome : goal.returns-in-Err-clause-outcome
+returns-in-Err-clause-outcome g c =
     let brings : Brings c.loop-moved.self (0 ∷ []) c.in-Some.field-0 c.transfer.new.buffer c.transfer.new.self = rw c.in-Some.is at c.in_ok-transfer.ensures.outcome in
     let some : 0 < c.in-Some.field-0 = grind (arith, c.in-Some.field-0-test) in
     gather_starves (g.C.Collector.wanted c.args.collector.now) c.args.self.now c.loop-moved.self (g.C.Collector.collected c.loop-moved.collector) c.loop-moved.moved c.loop-moved.invariant.gathered (0 ∷ []) c.in-Some.field-0 c.transfer.new.buffer c.transfer.new.self brings some c.transfer.auto.buffer c.starve.new.self c.starve.result (g.C.Collector.collected c.collect.new.self) c.starve.ensures.fault c.starve.ensures.engine

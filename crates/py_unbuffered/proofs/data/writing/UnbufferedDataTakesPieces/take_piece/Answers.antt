@@ -17,13 +17,13 @@ pub put-requires-clause-live : goal.put-requires-clause-live
 put-requires-clause-live g c = c.loop-taken.invariant.took.took.live
 
 pub put-requires-clause-writes : goal.put-requires-clause-writes
-put-requires-clause-writes g c = ap (λ (can : Abilities). can.writable) c.loop-taken.invariant.took.took.kept.can ∙ c.requires.writes
+put-requires-clause-writes g c = ap (λ (can : Abilities). can.writable) c.loop-taken.invariant.took.took.kept.can ∙ c.requires.takes
 
 pub put-requires-clause-within : goal.put-requires-clause-within
 put-requires-clause-within g c = search (rules, rest_within, piece_is)
 
-pub returns-in_err-count : goal.returns-in_err-count
-returns-in_err-count g c =
+pub returns-in_err-count-clause-outcome : goal.returns-in_err-count-clause-outcome
+returns-in_err-count-clause-outcome g c =
     let line : List ℕ = c.args.piece.now in
     let taken : ℕ = c.loop-taken.taken in
     let now : EngineView = c.loop-taken.self in
@@ -42,8 +42,8 @@ loop-taken-smaller g c = grind (arith, piece_is, length-drop, some_taken)
 pub loop-taken-preserved : goal.loop-taken-preserved
 loop-taken-preserved g c = grind (arith, piece_is, length-drop, takes_more, puts_took)
 
-pub returns-in-None : goal.returns-in-None
-returns-in-None g c =
+pub returns-in-None-clause-outcome : goal.returns-in-None-clause-outcome
+returns-in-None-clause-outcome g c =
     let line : List ℕ = c.args.piece.now in
     let taken : ℕ = c.loop-taken.taken in
     let now : EngineView = c.loop-taken.self in
@@ -51,5 +51,5 @@ returns-in-None g c =
     let waits : Waits now new = subst (λ (count : Option ℕ). PutOutcome now (nat_lt c.args.start c.put.inside.place) (take (length line - taken) (drop taken line)) (Ok count) new) c.in-None.is c.in_ok-count.ensures in
     put_rest (stream_of c.args.self.now) (stream_of now) (stream_of new) line taken c.args.start (Ok false) c.loop-taken.invariant.took (waits_full now new (drop taken line) (omega (arith, length-drop taken line, c.loop-taken-test.true)) waits)
 
-pub returns : goal.returns
-returns g c = subst (λ (bytes : List ℕ). TookAll (stream_of c.args.self.now) bytes (stream_of c.loop-taken.self)) (take_all c.loop-taken.taken c.args.piece.now c.loop-taken-test.false) c.loop-taken.invariant.took
+pub returns-clause-outcome : goal.returns-clause-outcome
+returns-clause-outcome g c = subst (λ (bytes : List ℕ). TookAll (stream_of c.args.self.now) bytes (stream_of c.loop-taken.self)) (take_all c.loop-taken.taken c.args.piece.now c.loop-taken-test.false) c.loop-taken.invariant.took

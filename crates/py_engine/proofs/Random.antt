@@ -1,0 +1,321 @@
+-- Readings of an engine that is opened to be read and written, where it doesn't read on from the bytes held as it stands.
+use Rattle.std.proofs.Common.{[], ◌≡◌, ◌≢◌, ℕ, ◌+◌, ◌<◌, ◌≤◌, Bool, true, false, IsTrue, List, length, ◌++◌, take, drop, ◌-◌, min, Option, Some, None, Ok, Err, refl, sym, ap, ◌∙◌, subst, arith}
+use Rattle.py_flat.specs.declared.fault.IoFault.{IoFault}
+use Rattle.py_flat.specs.declared.fault.IoFault.TheVariants as fault
+use Rattle.py_flat.specs.declared.life.Life.{Life}
+use Rattle.py_flat.specs.declared.life.Life.TheVariants as life
+use Rattle.std.proofs.Math.Seq.{take-append_seam}
+use Rattle.std.proofs.lemmas.List.{length-drop, length-take, take-take, take_min, take_all, take-append-drop}
+use Rattle.py_flat.specs.Bytes.{left_at}
+use Rattle.py_flat.specs.Calls.{FileCall, FileReply, NotReady, Bytes, Refused, Read, ReadInto, ReadInto1, ReadLine, ReadLines, Peek}
+use Rattle.py_raw.specs.RawStream.{Raw, WhereTold, WhereTransfers}
+use Rattle.py_stream.specs.declared.access.Access.{Access}
+use Rattle.py_stream.specs.declared.access.Access.TheVariants as access
+use Rattle.py_stream.specs.Access.{is_read}
+use Rattle.py_stream.specs.Stream.{Stream, file_of}
+use Rattle.py_stream.specs.Kinds.{is_reading, is_single, has_room, reads_on, is_zero, asks_zero, takes_space_first, says_no_memory}
+use Rattle.py_stream.specs.Held.{GivesHeld}
+use Rattle.py_stream.specs.Keeping.{IsSound}
+use Rattle.py_stream.specs.Moving.{owed_at}
+use Rattle.py_stream.specs.Answers.{Answers, IsAhead, InHandOf}
+use Rattle.py_stream.specs.Settling.{SettleOutcome}
+use Rattle.py_stream.specs.Reading.{wanted_by, reply_by}
+use Rattle.py_flat.specs.ExactStep.{rest}
+use Rattle.py_lines.specs.Collecting.{HasEnough, WantsMore, LineView, line_wanted}
+use Rattle.py_stream.proofs.ReadingOn.{wants_past}
+use Rattle.py_stream.proofs.SingleReading.{asks_for, moves_by}
+use Rattle.py_engine.proofs.SingleReading.{asks_some, copied}
+use Rattle.py_stream.proofs.Begun.{answers_whole}
+use Rattle.py_stream.proofs.Refusing.{refused_alone}
+use Rattle.py_stream.proofs.ReadingCalls.{reading_call, in_hand_held}
+use Rattle.py_stream.proofs.ReadingAnswers.{accepted, reading_refused}
+use Rattle.py_stream.proofs.Holding.{single_reads, held_answers, held_answers_told, held_answers_once, held_peek, reading_lacks, ReadsHeld, HasToPass, reading_suits, reading_blocked, reading_failed, reading_starved}
+use Rattle.py_stream.proofs.Settled.{settled_reads}
+use Rattle.py_window.specs.Window.{WindowView, IsWindow, place_of, end_of, ahead_of, advanced, flat_over, HoldsBytes}
+use Rattle.py_engine.specs.Engine.{EngineView, stream_of, Stands, IsEngine, HasShape, HoldsRead, BeginOutcome}
+use Rattle.py_engine.specs.Reading.{reading_of, IsReading}
+use Rattle.py_engine.specs.Random.{GoesToRaw, AnswersFrom, GoesAhead}
+use Rattle.py_engine.proofs.Transfers.{bytes_ahead}
+use Rattle.py_engine.proofs.Standing.{is_placed, is_sound, reads_alone, reads_both}
+use Rattle.py_engine.proofs.Seen.{same_stream}
+use Rattle.py_engine.proofs.Draining.{none_at_cursor, pending_many}
+use Rattle.py_engine.proofs.Calls.{begins, stands_whole}
+
+-- How a reading begins.
+
+-- what answers the engine with which a call begins answers the one that was
+pub answers_from_begun : (old begun : EngineView) (call : FileCall) (reply : FileReply) (after : Stream) → BeginOutcome old (Ok tt) begun → Answers (stream_of begun) call reply after → Answers (stream_of old) call reply after
+answers_from_begun old begun call reply after began answers = answers_whole (stream_of old) after call reply (subst (λ (engine : EngineView). Answers (stream_of engine) call reply after) began.1 answers)
+
+-- the life refuses a reading
+pub begins_not : (old new : EngineView) (call : FileCall) (why : IoFault) → is_reading call ≡ true → Stands old → BeginOutcome old (Err why) new → Answers (stream_of old) call (Refused why) (stream_of new)
+begins_not old new call why reads is began = reading_refused (stream_of old) (stream_of new) call why reads (is_placed old is) (begins old new (Err why) began)
+
+-- a live stream that is read and written
+pub reads_held : (engine : EngineView) → Stands engine → engine.access ≡ access.Update → engine.life ≡ life.Live → engine.short ≡ false → ReadsHeld (stream_of engine)
+reads_held engine is opened live whole = record { sound = is_sound engine is; live = live; whole = whole; readable = grind arith; size = engine.window.size; buffered = refl }
+
+-- a reading of such a stream that has to go to the raw
+has_to_pass : (engine : EngineView) (call : FileCall) → Stands engine → engine.access ≡ access.Update → engine.life ≡ life.Live → engine.short ≡ false → GoesToRaw (stream_of engine) call → HasToPass (stream_of engine) call
+has_to_pass engine call is opened live whole goes = record { held = reads_held engine is opened live whole; writes = grind arith; reads = goes.reads; some = goes.some; apart = goes.apart }
+
+-- Passing all on for a reading.
+
+module _ (old new : EngineView) (is : Stands old) (opened : old.access ≡ access.Update) (live : old.life ≡ life.Live) (whole : old.short ≡ false) (apart : IsAhead (stream_of old) → ⊥) (calm : (stream_of old).owed.bytes ≡ [] → WhereTransfers old.raw (new.raw.transfers ≤ old.raw.transfers)) where
+  pub goes_ahead : SettleOutcome (stream_of old) (Ok tt) (stream_of new) → AnswersFrom (stream_of old) (stream_of new)
+  goes_ahead settled call reply after goes takes answers =
+      let pass : HasToPass (stream_of old) call = has_to_pass old call is opened live whole goes in
+      settled_reads (stream_of old) (stream_of new) after call reply goes.reads (record {
+        settled = record {
+          live = live;
+          writes = pass.writes;
+          buffered = refl;
+          accepted = refused_alone (stream_of old) call ((reading_call call goes.reads).unended (file_of (stream_of old))) ∙ accepted (stream_of old) call goes.reads (reading_suits (stream_of old) call goes.reads pass.held) live;
+          settled_by = settled;
+        };
+        apart = apart;
+        hand = goes.apart;
+        asks = goes.some;
+        takes = λ wanting first. subst IsTrue settled.0.passes.kept.raw.takes_memory (takes wanting first);
+        calm = calm;
+      }) answers
+
+  -- the raw would have blocked
+  pub goes_unready : (taken : ℕ) → SettleOutcome (stream_of old) (Err (fault.WouldBlock taken)) (stream_of new) → GoesAhead old (Ok false) new
+  goes_unready taken waits call goes = reading_blocked (stream_of old) (stream_of new) call taken (has_to_pass old call is opened live whole goes) waits
+
+  -- it failed, or memory ran out
+  pub goes_not : (why : IoFault) → ((taken : ℕ) → why ≡ fault.WouldBlock taken → ⊥) → SettleOutcome (stream_of old) (Err why) (stream_of new) → GoesAhead old (Err why) new
+  goes_not fault.RawFault other fails call goes = reading_failed (stream_of old) (stream_of new) call (has_to_pass old call is opened live whole goes) apart calm fails
+  goes_not fault.NoMemory other lacks call goes = reading_starved (stream_of old) (stream_of new) call (has_to_pass old call is opened live whole goes) apart calm lacks
+  goes_not (fault.WouldBlock taken) other waits call goes = absurd (other taken refl)
+  goes_not why other never call goes = absurd never
+
+-- Whether a reading goes on from the bytes held.
+
+-- it does, where nothing is owed and the raw stands after them
+pub ahead_reads : (engine : EngineView) → Stands engine → is_read engine.access ≡ true → engine.window.from ≡ engine.window.to → engine.raw_place ≡ end_of engine.window → IsReading engine
+ahead_reads engine is reads settled stands = grind (arith, reads_alone, reads_both)
+
+-- it doesn't else
+pub ahead_not : (engine : EngineView) → Stands engine → is_read engine.access ≡ true → ((engine.window.from ≡ engine.window.to) → engine.raw_place ≡ end_of engine.window → ⊥) → IsAhead (stream_of engine) → ⊥
+ahead_not engine is reads not ahead = grind (arith, none_at_cursor)
+
+-- what a reading from there answers
+pub reads_seen : (old new : EngineView) (call : FileCall) (reply : FileReply) → IsReading old → IsReading new → Answers (reading_of old) call reply (reading_of new) → Answers (stream_of old) call reply (stream_of new)
+reads_seen old new call reply is now answers = subst (λ (after : Stream). Answers (stream_of old) call reply after) (sym (same_stream new now)) (subst (λ (before : Stream). Answers before call reply (reading_of new)) (sym (same_stream old is)) answers)
+
+-- A cursor that moves on over bytes held, whatever is pending.
+
+-- the window is one still
+pub window_moved : (window : WindowView) (count : ℕ) → IsWindow window → count ≤ length (ahead_of window) → IsWindow (advanced count window)
+window_moved window count is fits = grind (arith, length-drop)
+
+-- the flat bytes are as they were
+pub flat_moved : (bytes : List ℕ) (window : WindowView) (count : ℕ) → flat_over bytes (advanced count window) ≡ flat_over bytes window
+flat_moved bytes window count = grind arith
+
+-- an engine that reads has the shape that it had
+shape_moved : (opened : Access) (raw_place : ℕ) (window : WindowView) (count : ℕ) → is_read opened ≡ true → HasShape opened raw_place window → HasShape opened raw_place (advanced count window)
+shape_moved opened raw_place window count reads shape = grind arith
+
+-- and holds what it held
+holds_moved : (opened : Access) (bytes : List ℕ) (window : WindowView) (count : ℕ) → is_read opened ≡ true → HoldsRead opened bytes window → HoldsRead opened bytes (advanced count window)
+holds_moved access.Read bytes window count reads holds = holds
+holds_moved access.Update bytes window count reads holds = subst (λ (flat : List ℕ). HoldsBytes flat window) (sym (flat_moved bytes window count)) holds
+holds_moved access.Write bytes window count reads holds = tt
+holds_moved access.Append bytes window count reads holds = tt
+
+-- so it stands as each does
+pub stands_moved : (raw : Raw) (raw_place : ℕ) (window : WindowView) (opened : Access) (current : Life) (count : ℕ) → is_read opened ≡ true → count ≤ length (ahead_of window) → IsEngine raw raw_place window opened current → IsEngine raw raw_place (advanced count window) opened current
+stands_moved raw raw_place window opened current count reads fits is = record {
+  window_is = window_moved window count is.window_is fits;
+  is_open = is.is_open;
+  attached = is.attached;
+  shape = shape_moved opened raw_place window count reads is.shape;
+  stands = is.stands;
+  told = λ tells live. holds_moved opened raw.bytes window count reads (is.told tells live);
+}
+
+-- Readings, once they began.
+
+module _ (old begun : EngineView) (call : FileCall) (began : BeginOutcome old (Ok tt) begun) (goes : GoesToRaw (stream_of begun) call) where
+  -- what stopped the passing on answers the reading
+  pub went_not : (new : EngineView) (why : IoFault) → GoesAhead begun (Err why) new → Answers (stream_of old) call (Refused why) (stream_of new)
+  went_not new why stops = answers_from_begun old begun call (Refused why) (stream_of new) began (stops call goes)
+
+  -- it isn't ready, where the raw would have blocked
+  pub went_unready : (new : EngineView) (done : Bool) → done ≡ false → GoesAhead begun (Ok done) new → Answers (stream_of old) call NotReady (stream_of new)
+  went_unready new true never stops = absurd (cc)
+  went_unready new false never stops = answers_from_begun old begun call NotReady (stream_of new) began (stops call goes)
+
+  -- all was passed on
+  pub went_reads : (mid : EngineView) (done : Bool) → done ≡ true → GoesAhead begun (Ok done) mid → IsReading mid
+  went_reads mid true all went = went.0
+  went_reads mid false all went = absurd (cc)
+
+  -- what a reading from there answers
+  pub went_on : (mid new : EngineView) (done : Bool) (reply : FileReply) → done ≡ true → GoesAhead begun (Ok done) mid → IsReading new → (IsTrue (says_no_memory reply) → IsTrue (takes_space_first call) → IsTrue mid.raw.takes_memory) → Answers (reading_of mid) call reply (reading_of new) → Answers (stream_of old) call reply (stream_of new)
+  went_on mid new true reply all went reads takes answers = answers_from_begun old begun call reply (stream_of new) began (went.1 call reply (stream_of new) goes takes (reads_seen mid new call reply went.0 reads answers))
+  went_on mid new false reply all went reads takes answers = absurd (cc)
+
+-- a reading of all that is left has to go to the raw
+pub rest_goes : (engine : EngineView) → GoesToRaw (stream_of engine) (Read None)
+rest_goes engine = record { reads = refl; some = refl; apart = λ has. absurd (has.of) }
+
+-- so has one of lines
+pub lines_go : (engine : EngineView) (hint : Option ℕ) → GoesToRaw (stream_of engine) (ReadLines hint)
+lines_go engine hint = record { reads = refl; some = refl; apart = λ has. absurd (has.of) }
+
+-- a size that isn't 0 asks for some
+not_zero : (size : ℕ) → 0 < size → is_zero size ≡ false
+not_zero size some = grind arith
+
+-- so has one of more bytes than are held
+pub size_goes : (engine : EngineView) (size : ℕ) → IsWindow engine.window → length (ahead_of engine.window) < size → GoesToRaw (stream_of engine) (Read (Some size))
+size_goes engine size is more = record { reads = refl; some = not_zero size (omega (arith, more)); apart = λ has. absurd (omega (arith, has.of, more, is.cursor, length-drop engine.window.cursor engine.window.held)) }
+
+-- of bytes into a buffer too
+pub into_goes : (engine : EngineView) (size : ℕ) → IsWindow engine.window → length (ahead_of engine.window) < size → GoesToRaw (stream_of engine) (ReadInto size)
+into_goes engine size is more = record { reads = refl; some = not_zero size (omega (arith, more)); apart = λ has. absurd (omega (arith, has.of, more, is.cursor, length-drop engine.window.cursor engine.window.held)) }
+
+-- Of the bytes held.
+
+-- a front of some bytes is as many of them as it has
+front_alone : (size : ℕ) (part ahead : List ℕ) → part ≡ take size ahead → take (length part) ahead ≡ part
+front_alone size part ahead front = ap (λ (bytes : List ℕ). take (length bytes) ahead) front ∙ (ap (λ (n : ℕ). take n ahead) (length-take size ahead ∙ omega arith) ∙ (take_min size ahead ∙ sym front))
+
+-- where the cursor moved on, the stream's place did, and with it the place of what is owed where that is nothing
+moved_stream : (old : EngineView) (count : ℕ) → IsWindow old.window → count ≤ length (ahead_of old.window) → stream_of (record old { window = advanced count old.window }) ≡ record (stream_of old) { place = (stream_of old).place + count; owed = owed_at ((stream_of old).place + count) (stream_of old).owed }
+moved_stream old count is fits = grind (arith, pending_many)
+
+-- a front of the bytes held comes next in the flat bytes
+front_told : (window : WindowView) (bytes : List ℕ) (count : ℕ) → IsWindow window → HoldsBytes bytes window → count ≤ length (ahead_of window) → take count (left_at bytes (place_of window)) ≡ take count (ahead_of window)
+front_told window bytes count is holds fits = sym (take-take count (length (ahead_of window)) (left_at bytes (place_of window)) fits) ∙ ap (take count) (bytes_ahead bytes window is.cursor holds)
+
+-- told, a live stream that is read and written holds the flat bytes
+holds_flat : (opened : Access) (bytes : List ℕ) (window : WindowView) → opened ≡ access.Update → HoldsRead opened bytes window → HoldsBytes (flat_over bytes window) window
+holds_flat access.Update bytes window is holds = holds
+holds_flat access.Read bytes window is holds = absurd (cc)
+holds_flat access.Write bytes window is holds = absurd (cc)
+holds_flat access.Append bytes window is holds = absurd (cc)
+
+-- a front of the bytes held is given
+pub gives_front : (old new : EngineView) (part : List ℕ) (size : ℕ) → Stands old → old.access ≡ access.Update → old.life ≡ life.Live → part ≡ take size (ahead_of old.window) → new ≡ record old { window = advanced (length part) old.window } → GivesHeld (stream_of old) part (stream_of new)
+gives_front old new part size is opened live front same =
+    let held : length (ahead_of old.window) ≡ length old.window.held - old.window.cursor = length-drop old.window.cursor old.window.held in
+    let fits : length part ≤ length (ahead_of old.window) = omega (arith, ap length front, length-take size (ahead_of old.window)) in
+    let reads : is_read old.access ≡ true = ap is_read opened in
+    let stands : Stands (record old { window = advanced (length part) old.window }) = stands_moved old.raw old.raw_place old.window old.access old.life (length part) reads fits is in
+    let alone : take (length part) (ahead_of old.window) ≡ part = front_alone size part (ahead_of old.window) front in
+    record {
+      sound = subst (λ (engine : EngineView). IsSound (stream_of engine)) (sym same) (is_sound (record old { window = advanced (length part) old.window }) stands);
+      within = omega (arith, fits, held);
+      same = ap stream_of same ∙ moved_stream old (length part) is.window_is fits;
+      told = λ tells. front_told old.window (flat_over old.raw.bytes old.window) (length part) is.window_is (holds_flat old.access old.raw.bytes old.window opened (is.told tells live)) fits ∙ alone;
+    }
+
+-- A reading that began.
+
+-- the engine with which it began stands as it did
+pub stands_begun : (old begun : EngineView) → Stands old → BeginOutcome old (Ok tt) begun → Stands begun
+stands_begun old begun is began = subst Stands (sym began.1) (stands_whole old is)
+
+-- and its stream has what every reading needs
+pub held_begun : (old begun : EngineView) → Stands old → old.access ≡ access.Update → BeginOutcome old (Ok tt) begun → ReadsHeld (stream_of begun)
+held_begun old begun is opened began = reads_held begun (stands_begun old begun is began) (ap (λ (engine : EngineView). engine.access) began.1 ∙ opened) (ap (λ (engine : EngineView). engine.life) began.1 ∙ began.0) (ap (λ (engine : EngineView). engine.short) began.1)
+
+-- the bytes held answer a call by one transfer only where some are held and nothing is owed
+once_apart : (engine : EngineView) (call : FileCall) → is_single call ≡ true → InHandOf (stream_of engine) call → (0 < length (ahead_of engine.window) → (stream_of engine).owed.bytes ≡ [] → ⊥) → ⊥
+once_apart engine call single has apart = grind (arith, length-drop)
+
+-- a limit that isn't 0 leaves some
+limit_some : (limit : Option ℕ) → limit ≢ Some 0 → asks_zero limit ≡ false
+limit_some limit some = grind arith
+
+module _ (old begun : EngineView) (is : Stands old) (opened : old.access ≡ access.Update) (began : BeginOutcome old (Ok tt) begun) where
+  -- it stands as each does
+  begun_is : Stands begun
+  begun_is = stands_begun old begun is began
+
+  -- it is read and written
+  begun_opened : begun.access ≡ access.Update
+  begun_opened = ap (λ (engine : EngineView). engine.access) began.1 ∙ opened
+
+  -- its stream has what every reading needs
+  begun_held : ReadsHeld (stream_of begun)
+  begun_held = held_begun old begun is opened began
+
+  -- told, the bytes held from the place on come next
+  begun_told : WhereTold begun.raw (take (length (ahead_of begun.window)) (rest (file_of (stream_of begun))) ≡ ahead_of begun.window)
+  begun_told tells = bytes_ahead (flat_over begun.raw.bytes begun.window) begun.window begun_is.window_is.cursor (holds_flat begun.access begun.raw.bytes begun.window begun_opened (begun_is.told tells begun_held.live))
+
+  -- there was no memory
+  pub lacks : (call : FileCall) → is_reading call ≡ true → has_room call ≡ false → Answers (stream_of old) call (Refused fault.NoMemory) (stream_of begun)
+  lacks call reads room = answers_from_begun old begun call (Refused fault.NoMemory) (stream_of begun) began (reading_lacks (stream_of begun) call reads room begun_held)
+
+  -- a reading of n bytes is given those held, which are as many
+  pub sized_held : (new : EngineView) (call : FileCall) (size : ℕ) (part : List ℕ) → reads_on call ≡ true → ((left : List ℕ) → wanted_by call left ≡ take size left) → size ≤ length (ahead_of begun.window) → part ≡ take size (ahead_of begun.window) → new ≡ record begun { window = advanced (length part) begun.window } → Answers (stream_of old) call (reply_by call part) (stream_of new)
+  sized_held new call size part on wants enough front same =
+      let long : length part ≡ size = omega (arith, ap length front, length-take size (ahead_of begun.window), enough) in
+      let gives : GivesHeld (stream_of begun) part (stream_of new) = gives_front begun new part size begun_is begun_opened begun_held.live front same in
+      answers_from_begun old begun call (reply_by call part) (stream_of new) began
+      (held_answers (stream_of begun) (stream_of new) call part begun_held on (wants part ∙ take_all size part (omega (arith, long))) (λ more. wants (part ++ more) ∙ (ap (λ (n : ℕ). take n (part ++ more)) (sym long) ∙ take-append_seam part more)) gives)
+
+  -- n bytes are given
+  pub size_held : (new : EngineView) (size : ℕ) (part : List ℕ) → size ≤ length (ahead_of begun.window) → part ≡ take size (ahead_of begun.window) → new ≡ record begun { window = advanced (length part) begun.window } → Answers (stream_of old) (Read (Some size)) (Bytes part) (stream_of new)
+  size_held new size part enough front same = sized_held new (Read (Some size)) size part refl (λ left. refl) enough front same
+
+  -- they are copied into a buffer
+  pub into_held : (new : EngineView) (size count : ℕ) (buffer : List ℕ) → size ≤ length (ahead_of begun.window) → count ≡ min (length (ahead_of begun.window)) size → take count buffer ≡ take count (ahead_of begun.window) → new ≡ record begun { window = advanced count begun.window } → Answers (stream_of old) (ReadInto size) (Bytes (take count buffer)) (stream_of new)
+  into_held new size count buffer enough least front same =
+      let all : count ≡ size = omega (arith, least, enough) in
+      let part : take count buffer ≡ take size (ahead_of begun.window) = front ∙ ap (λ (n : ℕ). take n (ahead_of begun.window)) all in
+      let long : length (take count buffer) ≡ count = omega (arith, ap length part, length-take size (ahead_of begun.window), enough, all) in
+      sized_held new (ReadInto size) size (take count buffer) refl (λ left. refl) enough part (same ∙ ap (λ (n : ℕ). record begun { window = advanced n begun.window }) (sym long))
+
+  -- a line is given that ends among the bytes held
+  pub line_held : (new : EngineView) (limit : Option ℕ) (view : LineView) (used : ℕ) (piece line : List ℕ) → view ≡ record { line = []; limit = limit } → piece ≡ ahead_of begun.window → HasEnough (line_wanted view) view.line piece used line → new ≡ record begun { window = advanced used begun.window } → Answers (stream_of old) (ReadLine limit) (Bytes line) (stream_of new)
+  line_held new limit view used piece line none lent has same =
+      let enough : HasEnough (wanted_by (ReadLine limit)) [] piece used line = subst (λ (seen : LineView). HasEnough (line_wanted seen) seen.line piece used line) none has in
+      let left : List ℕ = rest (file_of (stream_of begun)) in
+      let front : line ≡ take used (ahead_of begun.window) = enough.takes ∙ ap (take used) lent in
+      let long : length line ≡ used = omega (arith, ap length front, length-take used (ahead_of begun.window), enough.fits, ap length lent) in
+      let gives : GivesHeld (stream_of begun) line (stream_of new) = gives_front begun new line used begun_is begun_opened begun_held.live front (same ∙ ap (λ (n : ℕ). record begun { window = advanced n begun.window }) (sym long)) in
+      let behind : List ℕ = drop (length (ahead_of begun.window)) left in
+      answers_from_begun old begun (ReadLine limit) (Bytes line) (stream_of new) began
+      (held_answers_told (stream_of begun) (stream_of new) (ReadLine limit) line begun_held refl enough.alone
+      (λ tells. ap (wanted_by (ReadLine limit)) (sym (take-append-drop (length (ahead_of begun.window)) left) ∙ (ap (λ (bytes : List ℕ). bytes ++ behind) (begun_told tells ∙ sym lent))) ∙ enough.exact behind) gives)
+
+  -- a line has to go to the raw that goes on after all bytes held
+  pub line_goes : (limit : Option ℕ) (view : LineView) (piece line : List ℕ) → limit ≢ Some 0 → view ≡ record { line = []; limit = limit } → piece ≡ ahead_of begun.window → WantsMore (line_wanted view) view.line piece line → GoesToRaw (stream_of begun) (ReadLine limit)
+  line_goes limit view piece line some none lent has = let more : WantsMore (wanted_by (ReadLine limit)) [] piece line = subst (λ (seen : LineView). WantsMore (line_wanted seen) seen.line piece line) none has in record {
+    reads = refl;
+    some = limit_some limit some;
+    apart = λ hand. wants_past (wanted_by (ReadLine limit)) (stream_of begun) line more.asks (omega (arith, ap length more.takes, ap length lent, length-drop begun.window.cursor begun.window.held)) (in_hand_held (stream_of begun) (ReadLine limit) refl hand.of);
+  }
+
+  -- a call by one transfer is given some of the bytes held
+  pub once_given : (new : EngineView) (call : FileCall) (size : ℕ) (part : List ℕ) → is_single call ≡ true → moves_by call (length part) ≡ length part → asks_for begun.window.size call ≡ size → size ≢ 0 → 0 < length (ahead_of begun.window) → part ≡ take size (ahead_of begun.window) → new ≡ record begun { window = advanced (length part) begun.window } → Answers (stream_of old) call (Bytes part) (stream_of new)
+  once_given new call size part single moves asked asks some front same =
+      let least : length part ≡ min size (length (ahead_of begun.window)) = ap length front ∙ length-take size (ahead_of begun.window) in
+      answers_from_begun old begun call (Bytes part) (stream_of new) began
+      (held_answers_once (stream_of begun) (stream_of new) call part begun_held single moves (λ none. omega (arith, ap length none, least, asks, some)) (omega (arith, least, asked)) (gives_front begun new part size begun_is begun_opened begun_held.live front same))
+
+  -- bytes are copied into a buffer
+  pub once_copied : (new : EngineView) (size count : ℕ) (buffer : List ℕ) → size ≢ 0 → 0 < length (ahead_of begun.window) → count ≡ min (length (ahead_of begun.window)) size → length buffer ≡ size → take count buffer ≡ take count (ahead_of begun.window) → new ≡ record begun { window = advanced count begun.window } → Answers (stream_of old) (ReadInto1 size) (Bytes (take count buffer)) (stream_of new)
+  once_copied new size count buffer asks some least long front same =
+      let fits : length (take count buffer) ≡ count = omega (arith, length-take count buffer, least, long) in
+      once_given new (ReadInto1 size) size (take count buffer) refl refl refl asks some (copied count size (take count buffer) (ahead_of begun.window) least front) (same ∙ ap (λ (n : ℕ). record begun { window = advanced n begun.window }) (sym fits))
+
+  -- the bytes held are shown
+  pub held_shown : 0 < length (ahead_of begun.window) → Answers (stream_of old) Peek (Bytes (ahead_of begun.window)) (stream_of begun)
+  held_shown some = answers_from_begun old begun Peek (Bytes (ahead_of begun.window)) (stream_of begun) began (held_peek (stream_of begun) (ahead_of begun.window) begun_held (λ none. omega (arith, some, ap length none)) (omega (arith, length-drop begun.window.cursor begun.window.held)) begun_told)
+
+-- a call by one transfer has to go to the raw that asks for some byte, where no byte is held or some is owed
+pub once_goes : (engine : EngineView) (call : FileCall) → is_single call ≡ true → asks_for engine.window.size call ≢ 0 → (0 < length (ahead_of engine.window) → (stream_of engine).owed.bytes ≡ [] → ⊥) → GoesToRaw (stream_of engine) call
+once_goes engine call single some apart = record { reads = single_reads call single; some = asks_some engine.window.size call single some; apart = λ has. once_apart engine call single has.of apart }
+
+-- so has a `peek`
+pub look_goes : (engine : EngineView) → (0 < length (ahead_of engine.window) → (stream_of engine).owed.bytes ≡ [] → ⊥) → GoesToRaw (stream_of engine) Peek
+look_goes engine apart = record { reads = refl; some = refl; apart = λ has. once_apart engine Peek refl has.of apart }

@@ -1,6 +1,0 @@
-use Rattle.std.proofs.Common.{arith}
-use Rattle.py_engine.proofs.Held.{moved_to_front}
-use Rattle.py_engine.proofs.window.Window.let_go.Goals as goal
-
-pub returns : goal.returns
-returns c = grind (arith, moved_to_front)

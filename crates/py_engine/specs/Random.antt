@@ -1,0 +1,25 @@
+-- Calls of an engine that is opened to be read and written, where it doesn't read on from the bytes held as it stands.
+use Rattle.std.specs.Prelude.{◌≡◌, Bool, true, false, IsTrue, Result, Ok, Err}
+use Rattle.py_flat.specs.declared.fault.IoFault.{IoFault}
+use Rattle.py_flat.specs.Calls.{FileCall, FileReply, NotReady, Refused}
+use Rattle.py_stream.specs.Stream.{Stream}
+use Rattle.py_stream.specs.Kinds.{is_reading, asks_none, takes_space_first, says_no_memory}
+use Rattle.py_stream.specs.Answers.{Answers, InHand}
+use Rattle.py_engine.specs.Engine.{EngineView, stream_of}
+use Rattle.py_engine.specs.Reading.{IsReading}
+
+-- a reading has to go to the raw: it asks for some byte, and the bytes held don't answer it
+pub record GoesToRaw (stream : Stream) (call : FileCall) : Type 0 where
+  pub reads : is_reading call ≡ true
+  pub some : asks_none stream.buffer call ≡ false
+  pub apart : InHand stream call → ⊥
+
+-- what answers a reading of the one stream answers it of the other, where running out of memory has its cause
+abbrev pub AnswersFrom : Stream → Stream → Type 0
+AnswersFrom before mid = (call : FileCall) (reply : FileReply) (after : Stream) → GoesToRaw before call → (IsTrue (says_no_memory reply) → IsTrue (takes_space_first call) → IsTrue mid.raw.takes_memory) → Answers mid call reply after → Answers before call reply after
+
+-- all was passed on, and a reading goes on from the bytes held; or what stopped that answers the reading, whichever it is
+abbrev pub GoesAhead : EngineView → Result Bool IoFault → EngineView → Type 0
+GoesAhead old (Ok true) new = IsReading new × AnswersFrom (stream_of old) (stream_of new)
+GoesAhead old (Ok false) new = (call : FileCall) → GoesToRaw (stream_of old) call → Answers (stream_of old) call NotReady (stream_of new)
+GoesAhead old (Err why) new = (call : FileCall) → GoesToRaw (stream_of old) call → Answers (stream_of old) call (Refused why) (stream_of new)

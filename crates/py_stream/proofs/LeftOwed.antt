@@ -1,0 +1,192 @@
+-- What is left of what was owed, once some of it was passed on, wherever it belongs.
+use Rattle.std.proofs.Common.{◌≡◌, ◌≢◌, ℕ, suc, zero, ◌+◌, ◌-◌, ◌<◌, ◌≤◌, ◌⊎◌, inl, inr, ⊎_elim, min, max, Bool, List, [], ◌∷◌, length, take, drop, refl, sym, ap, ◌∙◌, subst, arith, length-drop, length-take}
+use Rattle.std.proofs.Math.Seq.{take-nil, drop-nil}
+use Rattle.std.proofs.lemmas.Bool.{cases_lt}
+use Rattle.std.proofs.lemmas.List.{append-nil, take_all, take_min, drop_all, drop-drop, drop-take}
+use Rattle.py_flat.specs.Bytes.{lay}
+use Rattle.py_flat.specs.Owed.{Owed}
+use Rattle.py_raw.specs.RawStream.{WhereTold}
+use Rattle.py_stream.specs.Stream.{Stream}
+use Rattle.py_stream.specs.Writing.{OwesUpTo, OwesBehind, HasAt, first_of_both, end_of_both, CoversBoth, OwesBoth, Takes, OwesOld, LaysFront}
+use Rattle.py_stream.specs.Settling.{PassesSome}
+use Rattle.py_stream.proofs.Owing.{has_none, has_past}
+use Rattle.py_stream.proofs.PassingOn.{none_owed_at, passing_keeps_bytes}
+
+-- Parts of a list.
+
+-- a list that begins in what is left of a part has of the part what it has of the rest
+has_rest : (whole : List ℕ) (begins : ℕ) (part : List ℕ) (place passed : ℕ) → place + passed ≤ begins → HasAt whole begins (drop passed part) (place + passed) → HasAt whole begins part place
+has_rest whole begins part place passed behind has =
+    let size : length part - (begins - place) ≡ length (drop passed part) - (begins - (place + passed)) = omega (arith, length-drop passed part) in
+    let at : place - begins ≡ place + passed - begins = omega (arith, behind) in
+    let past : passed + (begins - (place + passed)) ≡ begins - place = omega (arith, behind) in
+    rw (size, at) (has ∙ drop-drop (begins - (place + passed)) passed part ∙ ap (λ (n : ℕ). drop n part) past)
+
+-- what is left of a front of a list is a front of what is left of it
+front_left : (all : List ℕ) (passed count : ℕ) → drop passed (take count all) ≡ take (count - passed) (drop passed all)
+front_left all passed count = ⊎_elim
+    (λ (less : count < passed). let none : count - passed ≡ 0 = omega (arith, less) in rw none (drop_all passed (take count all) (omega (arith, less, length-take count all))))
+    (λ (more : passed ≤ count). let parts : passed + (count - passed) ≡ count = omega (arith, more) in ap (λ (n : ℕ). drop passed (take n all)) (sym parts) ∙ drop-take passed (count - passed) all)
+    (cases_lt count passed)
+
+-- of what stands at a place a front was taken away: what is left has the front of all, as far as it reaches
+left_front : (all : List ℕ) (place passed count : ℕ) → HasAt (drop passed all) (place + passed) (take count all) place
+left_front all place passed count =
+    let size : length (take count all) - (place + passed - place) ≡ min (count - passed) (length (drop passed all)) = omega (arith, length-take count all, length-drop passed all) in
+    let at : place - (place + passed) ≡ 0 = omega arith in
+    let past : place + passed - place ≡ passed = omega arith in
+    rw (size, at, past) (take_min (count - passed) (drop passed all) ∙ sym (front_left all passed count))
+
+-- of what stands at a place a front was taken away: what is left has the end of all from another place on, as far as it reaches
+left_end : (all : List ℕ) (place passed at : ℕ) → HasAt (drop passed all) (place + passed) (drop (at - place) all) (max place at)
+left_end all place passed at =
+    let part : List ℕ = drop (at - place) all in
+    let ahead : ℕ = place + passed - max place at in
+    let behind : ℕ = max place at - (place + passed) in
+    let same : drop behind (drop passed all) ≡ drop ahead part = drop-drop behind passed all ∙ ap (λ (n : ℕ). drop n all) (omega arith) ∙ sym (drop-drop ahead (at - place) all) in
+    rw same (take_all (length part - ahead) (drop ahead part) (omega (arith, length-drop ahead part)))
+
+-- What covers the rest of what was owed.
+
+first_some : (bytes : List ℕ) (start place : ℕ) → bytes ≢ [] → first_of_both bytes start place ≡ min start place
+first_some [] start place some = absurd (some refl)
+first_some (byte ∷ more) start place some = refl
+
+-- where some is left, it ends where all did
+same_end : (was rest : List ℕ) (start passed place count : ℕ) → rest ≡ drop passed was → rest ≢ [] → end_of_both rest (start + passed) place count ≡ end_of_both was start place count
+same_end [] rest start passed place count is some = absurd (some (is ∙ drop-nil passed))
+same_end (byte ∷ more) [] start passed place count is some = absurd (some refl)
+same_end (byte ∷ more) (next ∷ rest) start passed place zero is some = omega (arith, ap length is, length-drop passed (byte ∷ more))
+same_end (byte ∷ more) (next ∷ rest) start passed place (suc count) is some = omega (arith, ap length is, length-drop passed (byte ∷ more))
+
+-- what is owed ends where it did after a write of none
+end_kept : (owed : List ℕ) (start place : ℕ) → owed ≢ [] → start + length owed ≡ end_of_both owed start place 0
+end_kept [] start place some = absurd (some refl)
+end_kept (byte ∷ more) start place some = refl
+
+-- what was owed isn't nothing where some of it is left
+was_some : (was rest : List ℕ) (passed : ℕ) → rest ≡ drop passed was → rest ≢ [] → was ≢ []
+was_some was rest passed is some none = some (is ∙ ap (drop passed) none ∙ drop-nil passed)
+
+module _ (was rest : Owed) (passed place : ℕ) (is : rest.bytes ≡ drop passed was.bytes) (at : rest.place ≡ was.place + passed) (some : rest.bytes ≢ []) where
+  first_is : first_of_both was.bytes was.place place ≡ min was.place place
+  first_is = first_some was.bytes was.place place (was_some was.bytes rest.bytes passed is some)
+
+  last_is : (count : ℕ) → end_of_both rest.bytes rest.place place count ≡ end_of_both was.bytes was.place place count
+  last_is count = ap (λ (start : ℕ). end_of_both rest.bytes start place count) at ∙ same_end was.bytes rest.bytes was.place passed place count is some
+
+  -- what is owed from no earlier than the first of what is left and a place on has what was owed up to that place
+  has_before : (whole : List ℕ) (begins : ℕ) → min rest.place place ≤ begins → HasAt whole begins (take (place - rest.place) rest.bytes) rest.place → HasAt whole begins (take (place - was.place) was.bytes) was.place
+  has_before whole begins from has = ⊎_elim
+      (λ (before : place < rest.place). ⊎_elim
+      (λ (earlier : place < was.place). let none : place - was.place ≡ 0 = omega (arith, earlier) in rw none (has_none whole begins was.place))
+      (λ (later : was.place ≤ place). has_past whole begins (take (place - was.place) was.bytes) was.place (omega (arith, before, later, from, length-take (place - was.place) was.bytes)))
+      (cases_lt place was.place))
+      (λ (behind : rest.place ≤ place).
+      let same : take (place - rest.place) rest.bytes ≡ drop passed (take (place - was.place) was.bytes) = ap (take (place - rest.place)) is ∙ ap (λ (n : ℕ). take n (drop passed was.bytes)) (omega (arith, at)) ∙ sym (front_left was.bytes passed (place - was.place)) in
+      has_rest whole begins (take (place - was.place) was.bytes) was.place passed (omega (arith, at, behind, from))
+      (subst (λ (part : List ℕ). HasAt whole begins part (was.place + passed)) same (subst (λ (start : ℕ). HasAt whole begins (take (place - rest.place) rest.bytes) start) at has)))
+      (cases_lt place rest.place)
+
+  -- what has the end of what is left has the end of what was owed, from where that reaches what is left
+  has_after : (whole : List ℕ) (begins from : ℕ) → rest.place ≤ from → HasAt whole begins (drop (from - rest.place) rest.bytes) (max rest.place from) → HasAt whole begins (drop (from - was.place) was.bytes) (max was.place from)
+  has_after whole begins from reach has =
+      let same : drop (from - rest.place) rest.bytes ≡ drop (from - was.place) was.bytes = ap (drop (from - rest.place)) is ∙ drop-drop (from - rest.place) passed was.bytes ∙ ap (λ (n : ℕ). drop n was.bytes) (omega (arith, at, reach)) in
+      let there : max rest.place from ≡ max was.place from = omega (arith, at, reach) in
+      subst (λ (part : List ℕ). HasAt whole begins part (max was.place from)) same (subst (λ (start : ℕ). HasAt whole begins (drop (from - rest.place) rest.bytes) start) there has)
+
+  -- what covers what is left of what was owed covers what was owed, where the new bytes reach to what is left
+  pub covers_rest : (new : List ℕ) (owed : Owed) → rest.place ≤ place + length new → CoversBoth rest place new owed → CoversBoth was place new owed
+  covers_rest new owed reach covers = record {
+    from = omega (arith, first_is, first_some rest.bytes rest.place place some, covers.from, at);
+    to = omega (arith, covers.to, last_is (length new));
+    most = omega (arith, covers.most, last_is (length new));
+    new_bytes = covers.new_bytes;
+    old_bytes = has_before owed.bytes owed.place (omega (arith, first_some rest.bytes rest.place place some, covers.from)) covers.old_bytes;
+    behind = has_after owed.bytes owed.place (place + length new) reach covers.behind;
+  }
+
+  -- what is left of what was owed covers that, and nothing new
+  covers_left : CoversBoth was place [] rest
+  covers_left =
+      let last : rest.place + length rest.bytes ≡ end_of_both was.bytes was.place place 0 = end_kept rest.bytes rest.place place some ∙ last_is 0 in
+      record {
+        from = omega (arith, first_is, at);
+        to = subst (λ (end : ℕ). end ≤ rest.place + length rest.bytes) last (omega arith);
+        most = subst (λ (end : ℕ). rest.place + length rest.bytes ≤ max end (place + 0)) last (omega arith);
+        new_bytes = has_none rest.bytes rest.place place;
+        old_bytes = rw (is, at) (left_front was.bytes was.place passed (place - was.place));
+        behind = rw (is, at) (left_end was.bytes was.place passed (place + 0));
+      }
+
+-- What a passing on of some leaves.
+
+-- a list is empty, or isn't
+pub none_or_some : (bytes : List ℕ) → (bytes ≡ []) ⊎ (bytes ≢ [])
+none_or_some [] = inl refl
+none_or_some (byte ∷ more) = inr (λ none. absurd (cc))
+
+module _ (old new : Stream) (passes : PassesSome old new) where
+  as_many : length new.owed.bytes ≡ length old.owed.bytes - passes.passed
+  as_many = ap length passes.owed ∙ length-drop passes.passed old.owed.bytes
+
+  -- what is left of what was owed up to the place is owed up to it
+  pub left_up_to : OwesUpTo old.owed old.place → OwesUpTo new.owed new.place
+  left_up_to up_to = ⊎_elim inl
+      (λ (some : new.owed.bytes ≢ []). ⊎_elim
+      (λ (none : old.owed.bytes ≡ []). absurd (was_some old.owed.bytes new.owed.bytes passes.passed passes.owed some none))
+      (λ (ends : old.owed.place + length old.owed.bytes ≡ old.place). inr (omega (arith, ends, passes.place some, as_many, passes.within, passes.still)))
+      up_to)
+      (none_or_some new.owed.bytes)
+
+  -- what is left of what lay right before the place lies there, and the raw stands where it begins
+  pub left_behind : OwesBehind old → OwesBehind new
+  left_behind behind = record {
+    ends = ⊎_elim
+        (λ (none : new.owed.bytes ≡ []). omega (arith, ap length none, passes.at (none_owed_at old behind.ends) none))
+        (λ (some : new.owed.bytes ≢ []). omega (arith, behind.ends, passes.place some, as_many, passes.within, passes.still))
+        (none_or_some new.owed.bytes);
+    stands = passes.stands behind;
+  }
+
+  -- the raw went forth by as many bytes as it was passed
+  pub left_forth : OwesBehind old → new.raw_place ≡ old.raw_place + passes.passed
+  left_forth behind = omega (arith, behind.ends, behind.stands, (left_behind behind).ends, passes.stands behind, as_many, passes.within, passes.still)
+
+  -- what is owed is left of what was owed, and the place didn't move
+  pub left_old : (short : Bool) → OwesOld old (record new { short = short })
+  left_old short = record {
+    rest = record { passed = passes.passed; bytes = passes.owed; place = passes.place };
+    stands = λ behind none. passes.stands behind ∙ passes.at (none_owed_at old behind.ends) none;
+    moved = λ moved. absurd (moved passes.still);
+    came = λ moved. absurd (moved passes.still);
+  }
+
+  -- what is left of what was owed covers that, and nothing new
+  pub left_covers : new.owed.bytes ≢ [] → CoversBoth old.owed old.place [] new.owed
+  left_covers some = covers_left old.owed new.owed passes.passed old.place passes.owed (passes.place some) some
+
+  -- a call that took nothing owes what is owed after a write of none
+  pub left_both : (bytes : List ℕ) (short : Bool) → OwesBoth old bytes (record new { short = short })
+  left_both bytes short = record { taken = 0; within = omega arith; place = omega (arith, passes.still); owes = λ some. inl (left_covers some) }
+
+  -- a call that took nothing passed on a front of what was owed
+  pub left_takes : (bytes : List ℕ) (short : Bool) → OwesUpTo old.owed old.place → Takes old bytes (record new { short = short })
+  left_takes bytes short up_to = record {
+    taken = 0;
+    within = omega arith;
+    place = omega (arith, passes.still);
+    passed = passes.passed;
+    most = omega (arith, passes.within);
+    answered = passes.answered;
+    forth = left_forth;
+    owed = passes.owed ∙ ap (drop passes.passed) (sym (append-nil old.owed.bytes));
+    up_to = left_up_to up_to;
+    told = λ tells. (0, omega arith, omega arith, passing_keeps_bytes old new passes tells);
+  }
+
+  -- nothing of a call's own was laid on the raw's bytes
+  pub left_lays : (own : List ℕ) → WhereTold old.raw (LaysFront old own new.raw.bytes)
+  left_lays own tells =
+      let some = passes.lays tells in
+      record { passed = some.passed; more = 0; laid = some.laid ∙ ap (lay (lay old.raw.bytes old.owed.place (take some.passed old.owed.bytes)) old.place) (take-nil some.more); order = λ more. absurd (more refl) }

@@ -1,0 +1,318 @@
+-- A call that gives or takes bytes, before which all that was owed was passed on: its answer is one of the stream as it was before.
+use Rattle.std.proofs.Common.{◌≡◌, ◌≢◌, ℕ, ◌+◌, ◌≤◌, inl, inr, max, Bool, true, false, ◌||◌, IsTrue, List, [], ◌++◌, length, take, drop, Option, Some, None, IsSome, Ok, sym, ap, ◌∙◌, subst, arith, length-drop, rules}
+use Rattle.std.proofs.Math.Seq.{take-nil, drop-nil, drop-append-add}
+use Rattle.std.proofs.lemmas.List.{take_all, drop_all, length-take-le}
+use Rattle.py_flat.specs.declared.fault.IoFault.{IoFault}
+use Rattle.py_flat.specs.declared.life.Life.TheVariants as life
+use Rattle.py_flat.specs.Bytes.{lay}
+use Rattle.py_flat.specs.Calls.{FileCall, FileReply}
+use Rattle.py_flat.specs.FlatFile.{FlatFile}
+use Rattle.py_flat.specs.Owed.{Owed}
+use Rattle.py_flat.specs.BinaryStep.{BinaryStep, payload}
+use Rattle.py_raw.specs.RawStream.{Keeps, KeepsReads, WhereTold, WhereTransfers, AnswersFor}
+use Rattle.py_raw.proofs.Telling.{tells_still}
+use Rattle.py_raw.proofs.ReadingOn.{Keeps-then}
+use Rattle.py_stream.specs.Stream.{Stream, file_of, nothing_owed}
+use Rattle.py_stream.specs.Kinds.{is_reading, is_writing, reads_on, takes_space_first, makes_one, asks_none, by_several, calls_none, says_fault, says_no_memory}
+use Rattle.py_stream.specs.Writing.{OwesUpTo, OwesBehind, Takes, PassesFront, OwesBoth, LaysFront, LaysInOrder, OwesOld, OwesNoneOfIts, TookOwn, Writes}
+use Rattle.py_stream.specs.Answers.{Answers, HasCauses, IsAhead, InHand, AsksNoMore, AtMostOne, CameByReads, Starves, StarvesFirst, SeeksByEnd, refused_by, closes_again, parts_at_close}
+use Rattle.py_stream.specs.Settling.{PassesSome, LivesOn, SettleOutcome}
+use Rattle.py_stream.proofs.Taking.{waited_then, faulted_then, answers_then, answers_still}
+use Rattle.py_stream.proofs.Flat.{flat_of, owed_before_all}
+use Rattle.py_stream.proofs.Stopping.{gives_none}
+use Rattle.py_stream.proofs.Giving.{IsGiving, is_giving}
+use Rattle.py_stream.proofs.Completing.{completes}
+use Rattle.py_stream.proofs.ReadingCalls.{IsReadingCall, reading_call}
+use Rattle.py_stream.proofs.PassingOn.{passed_all}
+
+-- The situation.
+
+-- all that a live stream owed was passed on, for a call that isn't refused: the stream has a buffer, and writes
+pub record SettledFor (before : Stream) (call : FileCall) (mid : Stream) : Type 0 where
+  pub live : before.life ≡ life.Live
+  pub writes : before.can.writable ≡ true
+  pub buffered : IsSome before.buffer
+  pub accepted : refused_by before call ≡ None
+  pub settled_by : SettleOutcome before (Ok tt) mid
+
+-- a reading, for which all that was owed was passed on, as the bytes held don't answer it: some was owed, or the raw didn't stand after
+-- them. Where nothing was owed, no transfer was made for that; the call asks for some byte; and where memory ran out for the space that
+-- it takes first, the raw takes some
+pub record SettledReading (before : Stream) (call : FileCall) (reply : FileReply) (mid : Stream) : Type 0 where
+  pub settled : SettledFor before call mid
+  pub apart : IsAhead before → ⊥
+  pub hand : InHand before call → ⊥
+  pub asks : asks_none before.buffer call ≡ false
+  pub takes : IsTrue (says_no_memory reply) → IsTrue (takes_space_first call) → IsTrue before.raw.takes_memory
+  pub calm : before.owed.bytes ≡ [] → WhereTransfers before.raw (mid.raw.transfers ≤ before.raw.transfers)
+
+-- a call that writes, for which all that was owed was passed on: nothing is owed any more, and the raw stands at the place
+pub record SettledWriting (before : Stream) (call : FileCall) (mid : Stream) : Type 0 where
+  pub settled : SettledFor before call mid
+  pub none : mid.owed ≡ nothing_owed mid.place
+  pub stands : mid.raw_place ≡ mid.place
+
+-- The stream in between.
+
+-- a stream, with the raw of another, its place there, and what that owes and holds
+abbrev pub settled_as : Stream → Stream → Stream
+settled_as before mid = record before { raw = mid.raw; raw_place = mid.raw_place; owed = mid.owed; held = mid.held }
+
+-- passing on leaves all else as it was
+same_else : (before mid : Stream) → before.life ≡ life.Live → LivesOn before mid → mid ≡ settled_as before mid
+same_else before mid live goes = grind arith
+
+-- passing on all leaves the flat bytes
+same_bytes : (before mid : Stream) → PassesSome before mid → mid.owed.bytes ≡ [] → WhereTold before.raw (flat_of mid ≡ flat_of before)
+same_bytes before mid passes none tells = ap (lay mid.raw.bytes mid.owed.place) none ∙ passed_all before mid passes none tells
+
+-- so it leaves the flat file as it was
+same_file : (before mid : Stream) → PassesSome before mid → mid.owed.bytes ≡ [] → WhereTold before.raw (file_of (settled_as before mid) ≡ file_of before)
+same_file before mid passes none tells = ap (λ (all : List ℕ). record (file_of before) { bytes = all }) (same_bytes before mid passes none tells)
+
+-- all that was owed was passed on, where nothing is owed any more
+all_passed : (before mid : Stream) (passes : PassesSome before mid) → mid.owed.bytes ≡ [] → passes.passed ≡ length before.owed.bytes
+all_passed before mid passes none = omega (arith, passes.within, length-drop passes.passed before.owed.bytes, ap length passes.owed, ap length none)
+
+-- so the raw answered for as many bytes as were owed
+all_answered : (before mid : Stream) → PassesSome before mid → mid.owed.bytes ≡ [] → AnswersFor (length before.owed.bytes) before.raw mid.raw
+all_answered before mid passes none = subst (λ (count : ℕ). AnswersFor count before.raw mid.raw) (all_passed before mid passes none) passes.answered
+
+-- The calls.
+
+-- what is alike of all calls that give or take bytes
+pub record MovesBytes (call : FileCall) : Type 0 where
+  pub closes : (stream : Stream) → closes_again stream call ≡ false
+  pub parts : (stream : Stream) (reply : FileReply) → parts_at_close stream call reply ≡ false
+  pub calls : (buffer : Option ℕ) (writes : Bool) → calls_none buffer writes call ≡ false
+  pub ends : (before : Stream) (reply : FileReply) (after : Stream) → SeeksByEnd before call reply after
+  pub accepts : (before mid : Stream) → refused_by before call ≡ None → refused_by (settled_as before mid) call ≡ None
+
+-- what is alike of these calls holds of each
+pub moves_bytes : (call : FileCall) → (is_reading call || is_writing call) ≡ true → MovesBytes call
+moves_bytes call moves = grind arith
+
+-- a call that writes is one of them
+writes_moves : (call : FileCall) → is_writing call ≡ true → (is_reading call || is_writing call) ≡ true
+writes_moves call writing = grind arith
+
+-- a stream with a buffer takes bytes by several transfers
+takes_by_several : (buffer : Option ℕ) (call : FileCall) → IsSome buffer → is_writing call ≡ true → makes_one buffer call ≡ false
+takes_by_several buffer call some writing = grind arith
+
+-- What such an answer has of its own.
+
+-- what an answer after a passing on has to say of the bytes that were held, of memory and of transfers, and of what is owed
+pub record AfterSettling (before : Stream) (call : FileCall) (reply : FileReply) (after : Stream) : Type 0 where
+  pub starves : IsTrue (says_no_memory reply) → IsTrue (reads_on call) → IsAhead before → Starves before after
+  pub first : StarvesFirst before call reply after
+  pub nothing : asks_none before.buffer call ≡ false
+  pub single : IsTrue (makes_one before.buffer call) → before.owed.bytes ≡ [] → AtMostOne before after
+  pub brings : IsTrue (is_reading call) → IsAhead before → CameByReads 1 before after
+  pub unread : is_reading call ≡ false → KeepsReads before.raw after.raw
+  pub in_hand : InHand before call → ⊥
+  pub needs : IsTrue (by_several before.buffer call) → IsAhead before → AsksNoMore before call reply after
+  pub writes : Writes before call reply after
+
+-- a call that isn't refused has no refusal
+not_refused : (before : Stream) (call : FileCall) (why : IoFault) → refused_by before call ≡ None → refused_by before call ≡ Some why → ⊥
+not_refused before call why none some = let wrong : None ≡ Some why = sym none ∙ some in cc
+
+-- what an answer has in common with that of the stream in between
+then_answers : (before mid after : Stream) (call : FileCall) (reply : FileReply) → (is_reading call || is_writing call) ≡ true → SettledFor before call mid → Answers (settled_as before mid) call reply after → AfterSettling before call reply after → Answers before call reply after
+then_answers before mid after call reply moves settled answers own =
+    let is : MovesBytes call = moves_bytes call moves in
+    let goes : LivesOn before mid = settled.settled_by.0 in
+    let passes : PassesSome before mid = goes.passes in
+    let kept : Keeps before.raw mid.raw = passes.kept.raw in
+    let accepted : refused_by (settled_as before mid) call ≡ None = is.accepts before mid settled.accepted in
+    let causes : HasCauses before.raw reply after.raw after.short = record { waits = λ short. waited_then before.raw mid.raw after.raw kept (answers.causes.waits short); faults = λ says. faulted_then before.raw mid.raw after.raw kept (answers.causes.faults says) } in
+    record {
+      keeps = record { buffer = answers.keeps.buffer; can = answers.keeps.can; raw = Keeps-then before.raw mid.raw after.raw kept answers.keeps.raw; bare = λ bare _. answers.keeps.bare bare (passes.kept.sound.bare (passes.kept.buffer ∙ bare) ∙ ap nothing_owed passes.still) };
+      refused = λ why refuses. absurd (not_refused before call why settled.accepted refuses);
+      again = λ closes. absurd (cc (is.closes before));
+      shut = λ _ none closed. answers.shut (is.parts (settled_as before mid) reply) none (passes.kept.stays ∙ closed);
+      causes = causes;
+      counted = λ exact. let counts = answers.counted (kept.counts_exactly ∙ exact) in record { faults = λ none. counts.faults none ∙ goes.no_fault exact; waits = λ whole ends. counts.waits whole ends ∙ settled.settled_by.1 exact; once = λ short ends. cc (counts.once short ends, settled.settled_by.1 exact) };
+      shorts = answers.shorts;
+      moves = record { life_is = answers.moves.life_is; place = answers.moves.place; far = answers.moves.far; within = answers.moves.within };
+      ends = is.ends before reply after;
+      wants = λ wanting room. sym kept.takes_memory ∙ answers.wants wanting room;
+      starves = own.starves;
+      first = own.first;
+      nothing = λ asks. absurd (cc (own.nothing));
+      idle = λ keeps. absurd (cc (is.calls before.buffer before.can.writable));
+      single = own.single;
+      in_hand = λ has. absurd (own.in_hand has);
+      brings = own.brings;
+      unread = own.unread;
+      needs = own.needs;
+      spares = λ reads. absurd (cc (settled.writes));
+      writes = λ _. own.writes;
+      answer = λ _. answers.answer accepted;
+      at_once = λ failed. absurd (cc (settled.live));
+      complete = λ _ calm sound. completes before.raw after.raw before.buffer before.can.writable call reply after.short causes answers.shorts (answers.answer accepted) calm sound;
+      told = λ tells. subst (λ (file : FlatFile). BinaryStep file call reply after.short (says_fault reply) (file_of after)) (same_file before mid passes settled.settled_by.2 tells) (answers.told (tells_still before.raw mid.raw kept ∙ tells));
+      reach = λ reads tells. subst (λ (file : FlatFile). after.place ≤ max before.place (length file.bytes)) (same_file before mid passes settled.settled_by.2 tells) (answers.reach reads (tells_still before.raw mid.raw kept ∙ tells));
+      near = answers.near;
+      hides = answers.hides;
+    }
+
+-- an answer of the stream in between is one of that stream, as it is seen from the first
+as_settled : (before mid after : Stream) (call : FileCall) (reply : FileReply) → SettledFor before call mid → Answers mid call reply after → Answers (settled_as before mid) call reply after
+as_settled before mid after call reply settled answers = subst (λ (stream : Stream). Answers stream call reply after) (same_else before mid settled.live settled.settled_by.0) answers
+
+-- Readings.
+
+-- a front of nothing, laid on, is nothing
+lays_none : (bytes own : List ℕ) (first second passed more : ℕ) (after : List ℕ) → own ≡ [] → after ≡ lay (lay bytes first (take passed own)) second (take more []) → after ≡ bytes
+lays_none bytes own first second passed more after none is = is ∙ ap (λ (t : List ℕ). lay (lay bytes first (take passed own)) second t) (take-nil more) ∙ ap (λ (t : List ℕ). lay bytes first (take passed t)) none ∙ ap (lay bytes first) (take-nil passed)
+
+-- what a reading lays on is a front of what is owed, and all of these are allowed
+record LaysOwed (call : FileCall) : Type 0 where
+  of_front : (before : Stream) (bytes : List ℕ) → LaysFront before [] bytes → LaysInOrder before call bytes
+  to_front : (before : Stream) (bytes : List ℕ) → LaysInOrder before call bytes → LaysFront before [] bytes
+
+-- this holds of each reading
+lays_owed : (call : FileCall) → is_reading call ≡ true → LaysOwed call
+lays_owed call reads = grind arith
+
+-- a reading after a passing on lays nothing more on
+reading_lays : (before mid after : Stream) → PassesSome before mid → mid.owed.bytes ≡ [] → WhereTold mid.raw (LaysFront (settled_as before mid) [] after.raw.bytes) → WhereTold before.raw (LaysFront before [] after.raw.bytes)
+reading_lays before mid after passes none more tells =
+    let laid = more (tells_still before.raw mid.raw passes.kept.raw ∙ tells) in
+    subst (λ (bytes : List ℕ). LaysFront before [] bytes) (sym (lays_none mid.raw.bytes mid.owed.bytes mid.owed.place before.place laid.passed laid.more after.raw.bytes none laid.laid)) (passes.lays tells)
+
+-- it passes on no more than was passed on before it
+reading_passes : (before mid after : Stream) → PassesSome before mid → mid.owed.bytes ≡ [] → PassesFront (settled_as before mid) after → PassesFront before after
+reading_passes before mid after passes none more = grind (arith, drop-nil, answers_still)
+
+-- what a reading after a passing on does with the bytes that were owed
+reading_writes : (before mid after : Stream) (call : FileCall) (reply : FileReply) → is_reading call ≡ true → SettledFor before call mid → Writes (settled_as before mid) call reply after → Writes before call reply after
+reading_writes before mid after call reply reads settled writes =
+    let is : IsReadingCall call = reading_call call reads in
+    let lays : LaysOwed call = lays_owed call reads in
+    let passes : PassesSome before mid = settled.settled_by.0.passes in
+    let none : mid.owed.bytes ≡ [] = settled.settled_by.2 in
+    record {
+      owes = λ writing. absurd (cc (is.writing));
+      takes = λ writing. absurd (cc (is.writing));
+      leaves = λ _. reading_passes before mid after passes none (writes.leaves is.writing);
+      stands = λ behind still. absurd (cc (reads));
+      lays = λ tells. lays.of_front before after.raw.bytes (reading_lays before mid after passes none (λ told. lays.to_front (settled_as before mid) after.raw.bytes (writes.lays told)) tells);
+      passes = is.passes before reply after;
+      full = writes.full;
+      starves = λ wants writing. absurd (cc (is.writing));
+      straight = is.straight before reply after;
+      settles = λ at. writes.settles (λ nothing. passes.at at nothing ∙ passes.still);
+      unclosed = λ some. writes.unclosed some ∙ passes.kept.stays;
+      rests = λ dead. absurd (dead settled.live);
+    }
+
+-- what the answer of a reading after a passing on has of its own
+reading_own : (before mid after : Stream) (call : FileCall) (reply : FileReply) → is_reading call ≡ true → SettledReading before call reply mid → Answers (settled_as before mid) call reply after → AfterSettling before call reply after
+reading_own before mid after call reply reads is answers = search (rules, reading_writes)
+
+-- an answer of a reading, after all that was owed was passed on
+pub settled_reads : (before mid after : Stream) (call : FileCall) (reply : FileReply) → is_reading call ≡ true → SettledReading before call reply mid → Answers mid call reply after → Answers before call reply after
+settled_reads before mid after call reply reads is answers =
+    let seen : Answers (settled_as before mid) call reply after = as_settled before mid after call reply is.settled answers in
+    then_answers before mid after call reply (ap (λ (gives : Bool). gives || is_writing call) reads) is.settled seen (reading_own before mid after call reply reads is seen)
+
+-- Writing.
+
+-- a stream that owes nothing, and whose raw stands at its place, owes what lies right before that
+writing_behind : (before mid : Stream) → PassesSome before mid → mid.owed ≡ nothing_owed mid.place → mid.raw_place ≡ mid.place → OwesBehind (settled_as before mid)
+writing_behind before mid passes none stands = grind arith
+
+-- a write after a passing on: the raw answered for all that was owed, and then for what the write passed on
+writing_answers : (before mid : Stream) (after : Stream) (count : ℕ) → PassesSome before mid → mid.owed.bytes ≡ [] → AnswersFor count mid.raw after.raw → AnswersFor (length before.owed.bytes + count) before.raw after.raw
+writing_answers before mid after count passes none more = answers_then before.raw mid.raw after.raw (length before.owed.bytes) count passes.kept.raw (all_answered before mid passes none) more
+
+-- what a write after a passing on took, and passed on with all that was owed
+writing_takes : (before mid after : Stream) (bytes : List ℕ) → PassesSome before mid → mid.owed ≡ nothing_owed mid.place → mid.raw_place ≡ mid.place → Takes (settled_as before mid) bytes after → Takes before bytes after
+writing_takes before mid after bytes passes none stands takes =
+    let nothing : mid.owed.bytes ≡ [] = ap (λ (owed : Owed). owed.bytes) none in
+    record {
+      taken = takes.taken;
+      within = takes.within;
+      place = takes.place;
+      passed = length before.owed.bytes + takes.passed;
+      most = omega (arith, takes.most, ap length nothing);
+      answered = writing_answers before mid after takes.passed passes nothing takes.answered;
+      forth = λ behind. omega (arith, takes.forth (writing_behind before mid passes none stands), behind.ends, behind.stands, stands, passes.still);
+      owed = takes.owed ∙ ap (λ (owed : List ℕ). drop takes.passed (owed ++ take takes.taken bytes)) nothing ∙ sym (drop-append-add before.owed.bytes (take takes.taken bytes) takes.passed);
+      up_to = takes.up_to;
+      told = λ tells. subst (λ (all : List ℕ). (count : ℕ) × (takes.taken ≤ count) × (count ≤ length bytes) × ((file_of after).bytes ≡ lay all before.place (take count bytes))) (same_bytes before mid passes nothing tells) (takes.told (tells_still before.raw mid.raw passes.kept.raw ∙ tells));
+    }
+
+-- where what is owed ends at a place, and is some, it begins so many bytes before
+begins_before : (owed : Owed) (place : ℕ) → owed.bytes ≢ [] → OwesUpTo owed place → owed.place + length owed.bytes ≡ place
+begins_before owed place some (inl none) = absurd (some none)
+begins_before owed place some (inr ends) = ends
+
+-- what is owed after it is what it took and didn't pass on
+writing_owes : (before mid after : Stream) (bytes : List ℕ) → PassesSome before mid → mid.owed.bytes ≡ [] → Takes (settled_as before mid) bytes after → OwesBoth before bytes after
+writing_owes before mid after bytes passes none takes = grind (arith, writing_answers, length-take-le, length-drop, begins_before)
+
+-- the raw has all that was owed, and then what it was given of a call's own bytes
+writing_lays : (before mid after : Stream) (own : List ℕ) → PassesSome before mid → mid.owed.bytes ≡ [] → WhereTold mid.raw (LaysFront (settled_as before mid) own after.raw.bytes) → WhereTold before.raw (LaysFront before own after.raw.bytes)
+writing_lays before mid after own passes none more tells =
+    let laid = more (tells_still before.raw mid.raw passes.kept.raw ∙ tells) in
+    let owed : List ℕ = before.owed.bytes in
+    let all : mid.raw.bytes ≡ flat_of before = passed_all before mid passes none tells in
+    record { passed = length owed; more = laid.more; laid = grind (arith, take-nil, take_all); order = λ some. owed_before_all before.owed before.place (length owed) (omega arith) }
+
+-- the raw took some of the call's own bytes after all that was owed
+writing_took : (before mid after : Stream) → PassesSome before mid → mid.owed.bytes ≡ [] → TookOwn (settled_as before mid) after → TookOwn before after
+writing_took before mid after passes none took = record {
+  further = took.further;
+  stands = λ tells. took.stands (passes.kept.raw.tells_place ∙ tells);
+  answered = λ _ tells. omega (arith, all_answered before mid passes none tells, took.answered (inl none) (passes.kept.raw.tells_transfers ∙ tells), ap length none);
+}
+
+-- what is owed is none of a call's own bytes, and all that was owed before was passed on
+writing_old : (before mid after : Stream) → PassesSome before mid → mid.owed ≡ nothing_owed mid.place → mid.raw_place ≡ mid.place → OwesOld (settled_as before mid) after → OwesOld before after
+writing_old before mid after passes none stands old = grind (arith, writing_behind, drop_all, drop-nil)
+
+-- what is alike of both calls that write: what they may lay on, and what they owe once they were stopped
+record GivesOwn (call : FileCall) : Type 0 where
+  to_front : (before : Stream) (bytes : List ℕ) → LaysInOrder before call bytes → LaysFront before (payload call) bytes
+  straight : (before mid after : Stream) (reply : FileReply) → (OwesOld mid after → OwesOld before after) → OwesNoneOfIts mid call reply after → OwesNoneOfIts before call reply after
+
+-- this holds of each call that writes
+gives_own : (call : FileCall) → is_writing call ≡ true → GivesOwn call
+gives_own call writing = grind arith
+
+-- what a write after a passing on does with the bytes that were owed, and with its own
+writing_writes : (before mid after : Stream) (call : FileCall) (reply : FileReply) → is_writing call ≡ true → SettledWriting before call mid → Writes (settled_as before mid) call reply after → Writes before call reply after
+writing_writes before mid after call reply writing is writes =
+    let giving : IsGiving call = is_giving call writing in
+    let lays : GivesOwn call = gives_own call writing in
+    let passes : PassesSome before mid = is.settled.settled_by.0.passes in
+    let none : mid.owed.bytes ≡ [] = is.settled.settled_by.2 in
+    let takes : Takes (settled_as before mid) (payload call) after = writes.takes writing (inl none) in
+    record {
+      owes = λ _. writing_owes before mid after (payload call) passes none takes;
+      takes = λ _ _. writing_takes before mid after (payload call) passes is.none is.stands takes;
+      leaves = λ other. absurd (cc (writing));
+      stands = λ behind. writes.stands (writing_behind before mid passes is.none is.stands);
+      lays = λ tells. giving.lays before after.raw.bytes (writing_lays before mid after (payload call) passes none (λ told. lays.to_front (settled_as before mid) after.raw.bytes (writes.lays told)) tells);
+      passes = giving.passes before reply after;
+      full = writes.full;
+      starves = λ wants gives failed. writing_took before mid after passes none (writes.starves wants gives failed);
+      straight = lays.straight before (settled_as before mid) after reply (writing_old before mid after passes is.none is.stands) writes.straight;
+      settles = λ at. writes.settles (λ nothing. passes.at at nothing ∙ passes.still);
+      unclosed = λ some. writes.unclosed some ∙ passes.kept.stays;
+      rests = λ dead. absurd (dead is.settled.live);
+    }
+
+-- what the answer of a call that writes, after a passing on, has of its own
+writing_own : (before mid after : Stream) (call : FileCall) (reply : FileReply) → is_writing call ≡ true → SettledWriting before call mid → Answers (settled_as before mid) call reply after → AfterSettling before call reply after
+writing_own before mid after call reply writing is answers = grind (arith, takes_by_several, is_giving, gives_none, writing_writes)
+
+-- an answer of a call that writes, after all that was owed was passed on
+pub settled_writes : (before mid after : Stream) (call : FileCall) (reply : FileReply) → is_writing call ≡ true → SettledWriting before call mid → Answers mid call reply after → Answers before call reply after
+settled_writes before mid after call reply writing is answers =
+    let seen : Answers (settled_as before mid) call reply after = as_settled before mid after call reply is.settled answers in
+    then_answers before mid after call reply (writes_moves call writing) is.settled seen (writing_own before mid after call reply writing is seen)

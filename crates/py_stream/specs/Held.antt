@@ -1,0 +1,32 @@
+-- What a stream does with the bytes that its buffer holds, whatever it owes: no raw is called.
+use Rattle.std.specs.Prelude.{◌≡◌, ◌≢◌, ℕ, ◌+◌, ◌≤◌, List, [], ◌++◌, length, take}
+use Rattle.py_flat.specs.Bytes.{lay}
+use Rattle.py_flat.specs.ExactStep.{rest}
+use Rattle.py_raw.specs.RawStream.{WhereTold}
+use Rattle.py_stream.specs.Stream.{Stream, file_of}
+use Rattle.py_stream.specs.Answers.{ahead}
+use Rattle.py_stream.specs.Keeping.{IsSound, KeepsOn}
+use Rattle.py_stream.specs.Moving.{owed_at}
+use Rattle.py_stream.specs.Writing.{OwesUpTo, OwesBehind, NoneAtPlace, CoversBoth}
+
+-- bytes held are given from the place on, which moves past them; told, they are what comes next
+pub record GivesHeld (old : Stream) (part : List ℕ) (new : Stream) : Type 0 where
+  pub sound : IsSound new
+  pub within : length part ≤ ahead old
+  pub same : new ≡ record old { place = old.place + length part; owed = owed_at (old.place + length part) old.owed }
+  pub told : WhereTold old.raw (take (length part) (rest (file_of old)) ≡ part)
+
+-- bytes are taken at the place, over those held there, and the place moves past them: what is owed then covers them and what was owed;
+-- told, they are laid on in the flat bytes
+pub record KeepsBoth (old : Stream) (bytes : List ℕ) (new : Stream) : Type 0 where
+  pub kept : KeepsOn old new
+  pub raw : new.raw ≡ old.raw
+  pub life_is : new.life ≡ old.life
+  pub place : new.place ≡ old.place + length bytes
+  pub raw_place : new.raw_place ≡ old.raw_place
+  pub none : bytes ≡ [] → old.owed.bytes ≡ [] → new.owed ≡ old.owed
+  pub covers : new.owed.bytes ≢ [] → CoversBoth old.owed old.place bytes new.owed
+  pub behind : OwesUpTo old.owed old.place → (new.owed.bytes ≡ old.owed.bytes ++ bytes) × OwesUpTo new.owed new.place
+  pub at : NoneAtPlace old → NoneAtPlace new
+  pub stands : OwesBehind old → OwesBehind new
+  pub told : WhereTold old.raw (lay new.raw.bytes new.owed.place new.owed.bytes ≡ lay (lay old.raw.bytes old.owed.place old.owed.bytes) old.place bytes)

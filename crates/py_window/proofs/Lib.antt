@@ -1,0 +1,3 @@
+mod Held
+pub mod Collecting
+pub mod Overlaying
