@@ -1,12 +1,12 @@
 -- The calls that give nothing, or bytes, by what the stream is opened for: what holds when a call begins, and what its steps come to.
-use Rattle.std.proofs.Common.{◌≡◌, ℕ, Bool, true, false, Result, Ok, Err, IfOk, refl, sym, ap, subst, arith}
+use Rattle.std.proofs.Common.{◌≡◌, ℕ, [], length, Bool, true, false, Result, Ok, Err, IfOk, refl, sym, ap, subst, arith}
 use Rattle.py_flat.specs.declared.fault.IoFault.{IoFault}
 use Rattle.py_flat.specs.declared.life.Life.TheVariants as life
 use Rattle.py_flat.specs.Calls.{Flush, Close, Refused}
 use Rattle.py_stream.specs.declared.access.Access.{Access}
 use Rattle.py_stream.specs.declared.access.Access.TheVariants as access
 use Rattle.py_stream.specs.Access.{can_of, is_written}
-use Rattle.py_stream.specs.Stream.{nothing_owed}
+use Rattle.py_stream.specs.Stream.{Span, nothing_owed, nothing_held}
 use Rattle.py_stream.specs.Settling.{SettleOutcome}
 use Rattle.py_stream.specs.Replies.{done_reply}
 use Rattle.py_stream.specs.Answers.{Answers}
@@ -17,8 +17,8 @@ use Rattle.py_stream.proofs.Given.{writing_refused}
 use Rattle.py_stream.proofs.Showing.{IsWriting}
 use Rattle.py_stream.proofs.PassingOn.{begun}
 use Rattle.py_stream.proofs.Flushing.{flush_answers}
-use Rattle.py_stream.proofs.Shutting.{flush_passes_on, close_stops, close_answers, close_answers_at_once}
-use Rattle.py_window.specs.Window.{place_of}
+use Rattle.py_stream.proofs.Shutting.{RestsHere, flush_passes_on, close_stops, close_answers, close_answers_at_once}
+use Rattle.py_window.specs.Window.{place_of, end_of}
 use Rattle.py_engine.specs.Engine.{EngineView, stream_of, Stands, IsBehind, BeginOutcome}
 use Rattle.py_engine.specs.Passing.{PassesAll, PassesToClose}
 use Rattle.py_engine.proofs.Standing.{is_placed, is_sound, owes_behind, owes_nothing, reads_alone}
@@ -49,15 +49,29 @@ reads_there engine is opened = owes_nothing engine (reads_alone engine is opened
 
 -- Flushing.
 
-written_there : (opened : Access) (result : Result (Unit {0}) IoFault) (raw_place place : ℕ) → is_written opened ≡ true → IfOk result (λ done. is_written opened ≡ true → raw_place ≡ place) → IfOk result (λ done. raw_place ≡ place)
-written_there opened (Ok done) raw_place place writes stands = stands writes
-written_there opened (Err why) raw_place place writes stands = tt
+-- bytes are held between two places that are one: none
+held_there : (from place to : ℕ) → from ≡ place → to ≡ place → ◌≡◌ {A = Span} (record { from = from; to = to }) (nothing_held place)
+held_there from place to first last = rw (first, last) refl
+
+-- a window that holds nothing holds none at its place
+rests_here : (engine : EngineView) → engine.raw_place ≡ place_of engine.window → IsBehind engine → engine.window.held ≡ [] → RestsHere (stream_of engine)
+rests_here engine stands behind none =
+    let long : length engine.window.held ≡ 0 = ap length none in
+    record {
+      stands = stands;
+      held = held_there engine.window.begin (place_of engine.window) (end_of engine.window) (omega (arith, behind.owes.collects.end, long)) (omega (arith, behind.owes.collects.end, long));
+    }
+
+written_rests : (opened : Access) (result : Result (Unit {0}) IoFault) (engine : EngineView) → is_written opened ≡ true → IfOk result (λ done. is_written opened ≡ true → engine.raw_place ≡ place_of engine.window) → IfOk result (λ done. is_written opened ≡ true → IsBehind engine) → IfOk result (λ done. is_written opened ≡ true → engine.window.held ≡ []) → IfOk result (λ done. RestsHere (stream_of engine))
+written_rests opened (Ok done) engine writes stands behind rests = rests_here engine (stands writes) (behind writes) (rests writes)
+written_rests opened (Err why) engine writes stands behind rests = tt
 
 -- a `flush` answers what passing all on came to
-pub flushes : (opened : Access) (old started new : EngineView) (result : Result (Unit {0}) IoFault) → old.access ≡ opened → Stands old → BeginOutcome old (Ok tt) started → PassesAll opened (stream_of started) result (stream_of new) → IfOk result (λ done. is_written opened ≡ true → new.raw_place ≡ place_of new.window) → Answers (stream_of old) Flush (done_reply result) (stream_of new)
-flushes access.Read old started new result opened is began passed stands = grind (arith, flush_answers, is_placed, reads_there, begins)
-flushes other old started new result opened is began passed stands =
-    flush_passes_on (stream_of old) (stream_of started) (stream_of new) result (is_writing_live old is (ap is_written opened) began.0) (begins old started (Ok tt) began) passed (written_there old.access result new.raw_place (place_of new.window) (ap is_written opened) (subst (λ (access : Access). IfOk result (λ done. is_written access ≡ true → new.raw_place ≡ place_of new.window)) (sym opened) stands))
+pub flushes : (opened : Access) (old started new : EngineView) (result : Result (Unit {0}) IoFault) → old.access ≡ opened → Stands old → BeginOutcome old (Ok tt) started → PassesAll opened (stream_of started) result (stream_of new) → IfOk result (λ done. is_written opened ≡ true → new.raw_place ≡ place_of new.window) → IfOk result (λ done. is_written opened ≡ true → IsBehind new) → IfOk result (λ done. is_written opened ≡ true → new.window.held ≡ []) → Answers (stream_of old) Flush (done_reply result) (stream_of new)
+flushes access.Read old started new result opened is began passed stands behind rests = grind (arith, flush_answers, is_placed, reads_there, begins)
+flushes other old started new result opened is began passed stands behind rests =
+    let writes : is_written old.access ≡ true = ap is_written opened in
+    flush_passes_on (stream_of old) (stream_of started) (stream_of new) result (is_writing_live old is writes began.0) (begins old started (Ok tt) began) passed (written_rests other result new refl stands behind rests)
 
 -- Closing.
 

@@ -1,5 +1,5 @@
 -- What an engine that is read and written holds stays the flat bytes, step by step.
-use Rattle.std.proofs.Common.{◌≡◌, ℕ, ◌+◌, ◌-◌, ◌<◌, ◌≤◌, inl, true, List, ◌++◌, length, take, drop, Bool, if◌then◌else◌, refl, sym, ap, ◌∙◌, subst, arith, ⊎_elim, ne_eqb}
+use Rattle.std.proofs.Common.{◌≡◌, ℕ, ◌+◌, ◌-◌, ◌<◌, ◌≤◌, true, List, ◌++◌, length, take, drop, Bool, if◌then◌else◌, refl, sym, ap, ◌∙◌, subst, arith, ⊎_elim, ne_eqb}
 use Rattle.std.proofs.lemmas.Bool.{cases_lt, eq-eqb}
 use Rattle.std.proofs.lemmas.List.{length-take-le, take-take, drop-take}
 use Rattle.py_flat.specs.Bytes.{lay, left_at, filled_to}
@@ -27,7 +27,7 @@ holds_none other bytes place window = tt
 -- bytes were put at the cursor
 pub holds_pushed : (opened : Access) (raw bytes : List ℕ) (window : WindowView) → is_written opened ≡ true → IsWindow window → 0 < length bytes → length bytes ≤ room_of window → place_of window + length bytes ≤ 9223372036854775807 → HoldsRead opened raw window → HoldsRead opened raw (pushed bytes window)
 holds_pushed access.Read raw bytes window writes is some room far holds = absurd (cc)
-holds_pushed access.Update raw bytes window writes is some room far holds = ((overlays window bytes is (inl some) room far).lays raw holds).holds
+holds_pushed access.Update raw bytes window writes is some room far holds = ((overlays window bytes is some room far).lays raw holds).holds
 holds_pushed other raw bytes window writes is some room far holds = tt
 
 -- What is owed was cut back.

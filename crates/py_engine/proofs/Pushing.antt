@@ -1,59 +1,12 @@
 -- Pieces put at a window's cursor one after the other.
-use Rattle.std.proofs.Common.{[], ◌∷◌, ◌≡◌, ◌≢◌, ℕ, ◌+◌, ◌-◌, ◌<◌, ◌≤◌, ◌⊎◌, inl, inr, ⊎_elim, Bool, List, ◌++◌, length, take, drop, get_or, min, max, if◌then◌else◌, refl, sym, ap, ◌∙◌, subst, arith, add-zero}
+use Rattle.std.proofs.Common.{[], ◌∷◌, ◌≡◌, ℕ, ◌+◌, ◌-◌, ◌<◌, ◌≤◌, ⊎_elim, List, ◌++◌, length, take, drop, get_or, min, max, refl, sym, ap, ◌∙◌, subst, arith}
 use Rattle.std.proofs.Math.Seq.{take-nil, take-append-add}
-use Rattle.std.proofs.lemmas.Bool.Decides.{eqb_tells}
-use Rattle.std.proofs.lemmas.Bool.{cases_lt, le-leb, lt-leb}
-use Rattle.std.proofs.lemmas.List.{length-append, length-take, length-take-le, take_min, take_all, take-append-le, append-nil, take-append-drop, drop-append-le, drop-drop, drop-take}
-use Rattle.py_window.specs.Window.{WindowView, IsWindow, place_of, is_settled, kept_before, room_of, pasted, laid_at_cursor, without_front, pushed}
+use Rattle.std.proofs.lemmas.Bool.{cases_lt}
+use Rattle.std.proofs.lemmas.List.{length-append, length-take, length-take-le, take_min, take_all, take-append-le, append-nil, drop-append-le, drop-drop, drop-take}
+use Rattle.py_window.specs.Window.{WindowView, IsWindow, place_of, kept_before, room_of, pasted, laid_at_cursor, without_front, pushed}
 use Rattle.py_flat.specs.Lines.{joined}
 use Rattle.py_stream.proofs.Joined.{joined_more, length-joined_parts}
-use Rattle.py_window.proofs.Overlaying.{Overlays, overlays, laid_twice, lets_go}
-
--- a window whose cursor moved over bytes put there: pending is all from the first to the last of what was and of what was put
-abbrev overlaid : List ℕ → WindowView → WindowView
-overlaid bytes window = record window {
-  held = pasted window.held window.cursor bytes;
-  cursor = window.cursor + length bytes;
-  from = min window.from window.cursor;
-  to = max window.to (window.cursor + length bytes);
-}
-
--- so it is also where none was pending
-laid_plain : (window : WindowView) (bytes : List ℕ) → IsWindow window → laid_at_cursor bytes window ≡ overlaid bytes window
-laid_plain window bytes is =
-    let from_is : (if is_settled window then window.cursor else min window.from window.cursor) ≡ min window.from window.cursor = grind (arith, eqb_tells, is.rests) in
-    let to_is : (if is_settled window then window.cursor + length bytes else max window.to (window.cursor + length bytes)) ≡ max window.to (window.cursor + length bytes) = grind (arith, eqb_tells, is.rests) in
-    rw (from_is, to_is)
-
--- a window by its parts
-same_window : (window : WindowView) (held : List ℕ) (cursor from to : ℕ) → held ≡ window.held → cursor ≡ window.cursor → from ≡ window.from → to ≡ window.to → record window { held = held; cursor = cursor; from = from; to = to } ≡ window
-same_window window held cursor from to held_is cursor_is from_is to_is =
-    ap (λ (h : List ℕ). record window { held = h; cursor = cursor; from = from; to = to }) held_is
-    ∙ (ap (λ (n : ℕ). record window { cursor = n; from = from; to = to }) cursor_is
-    ∙ (ap (λ (n : ℕ). record window { from = n; to = to }) from_is
-    ∙ ap (λ (n : ℕ). record window { to = n }) to_is))
-
--- where none is pending, putting none changes nothing
-laid_none : (window : WindowView) → IsWindow window → window.from ≡ window.to → laid_at_cursor [] window ≡ window
-laid_none window is settled =
-    let held : pasted window.held window.cursor [] ≡ window.held = ap (λ (n : ℕ). take window.cursor window.held ++ drop n window.held) (add-zero window.cursor) ∙ take-append-drop window.cursor window.held in
-    let cursor : window.cursor + 0 ≡ window.cursor = omega arith in
-    let from : min window.from window.cursor ≡ window.from = omega (arith, is.rests settled) in
-    let to : max window.to (window.cursor + 0) ≡ window.to = omega (arith, is.rests settled, settled) in
-    laid_plain window [] is ∙ same_window window (pasted window.held window.cursor []) (window.cursor + 0) (min window.from window.cursor) (max window.to (window.cursor + 0)) held cursor from to
-
--- a piece put after another is as if both were put at once
-twice : (window : WindowView) (first second : List ℕ) → IsWindow window → laid_at_cursor second (laid_at_cursor first window) ≡ laid_at_cursor (first ++ second) window
-twice window first second is = ⊎_elim
-    (λ (put : 0 < length first). laid_twice window first second is (inl put))
-    (λ (nothing : length first ≤ 0). ⊎_elim
-    (λ (pending : window.from < window.to). laid_twice window first second is (inr (λ none. omega (arith, pending, none))))
-    (λ (none : window.to ≤ window.from). none_first first nothing (omega (arith, none, is.ordered)))
-    (cases_lt window.from window.to))
-    (cases_lt 0 (length first)) where
-      none_first : (first : List ℕ) → length first ≤ 0 → window.from ≡ window.to → laid_at_cursor second (laid_at_cursor first window) ≡ laid_at_cursor (first ++ second) window
-      none_first [] nothing settled = ap (laid_at_cursor second) (laid_none window is settled)
-      none_first (byte ∷ more) nothing settled = absurd (omega (arith, nothing))
+use Rattle.py_window.proofs.Overlaying.{Overlays, overlays, overlaid, laid_is, laid_twice, lets_go, pushed_within, pushed_beyond}
 
 -- Letting go of bytes before the cursor, and then putting some.
 
@@ -67,31 +20,26 @@ drop_pasted items bytes at count before within =
     ∙ ap (λ (after : List ℕ). take (at - count) (drop count items) ++ (bytes ++ after)) (sym behind))
 
 -- so it is with a window
-without_laid : (window : WindowView) (bytes : List ℕ) (count : ℕ) → IsWindow window → IsWindow (without_front count window) → count ≤ window.cursor → count ≤ window.from → without_front count (laid_at_cursor bytes window) ≡ laid_at_cursor bytes (without_front count window)
-without_laid window bytes count is left_is cursor from =
+without_laid : (window : WindowView) (bytes : List ℕ) (count : ℕ) → IsWindow window → 0 < length bytes → IsWindow (without_front count window) → count ≤ window.cursor → count ≤ window.from → without_front count (laid_at_cursor bytes window) ≡ laid_at_cursor bytes (without_front count window)
+without_laid window bytes count is some left_is cursor from =
     let held : drop count (pasted window.held window.cursor bytes) ≡ pasted (drop count window.held) (window.cursor - count) bytes = drop_pasted window.held bytes window.cursor count cursor is.cursor in
     let after : window.cursor + length bytes - count ≡ window.cursor - count + length bytes = omega (arith, cursor) in
     let first : min window.from window.cursor - count ≡ min (window.from - count) (window.cursor - count) = omega arith in
     let last : max window.to (window.cursor + length bytes) - count ≡ max (window.to - count) (window.cursor - count + length bytes) = omega (arith, cursor) in
-    ap (without_front count) (laid_plain window bytes is) ∙ (cc (held, after, first, last) ∙ sym (laid_plain (without_front count window) bytes left_is))
+    ap (without_front count) (laid_is window bytes is some) ∙ (cc (held, after, first, last) ∙ sym (laid_is (without_front count window) bytes left_is some))
 
--- Putting, with what needn't stay let go of where there is no room after the cursor.
+-- Putting a piece after another.
 
 -- a window without what needn't stay before its cursor
 abbrev left : WindowView → WindowView
 left window = without_front (window.cursor - kept_before window) window
 
--- there is room after the cursor
-pushed_within : (window : WindowView) (bytes : List ℕ) → window.cursor + length bytes ≤ window.size → pushed bytes window ≡ laid_at_cursor bytes window
-pushed_within window bytes fits = ap (λ (fits : Bool). if fits then laid_at_cursor bytes window else laid_at_cursor bytes (left window)) (le-leb (window.cursor + length bytes) window.size fits)
-
--- there is none
-pushed_beyond : (window : WindowView) (bytes : List ℕ) → window.size < window.cursor + length bytes → pushed bytes window ≡ laid_at_cursor bytes (left window)
-pushed_beyond window bytes beyond = ap (λ (fits : Bool). if fits then laid_at_cursor bytes window else laid_at_cursor bytes (left window)) (lt-leb (window.cursor + length bytes) window.size beyond)
-
-module _ (window : WindowView) (first second : List ℕ) (is : IsWindow window) (room : length (first ++ second) ≤ room_of window) where
+module _ (window : WindowView) (first second : List ℕ) (is : IsWindow window) (room : length (first ++ second) ≤ room_of window) (some : 0 < length first) (more : 0 < length second) where
   many : length (first ++ second) ≡ length first + length second
   many = length-append first second
+
+  both_some : 0 < length (first ++ second)
+  both_some = omega (arith, many, some)
 
   abbrev count : ℕ
   count = window.cursor - kept_before window
@@ -103,46 +51,41 @@ module _ (window : WindowView) (first second : List ℕ) (is : IsWindow window) 
   lets_go_between : window.cursor + length first ≤ window.size → window.size < window.cursor + length (first ++ second) → pushed second (pushed first window) ≡ laid_at_cursor (first ++ second) (left window)
   lets_go_between fits beyond =
       let laid : WindowView = laid_at_cursor first window in
-      let plain : laid ≡ overlaid first window = laid_plain window first is in
+      let plain : laid ≡ overlaid first window = laid_is window first is some in
       let cursor : laid.cursor ≡ window.cursor + length first = refl in
       let from : laid.from ≡ min window.from window.cursor = ap (λ (w : WindowView). w.from) plain in
       let same : laid.cursor - kept_before laid ≡ count = omega (arith, cursor, from) in
-      ap (pushed second) (pushed_within window first fits)
-      ∙ (pushed_beyond laid second (omega (arith, cursor, beyond, many))
+      ap (pushed second) (pushed_within window first some fits)
+      ∙ (pushed_beyond laid second more (omega (arith, cursor, beyond, many))
       ∙ (ap (λ (n : ℕ). laid_at_cursor second (without_front n laid)) same
-      ∙ (ap (laid_at_cursor second) (without_laid window first count is left_is (omega arith) (omega arith))
-      ∙ twice (left window) first second left_is)))
+      ∙ (ap (laid_at_cursor second) (without_laid window first count is some left_is (omega arith) (omega arith))
+      ∙ laid_twice (left window) first second left_is some)))
 
-  -- a piece put after another is as if both were put at once
-  pub pushed_twice : pushed second (pushed first window) ≡ pushed (first ++ second) window
-  pushed_twice = ⊎_elim
+  some_twice : pushed second (pushed first window) ≡ pushed (first ++ second) window
+  some_twice = ⊎_elim
       (λ (beyond : window.size < window.cursor + length (first ++ second)).
       ⊎_elim
       (λ (past : window.size < window.cursor + length first).
-      ap (pushed second) (pushed_beyond window first past)
-      ∙ (pushed_within (laid_at_cursor first (left window)) second (omega (arith, room, many, is.cursor, is.held))
-      ∙ (twice (left window) first second left_is
-      ∙ sym (pushed_beyond window (first ++ second) beyond))))
-      (λ (fits : window.cursor + length first ≤ window.size). lets_go_between fits beyond ∙ sym (pushed_beyond window (first ++ second) beyond))
+      ap (pushed second) (pushed_beyond window first some past)
+      ∙ (pushed_within (laid_at_cursor first (left window)) second more (omega (arith, room, many, is.cursor, is.held))
+      ∙ (laid_twice (left window) first second left_is some
+      ∙ sym (pushed_beyond window (first ++ second) both_some beyond))))
+      (λ (fits : window.cursor + length first ≤ window.size). lets_go_between fits beyond ∙ sym (pushed_beyond window (first ++ second) both_some beyond))
       (cases_lt window.size (window.cursor + length first)))
       (λ (fits : window.cursor + length (first ++ second) ≤ window.size).
-      ap (pushed second) (pushed_within window first (omega (arith, fits, many)))
-      ∙ (pushed_within (laid_at_cursor first window) second (omega (arith, fits, many))
-      ∙ (twice window first second is
-      ∙ sym (pushed_within window (first ++ second) fits))))
+      ap (pushed second) (pushed_within window first some (omega (arith, fits, many)))
+      ∙ (pushed_within (laid_at_cursor first window) second more (omega (arith, fits, many))
+      ∙ (laid_twice window first second is some
+      ∙ sym (pushed_within window (first ++ second) both_some fits))))
       (cases_lt window.size (window.cursor + length (first ++ second)))
 
--- What putting leaves.
+-- a piece put after another is as if both were put at once
+pub pushed_twice : (window : WindowView) (first second : List ℕ) → IsWindow window → length (first ++ second) ≤ room_of window → pushed second (pushed first window) ≡ pushed (first ++ second) window
+pushed_twice window [] second is room = refl
+pushed_twice window (byte ∷ more) [] is room = ap (λ (bytes : List ℕ). pushed bytes window) (sym (append-nil (byte ∷ more)))
+pushed_twice window (byte ∷ more) (next ∷ others) is room = some_twice window (byte ∷ more) (next ∷ others) is room (omega arith) (omega arith)
 
--- some bytes are put or some are pending, or nothing changes
-pub pushed_or_same : (window : WindowView) (bytes : List ℕ) → IsWindow window → ((0 < length bytes) ⊎ (window.from ≢ window.to)) ⊎ ((bytes ≡ []) × (window.from ≡ window.to) × (pushed bytes window ≡ window))
-pushed_or_same window [] is = ⊎_elim
-    (λ (pending : window.from < window.to). inl (inr (λ none. omega (arith, pending, none))))
-    (λ (none : window.to ≤ window.from).
-    let settled : window.from ≡ window.to = omega (arith, none, is.ordered) in
-    inr (refl, settled, pushed_within window [] (omega (arith, is.cursor, is.held)) ∙ laid_none window is settled))
-    (cases_lt window.from window.to)
-pushed_or_same window (byte ∷ more) is = inl (inl (omega arith))
+-- What putting leaves.
 
 -- where the cursor stands then, and how much room is left
 pub record Pushed (window : WindowView) (count : ℕ) (new : WindowView) : Type 0 where
@@ -150,14 +93,10 @@ pub record Pushed (window : WindowView) (count : ℕ) (new : WindowView) : Type 
   pub room : room_of new + count ≡ room_of window
 
 pub pushed_there : (window : WindowView) (bytes : List ℕ) → IsWindow window → length bytes ≤ room_of window → place_of window + length bytes ≤ 9223372036854775807 → Pushed window (length bytes) (pushed bytes window)
-pushed_there window bytes is room far = ⊎_elim
-    (λ (some : (0 < length bytes) ⊎ (window.from ≢ window.to)).
-    let over : Overlays window bytes (pushed bytes window) = overlays window bytes is some room far in
-    record { place = over.place; room = omega (arith, over.place, over.first, over.size, room, is.cursor, is.held) })
-    (λ (none : (bytes ≡ []) × (window.from ≡ window.to) × (pushed bytes window ≡ window)).
-    let nothing : length bytes ≡ 0 = ap length none.0 in
-    record { place = ap place_of none.2 ∙ omega (arith, nothing); room = omega (arith, nothing, ap room_of none.2) })
-    (pushed_or_same window bytes is)
+pushed_there window [] is room far = record { place = omega arith; room = omega arith }
+pushed_there window (byte ∷ more) is room far =
+    let over : Overlays window (byte ∷ more) (pushed (byte ∷ more) window) = overlays window (byte ∷ more) is (omega arith) room far in
+    record { place = over.place; room = omega (arith, over.place, over.first, over.size, room, is.cursor, is.held) }
 
 -- Lines put one after the other, up to as many bytes as there is room for.
 
@@ -183,8 +122,8 @@ pub record PutLines (window : WindowView) (most : ℕ) (before : List ℕ) (room
   pub left : room ≡ most - length before
 
 -- no lines yet
-pub puts_none : (window now : WindowView) (most : ℕ) → now ≡ pushed [] window → PutLines window most [] most now
-puts_none window now most is = record { same = is ∙ ap (λ (bytes : List ℕ). pushed bytes window) (sym (take-nil most)); left = omega arith }
+pub puts_none : (window : WindowView) (most : ℕ) → PutLines window most [] most window
+puts_none window most = record { same = ap (λ (bytes : List ℕ). pushed bytes window) (sym (take-nil most)); left = omega arith }
 
 module _ (window now : WindowView) (most : ℕ) (before line : List ℕ) (room : ℕ) (is : IsWindow window) (fits : most ≤ room_of window) (far : place_of window + length (before ++ line) ≤ 9223372036854775807) (so : PutLines window most before room now) where
   abbrev some : ℕ

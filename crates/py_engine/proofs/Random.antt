@@ -7,13 +7,14 @@ use Rattle.py_flat.specs.declared.life.Life.TheVariants as life
 use Rattle.std.proofs.Math.Seq.{take-append_seam}
 use Rattle.std.proofs.lemmas.List.{length-drop, length-take, take-take, take_min, take_all, take-append-drop}
 use Rattle.py_flat.specs.Bytes.{left_at}
-use Rattle.py_flat.specs.Calls.{FileCall, FileReply, NotReady, Bytes, Refused, Read, ReadInto, ReadInto1, ReadLine, ReadLines, Peek}
+use Rattle.py_flat.specs.Owed.{Owed}
+use Rattle.py_flat.specs.Calls.{FileCall, FileReply, NotReady, Bytes, Lines, Refused, Read, ReadInto, ReadInto1, ReadLine, ReadLines, Peek}
 use Rattle.py_raw.specs.RawStream.{Raw, WhereTold, WhereTransfers}
 use Rattle.py_stream.specs.declared.access.Access.{Access}
 use Rattle.py_stream.specs.declared.access.Access.TheVariants as access
 use Rattle.py_stream.specs.Access.{is_read}
 use Rattle.py_stream.specs.Stream.{Stream, file_of}
-use Rattle.py_stream.specs.Kinds.{is_reading, is_single, has_room, reads_on, is_zero, asks_zero, takes_space_first, says_no_memory}
+use Rattle.py_stream.specs.Kinds.{is_reading, is_single, asks_none, has_room, reads_on, is_zero, asks_zero, takes_space_first, says_no_memory}
 use Rattle.py_stream.specs.Held.{GivesHeld}
 use Rattle.py_stream.specs.Keeping.{IsSound}
 use Rattle.py_stream.specs.Moving.{owed_at}
@@ -21,7 +22,8 @@ use Rattle.py_stream.specs.Answers.{Answers, IsAhead, InHandOf}
 use Rattle.py_stream.specs.Settling.{SettleOutcome}
 use Rattle.py_stream.specs.Reading.{wanted_by, reply_by}
 use Rattle.py_flat.specs.ExactStep.{rest}
-use Rattle.py_lines.specs.Collecting.{HasEnough, WantsMore, LineView, line_wanted}
+use Rattle.py_lines.specs.Collecting.{HasEnough, WantsMore, LineView, line_wanted, LinesView, IsNewLines, lines_wanted, lines_collected}
+use Rattle.py_flat.specs.Lines.{joined, lines_of}
 use Rattle.py_stream.proofs.ReadingOn.{wants_past}
 use Rattle.py_stream.proofs.SingleReading.{asks_for, moves_by}
 use Rattle.py_engine.proofs.SingleReading.{asks_some, copied}
@@ -29,14 +31,14 @@ use Rattle.py_stream.proofs.Begun.{answers_whole}
 use Rattle.py_stream.proofs.Refusing.{refused_alone}
 use Rattle.py_stream.proofs.ReadingCalls.{reading_call, in_hand_held}
 use Rattle.py_stream.proofs.ReadingAnswers.{accepted, reading_refused}
-use Rattle.py_stream.proofs.Holding.{single_reads, held_answers, held_answers_told, held_answers_once, held_peek, reading_lacks, ReadsHeld, HasToPass, reading_suits, reading_blocked, reading_failed, reading_starved}
+use Rattle.py_stream.proofs.Holding.{asks_nothing_answers, single_reads, held_answers, held_answers_told, held_answers_once, held_peek, reading_lacks, ReadsHeld, HasToPass, reading_suits, reading_blocked, reading_failed, reading_starved}
 use Rattle.py_stream.proofs.Settled.{settled_reads}
 use Rattle.py_window.specs.Window.{WindowView, IsWindow, place_of, end_of, ahead_of, advanced, flat_over, HoldsBytes}
 use Rattle.py_engine.specs.Engine.{EngineView, stream_of, Stands, IsEngine, HasShape, HoldsRead, BeginOutcome}
 use Rattle.py_engine.specs.Reading.{reading_of, IsReading}
 use Rattle.py_engine.specs.Random.{GoesToRaw, AnswersFrom, GoesAhead}
 use Rattle.py_engine.proofs.Transfers.{bytes_ahead}
-use Rattle.py_engine.proofs.Standing.{is_placed, is_sound, reads_alone, reads_both}
+use Rattle.py_engine.proofs.Standing.{is_placed, is_sound, owes_nothing, reads_alone, reads_both}
 use Rattle.py_engine.proofs.Seen.{same_stream}
 use Rattle.py_engine.proofs.Draining.{none_at_cursor, pending_many}
 use Rattle.py_engine.proofs.Calls.{begins, stands_whole}
@@ -62,8 +64,8 @@ has_to_pass engine call is opened live whole goes = record { held = reads_held e
 -- Passing all on for a reading.
 
 module _ (old new : EngineView) (is : Stands old) (opened : old.access ≡ access.Update) (live : old.life ≡ life.Live) (whole : old.short ≡ false) (apart : IsAhead (stream_of old) → ⊥) (calm : (stream_of old).owed.bytes ≡ [] → WhereTransfers old.raw (new.raw.transfers ≤ old.raw.transfers)) where
-  pub goes_ahead : SettleOutcome (stream_of old) (Ok tt) (stream_of new) → AnswersFrom (stream_of old) (stream_of new)
-  goes_ahead settled call reply after goes takes answers =
+  pub goes_ahead : SettleOutcome (stream_of old) (Ok tt) (stream_of new) → IsReading new → AnswersFrom (stream_of old) (stream_of new)
+  goes_ahead settled reading call reply after goes takes answers =
       let pass : HasToPass (stream_of old) call = has_to_pass old call is opened live whole goes in
       settled_reads (stream_of old) (stream_of new) after call reply goes.reads (record {
         settled = record {
@@ -78,6 +80,7 @@ module _ (old new : EngineView) (is : Stands old) (opened : old.access ≡ acces
         asks = goes.some;
         takes = λ wanting first. subst IsTrue settled.0.passes.kept.raw.takes_memory (takes wanting first);
         calm = calm;
+        ahead = record { none = ap (λ (owed : Owed). owed.bytes) (owes_nothing new reading); stands = λ _. reading.ahead.stands };
       }) answers
 
   -- the raw would have blocked
@@ -215,6 +218,14 @@ gives_front old new part size is opened live front same =
       told = λ tells. front_told old.window (flat_over old.raw.bytes old.window) (length part) is.window_is (holds_flat old.access old.raw.bytes old.window opened (is.told tells live)) fits ∙ alone;
     }
 
+-- the lines that a collector has, which had none before
+pub lines_are_in : (view new : LinesView) (hint : Option ℕ) (bytes : List ℕ) (used : ℕ) (lines : List (List ℕ)) → IsNewLines hint view → HasEnough (lines_wanted view) (lines_collected view) bytes used (lines_collected new) → joined lines ≡ lines_collected new → HasEnough (wanted_by (ReadLines hint)) [] bytes used (joined lines)
+lines_are_in view new hint bytes used lines none has all =
+    let empty : lines_collected view ≡ [] = ap (λ (some : List (List ℕ)). joined some ++ view.part) none.0 ∙ none.1 in
+    subst (HasEnough (wanted_by (ReadLines hint)) [] bytes used) (sym all)
+    (subst (λ (most : Option ℕ). HasEnough (wanted_by (ReadLines most)) [] bytes used (lines_collected new)) none.2
+    (subst (λ (before : List ℕ). HasEnough (wanted_by (ReadLines view.hint)) before bytes used (lines_collected new)) empty has))
+
 -- A reading that began.
 
 -- the engine with which it began stands as it did
@@ -250,6 +261,10 @@ module _ (old begun : EngineView) (is : Stands old) (opened : old.access ≡ acc
   begun_told : WhereTold begun.raw (take (length (ahead_of begun.window)) (rest (file_of (stream_of begun))) ≡ ahead_of begun.window)
   begun_told tells = bytes_ahead (flat_over begun.raw.bytes begun.window) begun.window begun_is.window_is.cursor (holds_flat begun.access begun.raw.bytes begun.window begun_opened (begun_is.told tells begun_held.live))
 
+  -- nothing is asked for
+  pub asks_nothing : (call : FileCall) → asks_none (Some begun.window.size) call ≡ true → Answers (stream_of old) call (Bytes []) (stream_of begun)
+  asks_nothing call asks = answers_from_begun old begun call (Bytes []) (stream_of begun) began (asks_nothing_answers (stream_of begun) call begun_held asks)
+
   -- there was no memory
   pub lacks : (call : FileCall) → is_reading call ≡ true → has_room call ≡ false → Answers (stream_of old) call (Refused fault.NoMemory) (stream_of begun)
   lacks call reads room = answers_from_begun old begun call (Refused fault.NoMemory) (stream_of begun) began (reading_lacks (stream_of begun) call reads room begun_held)
@@ -274,18 +289,28 @@ module _ (old begun : EngineView) (is : Stands old) (opened : old.access ≡ acc
       let long : length (take count buffer) ≡ count = omega (arith, ap length part, length-take size (ahead_of begun.window), enough, all) in
       sized_held new (ReadInto size) size (take count buffer) refl (λ left. refl) enough part (same ∙ ap (λ (n : ℕ). record begun { window = advanced n begun.window }) (sym long))
 
-  -- a line is given that ends among the bytes held
-  pub line_held : (new : EngineView) (limit : Option ℕ) (view : LineView) (used : ℕ) (piece line : List ℕ) → view ≡ record { line = []; limit = limit } → piece ≡ ahead_of begun.window → HasEnough (line_wanted view) view.line piece used line → new ≡ record begun { window = advanced used begun.window } → Answers (stream_of old) (ReadLine limit) (Bytes line) (stream_of new)
-  line_held new limit view used piece line none lent has same =
-      let enough : HasEnough (wanted_by (ReadLine limit)) [] piece used line = subst (λ (seen : LineView). HasEnough (line_wanted seen) seen.line piece used line) none has in
+  -- what is wanted is given, where the bytes held have it
+  held_given : (new : EngineView) (call : FileCall) (used : ℕ) (piece part : List ℕ) → reads_on call ≡ true → piece ≡ ahead_of begun.window → HasEnough (wanted_by call) [] piece used part → new ≡ record begun { window = advanced (length part) begun.window } → Answers (stream_of old) call (reply_by call part) (stream_of new)
+  held_given new call used piece part on lent enough same =
       let left : List ℕ = rest (file_of (stream_of begun)) in
-      let front : line ≡ take used (ahead_of begun.window) = enough.takes ∙ ap (take used) lent in
-      let long : length line ≡ used = omega (arith, ap length front, length-take used (ahead_of begun.window), enough.fits, ap length lent) in
-      let gives : GivesHeld (stream_of begun) line (stream_of new) = gives_front begun new line used begun_is begun_opened begun_held.live front (same ∙ ap (λ (n : ℕ). record begun { window = advanced n begun.window }) (sym long)) in
+      let gives : GivesHeld (stream_of begun) part (stream_of new) = gives_front begun new part used begun_is begun_opened begun_held.live (enough.takes ∙ ap (take used) lent) same in
       let behind : List ℕ = drop (length (ahead_of begun.window)) left in
-      answers_from_begun old begun (ReadLine limit) (Bytes line) (stream_of new) began
-      (held_answers_told (stream_of begun) (stream_of new) (ReadLine limit) line begun_held refl enough.alone
-      (λ tells. ap (wanted_by (ReadLine limit)) (sym (take-append-drop (length (ahead_of begun.window)) left) ∙ (ap (λ (bytes : List ℕ). bytes ++ behind) (begun_told tells ∙ sym lent))) ∙ enough.exact behind) gives)
+      answers_from_begun old begun call (reply_by call part) (stream_of new) began
+      (held_answers_told (stream_of begun) (stream_of new) call part begun_held on enough.alone
+      (λ tells. ap (wanted_by call) (sym (take-append-drop (length (ahead_of begun.window)) left) ∙ (ap (λ (bytes : List ℕ). bytes ++ behind) (begun_told tells ∙ sym lent))) ∙ enough.exact behind) gives)
+
+  -- lines are given that are above the hint among the bytes held
+  pub lines_held : (new : EngineView) (hint : Option ℕ) (used : ℕ) (piece : List ℕ) (lines : List (List ℕ)) → piece ≡ ahead_of begun.window → HasEnough (wanted_by (ReadLines hint)) [] piece used (joined lines) → lines_of (joined lines) ≡ lines → new ≡ record begun { window = advanced used begun.window } → Answers (stream_of old) (ReadLines hint) (Lines lines) (stream_of new)
+  lines_held new hint used piece lines lent enough cut same =
+      let long : used ≡ length (joined lines) = omega (arith, ap length enough.takes, length-take used piece, enough.fits) in
+      subst (λ (given : List (List ℕ)). Answers (stream_of old) (ReadLines hint) (Lines given) (stream_of new)) cut
+      (held_given new (ReadLines hint) used piece (joined lines) refl lent enough (same ∙ ap (λ (n : ℕ). record begun { window = advanced n begun.window }) long))
+
+  -- a line is given that ends among the bytes held
+  pub line_held : (new : EngineView) (limit : Option ℕ) (view : LineView) (used : ℕ) (piece line : List ℕ) → view ≡ record { line = []; limit = limit } → piece ≡ ahead_of begun.window → HasEnough (line_wanted view) view.line piece used (view.line ++ take used piece) → line ≡ take used (ahead_of begun.window) → new ≡ record begun { window = advanced (length line) begun.window } → Answers (stream_of old) (ReadLine limit) (Bytes line) (stream_of new)
+  line_held new limit view used piece line none lent has front same =
+      let enough : HasEnough (wanted_by (ReadLine limit)) [] piece used line = subst (HasEnough (wanted_by (ReadLine limit)) [] piece used) (sym (front ∙ ap (take used) (sym lent))) (subst (λ (seen : LineView). HasEnough (line_wanted seen) seen.line piece used (seen.line ++ take used piece)) none has) in
+      held_given new (ReadLine limit) used piece line refl lent enough same
 
   -- a line has to go to the raw that goes on after all bytes held
   pub line_goes : (limit : Option ℕ) (view : LineView) (piece line : List ℕ) → limit ≢ Some 0 → view ≡ record { line = []; limit = limit } → piece ≡ ahead_of begun.window → WantsMore (line_wanted view) view.line piece line → GoesToRaw (stream_of begun) (ReadLine limit)

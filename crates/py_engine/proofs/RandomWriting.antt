@@ -1,7 +1,7 @@
 -- Writes of an engine that is opened to be read and written, wherever the bytes that it owes lie.
-use Rattle.std.proofs.Common.{[], ◌≡◌, ◌≢◌, ℕ, ◌+◌, ◌-◌, ◌<◌, ◌≤◌, ◌⊎◌, inr, ⊎_elim, Bool, true, false, List, length, Some, Ok, Err, refl, sym, ap, ◌∙◌, subst, arith, add-zero}
+use Rattle.std.proofs.Common.{[], ◌≡◌, ◌≢◌, ℕ, ◌+◌, ◌-◌, ◌<◌, ◌≤◌, ◌⊎◌, inr, ⊎_elim, Bool, true, false, List, ◌∷◌, length, take, Some, Result, Ok, Err, refl, sym, ap, ◌∙◌, subst, arith, add-zero}
 use Rattle.std.proofs.lemmas.Bool.{cases_lt}
-use Rattle.std.proofs.lemmas.List.{append-nil, length-drop}
+use Rattle.std.proofs.lemmas.List.{append-nil, length-drop, take_all}
 use Rattle.py_flat.specs.declared.fault.IoFault.{IoFault}
 use Rattle.py_flat.specs.declared.fault.IoFault.TheVariants as fault
 use Rattle.py_flat.specs.declared.life.Life.TheVariants as life
@@ -15,20 +15,24 @@ use Rattle.py_stream.specs.Access.{is_written}
 use Rattle.py_stream.specs.Stream.{Stream, nothing_owed}
 use Rattle.py_stream.specs.Kinds.{is_writing}
 use Rattle.py_stream.specs.Answers.{Answers}
-use Rattle.py_stream.specs.Writing.{OwesBehind}
+use Rattle.py_stream.specs.Writing.{OwesBehind, IsFull}
 use Rattle.py_stream.specs.Held.{KeepsBoth}
 use Rattle.py_stream.specs.Settling.{PassesSome, LivesOn, SettleOutcome}
 use Rattle.py_stream.proofs.Begun.{answers_whole}
 use Rattle.py_stream.proofs.Given.{writing_refused}
 use Rattle.py_stream.proofs.Giving.{writing_too_far, taken_reply}
-use Rattle.py_stream.proofs.Keeping.{MayKeep, accepts_kept, fits_after_wait, fills_after_wait, stops_failed, stops_starved}
+use Rattle.py_stream.proofs.Keeping.{MayKeep, accepts_kept, fits_answers, fits_after_wait, fills_after_wait, stops_failed, stops_starved}
+use Rattle.py_stream.proofs.Owing.{covers_old}
 use Rattle.py_stream.proofs.Settled.{settled_writes}
-use Rattle.py_window.specs.Window.{WindowView, IsWindow, place_of, pending_of, room_of, pushed}
+use Rattle.py_window.specs.Window.{WindowView, IsWindow, place_of, pending_of, owed_of, room_of, pushed}
 use Rattle.py_window.proofs.Overlaying.{Overlays, FollowsOn, overlays, full}
 use Rattle.py_engine.specs.Engine.{EngineView, stream_of, Stands, StandsAmong, HasShape, HoldsRead, IsBehind, BeginOutcome}
-use Rattle.py_engine.specs.RandomWriting.{GivesPlaced, WaitsOwing, GoesBehind, OverOutcome}
+use Rattle.py_engine.specs.RandomWriting.{GivesPlaced, WaitsOwing, GoesBehind, GivesOutcome, call_of, taken_all}
+use Rattle.py_engine.specs.declared.data.given.Given.{Given}
+use Rattle.py_engine.specs.declared.data.given.Given.TheVariants as gives
+use Rattle.py_engine.specs.Passing.{OwedOutcome}
+use Rattle.py_engine.specs.declared.data.passing_on.Passed.TheVariants as passing
 use Rattle.py_engine.proofs.Standing.{is_placed, is_sound, owes_behind}
-use Rattle.py_engine.proofs.Pushing.{pushed_or_same}
 use Rattle.py_engine.proofs.Draining.{none_at_cursor, pending_many}
 use Rattle.py_engine.proofs.Calls.{begins}
 
@@ -49,7 +53,7 @@ pub record Overlaid (old : EngineView) (bytes : List ℕ) (new : EngineView) : T
   pub is : Stands new
   pub keeps : KeepsBoth (stream_of old) bytes (stream_of new)
 
-module _ (old : EngineView) (bytes : List ℕ) (is : Stands old) (opened : old.access ≡ access.Update) (some : (0 < length bytes) ⊎ (old.window.from ≢ old.window.to)) (room : length bytes ≤ room_of old.window) (far : place_of old.window + length bytes ≤ 9223372036854775807) (there : old.window.begin + old.window.from ≤ old.raw_place) where
+module _ (old : EngineView) (bytes : List ℕ) (is : Stands old) (opened : old.access ≡ access.Update) (some : 0 < length bytes) (room : length bytes ≤ room_of old.window) (far : place_of old.window + length bytes ≤ 9223372036854775807) (there : old.window.begin + old.window.from ≤ old.raw_place) where
   abbrev put : WindowView
   put = pushed bytes old.window
 
@@ -103,7 +107,7 @@ module _ (old : EngineView) (bytes : List ℕ) (is : Stands old) (opened : old.a
     life_is = refl;
     place = over.place;
     raw_place = refl;
-    none = λ nothing settled. absurd (⊎_elim (λ (put_some : 0 < length bytes). absurd (omega (arith, put_some, ap length nothing))) (λ (pending : old.window.from ≢ old.window.to). pending (none_at_cursor old.window is.window_is settled)) some);
+    none = λ nothing. absurd (omega (arith, some, ap length nothing));
     covers = λ _. over.covers;
     behind = λ up_to. let follows : FollowsOn old.window bytes put = over.follows up_to in (follows.pending, follows.up_to);
     at = λ _ none. absurd (owes_some none);
@@ -114,23 +118,21 @@ module _ (old : EngineView) (bytes : List ℕ) (is : Stands old) (opened : old.a
   pub overlaid : old.life ≡ life.Live → Overlaid old bytes new
   overlaid live = record { is = laid_stands; keeps = laid_keeps live }
 
--- none are put, where none are owed
-pub none_put : (old : EngineView) (bytes : List ℕ) → Stands old → bytes ≡ [] → old.window.from ≡ old.window.to → KeepsBoth (stream_of old) bytes (stream_of old)
-none_put old bytes is none settled =
-    let nothing : pending_of old.window ≡ [] = grind arith in
-    subst (λ (bytes : List ℕ). KeepsBoth (stream_of old) bytes (stream_of old)) (sym none) (record {
-      kept = record { raw = keeps_same old.raw; stays = refl; reads = λ tells. refl; buffer = refl; can = refl; short = refl; sound = is_sound old is };
-      raw = refl;
-      life_is = refl;
-      place = sym (add-zero (place_of old.window));
-      raw_place = refl;
-      none = λ _ _. refl;
-      covers = λ some. absurd (some nothing);
-      behind = λ up_to. (sym (append-nil (pending_of old.window)), up_to);
-      at = λ at. at;
-      stands = λ was. was;
-      told = λ tells. refl;
-    })
+-- none are put
+none_put : (old : EngineView) → Stands old → KeepsBoth (stream_of old) [] (stream_of old)
+none_put old is = record {
+  kept = record { raw = keeps_same old.raw; stays = refl; reads = λ tells. refl; buffer = refl; can = refl; short = refl; sound = is_sound old is };
+  raw = refl;
+  life_is = refl;
+  place = sym (add-zero (place_of old.window));
+  raw_place = refl;
+  none = λ nothing. refl;
+  covers = covers_old (stream_of old).owed (place_of old.window);
+  behind = λ up_to. (sym (append-nil (pending_of old.window)), up_to);
+  at = λ at. at;
+  stands = λ was. was;
+  told = λ tells. refl;
+}
 
 -- some are owed where some are pending
 pub some_pending : (window : WindowView) → 0 < length (pending_of window) → window.from ≢ window.to
@@ -140,24 +142,22 @@ some_pending window some none = absurd (let nothing : pending_of window ≡ [] =
 pub owed_there : (engine : EngineView) → Stands engine → engine.access ≡ access.Update → engine.window.from ≢ engine.window.to → engine.window.begin + engine.window.from ≤ engine.raw_place
 owed_there engine is opened some = (among engine is opened).owed some
 
--- a window that nothing is put into stays as it is, where none is pending; else some are put, or some were pending
-pub pushes : (old : EngineView) (bytes : List ℕ) → Stands old → old.access ≡ access.Update → length bytes ≤ room_of old.window → place_of old.window + length bytes ≤ 9223372036854775807 → (old.window.from ≡ old.window.to → 0 < length bytes → old.window.begin + old.window.from ≤ old.raw_place) → old.life ≡ life.Live → Overlaid old bytes (record old { window = pushed bytes old.window })
-pushes old bytes is opened room far there live = ⊎_elim
-    (λ (some : (0 < length bytes) ⊎ (old.window.from ≢ old.window.to)). overlaid old bytes is opened some room far (stands_where some) live)
-    (λ (none : (bytes ≡ []) × (old.window.from ≡ old.window.to) × (pushed bytes old.window ≡ old.window)).
-    subst (λ (window : WindowView). Overlaid old bytes (record old { window = window })) (sym none.2) (record { is = is; keeps = none_put old bytes is none.0 none.1 }))
-    (pushed_or_same old.window bytes is.window_is) where
-      stands_where : (0 < length bytes) ⊎ (old.window.from ≢ old.window.to) → old.window.begin + old.window.from ≤ old.raw_place
-      stands_where some = ⊎_elim
-          (λ (pending : old.window.from < old.window.to). owed_there old is opened (λ none. omega (arith, pending, none)))
-          (λ (none : old.window.to ≤ old.window.from).
-          let settled : old.window.from ≡ old.window.to = omega (arith, none, is.window_is.ordered) in
-          ⊎_elim (λ (put : 0 < length bytes). there settled put) (λ (pending : old.window.from ≢ old.window.to). absurd (pending settled)) some)
-          (cases_lt old.window.from old.window.to)
+-- what an engine is once as many bytes were put at its place as there is room for
+pub pushes : (old : EngineView) (bytes : List ℕ) → Stands old → old.access ≡ access.Update → length bytes ≤ room_of old.window → place_of old.window + length bytes ≤ 9223372036854775807 → (old.window.from ≡ old.window.to → old.window.begin + old.window.from ≤ old.raw_place) → old.life ≡ life.Live → Overlaid old bytes (record old { window = pushed bytes old.window })
+pushes old [] is opened room far there live = record { is = is; keeps = none_put old is }
+pushes old (byte ∷ more) is opened room far there live = overlaid old (byte ∷ more) is opened (omega arith) room far
+    (⊎_elim
+    (λ (pending : old.window.from < old.window.to). owed_there old is opened (λ none. omega (arith, pending, none)))
+    (λ (none : old.window.to ≤ old.window.from). there (omega (arith, none, is.window_is.ordered)))
+    (cases_lt old.window.from old.window.to))
+    live
 
--- as many bytes as there is room for fill the buffer, where some were owed
-pub fills : (window : WindowView) (bytes : List ℕ) → IsWindow window → window.from ≢ window.to → length bytes ≡ room_of window → place_of window + length bytes ≤ 9223372036854775807 → length (pending_of (pushed bytes window)) ≡ (pushed bytes window).size
-fills window bytes is some room far = full window bytes is some room far ∙ sym (overlays window bytes is (inr some) (omega (arith, room)) far).size
+-- as many bytes as there is room for fill the buffer
+pub fills : (window : WindowView) (bytes : List ℕ) → IsWindow window → length bytes ≡ room_of window → place_of window + length bytes ≤ 9223372036854775807 → IsFull (owed_of (pushed bytes window)) (place_of (pushed bytes window)) (pushed bytes window).size (room_of window)
+fills window [] is room far = record { up_to = omega (arith, room, is.some, is.cursor, is.held); owes = λ taken. absurd (taken (sym room)) }
+fills window (byte ∷ more) is room far =
+    let over : Overlays window (byte ∷ more) (pushed (byte ∷ more) window) = overlays window (byte ∷ more) is (omega arith) (omega (arith, room)) far in
+    record { up_to = omega (arith, over.first, over.place, over.size, room, is.cursor, is.held); owes = λ _. full window (byte ∷ more) is (omega arith) room far ∙ sym over.size }
 
 -- How a call that gives bytes begins.
 
@@ -192,15 +192,14 @@ module _ (old new : EngineView) (is : Stands old) (opened : old.access ≡ acces
       }) answers
 
   -- the raw would have blocked
-  pub goes_waiting : (taken : ℕ) → SettleOutcome (stream_of old) (Err (fault.WouldBlock taken)) (stream_of new) → GoesBehind old (Ok false) (record new { short = false })
-  goes_waiting taken waits = record { goes = subst (λ (short : Bool). LivesOn (stream_of old) (record (stream_of new) { short = short })) whole waits.1; waited = waits.3; some = waits.5 }
+  pub goes_waiting : OwedOutcome (stream_of old) (Ok passing.Waits) (stream_of new) → GoesBehind old (Ok false) new
+  goes_waiting waits = record { goes = subst (λ (short : Bool). LivesOn (stream_of old) (record (stream_of new) { short = short })) (sym waits.1) waits.0.1; waited = waits.0.3; some = waits.0.5 }
 
   -- it failed, or memory ran out
-  pub goes_refused : (why : IoFault) → ((taken : ℕ) → why ≡ fault.WouldBlock taken → ⊥) → SettleOutcome (stream_of old) (Err why) (stream_of new) → GoesBehind old (Err why) new
-  goes_refused fault.RawFault other fails call gives = stops_failed (stream_of old) (stream_of new) call (may_keep old call is opened live whole gives) fails
-  goes_refused fault.NoMemory other lacks call gives = stops_starved (stream_of old) (stream_of new) call (may_keep old call is opened live whole gives) lacks
-  goes_refused (fault.WouldBlock taken) other waits call gives = absurd (other taken refl)
-  goes_refused why other never call gives = absurd never
+  pub goes_refused : (why : IoFault) → OwedOutcome (stream_of old) (Err why) (stream_of new) → GoesBehind old (Err why) new
+  goes_refused fault.RawFault fails call gives = stops_failed (stream_of old) (stream_of new) call (may_keep old call is opened live whole gives) fails
+  goes_refused fault.NoMemory lacks call gives = stops_starved (stream_of old) (stream_of new) call (may_keep old call is opened live whole gives) lacks
+  goes_refused why never call gives = absurd never
 
 -- After a wait.
 
@@ -224,11 +223,65 @@ reaches_owed old mid count is opened no_room waits =
 room_reaches : (window : WindowView) → IsWindow window → window.begin + window.from ≤ place_of window + room_of window
 room_reaches window is = omega (arith, is.ordered, is.within, is.held, is.cursor)
 
-module _ (old mid new : EngineView) (call : FileCall) (is : Stands old) (opened : old.access ≡ access.Update) (live : old.life ≡ life.Live) (whole : old.short ≡ false) (gives : GivesPlaced (stream_of old) call) (waits : WaitsOwing (stream_of old) (stream_of mid)) where
-  pub all_after_wait : NoRoom old (length (payload call)) → KeepsBoth (stream_of mid) (payload call) (stream_of new) → Answers (stream_of old) call (taken_reply call (length (payload call))) (stream_of new)
-  all_after_wait no_room keeps = fits_after_wait (stream_of old) (stream_of mid) (stream_of new) call (may_keep old call is opened live whole gives) waits.goes waits.some (reaches_owed old (stream_of mid) (length (payload call)) is opened no_room waits) keeps
+-- What a call that gives bytes answers, wherever those lie that are owed.
 
-  pub some_after_wait : IsWindow mid.window → OverOutcome (stream_of mid) (room_of mid.window) (payload call) false (stream_of new) → Answers (stream_of old) call (Refused (fault.WouldBlock (room_of mid.window))) (stream_of (record new { short = true }))
-  some_after_wait window_is over =
-      fills_after_wait (stream_of old) (stream_of mid) (stream_of new) call (room_of mid.window) (may_keep old call is opened live whole gives) waits.goes waits.waited waits.some
-      (omega (arith, room_reaches mid.window window_is, waits.goes.passes.still)) over.1 over.0 over.2
+-- it is a write
+is_write : (given : Given) → is_writing (call_of given) ≡ true
+is_write (gives.Bytes bytes) = refl
+is_write (gives.Lines lines) = refl
+
+-- it says that it took all
+says_all : (given : Given) → taken_reply (call_of given) (length (payload (call_of given))) ≡ taken_all given
+says_all (gives.Bytes bytes) = refl
+says_all (gives.Lines lines) = refl
+
+-- what answers the engine with which a call begins answers the one that was
+pub begun_gives : (old begun after : EngineView) (given : Given) (result : Result Bool IoFault) → BeginOutcome old (Ok tt) begun → GivesOutcome begun given result after → GivesOutcome old given result after
+begun_gives old begun after given (Ok true) began answers = from_begun old begun (call_of given) (taken_all given) (stream_of after) began answers
+begun_gives old begun after given (Ok false) began answers = λ reply left behind. from_begun old begun (call_of given) reply left began (answers reply left behind)
+begun_gives old begun after given (Err why) began answers = from_begun old begun (call_of given) (Refused why) (stream_of after) began answers
+
+-- the life refuses it, or its bytes would end past the greatest place
+pub given_not : (old new : EngineView) (given : Given) (why : IoFault) → Stands old → BeginOutcome old (Err why) new → GivesOutcome old given (Err why) new
+given_not old new given why is began = gives_not old new (call_of given) why (is_write given) is began
+
+pub given_past : (old begun : EngineView) (given : Given) → Stands old → old.access ≡ access.Update → BeginOutcome old (Ok tt) begun → greatest_place < place_of begun.window + length (payload (call_of given)) → GivesOutcome old given (Err fault.TooFar) begun
+given_past old begun given is opened began past = gives_past old begun (call_of given) (is_write given) is opened began past
+
+module _ (old : EngineView) (given : Given) (is : Stands old) (opened : old.access ≡ access.Update) (live : old.life ≡ life.Live) (whole : old.short ≡ false) (within : place_of old.window + length (payload (call_of given)) ≤ greatest_place) where
+  abbrev own : List ℕ
+  own = payload (call_of given)
+
+  placed : GivesPlaced (stream_of old) (call_of given)
+  placed = record { writing = is_write given; within = within }
+
+  may : MayKeep (stream_of old) (call_of given)
+  may = may_keep old (call_of given) is opened live whole placed
+
+  all_said : (new : Stream) → Answers (stream_of old) (call_of given) (taken_reply (call_of given) (length own)) new → Answers (stream_of old) (call_of given) (taken_all given) new
+  all_said new answers = subst (λ (reply : FileReply). Answers (stream_of old) (call_of given) reply new) (says_all given) answers
+
+  -- they had room, and were put
+  pub given_fit : (room : ℕ) (new : EngineView) → length own ≤ room → KeepsBoth (stream_of old) (take room own) (stream_of new) → GivesOutcome old given (Ok true) new
+  given_fit room new fits keeps = all_said (stream_of new) (fits_answers (stream_of old) (stream_of new) (call_of given) may (subst (λ (bytes : List ℕ). KeepsBoth (stream_of old) bytes (stream_of new)) (take_all room own fits) keeps))
+
+  -- there are none
+  pub given_none : length own ≡ 0 → GivesOutcome old given (Ok true) old
+  given_none none = given_fit 0 old (omega (arith, none)) (none_put old is)
+
+  -- all that was owed is passed on
+  pub given_behind : (mid : EngineView) → GoesBehind old (Ok true) mid → GivesOutcome old given (Ok false) mid
+  given_behind mid goes reply after answers = goes (call_of given) reply after placed answers
+
+  module _ (mid new : EngineView) (waits : WaitsOwing (stream_of old) (stream_of mid)) (keeps : KeepsBoth (stream_of mid) (take (room_of mid.window) own) (stream_of new)) where
+    -- after a wait they had room, and were put
+    pub given_late : NoRoom old (length own) → length own ≤ room_of mid.window → GivesOutcome old given (Ok true) new
+    given_late no_room fits = all_said (stream_of new) (fits_after_wait (stream_of old) (stream_of mid) (stream_of new) (call_of given) may waits.goes waits.some
+        (reaches_owed old (stream_of mid) (length own) is opened no_room waits)
+        (subst (λ (bytes : List ℕ). KeepsBoth (stream_of mid) bytes (stream_of new)) (take_all (room_of mid.window) own fits) keeps))
+
+    -- or some of them did
+    pub given_some : IsWindow mid.window → room_of mid.window < length own → IsFull (stream_of new).owed (stream_of new).place new.window.size (room_of mid.window) → GivesOutcome old given (Err (fault.WouldBlock (room_of mid.window))) (record new { short = true })
+    given_some window_is less full =
+        fills_after_wait (stream_of old) (stream_of mid) (stream_of new) (call_of given) (room_of mid.window) may waits.goes waits.waited waits.some
+        (omega (arith, room_reaches mid.window window_is, waits.goes.passes.still)) less keeps full

@@ -11,7 +11,7 @@ use Rattle.py_engine.proofs.Transfers.{reading_whole}
 
 -- a live engine
 pub reads_live : (engine : EngineView) → engine.life ≡ life.Live → engine.short ≡ false → IsReading engine → Reads (reading_of engine)
-reads_live engine live whole is = record { live = live; whole = whole; readable = readable engine.access engine.raw.seekable is.reads; bare = refl; placed = placed engine is }
+reads_live engine live whole is = record { live = live; whole = whole; readable = readable engine.access engine.raw.seekable is.reads; bare = refl; placed = placed engine is; ahead = refl }
 
 -- a reading that the life lets through
 pub reading_begins : (first now : EngineView) → IsReading first → BeginOutcome first (Ok tt) now → ReadingBegins (reading_of first) (reading_of now)
@@ -22,5 +22,5 @@ pub begins_reading : (first now : EngineView) (result : Result (Unit {0}) IoFaul
 begins_reading first now (Ok done) is began =
     let begins = reading_begins first now is began in
     let reads = begins.reads in
-    (record { live = reads.live; readable = reads.readable; bare = reads.bare; far = reads.placed.far; near = reads.placed.near reads.live; to = (reads.placed.near reads.live).before_end }, begins.from)
+    (record { live = reads.live; readable = reads.readable; bare = reads.bare; far = reads.placed.far; near = reads.placed.near reads.live; ahead = reads.ahead; to = (reads.placed.near reads.live).before_end }, begins.from)
 begins_reading first now (Err why) is began = λ call reads. reading_refused (reading_of first) (reading_of now) call why reads (placed first is) (began.0, ap reading_of began.1)

@@ -13,7 +13,7 @@ use Rattle.py_stream.specs.Access.{is_written}
 use Rattle.py_stream.specs.Stream.{Stream}
 use Rattle.py_stream.specs.Answers.{moves_back}
 use Rattle.py_stream.specs.Writing.{OwesBehind}
-use Rattle.py_stream.specs.Settling.{PassesSome, LivesOn, SettleOutcome}
+use Rattle.py_stream.specs.Settling.{PassesSome, LivesOn, FailsBack, SettleOutcome}
 use Rattle.py_stream.specs.Moving.{MovesRaw, MoveRawOutcome}
 use Rattle.py_stream.proofs.PassingOn.{passes_nothing, LeavesOwed, moves_still, settles_then}
 use Rattle.py_stream.proofs.Taking.{keeps_itself, keeps_then, answers_still, faulted_then}
@@ -21,7 +21,10 @@ use Rattle.py_stream.proofs.Going.{passes_still}
 use Rattle.py_window.specs.Window.{WindowView, place_of, end_of, ended_at, HoldsBytes}
 use Rattle.py_engine.specs.Engine.{EngineView, stream_of, Stands}
 use Rattle.py_engine.specs.Reading.{IsReading}
-use Rattle.py_engine.specs.Passing.{StandsHere, StandsHereOutcome, AlignsOutcome, PassesAll}
+use Rattle.py_engine.specs.declared.data.passing_on.Passed.{Passed}
+use Rattle.py_engine.specs.declared.data.passing_on.Passed.TheVariants as passing
+use Rattle.py_engine.specs.Passing.{FlushOutcome, OwedOutcome, StandsHere, StandsHereOutcome, AlignsOutcome, PassesAll}
+use Rattle.py_engine.proofs.PassingOn.{settles, settles_later, settling_refused}
 use Rattle.py_engine.proofs.Standing.{is_sound, none_over}
 use Rattle.py_engine.proofs.Draining.{none_at_cursor, none_at_place}
 
@@ -71,13 +74,13 @@ settles_here old mid new settled here = (
 )
 
 -- it failed to be moved there, or wanted memory
-pub settles_not_here : (old mid new : Stream) (why : IoFault) (place : ℕ) → SettleOutcome old (Ok tt) mid → (mid.raw_place ≢ place → moves_back mid ≡ true) → MoveRawOutcome mid place (Err why) new → SettleOutcome old (Err why) new
+pub settles_not_here : (old mid new : Stream) (why : IoFault) (place : ℕ) → SettleOutcome old (Ok tt) mid → (mid.raw_place ≢ place → FailsBack mid mid) → MoveRawOutcome mid place (Err why) new → SettleOutcome old (Err why) new
 settles_not_here old mid new fault.RawFault place settled back fails = (
   passes_still old mid new settled.0.passes fails.0.stands,
   fails.0.failed,
   faulted_then old.raw mid.raw new.raw settled.0.passes.kept.raw fails.0.cause,
   no_wait_then old.raw mid.raw new.raw settled.0.passes.kept.raw settled.1 fails.0.no_wait,
-  λ _. moves_still old mid settled.0.passes.kept (back fails.1),
+  λ _. let failed : FailsBack mid mid = back fails.1 in record { moves = moves_still old mid settled.0.passes.kept failed.moves; elsewhere = λ same. failed.elsewhere (sym fails.0.stands.raw_place ∙ same ∙ fails.0.stands.place) },
 )
 settles_not_here old mid new fault.NoMemory place settled back wants = subst (λ (stream : Stream). SettleOutcome old (Err fault.NoMemory) stream) (sym wants.1) (sym settled.0.passes.kept.raw.takes_memory ∙ wants.0, settled.0, settled.1)
 settles_not_here old mid new why place settled back never = absurd never
@@ -91,7 +94,7 @@ moves_both engine is writes none elsewhere = grind (arith, none_at_cursor)
 -- all was passed on, and the raw is to stand at the place
 pub settles_by_here : (old mid new : EngineView) (result : Result (Unit {0}) IoFault) → SettleOutcome (stream_of old) (Ok tt) (stream_of mid) → Stands mid → is_written mid.access ≡ true → StandsHereOutcome (stream_of mid) result (stream_of new) → SettleOutcome (stream_of old) result (stream_of new)
 settles_by_here old mid new (Ok done) settled is writes here = settles_here (stream_of old) (stream_of mid) (stream_of new) settled here.0
-settles_by_here old mid new (Err why) settled is writes here = settles_not_here (stream_of old) (stream_of mid) (stream_of new) why (place_of mid.window) settled (moves_both mid is writes settled.2) here
+settles_by_here old mid new (Err why) settled is writes here = settles_not_here (stream_of old) (stream_of mid) (stream_of new) why (place_of mid.window) settled (λ elsewhere. record { moves = moves_both mid is writes settled.2 elsewhere; elsewhere = elsewhere }) here
 
 -- a stream that is written passes all on
 pub passes_all : (opened : Access) (old new : Stream) (result : Result (Unit {0}) IoFault) → is_written opened ≡ true → SettleOutcome old result new → PassesAll opened old result new
@@ -107,7 +110,7 @@ update_moves engine opened = grind arith
 -- all was passed on, and the raw is to stand after the bytes held
 pub settles_by_aligning : (old mid new : EngineView) (result : Result (Unit {0}) IoFault) → SettleOutcome (stream_of old) (Ok tt) (stream_of mid) → mid.access ≡ access.Update → AlignsOutcome (stream_of mid) result (stream_of new) → SettleOutcome (stream_of old) result (stream_of new)
 settles_by_aligning old mid new (Ok done) settled opened aligns = settles_here (stream_of old) (stream_of mid) (stream_of new) settled aligns
-settles_by_aligning old mid new (Err why) settled opened aligns = settles_not_here (stream_of old) (stream_of mid) (stream_of new) why (end_of mid.window) settled (λ _. update_moves mid opened) aligns.0
+settles_by_aligning old mid new (Err why) settled opened aligns = settles_not_here (stream_of old) (stream_of mid) (stream_of new) why (end_of mid.window) settled (λ _. record { moves = update_moves mid opened; elsewhere = λ same. omega (arith, aligns.1, same) }) aligns.0
 
 -- Letting go of the bytes held after the raw.
 
@@ -121,3 +124,31 @@ ends_reading engine is opened none behind = grind (arith, none_at_cursor, none_o
 
 pub ends_here : (engine : EngineView) → Stands engine → IsReading (record engine { window = ended_at engine.raw_place engine.window }) → (stream_of engine).owed.bytes ≡ [] → StandsHere (stream_of engine) (stream_of (record engine { window = ended_at engine.raw_place engine.window }))
 ends_here engine is reads none = grind (arith, keeps_same, none_at_place)
+
+-- Passing on all that is owed, which no answer notes yet.
+
+-- the raw wasn't moved where it belongs
+pub owed_unmoved : (old new : Stream) (why : IoFault) (place : ℕ) → old.life ≡ life.Live → PassesSome old old → 0 < length old.owed.bytes → MoveRawOutcome old place (Err why) new → OwedOutcome old (Err why) new
+owed_unmoved old new fault.RawFault place live none some fails = settles_unmoved old new fault.RawFault place live none some fails
+owed_unmoved old new fault.NoMemory place live none some wants = settles_unmoved old new fault.NoMemory place live none some wants
+owed_unmoved old new why place live none some never = absurd never
+
+-- it was
+pub owed_moved : (old mid new : Stream) (result : Result Passed IoFault) → MovesRaw old old.owed.place mid → FlushOutcome mid result new → OwedOutcome old result new
+owed_moved old mid new (Ok passing.All) moves passed = settles_moved old mid new (Ok tt) moves (settles mid new passed)
+owed_moved old mid new (Ok passing.Waits) moves waits = (settles_moved old mid (record new { short = true }) (Err (fault.WouldBlock 0)) moves (settles_later mid new waits), waits.just.kept.short ∙ moves.kept.short)
+owed_moved old mid new (Err fault.RawFault) moves fails = settles_moved old mid new (Err fault.RawFault) moves (settling_refused mid new fault.RawFault fails)
+owed_moved old mid new (Err fault.NoMemory) moves lacks = settles_moved old mid new (Err fault.NoMemory) moves (settling_refused mid new fault.NoMemory lacks)
+owed_moved old mid new (Err why) moves never = absurd never
+
+-- it was refused
+pub owed_refused : (old new : Stream) (why : IoFault) → OwedOutcome old (Err why) new → SettleOutcome old (Err why) new
+owed_refused old new fault.RawFault fails = fails
+owed_refused old new fault.NoMemory lacks = lacks
+owed_refused old new why never = absurd never
+
+-- all was passed on, and the raw didn't come to stand at the place
+pub owed_not_here : (old mid new : EngineView) (why : IoFault) → SettleOutcome (stream_of old) (Ok tt) (stream_of mid) → Stands mid → is_written mid.access ≡ true → StandsHereOutcome (stream_of mid) (Err why) (stream_of new) → OwedOutcome (stream_of old) (Err why) (stream_of new)
+owed_not_here old mid new fault.RawFault settled is writes fails = settles_by_here old mid new (Err fault.RawFault) settled is writes fails
+owed_not_here old mid new fault.NoMemory settled is writes wants = settles_by_here old mid new (Err fault.NoMemory) settled is writes wants
+owed_not_here old mid new why settled is writes never = absurd never

@@ -1,26 +1,55 @@
 -- Where an engine and its raw stand, as a stream.
-use Rattle.std.proofs.Common.{◌≡◌, ℕ, ◌≤◌, List, false, Err, ap, arith}
+use Rattle.std.proofs.Common.{◌≡◌, ℕ, ◌+◌, ◌-◌, ◌<◌, ◌≤◌, max, List, [], ◌∷◌, length, take, drop, false, Err, refl, sym, ap, ◌∙◌, arith}
+use Rattle.std.proofs.lemmas.List.{length-take, length-drop}
 use Rattle.py_flat.specs.declared.fault.IoFault.{IoFault}
 use Rattle.py_flat.specs.declared.fault.IoFault.TheVariants as fault
 use Rattle.py_flat.specs.declared.life.Life.TheVariants as life
+use Rattle.py_flat.specs.Owed.{Owed}
+use Rattle.py_flat.specs.Limits.{greatest_place}
 use Rattle.py_stream.specs.declared.access.Access.TheVariants as access
-use Rattle.py_stream.specs.Access.{is_read}
+use Rattle.py_stream.specs.Access.{can_of, is_read}
 use Rattle.py_stream.specs.Stream.{nothing_owed}
 use Rattle.py_stream.specs.Answers.{IsNear}
 use Rattle.py_stream.specs.Keeping.{IsSound}
 use Rattle.py_stream.specs.Writing.{OwesBehind}
-use Rattle.py_stream.specs.Moving.{EndOutcome}
+use Rattle.py_stream.specs.Moving.{end_with, StandsAsBefore, AsksEnd, EndOutcome}
 use Rattle.py_stream.proofs.Refusing.{IsPlaced}
-use Rattle.py_window.specs.Window.{WindowView, IsWindow, place_of, end_of, owed_of, flat_over}
-use Rattle.py_engine.specs.Engine.{EngineView, stream_of, Stands, IsBehind, RawEndOutcome}
+use Rattle.py_window.specs.Window.{WindowView, IsWindow, place_of, end_of, pending_of, owed_of, flat_over}
+use Rattle.py_engine.specs.Engine.{EngineView, stream_of, Stands, IsBehind, AsksRawEnd, RawEndOutcome}
 use Rattle.py_engine.specs.Reading.{IsReading}
 use Rattle.py_window.proofs.Collecting.{pending_ends}
 
 -- How near the raw stands to the place.
 
+-- what is pending lies among the bytes held
+pending_within : (window : WindowView) → IsWindow window → window.begin + window.from + length (pending_of window) ≤ end_of window
+pending_within window is = omega (arith, is.ordered, is.within, length-take (window.to - window.from) (drop window.from window.held), length-drop window.from window.held)
+
+-- how far from the place the raw stands
+record NearWindow (engine : EngineView) : Type 0 where
+  read_ahead : (can_of engine.access engine.raw.seekable).writable ≡ false → end_of engine.window ≡ engine.raw_place
+  ahead : engine.raw_place ≤ place_of engine.window + engine.window.size
+  behind : place_of engine.window ≤ engine.raw_place + engine.window.size
+
+near_window : (engine : EngineView) → Stands engine → NearWindow engine
+near_window engine is = grind arith
+
 -- a live stream's raw stands near its place
 pub is_near : (engine : EngineView) → Stands engine → engine.life ≡ life.Live → IsNear (stream_of engine)
-is_near engine is live = grind arith
+is_near engine is live =
+    let window : WindowView = engine.window in
+    let near : NearWindow engine = near_window engine is in
+    record {
+      after_first = omega arith;
+      before_end = omega (arith, is.window_is.cursor);
+      fits = omega (arith, is.window_is.held);
+      owed_after_first = omega arith;
+      owed_before_end = pending_within window is.window_is;
+      read_ahead = near.read_ahead;
+      ahead = near.ahead;
+      behind = near.behind;
+      stands = λ tells. is.stands tells live;
+    }
 
 -- an engine's place is one that a stream can have
 pub is_far : (engine : EngineView) → Stands engine → place_of engine.window ≤ 9223372036854775807
@@ -33,6 +62,42 @@ is_placed engine is = record { far = is_far engine is; near = is_near engine is 
 -- what holds of every engine holds of its stream
 pub is_sound : (engine : EngineView) → Stands engine → IsSound (stream_of engine)
 is_sound engine is = record { far = is_far engine is; near = is_near engine is; is_open = is.is_open; bare = λ none. absurd (cc) }
+
+-- the raw was asked where it ends, and answered: the stream stands as it stood
+asks_stands : (old new : EngineView) (end : ℕ) → Stands new → AsksRawEnd old end new → StandsAsBefore (stream_of old) (stream_of new)
+asks_stands old new end is asks = let sound : IsSound (stream_of new) = is_sound new is in grind arith
+
+-- the flat file ends where the raw does, if nothing is owed
+end_settled : (bytes : List ℕ) (place end : ℕ) → bytes ≡ [] → end_with (record { bytes = bytes; place = place }) end ≡ end
+end_settled bytes place end none = rw none refl
+
+-- else at the later end of both
+end_owing : (bytes : List ℕ) (place end : ℕ) → 0 < length bytes → end_with (record { bytes = bytes; place = place }) end ≡ max end (place + length bytes)
+end_owing [] place end some = absurd (omega (arith, some))
+end_owing (byte ∷ more) place end some = grind arith
+
+-- so it answers where that ends
+asks_at : (old new : EngineView) (end last : ℕ) → Stands new → AsksRawEnd old end new → last ≤ greatest_place → end_with (owed_of new.window) end ≡ last → AsksEnd (stream_of old) last (stream_of new)
+asks_at old new end last is asks within at =
+    let stands : StandsAsBefore (stream_of old) (stream_of new) = asks_stands old new end is asks in
+    record {
+      stands = stands;
+      counts = asks.answers.counts;
+      life_is = ap (λ (engine : EngineView). engine.life) asks.same;
+      within = within;
+      told = λ tells. sym at ∙ ap (λ (owed : Owed). end_with owed end) stands.owed ∙ ap (end_with (owed_of old.window)) (asks.answers.value tells);
+    }
+
+-- the raw's end, where nothing is pending
+pub asks_settled : (old new : EngineView) (end : ℕ) → Stands new → AsksRawEnd old end new → pending_of new.window ≡ [] → AsksEnd (stream_of old) end (stream_of new)
+asks_settled old new end is asks none = asks_at old new end end is asks asks.answers.within (end_settled (pending_of new.window) (new.window.begin + new.window.from) end none)
+
+-- the later end, where some is
+pub asks_owing : (old new : EngineView) (end : ℕ) → Stands new → AsksRawEnd old end new → 0 < length (pending_of new.window) → AsksEnd (stream_of old) (max end (new.window.begin + new.window.to)) (stream_of new)
+asks_owing old new end is asks some =
+    let behind : new.window.begin + new.window.from + length (pending_of new.window) ≡ new.window.begin + new.window.to = omega (arith, is.window_is.ordered, is.window_is.within, length-take (new.window.to - new.window.from) (drop new.window.from new.window.held), length-drop new.window.from new.window.held) in
+    asks_at old new end (max end (new.window.begin + new.window.to)) is asks (omega (arith, asks.answers.within, is.window_is.within, is.window_is.far))
+    (end_owing (pending_of new.window) (new.window.begin + new.window.from) end some ∙ ap (max end) behind)
 
 -- the raw failed to say where it ends, or wanted memory for it
 pub end_refused : (old new : EngineView) (why : IoFault) → Stands old → RawEndOutcome old (Err why) new → EndOutcome (stream_of old) (Err why) (stream_of new)

@@ -55,6 +55,14 @@ FlushOutcome old (Err fault.RawFault) new = FailsPassing old new
 FlushOutcome old (Err fault.NoMemory) new = IsTrue old.raw.takes_memory × PassesJust old new × NoWait old.raw new.raw
 FlushOutcome old (Err other) new = ⊥
 
+-- all that is owed was passed on, wherever it belongs; or the raw would have blocked before, which no answer says yet; or that was refused
+abbrev pub OwedOutcome : Stream → Result Passed IoFault → Stream → Type 0
+OwedOutcome old (Ok passing.All) new = SettleOutcome old (Ok tt) new
+OwedOutcome old (Ok passing.Waits) new = SettleOutcome old (Err (fault.WouldBlock 0)) (record new { short = true }) × (new.short ≡ old.short)
+OwedOutcome old (Err fault.RawFault) new = SettleOutcome old (Err fault.RawFault) new
+OwedOutcome old (Err fault.NoMemory) new = SettleOutcome old (Err fault.NoMemory) new
+OwedOutcome old (Err other) new = ⊥
+
 -- Moving the raw of a stream that is read and written.
 
 -- the raw may be moved to a place among the bytes held, or right after them, but not before the first that is owed

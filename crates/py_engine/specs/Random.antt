@@ -1,10 +1,14 @@
 -- Calls of an engine that is opened to be read and written, where it doesn't read on from the bytes held as it stands.
-use Rattle.std.specs.Prelude.{◌≡◌, Bool, true, false, IsTrue, Result, Ok, Err}
+use Rattle.std.specs.Prelude.{◌≡◌, ℕ, Bool, true, false, IsTrue, List, [], Option, Some, Result, Ok, Err}
+use Rattle.std.specs.declared.alloc.AllocError.{AllocError}
 use Rattle.py_flat.specs.declared.fault.IoFault.{IoFault}
-use Rattle.py_flat.specs.Calls.{FileCall, FileReply, NotReady, Refused}
+use Rattle.py_flat.specs.Lines.{joined, lines_of}
+use Rattle.py_flat.specs.Calls.{FileCall, ReadLines, FileReply, NotReady, Refused}
+use Rattle.py_lines.specs.Collecting.{HasEnough}
 use Rattle.py_stream.specs.Stream.{Stream}
 use Rattle.py_stream.specs.Kinds.{is_reading, asks_none, takes_space_first, says_no_memory}
 use Rattle.py_stream.specs.Answers.{Answers, InHand}
+use Rattle.py_stream.specs.Reading.{wanted_by}
 use Rattle.py_engine.specs.Engine.{EngineView, stream_of}
 use Rattle.py_engine.specs.Reading.{IsReading}
 
@@ -23,3 +27,8 @@ abbrev pub GoesAhead : EngineView → Result Bool IoFault → EngineView → Typ
 GoesAhead old (Ok true) new = IsReading new × AnswersFrom (stream_of old) (stream_of new)
 GoesAhead old (Ok false) new = (call : FileCall) → GoesToRaw (stream_of old) call → Answers (stream_of old) call NotReady (stream_of new)
 GoesAhead old (Err why) new = (call : FileCall) → GoesToRaw (stream_of old) call → Answers (stream_of old) call (Refused why) (stream_of new)
+
+-- the lines at the front of a piece that are above a hint, and how many bytes they have, whatever comes after the piece; or nothing is told
+abbrev pub LinesIn : List ℕ → Option ℕ → Result (Option (List (List ℕ) × ℕ)) AllocError → Type 0
+LinesIn bytes hint (Ok (Some held)) = HasEnough (wanted_by (ReadLines hint)) [] bytes held.1 (joined held.0) × (lines_of (joined held.0) ≡ held.0)
+LinesIn bytes hint other = Unit {0}

@@ -1,16 +1,17 @@
 -- Writes of an engine that is opened to be read and written, wherever the bytes that it owes lie.
-use Rattle.std.specs.Prelude.{◌≡◌, ℕ, ◌+◌, ◌<◌, ◌≤◌, true, false, List, length, take, Bool, Result, Ok, Err}
+use Rattle.std.specs.Prelude.{◌≡◌, ◌+◌, ◌<◌, ◌≤◌, true, false, length, Bool, Result, Ok, Err}
 use Rattle.py_flat.specs.declared.fault.IoFault.{IoFault}
 use Rattle.py_flat.specs.Limits.{greatest_place}
 use Rattle.py_flat.specs.Causes.{Rose}
-use Rattle.py_flat.specs.Calls.{FileCall, FileReply, Refused}
+use Rattle.py_flat.specs.Calls.{FileCall, Write, WriteLines, FileReply, Count, Done, Refused}
 use Rattle.py_flat.specs.BinaryStep.{payload}
-use Rattle.py_stream.specs.Stream.{Stream, size_of}
+use Rattle.py_stream.specs.Stream.{Stream}
 use Rattle.py_stream.specs.Kinds.{is_writing}
 use Rattle.py_stream.specs.Answers.{Answers}
 use Rattle.py_stream.specs.Settling.{LivesOn}
-use Rattle.py_stream.specs.Held.{KeepsBoth}
 use Rattle.py_engine.specs.Engine.{EngineView, stream_of}
+use Rattle.py_engine.specs.declared.data.given.Given.{Given}
+use Rattle.py_engine.specs.declared.data.given.Given.TheVariants as gives
 
 -- a call that gives a stream bytes that have a place
 pub record GivesPlaced (stream : Stream) (call : FileCall) : Type 0 where
@@ -30,7 +31,19 @@ GoesBehind old (Ok true) new = (call : FileCall) (reply : FileReply) (after : St
 GoesBehind old (Ok false) new = WaitsOwing (stream_of old) (stream_of new)
 GoesBehind old (Err why) new = (call : FileCall) → GivesPlaced (stream_of old) call → Answers (stream_of old) call (Refused why) (stream_of new)
 
--- what fits of a call's bytes is put at the place: all, or as many as there is room for, which fill the buffer
-abbrev pub OverOutcome : Stream → ℕ → List ℕ → Bool → Stream → Type 0
-OverOutcome old room bytes true new = KeepsBoth old bytes new
-OverOutcome old room bytes false new = KeepsBoth old (take room bytes) new × (room < length bytes) × (length new.owed.bytes ≡ size_of new)
+-- the call that gives them
+abbrev pub call_of : Given → FileCall
+call_of (gives.Bytes bytes) = Write bytes.now
+call_of (gives.Lines lines) = WriteLines lines.now
+
+-- what that call answers once all of them are taken
+abbrev pub taken_all : Given → FileReply
+taken_all (gives.Bytes bytes) = Count (length bytes.now)
+taken_all (gives.Lines lines) = Done
+
+-- bytes that a call gives were all taken, which answers it; or none of them were, and all that was owed is passed on: what answers the call
+-- then answers it from before; or its refusal answers it
+abbrev pub GivesOutcome : EngineView → Given → Result Bool IoFault → EngineView → Type 0
+GivesOutcome old given (Ok true) new = Answers (stream_of old) (call_of given) (taken_all given) (stream_of new)
+GivesOutcome old given (Ok false) new = (reply : FileReply) (after : Stream) → Answers (stream_of new) (call_of given) reply after → Answers (stream_of old) (call_of given) reply after
+GivesOutcome old given (Err why) new = Answers (stream_of old) (call_of given) (Refused why) (stream_of new)

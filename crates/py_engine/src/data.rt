@@ -2,6 +2,8 @@
 ghost use Rattle.std.specs.Prelude.{◌≡◌, ◌≢◌, ◌<◌, ◌≤◌, true, false, length, vec_len, []};
 ghost use Rattle.py_flat.specs.Limits.{greatest_place};
 ghost use Rattle.py_raw.specs.RawStream.{WherePlace};
+ghost use Rattle.py_stream.specs.Access.{is_written};
+ghost use Rattle.py_stream.specs.Stream.{nothing_owed};
 ghost use Rattle.py_window.specs.Window.{ahead_of, place_of};
 ghost use Rattle.py_engine.specs.Engine.{stream_of, Stands, BeginOutcome, RawEndOutcome};
 ghost use Rattle.py_engine.specs.Reading.{IsReading, FillsOutcome, PassesOutcome};
@@ -9,6 +11,7 @@ ghost use Rattle.py_engine.specs.Reading.{IsReading, FillsOutcome, PassesOutcome
 mod calls;
 mod ending;
 mod gathering;
+mod given;
 mod moving;
 mod passing_on;
 mod random;
@@ -94,10 +97,12 @@ impl<R: RawStream> BufferedData<R> {
         self.window.ahead()
     }
 
-    /// The stream's place, whether it can be moved or not.
+    /// The stream's place, whether it can be moved or not. One that isn't written owes nothing there.
     pub fn place(&self) -> u64
-        ensures { result ≡ place_of self.now.window }
+        ensures place { result ≡ place_of self.now.window }
+        ensures unwritten { is_written self.now.access ≡ false → (stream_of self.now).owed ≡ nothing_owed (place_of self.now.window) }
     {
+        let _ = &self.live;
         self.window.place()
     }
 

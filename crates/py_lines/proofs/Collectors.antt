@@ -1,13 +1,13 @@
 -- What a collector has taken of a stream, and what of it is wanted whatever comes after.
 use Rattle.std.proofs.Common.{◌≡◌, ◌≢◌, ℕ, zero, suc, ◌+◌, ◌-◌, ◌<◌, ◌≤◌, Bool, true, false, nat_eq, nat_lt, List, [], ◌∷◌, ◌++◌, length, take, drop, Option, Some, None, refl, sym, ap, subst, inl, inr, ◌∙◌, arith, add-one, append_assoc, append-nil}
 use Rattle.std.specs.Option.{option_eq}
-use Rattle.std.proofs.lemmas.Bool.{cases_lt, eqb-true, ltb-true, ltb-false}
+use Rattle.std.proofs.lemmas.Bool.{cases_lt, eqb-true, eq-eqb, ltb-true, ltb-false}
 use Rattle.std.proofs.lemmas.List.{take_all, take-append-drop, length-append, length-drop, length-take-le, length_push}
 use Rattle.std.proofs.Math.Seq.{take-add, take-append-add}
 use Rattle.py_flat.specs.Lines.{Lf, lf, line_after, has_end_after, first_line, lines_of, lines_within, joined}
 use Rattle.py_flat.specs.Bytes.{first_of}
 use Rattle.py_flat.specs.BinaryStep.{IsFrontOf}
-use Rattle.py_lines.specs.Collecting.{LineView, line_wanted, limit_left, LineIsOpen, WithinLimit, FitsLimit, HasEnough, WantsMore, LinesView, all_lines, lines_collected, lines_wanted, IsOneLine, AreCut, HintLeaves, LinesAreOpen, AreEnough, AreEnoughIf, EndsLine}
+use Rattle.py_lines.specs.Collecting.{LineView, line_wanted, limit_left, LineIsOpen, WithinLimit, FitsLimit, HasEnough, WantsMore, EndsIn, LinesView, all_lines, lines_collected, lines_wanted, IsOneLine, AreCut, HintLeaves, LinesAreOpen, AreEnough, AreEnoughIf, EndsLine}
 use Rattle.py_lines.proofs.Asking.{line_asks, lines_ask}
 use Rattle.py_lines.proofs.Lines.{line_behind, EndsAt, joined_more, joined_with_part, lines_of_cut, cut_more, within_ends, lines_go_on, lines_alone}
 
@@ -29,13 +29,13 @@ within_along limit m n e fits = rw e at fits
 pub left_of : (left limit : Option ℕ) (line : List ℕ) (size : ℕ) (view : LineView) → left ≡ limit_left limit size → size ≡ length line → record { line = line; limit = limit } ≡ view → limit_left view.limit (length view.line) ≡ left
 left_of left limit line size view kept sized is = ap (λ (v : LineView). limit_left v.limit (length v.line)) (sym is) ∙ (ap (limit_left limit) (sym sized) ∙ sym kept)
 
--- a test finds that nothing is left
-pub none_left : (left : Option ℕ) → option_eq nat_eq left (Some 0) ≡ true → left ≡ Some 0
-none_left None is = absurd (cc)
-none_left (Some n) is = ap (λ (k : ℕ). Some k) (eqb-true n 0 is)
+-- a test tells how many bytes are left
+pub left_is : (left : Option ℕ) (count : ℕ) → option_eq nat_eq left (Some count) ≡ true → left ≡ Some count
+left_is None count is = absurd (cc)
+left_is (Some n) count is = ap (λ (k : ℕ). Some k) (eqb-true n count is)
 
-pub some_left : (left : Option ℕ) → option_eq nat_eq left (Some 0) ≡ false → left ≢ Some 0
-some_left left isnt = λ e. let is : option_eq nat_eq left (Some 0) ≡ true = ap (λ (o : Option ℕ). option_eq nat_eq o (Some 0)) e in cc
+pub left_isnt : (left : Option ℕ) (count : ℕ) → option_eq nat_eq left (Some count) ≡ false → left ≢ Some count
+left_isnt left count isnt = λ e. let is : option_eq nat_eq left (Some count) ≡ true = ap (λ (o : Option ℕ). option_eq nat_eq o (Some count)) e ∙ eq-eqb count count refl in cc
 
 within_less : (limit : Option ℕ) (m n : ℕ) → m ≤ n → WithinLimit limit n → WithinLimit limit m
 within_less None m n less fits = tt
@@ -102,7 +102,7 @@ module _ (limit : Option ℕ) (line : List ℕ) (stays : LineIsOpen (record { li
       ∙ first_of_all left (front ++ (lf ∷ [])) (within_along left _ _ (sym (add-one (length front)) ∙ sym (length_push front lf)) (left_fits limit (length line) (suc (length front)) fits)))
 
 -- what a collector of a line has after some bytes of a piece
-abbrev took : LineView → List ℕ → LineView
+abbrev pub took : LineView → List ℕ → LineView
 took view bytes = record view { line = view.line ++ bytes }
 
 -- the line ends in the piece
@@ -155,24 +155,31 @@ line_goes_behind view bytes stays none fits left =
       },
     )
 
--- a piece is used up where the limit leaves something after it
-used_up : (view new : LineView) (bytes : List ℕ) (used : ℕ) → used ≤ length bytes → (used < length bytes → limit_left view.limit (length view.line + used) ≡ Some 0) → new ≡ took view (take used bytes) → limit_left new.limit (length new.line) ≢ Some 0 → used ≡ length bytes
-used_up view new bytes used within short is left =
-    elim (cases_lt used (length bytes)) [
-      | inl less ↦
-          let size : length (view.line ++ take used bytes) ≡ length view.line + used = length-append view.line (take used bytes) ∙ ap (λ (n : ℕ). length view.line + n) (length-take-le used bytes within) in
-          absurd (left (ap (λ (v : LineView). limit_left v.limit (length v.line)) is ∙ (ap (limit_left view.limit) size ∙ short less)))
-      | inr rest ↦ omega arith
-    ]
+-- as many bytes as the limit leaves make the line as long as it may be
+pub full_after : (view : LineView) (bytes : List ℕ) (used : ℕ) → used ≤ length bytes → limit_left view.limit (length view.line) ≡ Some used → limit_left view.limit (length (view.line ++ take used bytes)) ≡ Some 0
+full_after view bytes used within left =
+    ap (limit_left view.limit) (length-append view.line (take used bytes) ∙ ap (λ (n : ℕ). length view.line + n) (length-take-le used bytes within))
+    ∙ (sym (left_twice view.limit (length view.line) used)
+    ∙ (ap (λ (o : Option ℕ). limit_left o used) left
+    ∙ ap (λ (n : ℕ). Some n) (let none : used - used ≡ 0 = omega arith in none)))
 
-pub line_goes_on : (view new : LineView) (bytes : List ℕ) (used : ℕ) → LineIsOpen view → used ≤ length bytes → (used < length bytes → limit_left view.limit (length view.line + used) ≡ Some 0) → has_end_after Lf false (take used bytes) ≡ false → FitsLimit view used → new ≡ took view (take used bytes) → limit_left new.limit (length new.line) ≢ Some 0 → LineIsOpen new × WantsMore (line_wanted view) view.line bytes new.line
-line_goes_on view new bytes used stays within short none fits is left =
-    let all : used ≡ length bytes = used_up view new bytes used within short is left in
-    let same : take used bytes ≡ bytes = take_all used bytes (omega arith) in
-    let new_is : new ≡ took view bytes = is ∙ ap (took view) same in
-    subst (λ (v : LineView). LineIsOpen v × WantsMore (line_wanted view) view.line bytes v.line) (sym new_is)
-    (line_goes_behind view bytes stays (ap (has_end_after Lf false) (sym same) ∙ none) (within_along view.limit _ _ (ap (λ (n : ℕ). length view.line + n) all) fits)
-    (subst (λ (v : LineView). limit_left v.limit (length v.line) ≢ Some 0) new_is left))
+-- fewer leave something
+left_more : (limit : Option ℕ) (m n : ℕ) → WithinLimit limit (m + n) → limit_left limit m ≢ Some n → limit_left limit (m + n) ≢ Some 0
+left_more None m n fits left none = absurd (cc)
+left_more (Some size) m n fits left none = let zero : size - (m + n) ≡ 0 = cc in left (ap (λ (k : ℕ). Some k) (omega (arith, fits, zero)))
+
+-- the line goes on after a piece that the limit allows, and leaves something after
+pub line_goes_on : (view : LineView) (bytes : List ℕ) (allowed : ℕ) → LineIsOpen view → allowed ≤ length bytes → (allowed < length bytes → limit_left view.limit (length view.line + allowed) ≡ Some 0) → has_end_after Lf false (take allowed bytes) ≡ false → FitsLimit view allowed → limit_left view.limit (length view.line) ≢ Some allowed → EndsIn view bytes None
+line_goes_on view bytes allowed stays within short none fits left =
+    let some : limit_left view.limit (length view.line + allowed) ≢ Some 0 = left_more view.limit (length view.line) allowed fits left in
+    let all : allowed ≡ length bytes = elim (cases_lt allowed (length bytes)) [
+      | inl less ↦ absurd (some (short less))
+      | inr rest ↦ omega (arith, rest, within)
+    ] in
+    let all_fit : FitsLimit view (length bytes) = subst (FitsLimit view) all fits in
+    let goes = line_goes_behind view bytes stays (ap (has_end_after Lf false) (sym (take_all allowed bytes (omega (arith, all)))) ∙ none) all_fit
+    (λ full. some (ap (λ (n : ℕ). limit_left view.limit (length view.line + n)) all ∙ (ap (limit_left view.limit) (sym (length-append view.line bytes)) ∙ full))) in
+    (goes.1, goes.0, all_fit)
 
 -- Lines.
 

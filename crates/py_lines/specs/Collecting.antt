@@ -59,6 +59,11 @@ abbrev pub TakesBytes : LineView → List ℕ → Result (Unit {0}) AllocError �
 TakesBytes old bytes (Ok done) new = new ≡ record old { line = old.line ++ bytes }
 TakesBytes old bytes (Err none) new = new.limit ≡ old.limit
 
+-- where a line ends in a piece: with the first n bytes of it, whatever comes after them; or it goes on after all of the piece
+abbrev pub EndsIn : LineView → List ℕ → Option ℕ → Type 0
+EndsIn view bytes (Some used) = HasEnough (line_wanted view) view.line bytes used (view.line ++ take used bytes) × FitsLimit view used
+EndsIn view bytes None = WantsMore (line_wanted view) view.line bytes (view.line ++ bytes) × LineIsOpen (record view { line = view.line ++ bytes }) × FitsLimit view (length bytes)
+
 -- Lines.
 
 -- the lines that are ended; the bytes after the last end; the hint; and how many bytes it still allows, if it bounds them

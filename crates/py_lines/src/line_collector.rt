@@ -1,5 +1,5 @@
 ghost use Rattle.std.specs.Prelude.{◌≡◌, ◌+◌, ◌<◌, ◌≤◌, [], length, Some};
-ghost use Rattle.py_lines.specs.Collecting.{line_wanted, limit_left, LineIsOpen, FitsLimit, TakesBytes};
+ghost use Rattle.py_lines.specs.Collecting.{line_wanted, limit_left, LineIsOpen, FitsLimit, EndsIn, TakesBytes};
 
 use crate::{Collected, Collector};
 use memchr::memchr;
@@ -64,20 +64,36 @@ impl Collector for LineCollector {
     ghost is_open = { LineIsOpen };
 
     fn collect(&mut self, bytes: &[u8]) -> Result<Collected, AllocError> {
-        let allowed = self.allowed(bytes.len());
-        if let Some(at) = memchr(b'\n', &bytes[..allowed]) {
-            self.take(&bytes[..at + 1])?;
-            return Ok(Collected::Enough(at + 1));
+        match self.end_in(bytes) {
+            Some(used) => {
+                self.take(&bytes[..used])?;
+                Ok(Collected::Enough(used))
+            }
+            None => {
+                self.take(bytes)?;
+                Ok(Collected::All)
+            }
         }
-        self.take(&bytes[..allowed])?;
-        if self.left == Some(0) {
-            return Ok(Collected::Enough(allowed));
-        }
-        Ok(Collected::All)
     }
 }
 
 impl LineCollector {
+    /// With how many bytes of a piece the line ends, by its LF or by its limit; `None` where it goes on after all of them.
+    /// Nothing is taken.
+    pub fn end_in(&self, bytes: &[u8]) -> Option<usize>
+        requires { LineIsOpen self.now }
+        ensures { EndsIn self.now bytes.now result }
+    {
+        let allowed = self.allowed(bytes.len());
+        if let Some(at) = memchr(b'\n', &bytes[..allowed]) {
+            return Some(at + 1);
+        }
+        if self.left == Some(allowed) {
+            return Some(allowed);
+        }
+        None
+    }
+
     /// How many of n bytes the limit allows.
     fn allowed(&self, count: usize) -> usize
         ensures within { result ≤ count }

@@ -6,7 +6,7 @@ use Rattle.py_flat.specs.BinaryStep.{payload}
 use Rattle.py_raw.specs.RawStream.{WhereTold}
 use Rattle.py_stream.specs.Stream.{Stream}
 use Rattle.py_stream.specs.Kinds.{is_writing, has_room}
-use Rattle.py_stream.specs.Writing.{OwesUpTo, OwesBehind, Takes, PassesFront, LaysInOrder, CoversBoth, OwesNewAlone, OwesBoth, PassesOn, OwesNoneOfIts, Writes}
+use Rattle.py_stream.specs.Writing.{OwesUpTo, OwesBehind, Takes, PassesFront, LaysInOrder, OwesTheRest, OwesNewAlone, OwesBoth, PassesOn, OwesNoneOfIts, Writes}
 use Rattle.py_stream.proofs.Coming.{came_seen, each_seen}
 use Rattle.py_stream.specs.Answers.{Answers, AnswersWith, Leaves, IsAhead, SeeksFromEnd, EndMoves, SeeksByEnd, closes_again}
 
@@ -47,8 +47,8 @@ module _ (short : Bool) where
   taken : (before after : Stream) (call : FileCall) → (IsTrue (is_writing call) → OwesUpTo before.owed before.place → Takes (seen short before) (payload call) after) → IsTrue (is_writing call) → OwesUpTo before.owed before.place → Takes before (payload call) after
   taken before after call takes writing up_to = let is = takes writing up_to in record { taken = is.taken; within = is.within; place = is.place; passed = is.passed; most = is.most; answered = is.answered; forth = λ behind. is.forth (owed_behind before behind); owed = is.owed; up_to = is.up_to; told = is.told }
 
-  owed_so : (before after : Stream) (new : List ℕ) → CoversBoth before.owed before.place new after.owed ⊎ OwesNewAlone (seen short before) new after → CoversBoth before.owed before.place new after.owed ⊎ OwesNewAlone before new after
-  owed_so before after new (inl covers) = inl covers
+  owed_so : (before after : Stream) (new : List ℕ) → OwesTheRest (seen short before) new after ⊎ OwesNewAlone (seen short before) new after → OwesTheRest before new after ⊎ OwesNewAlone before new after
+  owed_so before after new (inl rest) = inl (record { passed = rest.passed; most = rest.most; answered = rest.answered; from = rest.from; covers = rest.covers })
   owed_so before after new (inr alone) = inr (record { passed = alone.passed; most = alone.most; answered = alone.answered; bytes = alone.bytes; place = alone.place })
 
   owed_both : (before after : Stream) (bytes : List ℕ) → OwesBoth (seen short before) bytes after → OwesBoth before bytes after
@@ -95,12 +95,15 @@ module _ (short : Bool) where
     moves = record { life_is = answers.moves.life_is; place = answers.moves.place; far = answers.moves.far; within = answers.moves.within };
     ends = by_end before after call reply answers.ends;
     wants = answers.wants;
+    goes_on = λ reads ahead. answers.goes_on reads (ahead_as before ahead);
+    goes_past = answers.goes_past;
     starves = λ wanting reads ahead. let starved = answers.starves wanting reads (ahead_as before ahead) in record { unmoved = starved.unmoved; moved = starved.moved; stands = starved.stands };
     first = answers.first;
     nothing = λ asks. let none = answers.nothing asks in record { raw = none.raw; fault = none.fault };
     idle = λ keeps. let still = answers.idle keeps in record { raw = still.raw; fault = still.fault; memory = still.memory };
     single = answers.single;
     in_hand = λ has. let none = answers.in_hand (record { lives = has.lives; buffered = has.buffered; of = has.of }) in record { raw = none.raw; fault = none.fault };
+    owing = λ has. answers.owing (record { lives = has.lives; buffered = has.buffered; of = has.of });
     brings = λ reads ahead. came_seen (seen short before) before after after 1 refl refl refl refl (answers.brings reads (ahead_as before ahead));
     unread = answers.unread;
     needs = λ reads ahead. let asks = answers.needs reads (ahead_as before ahead) in record { enough = λ whole within buffered. let idle = asks.enough whole within buffered in record { raw = idle.raw; fault = idle.fault }; whole = λ whole. each_seen (seen short before) before after after 0 0 refl refl refl refl (asks.whole whole); needed = asks.needed; last = each_seen (seen short before) before after after 1 1 refl refl refl refl asks.last };

@@ -18,6 +18,10 @@ size_is : (buffer : Option ℕ) → IsSome buffer → size_shown (buffering_of b
 size_is (Some size) some = refl
 size_is None some = absurd (cc)
 
+size_known : (buffer : Option ℕ) → IsSome buffer → size_shown (buffering_of buffer) ≡ Some (unwrap_or buffer 0)
+size_known (Some size) some = refl
+size_known None some = absurd (cc)
+
 gives_asked : (buffer : Option ℕ) (call : FileCall) (reply : FileReply) → IsSome buffer → GivesWithin (unwrap_or buffer 0) call reply → GivesAsked (buffering_of buffer) call reply
 gives_asked buffer call reply some within = grind arith
 
@@ -72,7 +76,7 @@ lays_so was taken before call bytes made lays = grind arith
 
 -- a wait has filled the buffer, whose size is shown
 full_so : (taken : ℕ) (call : FileCall) (reply : FileReply) (after : Stream) → IsSome after.buffer → BlocksFull call reply after → BufferBlocksFull call reply (buffer_of after taken)
-full_so taken call reply after buffered full = grind arith
+full_so taken call reply after buffered full = grind (arith, size_known)
 
 takes_so : (before after : Stream) (call : FileCall) → (IsTrue (is_writing call) → OwesBoth before (payload call) after) → BufferTakes call before.place after.place
 takes_so before after (Write bytes) owes = let both = owes refl in (omega (arith, both.place), omega (arith, both.place, both.within))

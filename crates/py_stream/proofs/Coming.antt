@@ -1,10 +1,10 @@
 -- How far a raw came by what its reads brought, over any raw.
-use Rattle.std.proofs.Common.{◌≡◌, ℕ, zero, suc, ◌+◌, ◌-◌, ◌<◌, ◌≤◌, refl, ap, arith}
+use Rattle.std.proofs.Common.{Bool, ◌≡◌, ℕ, zero, suc, ◌+◌, ◌-◌, ◌<◌, ◌≤◌, refl, ap, arith}
 use Rattle.py_raw.specs.declared.reads.Reads.{Reads}
 use Rattle.py_raw.specs.Reads.{BringInAll}
 use Rattle.py_raw.specs.RawStream.{Raw, Keeps, WhereTransfers, ReadsBring, KeepsReads}
 use Rattle.py_stream.specs.Stream.{Stream}
-use Rattle.py_stream.specs.Answers.{CameByReads, EachBrings}
+use Rattle.py_stream.specs.Answers.{IsNear, IsAhead, CameByReads, EachBrings}
 use Rattle.py_stream.specs.Reading.{OneTransfer}
 
 -- reads that brought nothing, and none of which brought none, are none
@@ -37,6 +37,14 @@ came_seen was before now after empties raw place raw_now place_now came = grind 
 
 pub came_more : (before after : Stream) (less more : ℕ) → less ≤ more → CameByReads less before after → CameByReads more before after
 came_more before after less more within came = record { forth = came.forth; reads = λ tells. brought_more before.raw.reads after.raw.reads (after.raw_place - before.raw_place) less more within (came.reads tells) }
+
+-- where a stream's raw stands doesn't hang on whether its last answer was short
+pub near_seen : (stream : Stream) (short : Bool) → IsNear stream → IsNear (record stream { short = short })
+near_seen stream short near = record { after_first = near.after_first; before_end = near.before_end; fits = near.fits; owed_after_first = near.owed_after_first; owed_before_end = near.owed_before_end; read_ahead = near.read_ahead; ahead = near.ahead; behind = near.behind; stands = near.stands }
+
+-- whether a reading goes on from the bytes held doesn't hang on whether the stream's last answer was short
+pub ahead_seen : (stream : Stream) (short : Bool) → IsAhead stream → IsAhead (record stream { short = short })
+ahead_seen stream short ahead = record { none = ahead.none; stands = ahead.stands }
 
 -- Transfers that each brought a byte.
 

@@ -14,13 +14,14 @@ use Rattle.py_raw.specs.RawStream.{Raw, WhereTold, WhereTransfers, NoWait, Waits
 use Rattle.py_stream.specs.Stream.{Stream, size_of, file_of}
 use Rattle.py_stream.specs.Moving.{EndsWithin, Begins}
 use Rattle.py_stream.specs.Kinds.{is_reading, is_writing, goes_on, asks_none, calls_none, makes_one, outlasts, says_fault, says_no_memory}
-use Rattle.py_stream.specs.Writing.{OwesBehind, Takes, LaysFront, LaysInOrder, PassesOn, BlocksFull, OwesNoneOfIts, TookOwn, Writes}
+use Rattle.py_stream.specs.Writing.{OwesBehind, Takes, LaysFront, LaysInOrder, PassesOn, IsFull, BlocksFull, OwesNoneOfIts, TookOwn, Writes}
 use Rattle.py_stream.specs.Answers.{Answers, HasCauses, IsCounted, InHandOf, IsShort, LifeMoves, PlaceMoves, SeeksByEnd, IsReplyTo, closes_again, refused_by}
 use Rattle.py_stream.specs.Keeping.{IsSound, KeepsOn}
 use Rattle.py_stream.specs.Taking.{Calm, WaitsAsOne}
 use Rattle.py_stream.proofs.Completing.{completes}
 use Rattle.py_stream.proofs.Stopping.{GivesNone, gives_none}
 use Rattle.py_stream.proofs.Owing.{owes_both}
+use Rattle.py_stream.proofs.Coming.{near_seen}
 use Rattle.py_stream.proofs.Refusing.{IsPlaced, refused_alone, refused_with}
 
 -- The calls.
@@ -138,12 +139,15 @@ answers_coming old new call reply short may comes =
       moves = record { life_is = comes.life_is; place = comes.place; far = comes.kept.sound.far; within = gives.within (size_of old) reply };
       ends = giving.ends old reply left;
       wants = λ wanting room. comes.wants wanting;
+      goes_on = λ reads. absurd (cc (giving.reads));
+      goes_past = λ reads. absurd (cc (giving.reads));
       starves = λ wanting reads. absurd (cc (gives.going_on));
       first = λ wanting first. absurd (cc (gives.first));
       nothing = λ asks. absurd (cc (giving.some old.buffer));
       idle = λ keeps. absurd (cc (giving.calls old.buffer old.can.writable));
       single = λ single none. comes.one single;
       in_hand = λ has. absurd (giving.unheld old has.of);
+      owing = λ has. absurd (giving.unheld old has.of);
       brings = λ reads. absurd (cc (giving.reads));
       unread = λ _. comes.kept.reads;
       needs = λ reads. absurd (cc (gives.several old.buffer));
@@ -154,7 +158,7 @@ answers_coming old new call reply short may comes =
       complete = λ accepts calm sound. completes old.raw new.raw old.buffer old.can.writable call reply short comes.causes comes.shorts answers calm sound;
       told = comes.told;
       reach = λ reads. absurd (cc (giving.reads));
-      near = λ lives. let near = comes.kept.sound.near lives in record { after_first = near.after_first; before_end = near.before_end; fits = near.fits; read_ahead = near.read_ahead; ahead = near.ahead; behind = near.behind; stands = near.stands };
+      near = λ lives. near_seen new short (comes.kept.sound.near lives);
       hides = λ shortened reads. absurd (cc (giving.reads));
     }
 
@@ -196,7 +200,7 @@ pub record IsPart (old : Stream) (count : ℕ) (buffer : Option ℕ) (call : Fil
   pub shorts : IsShort call reply short
   pub life_is : (before after : Life) → after ≡ before → LifeMoves buffer call reply before after
   pub place : (current : Life) (before after : ℕ) → after ≡ before + count → PlaceMoves buffer call reply current before after
-  pub full : (after : Stream) → (IsTrue short → length after.owed.bytes ≡ size_of after) → BlocksFull call reply after
+  pub full : (after : Stream) → (IsTrue short → IsFull after.owed after.place (size_of after) count) → BlocksFull call reply after
   pub straight : (after : Stream) → OwesNoneOfIts old call reply after
   pub answers : IsReplyTo buffer true call reply
   pub steps : (after : FlatFile) → after ≡ after_write (file_of (record old { buffer = buffer })) (take count (payload call)) → StepsBy short (file_of (record old { buffer = buffer })) call reply after

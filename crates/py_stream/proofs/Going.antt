@@ -1,5 +1,5 @@
 -- The answers of `seek`, as its steps come: where it goes, what is passed on before, and the moving.
-use Rattle.std.proofs.Common.{◌≡◌, ℕ, ◌+◌, suc, zero, ℤ, pos, max, nat_eq, Bool, true, false, List, [], length, Option, Some, None, IsSome, Result, Ok, Err, ne_eqb, if◌then◌else◌, refl, sym, ap, ◌∙◌, subst, arith, zero-le, rules, IsTrue}
+use Rattle.std.proofs.Common.{◌≡◌, ⊎_elim, ℕ, ◌+◌, suc, zero, ℤ, pos, max, nat_eq, Bool, true, false, List, [], ◌∷◌, length, Option, Some, None, IsSome, Result, Ok, Err, ne_eqb, if◌then◌else◌, refl, sym, ap, ◌∙◌, subst, arith, zero-le, rules, IsTrue}
 use Rattle.std.proofs.lemmas.Bool.Decides.{eqb_tells}
 use Rattle.py_flat.specs.declared.fault.IoFault.{IoFault}
 use Rattle.py_flat.specs.declared.fault.IoFault.TheVariants as fault
@@ -18,7 +18,7 @@ use Rattle.py_raw.specs.RawStream.{WhereTold, LeavesCounts}
 use Rattle.py_raw.proofs.Telling.{keeps_same, tells_its_bytes}
 use Rattle.py_raw.proofs.ReadingOn.{no_fault_then, no_wait_then}
 use Rattle.py_stream.specs.Stream.{Span, Stream, file_of, nothing_owed}
-use Rattle.py_stream.specs.Writing.{Writes}
+use Rattle.py_stream.specs.Writing.{GoesAway, Writes}
 use Rattle.py_stream.specs.Answers.{Answers, Leaves, SeeksTo, SeeksFromEnd, InHandOf, InHand, SparesBytes, IsCounted}
 use Rattle.py_stream.specs.Keeping.{KeepsOn}
 use Rattle.py_stream.specs.Settling.{PassesSome, LivesOn, SettleOutcome}
@@ -33,7 +33,7 @@ use Rattle.py_stream.proofs.Seeking.{MaySeek, seek_refusal_is, target_why, bad_p
 
 -- Where the stream ends.
 
-ends_at : (raw : List ℕ) (place : ℕ) (bytes : List ℕ) → length (lay raw place bytes) ≡ (if nat_eq (length bytes) 0 then length raw else max (length raw) (place + length bytes))
+pub ends_at : (raw : List ℕ) (place : ℕ) (bytes : List ℕ) → length (lay raw place bytes) ≡ (if nat_eq (length bytes) 0 then length raw else max (length raw) (place + length bytes))
 ends_at raw place bytes = grind (arith, ne_eqb, length-lay)
 
 answers_end : (old new : Stream) (end : ℕ) → AsksEnd old end new → AnswersEnd old end
@@ -90,11 +90,11 @@ end_refuses old new offset why end may asks refuses =
 
 from_end_refuses : (old new : Stream) (offset : ℤ) (why : IoFault) → MaySeek old → TargetFromEnd offset old (Err why) new → Answers old (Seek offset (pos 2)) (Refused why) new
 from_end_refuses old new offset fault.RawFault may fails =
-    fault_fails old new (Seek offset (pos 2)) (reaching old offset (pos 2) may (end_reaches old offset may)) (record { in_hand = λ has. absurd has.of; spares = λ _. spared old new (Seek offset (pos 2)) life.Failed fails.stands })
+    fault_fails old new (Seek offset (pos 2)) (reaching old offset (pos 2) may (end_reaches old offset may)) (record { in_hand = λ has. absurd has.of; owing = λ has. absurd has.of; spares = λ _. spared old new (Seek offset (pos 2)) life.Failed fails.stands })
     (fault_fails_seek offset (pos 2)) (passes_nothing old new fails.stands) fails.failed fails.cause fails.no_wait
 from_end_refuses old new offset fault.NoMemory may wants =
     let out : FoundOut old new = found_nothing old new may wants.1 in
-    lacking_answers old new (Seek offset (pos 2)) (reaching old offset (pos 2) may (end_reaches old offset may)) (record { in_hand = λ has. absurd has.of; spares = λ _. spared old new (Seek offset (pos 2)) new.life out.stands }) wants.0
+    lacking_answers old new (Seek offset (pos 2)) (reaching old offset (pos 2) may (end_reaches old offset may)) (record { in_hand = λ has. absurd has.of; owing = λ has. absurd has.of; spares = λ _. spared old new (Seek offset (pos 2)) new.life out.stands }) wants.0
     (found_on old new may out) out.counts.no_wait
 from_end_refuses old new offset why may asked = end_refuses old new offset why asked.0 may asked.1 asked.2
 
@@ -168,9 +168,30 @@ stepped_file old found new target out steps tells =
     let flat : flat_of new ≡ flat_of old = grind (arith, laid_there, eqb_tells) in
     grind (arith, file_now)
 
+-- a list of no length has nothing
+none_long : (bytes : List ℕ) → length bytes ≡ 0 → bytes ≡ []
+none_long [] none = refl
+none_long (byte ∷ more) none = absurd (omega (arith, none))
+
+-- the bytes that are owed stay as they are, wherever a stream is moved that owes none
+owed_by : (none : Bool) (target : ℕ) (owed : Owed) → nat_eq (length owed.bytes) 0 ≡ none → (let kept : Owed = if none then nothing_owed target else owed in kept).bytes ≡ owed.bytes
+owed_by true target owed none = sym (none_long owed.bytes (⊎_elim (λ same. same.1) (λ other. absurd (let wrong : true ≡ false = sym none ∙ other.0 in cc)) (eqb_tells (length owed.bytes) 0)))
+owed_by false target owed some = refl
+
+owed_kept : (target : ℕ) (owed : Owed) → (owed_at target owed).bytes ≡ owed.bytes
+owed_kept target owed = owed_by (nat_eq (length owed.bytes) 0) target owed refl
+
+-- what is owed stays as it was
+step_owes : (old found new : Stream) (target : ℕ) → FoundOut old found → StepsTo found target true new → new.owed.bytes ≡ old.owed.bytes
+step_owes old found new target out steps = ap (λ (stream : Stream). stream.owed.bytes) steps.2 ∙ owed_kept target found.owed ∙ ap (λ (owed : Owed). owed.bytes) out.stands.owed
+
+-- the target is one of a stream that reads, among the bytes held
+step_stays : (old found new : Stream) (target : ℕ) → MaySeek old → FoundOut old found → StepsTo found target true new → GoesAway old target → ⊥
+step_stays old found new target may out steps away = grind arith
+
 -- a front of what was owed was passed on: none of it
-step_passes : (old found new : Stream) (offset whence : ℤ) (target : ℕ) → Finds old offset whence target found → StepsTo found target true new → PassesBytes old (Seek offset whence) (Place target) new
-step_passes old found new offset whence target finds steps = grind (arith, lays_nothing, eqb_tells)
+step_passes : (old found new : Stream) (offset whence : ℤ) (target : ℕ) → MaySeek old → Finds old offset whence target found → StepsTo found target true new → PassesBytes old (Seek offset whence) (Place target) new
+step_passes old found new offset whence target may finds steps = grind (arith, lays_nothing, eqb_tells, step_stays)
 
 -- the stream went there
 stepped : (old found new : Stream) (offset whence : ℤ) (target : ℕ) → MaySeek old → Finds old offset whence target found → StepsTo found target true new → Answers old (Seek offset whence) (Place target) new
@@ -179,12 +200,13 @@ stepped old found new offset whence target may finds steps =
     let asked : Asked old call = reaching old offset whence may finds.to.asks in
     let kept : KeepsOn old new = keeps_then old found new finds.out.stands.kept (step_keeps found new target steps) in
     let short : new.short ≡ false = kept.short ∙ may.whole in
-    let writes : Writes old call (Place target) new = passing_writes old call (Place target) new asked.none (step_passes old found new offset whence target finds steps) in
+    let writes : Writes old call (Place target) new = passing_writes old call (Place target) new asked.none (step_passes old found new offset whence target may finds steps) in
     let told : WhereTold old.raw (BinaryStep (file_of old) call (Place target) new.short false (file_of new)) = λ tells.
     let lies : (seek_target (file_of old) offset whence ≡ target) × (refusal (file_of old) call ≡ None) = finds.to.lies (tells_its_bytes old.raw tells) in
     subst (λ (said : Bool). BinaryStep (file_of old) call (Place target) said false (file_of new)) (sym short)
     (settled (subst (λ (refused : Option IoFault). SettledBy (file_of old) call refused (Place target) (file_of new)) (sym lies.1)
     (sought_at (file_of old) (file_of new) (seek_target (file_of old) offset whence) target lies.0 (stepped_file old found new target finds.out steps tells)))) in
+    let owing : new.owed.bytes ≡ old.owed.bytes = step_owes old found new target finds.out steps in
     shows_answers old call (Place target) new asked.none (grind (arith, stays_open))
 
 -- a seek to a target among the bytes held
@@ -236,7 +258,7 @@ going_answers old found new offset whence target may none beyond finds goes =
     let out : FoundOut (begun old) found = finds.out in
     answers_whole old new (Seek offset whence) (Place target)
     (gone (begun old) found new offset whence target may finds.to
-    (record { in_hand = λ has. absurd (apart (begun old) found offset whence target finds beyond has); spares = search (rules, goes, begun, answers_still) })
+    (record { in_hand = λ has. absurd (apart (begun old) found offset whence target finds beyond has); owing = λ has. absurd (apart (begun old) found offset whence target finds beyond has); spares = search (rules, goes, begun, answers_still) })
     (found_on (begun old) found may out, out.counts.no_wait, ap (λ (owed : Owed). owed.bytes) (out.stands.owed ∙ none)) goes)
 
 -- A stream that writes passes on what it owes before it is moved.

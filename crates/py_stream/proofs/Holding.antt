@@ -1,6 +1,6 @@
 -- Readings of a stream with a buffer that may owe bytes, which don't go on to the raw: what stops the passing on before them, and what
 -- the bytes held answer by themselves.
-use Rattle.std.proofs.Common.{IsTrue, ◌≡◌, ◌≢◌, ℕ, ◌+◌, ◌-◌, ◌<◌, ◌≤◌, Bool, true, false, List, [], ◌∷◌, ◌++◌, length, take, drop, Option, Some, None, Err, max, inl, refl, sym, ap, ◌∙◌, subst, arith, add-zero, length-drop, rules}
+use Rattle.std.proofs.Common.{IsTrue, ◌≡◌, ◌≢◌, ℕ, ◌+◌, ◌-◌, ◌<◌, ◌≤◌, Bool, true, false, List, [], ◌∷◌, ◌++◌, length, take, drop, Option, Some, None, Err, max, inl, inr, refl, sym, ap, ◌∙◌, subst, arith, add-zero, length-drop, rules}
 use Rattle.std.proofs.Math.Seq.{take-add}
 use Rattle.std.proofs.lemmas.List.{take-append-drop}
 use Rattle.py_flat.specs.declared.fault.IoFault.{IoFault}
@@ -18,9 +18,9 @@ use Rattle.py_flat.specs.BinaryStep.{IsFrontOf, BinaryStep, SettledBy, Accepted,
 use Rattle.py_raw.specs.RawStream.{WhereTold, WhereTransfers}
 use Rattle.py_raw.proofs.Telling.{keeps_same}
 use Rattle.py_stream.specs.Stream.{Stream, size_of, file_of, nothing_owed}
-use Rattle.py_stream.specs.Kinds.{is_reading, is_single, reads_on, by_several, makes_one, asks_none, has_room, says_fault, says_no_memory}
+use Rattle.py_stream.specs.Kinds.{is_reading, is_single, reads_on, by_several, makes_one, asks_none, has_room, says_fault, says_no_memory, says_given}
 use Rattle.py_stream.specs.Writing.{NoneAtPlace, LaysFront, LaysInOrder, BlocksFull, Writes}
-use Rattle.py_stream.specs.Answers.{Answers, KeepsStream, ClosedWith, HasCauses, IsCounted, IsShort, LifeMoves, PlaceMoves, GivesWithin, WantsMemory, Starves, StarvesFirst, AsksNothing, AtMostOne, CameByReads, InHand, IsAhead, AsksNoMore, SparesBytes, IsReplyTo, IsNear, refused_by, ahead}
+use Rattle.py_stream.specs.Answers.{Answers, KeepsStream, ClosedWith, HasCauses, IsCounted, IsShort, LifeMoves, PlaceMoves, GivesWithin, WantsMemory, Starves, StarvesFirst, AsksNothing, AtMostOne, CameByReads, InHand, IsAhead, GoesPast, AsksNoMore, SparesBytes, IsReplyTo, IsNear, refused_by, ahead}
 use Rattle.py_stream.specs.Keeping.{IsSound}
 use Rattle.py_stream.specs.Settling.{PassesSome, LivesOn, SettleOutcome}
 use Rattle.py_stream.specs.Reading.{Reaches, ComesNext, wanted_by, reply_by}
@@ -30,10 +30,10 @@ use Rattle.py_stream.proofs.Completing.{completes}
 use Rattle.py_stream.proofs.Refusing.{gives_nothing, refused_alone}
 use Rattle.py_stream.proofs.Stopping.{fails_there, starves_alive, starves_there, work_reaches}
 use Rattle.py_stream.proofs.ReadingCalls.{IsReadingCall, reading_call, reading_on}
-use Rattle.py_stream.proofs.ReadingSteps.{near_seen, within_end}
+use Rattle.py_stream.proofs.ReadingSteps.{within_end}
 use Rattle.py_stream.proofs.ReadingAnswers.{accepted, works}
 use Rattle.py_stream.proofs.Refused.{nothing_blocked}
-use Rattle.py_stream.proofs.Coming.{came_still, each_still}
+use Rattle.py_stream.proofs.Coming.{near_seen, came_still, each_still}
 use Rattle.py_stream.proofs.SingleReading.{reads_once, asks_for, moves_by, moves_within, IsSingleCall, single_call, once_carried}
 use Rattle.py_stream.proofs.ReadingStops.{short_part, part_moves, part_within, carried}
 use Rattle.py_stream.proofs.Flat.{flat_of, failed_file}
@@ -66,12 +66,15 @@ pub record ShowsReading (before : Stream) (call : FileCall) (reply : FileReply) 
   pub far : after.place ≤ greatest_place
   pub within : GivesWithin (size_of before) call reply
   pub wants : WantsMemory (has_room call) reply before.raw
+  pub goes_on : IsAhead before → IsAhead after
+  pub goes_past : IsTrue (says_given reply) → GoesPast before after → IsAhead after
   pub starves : IsTrue (says_no_memory reply) → IsTrue (reads_on call) → IsAhead before → Starves before after
   pub first : StarvesFirst before call reply after
   pub nothing : IsTrue (asks_none before.buffer call) → AsksNothing before reply after
   pub single : IsTrue (makes_one before.buffer call) → before.owed.bytes ≡ [] → AtMostOne before after
   pub brings : IsAhead before → CameByReads 1 before after
   pub in_hand : InHand before call → AsksNothing before reply after
+  pub owing : InHand before call → after.owed.bytes ≡ before.owed.bytes
   pub needs : IsTrue (by_several before.buffer call) → IsAhead before → AsksNoMore before call reply after
   pub spares : before.can.writable ≡ false → before.owed ≡ nothing_owed before.place → SparesBytes before call after
   pub writes : before.can.writable ≡ true → Writes before call reply after
@@ -134,6 +137,7 @@ record Stops (before mid : Stream) (call : FileCall) (reply : FileReply) (short 
   place : PlaceMoves before.buffer call reply mid.life before.place before.place
   within : GivesWithin (size_of before) call reply
   wants : IsTrue (says_no_memory reply) → IsTrue before.raw.takes_memory
+  ungiven : says_given reply ≡ false
   single : before.owed.bytes ≡ [] → AtMostOne before mid
   full : BlocksFull call reply (record mid { short = short })
   answer : IsReplyTo before.buffer before.can.writable call reply
@@ -156,12 +160,15 @@ stops_reading before mid call reply short may stops =
       far = passes.kept.sound.far;
       within = stops.within;
       wants = λ wanting _. stops.wants wanting;
+      goes_on = λ ahead. absurd (stops.behind ahead);
+      goes_past = λ given. absurd (cc (stops.ungiven));
       starves = λ _ _ ahead. absurd (stops.behind ahead);
       first = λ wanting _ takes_none. absurd (let takes = stops.wants wanting in cc);
       nothing = λ asks. absurd (cc (may.some));
       single = λ _ none. stops.single none;
       brings = λ ahead. absurd (stops.behind ahead);
       in_hand = λ has. absurd (may.apart has);
+      owing = λ has. absurd (may.apart has);
       needs = λ _ ahead. absurd (stops.behind ahead);
       spares = λ reads. absurd (cc (may.writes));
       writes = λ _. passing_reads before mid call reply short may.reads may.held.live passes stops.full;
@@ -278,6 +285,11 @@ moved_file before place owed moved = grind arith
 reading_fills : (call : FileCall) (reply : FileReply) (after : Stream) (buffer : Option ℕ) (writes : Bool) → is_reading call ≡ true → says_fault reply ≡ false → IsReplyTo buffer writes call reply → BlocksFull call reply after
 reading_fills call reply after buffer writes reads said answers = grind arith
 
+-- a stream that was moved among the bytes held, and called no raw, didn't go past them
+stays_within : (before : Stream) (place : ℕ) (owed : Owed) → place ≤ before.held.to → GoesPast before (record before { place = place; owed = owed }) → ⊥
+stays_within before place owed within (inl changed) = changed refl
+stays_within before place owed within (inr past) = omega (arith, within, past)
+
 -- a reading that is answered by the bytes held
 held_reading : (before : Stream) (call : FileCall) (reply : FileReply) (place : ℕ) (owed : Owed) → is_reading call ≡ true → ReadsHeld before → Moved before place owed → IsHeldAnswer before call reply place → Answers before call reply (record before { place = place; owed = owed })
 held_reading before call reply place owed reads held moved is =
@@ -298,12 +310,15 @@ held_reading before call reply place owed reads held moved is =
       far = moved.sound.far;
       within = is.within;
       wants = λ wanting. absurd (fed wanting);
+      goes_on = λ ahead. record { none = moved.bytes ∙ ahead.none; stands = ahead.stands };
+      goes_past = λ _ past. absurd (stays_within before place owed (moved.sound.near held.live).before_end past);
       starves = λ wanting. absurd (fed wanting);
       first = λ wanting. absurd (fed wanting);
       nothing = λ _. idle;
       single = λ _ _ tells. omega arith;
       brings = λ _. came_still before after 1 refl refl;
       in_hand = λ _. idle;
+      owing = λ _. moved.bytes;
       needs = λ _ _. record { enough = λ _ _ _. idle; whole = λ _. each_still before after 0 0 refl refl; needed = λ _. inl refl; last = each_still before after 1 1 refl refl };
       spares = λ _ bare. record { bytes = λ tells. refl; written = λ tells. refl; owed = owes_none before place owed moved bare; still = λ _. refl };
       writes = λ _. held_writes before call reply place owed reads (reading_fills call reply after before.buffer before.can.writable reads is.said is.answers) moved;
@@ -457,12 +472,15 @@ reading_lacks before call reads room held =
       far = held.sound.far;
       within = gives_nothing (size_of before) call fault.NoMemory;
       wants = λ wanting has. absurd (cc (room));
+      goes_on = λ ahead. ahead;
+      goes_past = λ given. absurd (cc);
       starves = λ _ _ _. starves_same before held;
       first = λ _ _ _. (starves_same before held).unmoved held.live;
       nothing = λ _. idle;
       single = λ _ _ tells. omega arith;
       brings = λ _. came_still before before 1 refl refl;
       in_hand = λ _. idle;
+      owing = λ _. refl;
       needs = λ _ _. record { enough = λ _ _ _. idle; whole = λ _. each_still before before 0 0 refl refl; needed = λ _. inl refl; last = each_still before before 1 1 refl refl };
       spares = λ _ bare. record { bytes = λ tells. refl; written = λ tells. refl; owed = bare; still = λ _. refl };
       writes = λ _. held_writes before call reply before.place before.owed reads (nothing_blocked before call fault.NoMemory refl) moved;

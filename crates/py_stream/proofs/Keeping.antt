@@ -1,5 +1,5 @@
 -- A call that gives bytes to a stream that may owe bytes anywhere among those that its buffer holds: the buffer takes them.
-use Rattle.std.proofs.Common.{◌≡◌, ◌≢◌, ℕ, ◌+◌, ◌<◌, ◌≤◌, ◌⊎◌, inl, inr, ⊎_elim, Bool, true, false, IsTrue, List, [], ◌++◌, length, take, Some, None, Err, refl, sym, ap, ◌∙◌, subst, arith}
+use Rattle.std.proofs.Common.{◌≡◌, ◌≢◌, ℕ, ◌+◌, ◌<◌, ◌≤◌, ◌⊎◌, inl, inr, ⊎_elim, Bool, true, false, IsTrue, List, [], ◌++◌, length, take, drop, Some, None, Err, refl, sym, ap, ◌∙◌, subst, arith}
 use Rattle.std.proofs.lemmas.List.{take_all, drop-append-le, length-take-le}
 use Rattle.py_flat.specs.declared.fault.IoFault.{IoFault}
 use Rattle.py_flat.specs.declared.fault.IoFault.TheVariants as fault
@@ -17,7 +17,7 @@ use Rattle.py_raw.specs.RawStream.{Raw, WhereTold, AnswersFor}
 use Rattle.py_raw.proofs.Telling.{tells_still}
 use Rattle.py_stream.specs.Stream.{Stream, size_of, file_of}
 use Rattle.py_stream.specs.Kinds.{is_writing, outlasts, makes_one, says_fault, says_no_memory}
-use Rattle.py_stream.specs.Writing.{OwesUpTo, CoversBoth, OwesBoth, Takes, OwesOld, OwesNoneOfIts, LaysFront, BlocksFull, Writes}
+use Rattle.py_stream.specs.Writing.{OwesUpTo, CoversBoth, OwesTheRest, OwesBoth, Takes, OwesOld, OwesNoneOfIts, LaysFront, IsFull, BlocksFull, Writes}
 use Rattle.py_stream.specs.Answers.{Answers, HasCauses, IsCounted, IsShort, LifeMoves, PlaceMoves, IsReplyTo, refused_by}
 use Rattle.py_stream.specs.Keeping.{IsSound, KeepsOn}
 use Rattle.py_stream.specs.Held.{KeepsBoth}
@@ -31,6 +31,8 @@ use Rattle.py_stream.proofs.Flat.{flat_of, file_now, failed_file}
 use Rattle.py_stream.proofs.PassingOn.{passing_keeps_bytes, passing_file}
 use Rattle.py_stream.proofs.Giving.{IsGiving, is_giving, IsPart, taken_reply, waited_reply, is_taken, is_blocked, is_faulted, no_tell}
 use Rattle.py_stream.proofs.Given.{part_steps, said_short, GoesOn, goes_on_all}
+use Rattle.py_stream.proofs.Coming.{near_seen}
+use Rattle.py_stream.proofs.Owing.{first_left}
 use Rattle.py_stream.proofs.LeftOwed.{covers_rest, left_up_to, left_behind, left_forth, left_old, left_both, left_takes, left_lays}
 
 -- A call of a stream with a buffer.
@@ -97,12 +99,15 @@ answers_left before new call reply short may left =
       moves = record { life_is = left.life_is; place = left.place; far = left.kept.sound.far; within = gives.within (size_of before) reply };
       ends = giving.ends before reply (record new { short = short });
       wants = λ wanting room. left.wants wanting;
+      goes_on = λ reads. absurd (cc (giving.reads));
+      goes_past = λ reads. absurd (cc (giving.reads));
       starves = λ wanting reads. absurd (cc (gives.going_on));
       first = λ wanting first. absurd (cc (gives.first));
       nothing = λ asks. absurd (cc (giving.some before.buffer));
       idle = λ keeps. absurd (cc (giving.calls before.buffer before.can.writable));
       single = λ single. absurd (cc (not_one before call may));
       in_hand = λ has. absurd (giving.unheld before has.of);
+      owing = λ has. absurd (giving.unheld before has.of);
       brings = λ reads. absurd (cc (giving.reads));
       unread = λ _. left.kept.reads;
       needs = λ reads. absurd (cc (gives.several before.buffer));
@@ -113,7 +118,7 @@ answers_left before new call reply short may left =
       complete = λ accepted calm sound. completes before.raw new.raw before.buffer before.can.writable call reply short left.causes left.shorts answers calm sound;
       told = left.told;
       reach = λ reads. absurd (cc (giving.reads));
-      near = λ lives. let near = left.kept.sound.near lives in record { after_first = near.after_first; before_end = near.before_end; fits = near.fits; read_ahead = near.read_ahead; ahead = near.ahead; behind = near.behind; stands = near.stands };
+      near = λ lives. near_seen new short (left.kept.sound.near lives);
       hides = λ shortened reads. absurd (cc (giving.reads));
     }
 
@@ -149,8 +154,20 @@ module _ (before mid after : Stream) (own : List ℕ) (count : ℕ) (fits : coun
       covers_rest before.owed mid.owed passes.passed before.place passes.owed (passes.place rest.0) rest.0 (take count own) after.owed rest.1 covers)
       reach
 
+  -- it begins no earlier than what is left of what was owed, and what was taken
+  kept_rest : (short : Bool) → ReachesRest before mid (take count own) → after.owed.bytes ≢ [] → OwesTheRest before (take count own) (record after { short = short })
+  kept_rest short reach some =
+      let covers : CoversBoth mid.owed before.place (take count own) after.owed = subst (λ (place : ℕ). CoversBoth mid.owed place (take count own) after.owed) passes.still (keeps.covers some) in
+      record {
+        passed = passes.passed;
+        most = passes.within;
+        answered = subst (λ (raw : Raw). AnswersFor passes.passed before.raw raw) (sym keeps.raw) passes.answered;
+        from = first_left (drop passes.passed before.owed.bytes) mid.owed.bytes (before.owed.place + passes.passed) mid.owed.place (take count own) before.place after.owed.place passes.owed passes.place covers.from;
+        covers = kept_covers reach some;
+      }
+
   kept_both : (short : Bool) → ReachesRest before mid (take count own) → OwesBoth before own (record after { short = short })
-  kept_both short reach = record { taken = count; within = fits; place = kept_place; owes = λ some. inl (kept_covers reach some) }
+  kept_both short reach = record { taken = count; within = fits; place = kept_place; owes = λ some. inl (kept_rest short reach some) }
 
   -- told: the flat file has what was taken, at the place
   kept_bytes : WhereTold before.raw (flat_of after ≡ lay (flat_of before) before.place (take count own))
@@ -192,7 +209,7 @@ module _ (before mid after : Stream) (own : List ℕ) (count : ℕ) (fits : coun
 
 -- What answers a call of which the buffer took bytes.
 
-module _ (before mid after : Stream) (call : FileCall) (reply : FileReply) (count : ℕ) (short : Bool) (may : MayKeep before call) (fits : count ≤ length (payload call)) (is : IsPart before count before.buffer call reply short) (goes : LivesOn before mid) (reach : ReachesRest before mid (take count (payload call))) (keeps : KeepsBoth mid (take count (payload call)) after) (full : IsTrue short → length after.owed.bytes ≡ size_of after) (waited : IsTrue short → Rose before.raw.waits mid.raw.waits) where
+module _ (before mid after : Stream) (call : FileCall) (reply : FileReply) (count : ℕ) (short : Bool) (may : MayKeep before call) (fits : count ≤ length (payload call)) (is : IsPart before count before.buffer call reply short) (goes : LivesOn before mid) (reach : ReachesRest before mid (take count (payload call))) (keeps : KeepsBoth mid (take count (payload call)) after) (full : IsTrue short → IsFull after.owed after.place (size_of after) count) (waited : IsTrue short → Rose before.raw.waits mid.raw.waits) where
   kept_writes : Writes before call reply (record after { short = short })
   kept_writes =
       let left : Stream = record after { short = short } in
@@ -261,7 +278,7 @@ pub fits_after_wait : (before mid after : Stream) (call : FileCall) → MayKeep 
 fits_after_wait before mid after call may goes some reach keeps = all_answers before mid after call may goes (inr (λ none. omega (arith, some, ap length none), reach)) keeps
 
 -- the buffer took the first of the bytes, and is full, as the raw would have blocked: the call is refused by how many were taken
-pub fills_after_wait : (before mid after : Stream) (call : FileCall) (taken : ℕ) → MayKeep before call → LivesOn before mid → Rose before.raw.waits mid.raw.waits → 0 < length mid.owed.bytes → mid.owed.place ≤ before.place + taken → taken < length (payload call) → KeepsBoth mid (take taken (payload call)) after → length after.owed.bytes ≡ size_of after → Answers before call (Refused (fault.WouldBlock taken)) (record after { short = true })
+pub fills_after_wait : (before mid after : Stream) (call : FileCall) (taken : ℕ) → MayKeep before call → LivesOn before mid → Rose before.raw.waits mid.raw.waits → 0 < length mid.owed.bytes → mid.owed.place ≤ before.place + taken → taken < length (payload call) → KeepsBoth mid (take taken (payload call)) after → IsFull after.owed after.place (size_of after) taken → Answers before call (Refused (fault.WouldBlock taken)) (record after { short = true })
 fills_after_wait before mid after call taken may goes waited some reach less keeps full =
     let own : List ℕ = payload call in
     let fits : taken ≤ length (payload call) = omega (arith, less) in

@@ -1,5 +1,5 @@
 -- What is left of what was owed, once some of it was passed on, wherever it belongs.
-use Rattle.std.proofs.Common.{◌≡◌, ◌≢◌, ℕ, suc, zero, ◌+◌, ◌-◌, ◌<◌, ◌≤◌, ◌⊎◌, inl, inr, ⊎_elim, min, max, Bool, List, [], ◌∷◌, length, take, drop, refl, sym, ap, ◌∙◌, subst, arith, length-drop, length-take}
+use Rattle.std.proofs.Common.{◌≡◌, ◌≢◌, ℕ, ◌+◌, ◌-◌, ◌<◌, ◌≤◌, ◌⊎◌, inl, inr, ⊎_elim, min, max, Bool, List, [], ◌∷◌, length, take, drop, refl, sym, ap, ◌∙◌, subst, arith, length-drop, length-take}
 use Rattle.std.proofs.Math.Seq.{take-nil, drop-nil}
 use Rattle.std.proofs.lemmas.Bool.{cases_lt}
 use Rattle.std.proofs.lemmas.List.{append-nil, take_all, take_min, drop_all, drop-drop, drop-take}
@@ -7,9 +7,9 @@ use Rattle.py_flat.specs.Bytes.{lay}
 use Rattle.py_flat.specs.Owed.{Owed}
 use Rattle.py_raw.specs.RawStream.{WhereTold}
 use Rattle.py_stream.specs.Stream.{Stream}
-use Rattle.py_stream.specs.Writing.{OwesUpTo, OwesBehind, HasAt, first_of_both, end_of_both, CoversBoth, OwesBoth, Takes, OwesOld, LaysFront}
+use Rattle.py_stream.specs.Writing.{OwesUpTo, OwesBehind, HasAt, first_of_both, end_of_both, CoversBoth, OwesTheRest, OwesBoth, Takes, OwesOld, LaysFront}
 use Rattle.py_stream.specs.Settling.{PassesSome}
-use Rattle.py_stream.proofs.Owing.{has_none, has_past}
+use Rattle.py_stream.proofs.Owing.{has_none, has_past, first_owed}
 use Rattle.py_stream.proofs.PassingOn.{none_owed_at, passing_keeps_bytes}
 
 -- Parts of a list.
@@ -48,19 +48,34 @@ left_end all place passed at =
 
 -- What covers the rest of what was owed.
 
-first_some : (bytes : List ℕ) (start place : ℕ) → bytes ≢ [] → first_of_both bytes start place ≡ min start place
-first_some [] start place some = absurd (some refl)
-first_some (byte ∷ more) start place some = refl
+-- the first of both lies no later than the first of what was owed
+first_within : (was new : List ℕ) (start place : ℕ) → was ≢ [] → first_of_both was start new place ≤ start
+first_within [] new start place some = absurd (some refl)
+first_within (byte ∷ more) [] start place some = omega arith
+first_within (byte ∷ more) (next ∷ rest) start place some = omega arith
+
+-- and no earlier than both
+first_after : (was new : List ℕ) (start place : ℕ) → was ≢ [] → min start place ≤ first_of_both was start new place
+first_after [] new start place some = absurd (some refl)
+first_after (byte ∷ more) [] start place some = omega arith
+first_after (byte ∷ more) (next ∷ rest) start place some = omega arith
+
+-- where a front of what was owed is passed on, the first of both lies no earlier
+first_later : (was rest new : List ℕ) (start passed place : ℕ) → was ≢ [] → rest ≢ [] → first_of_both was start new place ≤ first_of_both rest (start + passed) new place
+first_later [] rest new start passed place some left = absurd (some refl)
+first_later (byte ∷ more) [] new start passed place some left = absurd (left refl)
+first_later (byte ∷ more) (other ∷ others) [] start passed place some left = omega arith
+first_later (byte ∷ more) (other ∷ others) (next ∷ rest) start passed place some left = omega arith
 
 -- where some is left, it ends where all did
-same_end : (was rest : List ℕ) (start passed place count : ℕ) → rest ≡ drop passed was → rest ≢ [] → end_of_both rest (start + passed) place count ≡ end_of_both was start place count
-same_end [] rest start passed place count is some = absurd (some (is ∙ drop-nil passed))
-same_end (byte ∷ more) [] start passed place count is some = absurd (some refl)
-same_end (byte ∷ more) (next ∷ rest) start passed place zero is some = omega (arith, ap length is, length-drop passed (byte ∷ more))
-same_end (byte ∷ more) (next ∷ rest) start passed place (suc count) is some = omega (arith, ap length is, length-drop passed (byte ∷ more))
+same_end : (was rest : List ℕ) (start passed : ℕ) (new : List ℕ) (place : ℕ) → rest ≡ drop passed was → rest ≢ [] → end_of_both rest (start + passed) new place ≡ end_of_both was start new place
+same_end [] rest start passed new place is some = absurd (some (is ∙ drop-nil passed))
+same_end (byte ∷ more) [] start passed new place is some = absurd (some refl)
+same_end (byte ∷ more) (next ∷ rest) start passed [] place is some = omega (arith, ap length is, length-drop passed (byte ∷ more))
+same_end (byte ∷ more) (next ∷ rest) start passed (first ∷ others) place is some = omega (arith, ap length is, length-drop passed (byte ∷ more))
 
 -- what is owed ends where it did after a write of none
-end_kept : (owed : List ℕ) (start place : ℕ) → owed ≢ [] → start + length owed ≡ end_of_both owed start place 0
+end_kept : (owed : List ℕ) (start place : ℕ) → owed ≢ [] → start + length owed ≡ end_of_both owed start [] place
 end_kept [] start place some = absurd (some refl)
 end_kept (byte ∷ more) start place some = refl
 
@@ -69,11 +84,14 @@ was_some : (was rest : List ℕ) (passed : ℕ) → rest ≡ drop passed was →
 was_some was rest passed is some none = some (is ∙ ap (drop passed) none ∙ drop-nil passed)
 
 module _ (was rest : Owed) (passed place : ℕ) (is : rest.bytes ≡ drop passed was.bytes) (at : rest.place ≡ was.place + passed) (some : rest.bytes ≢ []) where
-  first_is : first_of_both was.bytes was.place place ≡ min was.place place
-  first_is = first_some was.bytes was.place place (was_some was.bytes rest.bytes passed is some)
+  some_was : was.bytes ≢ []
+  some_was = was_some was.bytes rest.bytes passed is some
 
-  last_is : (count : ℕ) → end_of_both rest.bytes rest.place place count ≡ end_of_both was.bytes was.place place count
-  last_is count = ap (λ (start : ℕ). end_of_both rest.bytes start place count) at ∙ same_end was.bytes rest.bytes was.place passed place count is some
+  first_is : (new : List ℕ) → first_of_both was.bytes was.place new place ≤ first_of_both rest.bytes rest.place new place
+  first_is new = subst (λ (start : ℕ). first_of_both was.bytes was.place new place ≤ first_of_both rest.bytes start new place) (sym at) (first_later was.bytes rest.bytes new was.place passed place some_was some)
+
+  last_is : (new : List ℕ) → end_of_both rest.bytes rest.place new place ≡ end_of_both was.bytes was.place new place
+  last_is new = ap (λ (start : ℕ). end_of_both rest.bytes start new place) at ∙ same_end was.bytes rest.bytes was.place passed new place is some
 
   -- what is owed from no earlier than the first of what is left and a place on has what was owed up to that place
   has_before : (whole : List ℕ) (begins : ℕ) → min rest.place place ≤ begins → HasAt whole begins (take (place - rest.place) rest.bytes) rest.place → HasAt whole begins (take (place - was.place) was.bytes) was.place
@@ -98,26 +116,22 @@ module _ (was rest : Owed) (passed place : ℕ) (is : rest.bytes ≡ drop passed
   -- what covers what is left of what was owed covers what was owed, where the new bytes reach to what is left
   pub covers_rest : (new : List ℕ) (owed : Owed) → rest.place ≤ place + length new → CoversBoth rest place new owed → CoversBoth was place new owed
   covers_rest new owed reach covers = record {
-    from = omega (arith, first_is, first_some rest.bytes rest.place place some, covers.from, at);
-    to = omega (arith, covers.to, last_is (length new));
-    most = omega (arith, covers.most, last_is (length new));
+    from = omega (arith, first_is new, covers.from);
+    to = covers.to ∙ last_is new;
     new_bytes = covers.new_bytes;
-    old_bytes = has_before owed.bytes owed.place (omega (arith, first_some rest.bytes rest.place place some, covers.from)) covers.old_bytes;
+    old_bytes = has_before owed.bytes owed.place (omega (arith, first_after rest.bytes new rest.place place some, covers.from)) covers.old_bytes;
     behind = has_after owed.bytes owed.place (place + length new) reach covers.behind;
   }
 
   -- what is left of what was owed covers that, and nothing new
   covers_left : CoversBoth was place [] rest
-  covers_left =
-      let last : rest.place + length rest.bytes ≡ end_of_both was.bytes was.place place 0 = end_kept rest.bytes rest.place place some ∙ last_is 0 in
-      record {
-        from = omega (arith, first_is, at);
-        to = subst (λ (end : ℕ). end ≤ rest.place + length rest.bytes) last (omega arith);
-        most = subst (λ (end : ℕ). rest.place + length rest.bytes ≤ max end (place + 0)) last (omega arith);
-        new_bytes = has_none rest.bytes rest.place place;
-        old_bytes = rw (is, at) (left_front was.bytes was.place passed (place - was.place));
-        behind = rw (is, at) (left_end was.bytes was.place passed (place + 0));
-      }
+  covers_left = record {
+    from = omega (arith, first_within was.bytes [] was.place place some_was, at);
+    to = end_kept rest.bytes rest.place place some ∙ last_is [];
+    new_bytes = has_none rest.bytes rest.place place;
+    old_bytes = rw (is, at) (left_front was.bytes was.place passed (place - was.place));
+    behind = rw (is, at) (left_end was.bytes was.place passed (place + 0));
+  }
 
 -- What a passing on of some leaves.
 
@@ -163,12 +177,22 @@ module _ (old new : Stream) (passes : PassesSome old new) where
   }
 
   -- what is left of what was owed covers that, and nothing new
-  pub left_covers : new.owed.bytes ≢ [] → CoversBoth old.owed old.place [] new.owed
+  left_covers : new.owed.bytes ≢ [] → CoversBoth old.owed old.place [] new.owed
   left_covers some = covers_left old.owed new.owed passes.passed old.place passes.owed (passes.place some) some
+
+  -- and begins where it stood
+  left_rest : (short : Bool) → new.owed.bytes ≢ [] → OwesTheRest old [] (record new { short = short })
+  left_rest short some = record {
+    passed = passes.passed;
+    most = passes.within;
+    answered = passes.answered;
+    from = omega (arith, first_owed (drop passes.passed old.owed.bytes) (old.owed.place + passes.passed) [] old.place (λ none. some (passes.owed ∙ none)), passes.place some);
+    covers = left_covers some;
+  }
 
   -- a call that took nothing owes what is owed after a write of none
   pub left_both : (bytes : List ℕ) (short : Bool) → OwesBoth old bytes (record new { short = short })
-  left_both bytes short = record { taken = 0; within = omega arith; place = omega (arith, passes.still); owes = λ some. inl (left_covers some) }
+  left_both bytes short = record { taken = 0; within = omega arith; place = omega (arith, passes.still); owes = λ some. inl (left_rest short some) }
 
   -- a call that took nothing passed on a front of what was owed
   pub left_takes : (bytes : List ℕ) (short : Bool) → OwesUpTo old.owed old.place → Takes old bytes (record new { short = short })

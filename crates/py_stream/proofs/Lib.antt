@@ -38,3 +38,4 @@ pub mod Settled
 pub mod Holding
 pub mod LeftOwed
 pub mod Keeping
+pub mod AskingEnd

@@ -1,11 +1,12 @@
 -- What is owed after a write, wherever it was made.
-use Rattle.std.proofs.Common.{◌≡◌, ◌≢◌, ℕ, ◌+◌, ◌-◌, ◌<◌, ◌≤◌, ◌⊎◌, inl, inr, ⊎_elim, max, List, [], ◌∷◌, ◌++◌, length, take, drop, refl, sym, ap, ◌∙◌, subst, arith, length-append, length-drop, length-take}
+use Rattle.std.proofs.Common.{◌≡◌, ◌≢◌, ℕ, ◌+◌, ◌-◌, ◌<◌, ◌≤◌, ◌⊎◌, inl, inr, ⊎_elim, min, max, List, [], ◌∷◌, ◌++◌, length, take, drop, refl, sym, ap, ◌∙◌, subst, arith, length-append, length-drop, length-take}
 use Rattle.std.proofs.Math.Seq.{take-nil, drop-nil, drop-append-add}
 use Rattle.std.proofs.lemmas.Bool.{cases_lt}
 use Rattle.std.proofs.lemmas.List.{append-nil, take_all, take_min, drop_all, drop-append-le, take_at, length-take-le}
 use Rattle.py_flat.specs.Owed.{Owed}
+use Rattle.py_raw.specs.RawStream.{Raw, AnswersFor}
 use Rattle.py_stream.specs.Stream.{Stream}
-use Rattle.py_stream.specs.Writing.{OwesUpTo, HasAt, first_of_both, end_of_both, Takes, CoversBoth, OwesBoth}
+use Rattle.py_stream.specs.Writing.{OwesUpTo, HasAt, first_of_both, end_of_both, Takes, CoversBoth, OwesTheRest, OwesBoth}
 
 -- Parts of a list.
 
@@ -51,12 +52,12 @@ module _ (old taken : List ℕ) (start place passed at : ℕ) (new : List ℕ) (
   has_old whole = grind (arith, in_old, length-drop, has_front, in_taken, has_past, cases_lt)
 
 -- the place of the first of both
-begins_by : (old : List ℕ) (start place at : ℕ) → (old ≡ []) ⊎ (start + length old ≡ place) → place ≤ at + length old → first_of_both old start place ≤ at
-begins_by old start place at up_to reach = grind arith
+begins_by : (old : List ℕ) (start : ℕ) (taken : List ℕ) (place at : ℕ) → (old ≡ []) ⊎ (start + length old ≡ place) → place ≤ at + length old → first_of_both old start taken place ≤ at
+begins_by old start taken place at up_to reach = grind arith
 
--- the end of what was owed up to the place, and of n bytes taken from there, is n bytes after that place
-ends_by : (old : List ℕ) (start place count : ℕ) → (old ≡ []) ⊎ (start + length old ≡ place) → 0 < length old + count → end_of_both old start place count ≡ place + count
-ends_by old start place count up_to some = grind arith
+-- the end of what was owed up to the place, and of bytes taken from there, is where those end
+ends_by : (old : List ℕ) (start : ℕ) (taken : List ℕ) (place : ℕ) → (old ≡ []) ⊎ (start + length old ≡ place) → end_of_both old start taken place ≡ place + length taken
+ends_by old start taken place up_to = grind arith
 
 -- what was owed up to the place
 up_to_place : (old : List ℕ) (start place : ℕ) → (old ≡ []) ⊎ (start + length old ≡ place) → take (place - start) old ≡ old
@@ -78,6 +79,22 @@ ends_at : (owed : Owed) (place : ℕ) → owed.bytes ≢ [] → OwesUpTo owed pl
 ends_at owed place some (inl none) = absurd (some none)
 ends_at owed place some (inr ends) = ends
 
+-- the first of both lies no later than where what is owed begins
+pub first_owed : (bytes : List ℕ) (start : ℕ) (taken : List ℕ) (place : ℕ) → bytes ≢ [] → first_of_both bytes start taken place ≤ start
+first_owed [] start taken place some = absurd (some refl)
+first_owed (byte ∷ more) start [] place some = omega arith
+first_owed (byte ∷ more) start (new ∷ others) place some = omega arith
+
+-- of what was owed up to a place what is left begins where it stood
+begins_left : (old : List ℕ) (start : ℕ) (taken : List ℕ) (place passed at : ℕ) → (old ≡ []) ⊎ (start + length old ≡ place) → passed < length old → place ≡ at + length (drop passed old) → first_of_both (drop passed old) (start + passed) taken place ≤ at
+begins_left old start taken place passed at (inl none) early ends = absurd (omega (arith, early, ap length none))
+begins_left old start taken place passed at (inr whole) early ends = omega (arith, first_owed (drop passed old) (start + passed) taken place (λ none. omega (arith, early, length-drop passed old, ap length none)), whole, ends, length-drop passed old, early)
+
+-- what is left of what was owed, by its bytes and where some begin, tells the first of both
+pub first_left : (bytes rest : List ℕ) (start there : ℕ) (new : List ℕ) (place at : ℕ) → rest ≡ bytes → (rest ≢ [] → there ≡ start) → first_of_both rest there new place ≤ at → first_of_both bytes start new place ≤ at
+first_left bytes [] start there new place at is same least = subst (λ (left : List ℕ). first_of_both left start new place ≤ at) is least
+first_left bytes (byte ∷ more) start there new place at is same least = subst (λ (left : List ℕ). first_of_both left start new place ≤ at) is (subst (λ (begins : ℕ). first_of_both (byte ∷ more) begins new place ≤ at) (same (λ none. absurd (cc))) least)
+
 -- a write that was made where what was owed ended
 pub owes_both : (before : Stream) (bytes : List ℕ) (after : Stream) → OwesUpTo before.owed before.place → Takes before bytes after → OwesBoth before bytes after
 owes_both before bytes after up_to takes =
@@ -91,21 +108,46 @@ owes_both before bytes after up_to takes =
       taken = takes.taken;
       within = takes.within;
       place = takes.place;
-      owes = λ some. let last : after.owed.place + length after.owed.bytes ≡ end_of_both old start before.place (length taken) = ends some ∙ sym (ends_by old start before.place (length taken) up_to (omega (arith, counts_some after.owed.bytes some, left, as_many))) in inl (record {
-        from = begins_by old start before.place after.owed.place up_to (omega (arith, ends some, left));
-        to = omega (arith, last);
-        most = omega (arith, last);
-        new_bytes = has_new old taken start before.place takes.passed after.owed.place after.owed.bytes up_to takes.owed (ends some) (counts_some after.owed.bytes some);
-        old_bytes = rw (up_to_place old start before.place up_to) (old_at old taken start before.place takes.passed after.owed.place after.owed.bytes up_to takes.owed (ends some) (counts_some after.owed.bytes some));
-        behind = rw (none_behind old start before.place (length taken) up_to) (has_none after.owed.bytes after.owed.place (max start (before.place + length taken)));
-      });
+      owes = λ some. let last : after.owed.place + length after.owed.bytes ≡ end_of_both old start taken before.place = ends some ∙ sym (ends_by old start taken before.place up_to) in
+          ⊎_elim
+          (λ (early : takes.passed < length old).
+          let here = in_old old taken start before.place takes.passed after.owed.place after.owed.bytes up_to takes.owed (ends some) (counts_some after.owed.bytes some) (omega (arith, early)) in
+          inl (record {
+            passed = takes.passed;
+            most = omega (arith, early);
+            answered = takes.answered;
+            from = begins_left old start taken before.place takes.passed after.owed.place up_to early here.1;
+            covers = record {
+              from = begins_by old start taken before.place after.owed.place up_to (omega (arith, ends some, left));
+              to = last;
+              new_bytes = has_new old taken start before.place takes.passed after.owed.place after.owed.bytes up_to takes.owed (ends some) (counts_some after.owed.bytes some);
+              old_bytes = rw (up_to_place old start before.place up_to) (old_at old taken start before.place takes.passed after.owed.place after.owed.bytes up_to takes.owed (ends some) (counts_some after.owed.bytes some));
+              behind = rw (none_behind old start before.place (length taken) up_to) (has_none after.owed.bytes after.owed.place (max start (before.place + length taken)));
+            };
+          }))
+          (λ (late : length old ≤ takes.passed).
+          let here = in_taken old taken start before.place takes.passed after.owed.place after.owed.bytes up_to takes.owed (ends some) (counts_some after.owed.bytes some) late in
+          let parts : takes.passed ≡ length old + (takes.passed - length old) = omega (arith, late) in
+          inr (record {
+            passed = takes.passed - length old;
+            most = omega (arith, takes.most, as_many);
+            answered = subst (λ (count : ℕ). AnswersFor count before.raw after.raw) parts takes.answered;
+            bytes = here.0;
+            place = here.1;
+          }))
+          (cases_lt takes.passed (length old));
     }
 
 -- A call that took nothing, and left what was owed.
 
-first_owed : (bytes : List ℕ) (start place : ℕ) → bytes ≢ [] → first_of_both bytes start place ≤ start
-first_owed [] start place some = absurd (some refl)
-first_owed (byte ∷ more) start place some = omega arith
+-- what was owed stays the first, and the last, of itself and nothing new
+first_alone : (bytes : List ℕ) (start place : ℕ) → bytes ≢ [] → first_of_both bytes start [] place ≡ start
+first_alone [] start place some = absurd (some refl)
+first_alone (byte ∷ more) start place some = refl
+
+last_owed : (bytes : List ℕ) (start place : ℕ) → bytes ≢ [] → end_of_both bytes start [] place ≡ start + length bytes
+last_owed [] start place some = absurd (some refl)
+last_owed (byte ∷ more) start place some = refl
 
 -- a part that stands in a list
 has_part : (whole : List ℕ) (begins : ℕ) (part : List ℕ) (place : ℕ) → begins ≤ place → take (length part) (drop (place - begins) whole) ≡ part → HasAt whole begins part place
@@ -115,9 +157,20 @@ front_of_all : (count : ℕ) (whole : List ℕ) → take (length (take count who
 front_of_all count whole = ap (λ (n : ℕ). take n whole) (length-take count whole) ∙ take_min count whole
 
 -- what was owed, and is owed still, covers itself and nothing new
-covers_old : (was : Owed) (place : ℕ) → was.bytes ≢ [] → CoversBoth was place [] was
-covers_old was place some = grind (arith, first_owed, has_none, has_part, front_of_all, take_all)
+pub covers_old : (was : Owed) (place : ℕ) → was.bytes ≢ [] → CoversBoth was place [] was
+covers_old was place some = grind (arith, first_alone, last_owed, has_none, has_part, front_of_all, take_all)
 
 -- a call that took nothing, and left what was owed, owes what is owed after a write of none
-pub owes_as_before : (before after : Stream) (bytes : List ℕ) → after.place ≡ before.place → after.owed ≡ before.owed → OwesBoth before bytes after
-owes_as_before before after bytes place same = record { taken = 0; within = omega arith; place = omega (arith, place); owes = λ some. inl (subst (CoversBoth before.owed before.place []) (sym same) (covers_old before.owed before.place (λ none. some (ap (λ (owed : Owed). owed.bytes) same ∙ none)))) }
+pub owes_as_before : (before after : Stream) (bytes : List ℕ) → after.raw ≡ before.raw → after.place ≡ before.place → after.owed ≡ before.owed → OwesBoth before bytes after
+owes_as_before before after bytes raw place same = record {
+  taken = 0;
+  within = omega arith;
+  place = omega (arith, place);
+  owes = λ some. let was : before.owed.bytes ≢ [] = λ none. some (ap (λ (owed : Owed). owed.bytes) same ∙ none) in inl (record {
+    passed = 0;
+    most = omega arith;
+    answered = subst (λ (now : Raw). AnswersFor 0 before.raw now) (sym raw) (λ _. refl);
+    from = omega (arith, first_owed (drop 0 before.owed.bytes) (before.owed.place + 0) [] before.place was, ap (λ (owed : Owed). owed.place) same);
+    covers = subst (CoversBoth before.owed before.place []) (sym same) (covers_old before.owed before.place was);
+  });
+}

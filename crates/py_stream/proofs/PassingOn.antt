@@ -8,6 +8,7 @@ use Rattle.py_flat.specs.declared.fault.IoFault.TheVariants as fault
 use Rattle.py_flat.specs.declared.life.Life.{Life}
 use Rattle.py_flat.specs.declared.life.Life.TheVariants as life
 use Rattle.py_flat.specs.Bytes.{lay}
+use Rattle.py_flat.specs.Owed.{Owed}
 use Rattle.py_flat.specs.Causes.{Rose}
 use Rattle.py_flat.specs.Calls.{FileCall, Refused, FileReply}
 use Rattle.py_flat.specs.FlatFile.{FlatFile}
@@ -23,7 +24,7 @@ use Rattle.py_stream.specs.Keeping.{IsSound, KeepsOn}
 use Rattle.py_stream.specs.Writing.{OwesBehind, NoneAtPlace, PassesFront, LaysFront, Writes}
 use Rattle.py_stream.specs.Answers.{moves_back, parts_at_close, Answers, KeepsStream, ClosedWith, InHand, IsShort, LifeMoves, PlaceMoves, IsReplyTo, IsCounted}
 use Rattle.py_stream.specs.Taking.{Took, FailsTaking}
-use Rattle.py_stream.specs.Settling.{PassesSome, PassesJust, LivesOn, SettleOutcome}
+use Rattle.py_stream.specs.Settling.{PassesSome, PassesJust, LivesOn, FailsBack, SettleOutcome}
 use Rattle.py_stream.proofs.Refused.{nothing_passed, nothing_blocked}
 use Rattle.py_stream.proofs.Stopping.{says_short, needs_no_end, waits_alive, waits_there, waits_with_none, waits_answer, fails_there, fault_answers, starves_alive, starves_there, starve_answers}
 use Rattle.py_stream.proofs.Taking.{keeps_then, answers_then, calm_of, waited_then, waits_once_then, faulted_then}
@@ -225,7 +226,7 @@ pub record FaultLeaves (call : FileCall) (left : Life) : Type 0 where
   pub step : (file after : FlatFile) → Fails file left file.bytes after → FaultedBy file call after
 
 -- the raw failed
-pub failing_answers : (old failed : Stream) (call : FileCall) (left : Life) → Asked old call → Beside old call (Refused fault.RawFault) (record failed { life = left }) → FaultLeaves call left → PassesSome old failed → Rose old.raw.faults failed.raw.faults → NoWait old.raw failed.raw → (parts_at_close old call (Refused fault.RawFault) ≡ false → failed.owed.bytes ≡ [] → is_closed left ≡ false) → Answers old call (Refused fault.RawFault) (record failed { life = left })
+pub failing_answers : (old failed : Stream) (call : FileCall) (left : Life) → Asked old call → Beside old call (Refused fault.RawFault) (record failed { life = left }) → FaultLeaves call left → PassesSome old failed → Rose old.raw.faults failed.raw.faults → NoWait old.raw failed.raw → (parts_at_close old call (Refused fault.RawFault) (record failed { life = left }) ≡ false → failed.owed.bytes ≡ [] → is_closed left ≡ false) → Answers old call (Refused fault.RawFault) (record failed { life = left })
 failing_answers old failed call left asked beside leaves passes cause no_wait alive =
     let new : Stream = record failed { life = left } in
     let reply : FileReply = Refused fault.RawFault in
@@ -281,7 +282,19 @@ pub record LeavesOwed (old mid : Stream) : Type 0 where
 
 -- some was passed on after nothing was
 passes_then : (old mid new : Stream) → LeavesOwed old mid → PassesSome mid new → PassesSome old new
-passes_then old mid new left passes = grind arith
+passes_then old mid new left passes = record {
+  kept = keeps_then old mid new left.kept passes.kept;
+  passed = passes.passed;
+  within = subst (λ (owed : Owed). passes.passed ≤ length owed.bytes) left.owed passes.within;
+  answered = subst (λ (count : ℕ). AnswersFor count old.raw new.raw) (let same : 0 + passes.passed ≡ passes.passed = omega arith in same) (answers_then old.raw mid.raw new.raw 0 passes.passed left.kept.raw left.answered passes.answered);
+  place = λ some. passes.place some ∙ ap (λ (owed : Owed). owed.place + passes.passed) left.owed;
+  owed = passes.owed ∙ ap (λ (owed : Owed). drop passes.passed owed.bytes) left.owed;
+  still = passes.still ∙ left.place;
+  at = λ none. passes.at (λ nothing. ap (λ (owed : Owed). owed.place) left.owed ∙ none (sym (ap (λ (owed : Owed). owed.bytes) left.owed) ∙ nothing) ∙ sym left.place);
+  stands = λ behind. passes.stands (left.behind behind);
+  lays = grind arith;
+  told = grind arith;
+}
 
 lives_then : (old mid new : Stream) → LeavesOwed old mid → LivesOn mid new → LivesOn old new
 lives_then old mid new left goes = record { passes = passes_then old mid new left goes.passes; live = goes.live; no_fault = no_fault_then old.raw mid.raw new.raw left.kept.raw left.counts.no_fault goes.no_fault }
@@ -290,10 +303,14 @@ lives_then old mid new left goes = record { passes = passes_then old mid new lef
 pub moves_still : (old mid : Stream) → KeepsOn old mid → moves_back mid ≡ true → moves_back old ≡ true
 moves_still old mid kept moves = grind arith
 
+-- so where that failed, it did so from before the step
+pub fails_back : (old mid new : Stream) → KeepsOn old mid → FailsBack mid new → FailsBack old new
+fails_back old mid new kept back = record { moves = moves_still old mid kept back.moves; elsewhere = back.elsewhere }
+
 -- all was passed on after such a step
 pub settles_then : (old mid new : Stream) (result : Result (Unit {0}) IoFault) → LeavesOwed old mid → SettleOutcome mid result new → SettleOutcome old result new
 settles_then old mid new (Ok done) left passed = (lives_then old mid new left passed.0, no_wait_then old.raw mid.raw new.raw left.kept.raw left.counts.no_wait passed.1, passed.2)
 settles_then old mid new (Err (fault.WouldBlock taken)) left waits = grind (arith, lives_then, waited_then, waits_once_then)
-settles_then old mid new (Err fault.RawFault) left fails = (passes_then old mid new left fails.0, fails.1, faulted_then old.raw mid.raw new.raw left.kept.raw fails.2, no_wait_then old.raw mid.raw new.raw left.kept.raw left.counts.no_wait fails.3, λ none. moves_still old mid left.kept (fails.4 none))
+settles_then old mid new (Err fault.RawFault) left fails = (passes_then old mid new left fails.0, fails.1, faulted_then old.raw mid.raw new.raw left.kept.raw fails.2, no_wait_then old.raw mid.raw new.raw left.kept.raw left.counts.no_wait fails.3, λ none. fails_back old mid new left.kept (fails.4 none))
 settles_then old mid new (Err fault.NoMemory) left lacks = (sym left.kept.raw.takes_memory ∙ lacks.0, lives_then old mid new left lacks.1, no_wait_then old.raw mid.raw new.raw left.kept.raw left.counts.no_wait lacks.2)
 settles_then old mid new (Err why) left never = absurd never

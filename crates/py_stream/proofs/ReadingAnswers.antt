@@ -1,16 +1,17 @@
 -- What an accepted reading answers, however it came out.
-use Rattle.std.proofs.Common.{◌≡◌, Bool, true, false, ◌&&◌, IsTrue, None, IsSome, Err, ap, ◌∙◌, subst, arith, rules}
+use Rattle.std.proofs.Common.{◌≡◌, Bool, true, false, ◌&&◌, IsTrue, None, IsSome, Err, sym, ap, ◌∙◌, subst, arith, rules}
 use Rattle.py_flat.specs.declared.fault.IoFault.{IoFault}
 use Rattle.py_flat.specs.declared.life.Life.TheVariants as life
 use Rattle.py_flat.specs.Calls.{FileCall, FileReply, Refused}
 use Rattle.py_flat.specs.Refusals.{refusal, lacks, is_buffered}
 use Rattle.py_flat.specs.ExactStep.{is_closed}
 use Rattle.py_flat.specs.BinaryStep.{BinaryStep, does_work}
+use Rattle.py_flat.specs.Owed.{Owed}
 use Rattle.py_raw.specs.RawStream.{WhereTold}
 use Rattle.py_stream.specs.Stream.{Stream, size_of, buffering_of, file_of, nothing_owed}
 use Rattle.py_stream.specs.Kinds.{is_reading, reads_on, makes_one, has_room, asks_none, says_fault, says_no_memory, by_several}
 use Rattle.py_stream.specs.Writing.{Writes}
-use Rattle.py_stream.specs.Answers.{Answers, CameByReads, IsReplyTo, IsShort, LifeMoves, PlaceMoves, GivesWithin, WantsMemory, Starves, HasCauses, IsCounted, StarvesFirst, InHandOf, AsksNoMore, refused_by}
+use Rattle.py_stream.specs.Answers.{Answers, CameByReads, IsReplyTo, IsShort, LifeMoves, PlaceMoves, GivesWithin, WantsMemory, Starves, HasCauses, IsCounted, StarvesFirst, IsAhead, InHandOf, AsksNoMore, refused_by}
 use Rattle.py_stream.specs.Reading.{KeepsReading, OneTransfer, Reaches}
 use Rattle.py_stream.proofs.Begun.{answers_whole}
 use Rattle.py_stream.proofs.Completing.{completes}
@@ -18,18 +19,18 @@ use Rattle.py_stream.proofs.Refusing.{IsPlaced, refused_alone}
 use Rattle.py_stream.specs.Moving.{Begins}
 use Rattle.py_stream.proofs.Alone.{begins_in_vain}
 use Rattle.py_stream.proofs.ReadingCalls.{IsReadingCall, reading_call}
-use Rattle.py_stream.proofs.Coming.{came_seen}
-use Rattle.py_stream.proofs.ReadingSteps.{near_seen}
+use Rattle.py_stream.proofs.Coming.{near_seen, came_seen}
 
 -- How a reading begins.
 
--- what is known of a live stream with which a reading begins: it reads, and owes nothing
+-- what is known of a live stream with which a reading begins: it reads, owes nothing, and its raw stands after the bytes held
 pub record Reads (before : Stream) : Type 0 where
   pub live : before.life ≡ life.Live
   pub whole : before.short ≡ false
   pub readable : before.can.readable ≡ true
   pub bare : before.owed ≡ nothing_owed before.place
   pub placed : IsPlaced before
+  pub ahead : before.raw_place ≡ before.held.to
 
 -- no reading that the stream has the abilities for is refused
 pub accepted : (before : Stream) (call : FileCall) → is_reading call ≡ true → lacks (file_of before) call ≡ false → before.life ≡ life.Live → refusal (file_of before) call ≡ None
@@ -92,4 +93,6 @@ answers_coming before mid call reply short reads has begun comes =
     let unrefused : refused_by before call ≡ None = refused_alone before call (is.unended (file_of before)) ∙ accepted before call reads has begun.live in
     let after : Stream = record mid { short = short } in
     let kept : KeepsReading before mid = comes.kept in
+    let goes_on : IsAhead after = record { none = ap (λ (owed : Owed). owed.bytes) kept.owed; stands = λ _. kept.ahead } in
+    let owing : mid.owed.bytes ≡ before.owed.bytes = ap (λ (owed : Owed). owed.bytes) kept.owed ∙ sym (ap (λ (owed : Owed). owed.bytes) begun.bare) in
     search (rules, passes_nothing, completes, near_seen, came_seen)

@@ -163,7 +163,7 @@ module _ (old : Stream) (was : Bool) (count : ℕ) (buffer : List ℕ) (moved : 
   reads_starved on =
       let left : was ≡ false → (0 < count) × (old.raw_place < now.raw_place) × WherePlace old.raw (old.raw.place < now.raw.place) = λ none. ⊎_elim (λ same. absurd (true≢false (sym on ∙ same.0 ∙ none))) (λ forth. (forth.1, forth.2, forth.3)) reads.stepped in
       record {
-        kept = keeps_then old now (record now { life = life.Failed }) reads.kept (keeps_failed now reads.kept.owed (record { far = reads.kept.far; near = reads.kept.near }));
+        kept = keeps_then old now (record now { life = life.Failed }) reads.kept (keeps_failed now reads.kept.owed reads.kept.ahead (record { far = reads.kept.far; near = reads.kept.near }));
         counts = reads.counts;
         failed = refl;
         forth = reads.from;

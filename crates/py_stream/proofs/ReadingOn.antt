@@ -194,7 +194,7 @@ gathers_size before after call size part stops.End wants fits full less outcome 
     ) (idle_size before after call size wants idle)
 gathers_size before after call size part stops.Waits wants fits full less outcome idle =
     gathers_ok (wanted_by call) before stops.Waits part after outcome (
-      (search (rules, take_all, comes_front, take-take)),
+      (let alone : wanted_by call part ≡ part = wants part ∙ take_all size part fits in search (rules, take_all, comes_front, take-take)),
       open_size call size part wants (less (λ same. cc)),
     ) (idle_size before after call size wants idle)
 

@@ -10,7 +10,6 @@ use Rattle.py_flat.specs.BinaryStep.{Fails}
 use Rattle.py_raw.specs.RawStream.{Raw, tells, WhereTold, NoWait, WaitsOnce, LeavesCounts}
 use Rattle.py_raw.proofs.ReadingOn.{no_fault_then}
 use Rattle.py_stream.specs.Stream.{Stream, file_of, nothing_owed}
-use Rattle.py_stream.specs.Answers.{IsNear}
 use Rattle.py_stream.specs.Reading.{KeepsReading, ComesNext, Reaches, Gives}
 use Rattle.py_stream.proofs.Refusing.{IsPlaced}
 
@@ -42,17 +41,13 @@ within_end bytes part place count next long = omega (arith, length-take count (l
 
 -- Steps.
 
--- where a stream's raw stands doesn't hang on whether its last answer was short
-pub near_seen : (stream : Stream) (short : Bool) → IsNear stream → IsNear (record stream { short = short })
-near_seen stream short near = record { after_first = near.after_first; before_end = near.before_end; fits = near.fits; read_ahead = near.read_ahead; ahead = near.ahead; behind = near.behind; stands = near.stands }
-
 -- two steps, one after the other
 pub keeps_then : (before mid after : Stream) → KeepsReading before mid → KeepsReading mid after → KeepsReading before after
 keeps_then before mid after first second = grind arith
 
 -- a stream that failed
-pub keeps_failed : (stream : Stream) → stream.owed ≡ nothing_owed stream.place → IsPlaced stream → KeepsReading stream (record stream { life = life.Failed })
-keeps_failed stream bare is = grind arith
+pub keeps_failed : (stream : Stream) → stream.owed ≡ nothing_owed stream.place → stream.raw_place ≡ stream.held.to → IsPlaced stream → KeepsReading stream (record stream { life = life.Failed })
+keeps_failed stream bare ahead is = grind arith
 
 -- a wait after steps that counted none is the only one
 pub waits_once_then : (before mid after : Stream) → KeepsReading before mid → NoWait before.raw mid.raw → WaitsOnce mid.raw after.raw → WaitsOnce before.raw after.raw

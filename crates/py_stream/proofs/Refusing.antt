@@ -1,5 +1,5 @@
 -- What a stream refuses by itself, whatever the call: nothing but the reply tells that the call came.
-use Rattle.std.proofs.Common.{◌≡◌, ℕ, ◌≤◌, Bool, true, false, Option, Some, None, if◌then◌else◌, refl, sym, ap, ◌∙◌, subst, arith, rules, IsTrue}
+use Rattle.std.proofs.Common.{◌≡◌, ℕ, ◌≤◌, inl, Bool, true, false, Option, Some, None, if◌then◌else◌, refl, sym, ap, ◌∙◌, subst, arith, rules, IsTrue}
 use Rattle.py_flat.specs.declared.fault.IoFault.{IoFault}
 use Rattle.py_flat.specs.declared.fault.IoFault.TheVariants as fault
 use Rattle.py_flat.specs.declared.life.Life.{Life}
@@ -10,14 +10,14 @@ use Rattle.py_flat.specs.Refusals.{refusal, is_getter, is_other_getter, lets_thr
 use Rattle.py_flat.specs.Limits.{greatest_place}
 use Rattle.py_flat.specs.BinaryStep.{asks_end, is_live, SettledBy, BinaryStep}
 use Rattle.py_flat.specs.AllowedStep.{settled}
-use Rattle.py_stream.specs.Stream.{Stream, buffering_of, file_of}
-use Rattle.py_stream.specs.Kinds.{says_fault, says_no_memory}
+use Rattle.py_stream.specs.Stream.{Stream, size_of, buffering_of, file_of}
+use Rattle.py_stream.specs.Kinds.{says_fault, says_no_memory, says_given}
 use Rattle.py_stream.specs.Keeping.{IsSound}
 use Rattle.py_stream.specs.Writing.{Writes}
 use Rattle.py_stream.specs.Answers.{Answers, LifeMoves, PlaceMoves, IsShort, IsNear, SeeksByEnd, GivesWithin, closes_again, refused_by, IsIdle, Leaves}
 use Rattle.py_raw.proofs.Telling.{keeps_same}
 use Rattle.py_stream.proofs.Refused.{is_own, leaves_all}
-use Rattle.py_stream.proofs.Coming.{came_still, each_still}
+use Rattle.py_stream.proofs.Coming.{near_seen, ahead_seen, came_still, each_still}
 use Rattle.py_stream.proofs.Begun.{writes_whole}
 use Rattle.py_raw.specs.RawStream.{WhereTold}
 
@@ -64,9 +64,42 @@ refused_with before after call why is refuses alone own first same =
     let idle : IsIdle before (Refused why) left = record { raw = refl; fault = no_fault why own; memory = no_want why own } in
     let refused : (other : IoFault) → refused_by before call ≡ Some other → Leaves before (Refused other) (Refused why) left = λ other refused. record { says = let same_why : Some why ≡ Some other = sym by ∙ refused in cc; same = refl } in
     let fed : IsTrue (says_no_memory (Refused why)) → ⊥ = λ wanting. absurd (cc (idle.memory)) in
+    let ungiven : IsTrue (says_given (Refused why)) → ⊥ = λ given. absurd (cc) in
     let passes : refused_by before call ≡ None → ⊥ = λ accepted. absurd (let wrong : Some why ≡ None = sym by ∙ accepted in cc) in
     let told : WhereTold before.raw (BinaryStep (file_of before) call (Refused why) false (says_fault (Refused why)) (file_of left)) = λ tells. settled (subst (λ (refused : Option IoFault). SettledBy (file_of before) call refused (Refused why) (file_of left)) (sym refuses) (refl, refl)) in
-    let answers : Answers before call (Refused why) left = search (rules, keeps_same, never_short, life_stays, place_stays, gives_nothing, no_end, came_still, each_still, writes_whole, fed, passes) in
+    let answers : Answers before call (Refused why) left = record {
+      keeps = record { buffer = refl; can = refl; raw = keeps_same before.raw; bare = λ _ none. none };
+      refused = refused;
+      again = λ closes. absurd (cc (first));
+      shut = λ _ none closed. closed;
+      causes = record { waits = λ short. absurd (cc); faults = λ faulted. absurd (cc (idle.fault)) };
+      counted = λ exact. record { faults = λ sound. refl; waits = λ short goes. refl; once = λ short. absurd (cc) };
+      shorts = never_short call why own;
+      moves = record { life_is = life_stays before.buffer call why before.life own; place = place_stays before.buffer call why before.life before.place own; far = is.far; within = gives_nothing (size_of before) call why };
+      ends = no_end before call (Refused why) left alone;
+      wants = λ wanting. absurd (fed wanting);
+      goes_on = λ _ ahead. ahead_seen before false ahead;
+      goes_past = λ _ given. absurd (ungiven given);
+      starves = λ wanting. absurd (fed wanting);
+      first = λ wanting. absurd (fed wanting);
+      nothing = λ _. record { raw = refl; fault = idle.fault };
+      idle = λ _. idle;
+      single = λ _ _ tells. omega arith;
+      in_hand = λ _. record { raw = refl; fault = idle.fault };
+      owing = λ _. refl;
+      brings = λ _ _. came_still before left 1 refl refl;
+      unread = λ _ tells. refl;
+      needs = λ _ _. record { enough = λ _ _ _. record { raw = refl; fault = idle.fault }; whole = λ _. each_still before left 0 0 refl refl; needed = λ _. inl refl; last = each_still before left 1 1 refl refl };
+      spares = λ _ none. record { bytes = λ tells. refl; written = λ tells. refl; owed = none; still = λ _. refl };
+      writes = λ _. writes_whole before left call (Refused why) writes;
+      answer = λ accepted. absurd (passes accepted);
+      at_once = λ _ _ accepted. absurd (passes accepted);
+      complete = λ accepted. absurd (passes accepted);
+      told = told;
+      reach = λ _ tells. omega arith;
+      near = λ lives. near_seen before false (is.near lives);
+      hides = λ short. absurd (cc);
+    } in
     subst (λ (now : Stream). Answers before call (Refused why) now) (sym same) answers
 
 -- By the life.

@@ -6,16 +6,16 @@ use Rattle.py_flat.specs.declared.fault.IoFault.{IoFault}
 use Rattle.py_flat.specs.declared.life.Life.TheVariants as life
 use Rattle.py_flat.specs.Bytes.{lay}
 use Rattle.py_flat.specs.Calls.{FileCall, FileReply}
-use Rattle.py_flat.specs.FlatFile.{FlatFile}
+use Rattle.py_flat.specs.FlatFile.{Abilities, FlatFile}
 use Rattle.py_flat.specs.Owed.{Owed}
 use Rattle.py_flat.specs.BinaryStep.{BinaryStep, payload}
 use Rattle.py_raw.specs.RawStream.{Keeps, KeepsReads, WhereTold, WhereTransfers, AnswersFor}
 use Rattle.py_raw.proofs.Telling.{tells_still}
 use Rattle.py_raw.proofs.ReadingOn.{Keeps-then}
 use Rattle.py_stream.specs.Stream.{Stream, file_of, nothing_owed}
-use Rattle.py_stream.specs.Kinds.{is_reading, is_writing, reads_on, takes_space_first, makes_one, asks_none, by_several, calls_none, says_fault, says_no_memory}
+use Rattle.py_stream.specs.Kinds.{is_reading, is_writing, reads_on, takes_space_first, makes_one, asks_none, by_several, calls_none, says_fault, says_no_memory, says_given}
 use Rattle.py_stream.specs.Writing.{OwesUpTo, OwesBehind, Takes, PassesFront, OwesBoth, LaysFront, LaysInOrder, OwesOld, OwesNoneOfIts, TookOwn, Writes}
-use Rattle.py_stream.specs.Answers.{Answers, HasCauses, IsAhead, InHand, AsksNoMore, AtMostOne, CameByReads, Starves, StarvesFirst, SeeksByEnd, refused_by, closes_again, parts_at_close}
+use Rattle.py_stream.specs.Answers.{Answers, HasCauses, IsAhead, GoesPast, InHand, AsksNoMore, AtMostOne, CameByReads, Starves, StarvesFirst, SeeksByEnd, refused_by, closes_again, parts_at_close}
 use Rattle.py_stream.specs.Settling.{PassesSome, LivesOn, SettleOutcome}
 use Rattle.py_stream.proofs.Taking.{waited_then, faulted_then, answers_then, answers_still}
 use Rattle.py_stream.proofs.Flat.{flat_of, owed_before_all}
@@ -36,8 +36,8 @@ pub record SettledFor (before : Stream) (call : FileCall) (mid : Stream) : Type 
   pub settled_by : SettleOutcome before (Ok tt) mid
 
 -- a reading, for which all that was owed was passed on, as the bytes held don't answer it: some was owed, or the raw didn't stand after
--- them. Where nothing was owed, no transfer was made for that; the call asks for some byte; and where memory ran out for the space that
--- it takes first, the raw takes some
+-- them. Where nothing was owed, no transfer was made for that; the call asks for some byte; where memory ran out for the space that
+-- it takes first, the raw takes some; and it goes on from the bytes held then
 pub record SettledReading (before : Stream) (call : FileCall) (reply : FileReply) (mid : Stream) : Type 0 where
   pub settled : SettledFor before call mid
   pub apart : IsAhead before → ⊥
@@ -45,6 +45,7 @@ pub record SettledReading (before : Stream) (call : FileCall) (reply : FileReply
   pub asks : asks_none before.buffer call ≡ false
   pub takes : IsTrue (says_no_memory reply) → IsTrue (takes_space_first call) → IsTrue before.raw.takes_memory
   pub calm : before.owed.bytes ≡ [] → WhereTransfers before.raw (mid.raw.transfers ≤ before.raw.transfers)
+  pub ahead : IsAhead mid
 
 -- a call that writes, for which all that was owed was passed on: nothing is owed any more, and the raw stands at the place
 pub record SettledWriting (before : Stream) (call : FileCall) (mid : Stream) : Type 0 where
@@ -83,7 +84,7 @@ all_answered before mid passes none = subst (λ (count : ℕ). AnswersFor count 
 -- what is alike of all calls that give or take bytes
 pub record MovesBytes (call : FileCall) : Type 0 where
   pub closes : (stream : Stream) → closes_again stream call ≡ false
-  pub parts : (stream : Stream) (reply : FileReply) → parts_at_close stream call reply ≡ false
+  pub parts : (before : Stream) (reply : FileReply) (after : Stream) → parts_at_close before call reply after ≡ false
   pub calls : (buffer : Option ℕ) (writes : Bool) → calls_none buffer writes call ≡ false
   pub ends : (before : Stream) (reply : FileReply) (after : Stream) → SeeksByEnd before call reply after
   pub accepts : (before mid : Stream) → refused_by before call ≡ None → refused_by (settled_as before mid) call ≡ None
@@ -104,6 +105,8 @@ takes_by_several buffer call some writing = grind arith
 
 -- what an answer after a passing on has to say of the bytes that were held, of memory and of transfers, and of what is owed
 pub record AfterSettling (before : Stream) (call : FileCall) (reply : FileReply) (after : Stream) : Type 0 where
+  pub goes_on : IsTrue (is_reading call) → IsAhead before → IsAhead after
+  pub goes_past : IsTrue (is_reading call) → IsTrue (says_given reply) → GoesPast before after → IsAhead after
   pub starves : IsTrue (says_no_memory reply) → IsTrue (reads_on call) → IsAhead before → Starves before after
   pub first : StarvesFirst before call reply after
   pub nothing : asks_none before.buffer call ≡ false
@@ -131,19 +134,22 @@ then_answers before mid after call reply moves settled answers own =
       keeps = record { buffer = answers.keeps.buffer; can = answers.keeps.can; raw = Keeps-then before.raw mid.raw after.raw kept answers.keeps.raw; bare = λ bare _. answers.keeps.bare bare (passes.kept.sound.bare (passes.kept.buffer ∙ bare) ∙ ap nothing_owed passes.still) };
       refused = λ why refuses. absurd (not_refused before call why settled.accepted refuses);
       again = λ closes. absurd (cc (is.closes before));
-      shut = λ _ none closed. answers.shut (is.parts (settled_as before mid) reply) none (passes.kept.stays ∙ closed);
+      shut = λ _ none closed. answers.shut (is.parts (settled_as before mid) reply after) none (passes.kept.stays ∙ closed);
       causes = causes;
       counted = λ exact. let counts = answers.counted (kept.counts_exactly ∙ exact) in record { faults = λ none. counts.faults none ∙ goes.no_fault exact; waits = λ whole ends. counts.waits whole ends ∙ settled.settled_by.1 exact; once = λ short ends. cc (counts.once short ends, settled.settled_by.1 exact) };
       shorts = answers.shorts;
       moves = record { life_is = answers.moves.life_is; place = answers.moves.place; far = answers.moves.far; within = answers.moves.within };
       ends = is.ends before reply after;
       wants = λ wanting room. sym kept.takes_memory ∙ answers.wants wanting room;
+      goes_on = own.goes_on;
+      goes_past = own.goes_past;
       starves = own.starves;
       first = own.first;
       nothing = λ asks. absurd (cc (own.nothing));
       idle = λ keeps. absurd (cc (is.calls before.buffer before.can.writable));
       single = own.single;
       in_hand = λ has. absurd (own.in_hand has);
+      owing = λ has. absurd (own.in_hand has);
       brings = own.brings;
       unread = own.unread;
       needs = own.needs;
@@ -209,9 +215,15 @@ reading_writes before mid after call reply reads settled writes =
       rests = λ dead. absurd (dead settled.live);
     }
 
+-- a stream that goes on from the bytes held does so as it is seen from the first
+ahead_settled : (before mid : Stream) (call : FileCall) → SettledFor before call mid → IsAhead mid → IsAhead (settled_as before mid)
+ahead_settled before mid call settled ahead = record { none = ahead.none; stands = λ can. ahead.stands (ap (λ (able : Abilities). able.writable) settled.settled_by.0.passes.kept.can ∙ can) }
+
 -- what the answer of a reading after a passing on has of its own
 reading_own : (before mid after : Stream) (call : FileCall) (reply : FileReply) → is_reading call ≡ true → SettledReading before call reply mid → Answers (settled_as before mid) call reply after → AfterSettling before call reply after
-reading_own before mid after call reply reads is answers = search (rules, reading_writes)
+reading_own before mid after call reply reads is answers =
+    let ahead : IsAhead after = answers.goes_on reads (ahead_settled before mid call is.settled is.ahead) in
+    search (rules, reading_writes)
 
 -- an answer of a reading, after all that was owed was passed on
 pub settled_reads : (before mid after : Stream) (call : FileCall) (reply : FileReply) → is_reading call ≡ true → SettledReading before call reply mid → Answers mid call reply after → Answers before call reply after

@@ -43,7 +43,7 @@ pub record Shows (before : Stream) (call : FileCall) (reply : FileReply) (after 
   pub keeps : KeepsStream before after
   pub passes : refused_by before call ≡ None
   pub again : closes_again before call ≡ true → Leaves before Done reply after
-  pub shut : parts_at_close before call reply ≡ false → after.owed.bytes ≡ [] → ClosedWith before.life before.raw → ClosedWith after.life after.raw
+  pub shut : parts_at_close before call reply after ≡ false → after.owed.bytes ≡ [] → ClosedWith before.life before.raw → ClosedWith after.life after.raw
   pub causes : HasCauses before.raw reply after.raw after.short
   pub counted : IsTrue before.raw.counts_exactly → IsCounted before.buffer before.raw call reply after.raw after.short
   pub shorts : IsShort call reply after.short
@@ -55,6 +55,7 @@ pub record Shows (before : Stream) (call : FileCall) (reply : FileReply) (after 
   pub idle : IsTrue (calls_none before.buffer before.can.writable call) → IsIdle before reply after
   pub reads : KeepsReads before.raw after.raw
   pub in_hand : InHand before call → AsksNothing before reply after
+  pub owing : InHand before call → after.owed.bytes ≡ before.owed.bytes
   pub spares : before.can.writable ≡ false → before.owed ≡ nothing_owed before.place → SparesBytes before call after
   pub writes : before.can.writable ≡ true → Writes before call reply after
   pub at_once : before.life ≡ life.Failed → call ≡ Detach → (bytes : List ℕ) × (place : Option ℕ) × (reply ≡ Unwritten bytes place)
@@ -108,11 +109,12 @@ pub record Accepts (old : Stream) (call : FileCall) : Type 0 where
 -- what an answer says of a stream that reads, or that doesn't write
 pub record Beside (old : Stream) (call : FileCall) (reply : FileReply) (new : Stream) : Type 0 where
   pub in_hand : InHand old call → AsksNothing old reply new
+  pub owing : InHand old call → new.owed.bytes ≡ old.owed.bytes
   pub spares : old.can.writable ≡ false → old.owed ≡ nothing_owed old.place → SparesBytes old call new
 
 -- an answer has nothing more to say of a stream that writes, where the bytes held don't answer the call
 pub beside_writing : (old : Stream) (call : FileCall) (reply : FileReply) (new : Stream) → old.can.writable ≡ true → (InHand old call → ⊥) → Beside old call reply new
-beside_writing old call reply new can apart = record { in_hand = λ has. absurd (apart has); spares = λ reads. absurd (cc (can)) }
+beside_writing old call reply new can apart = record { in_hand = λ has. absurd (apart has); owing = λ has. absurd (apart has); spares = λ reads. absurd (cc (can)) }
 
 -- a live stream with a buffer that writes
 pub record IsWriting (old : Stream) : Type 0 where

@@ -1,6 +1,7 @@
 -- The answers of `flush` and `close` of a stream with a buffer that writes.
 use Rattle.py_stream.specs.Keeping.{IsSound, KeepsOn}
-use Rattle.std.proofs.Common.{◌≡◌, ℕ, ◌≤◌, IsTrue, Bool, true, false, [], Option, Result, Ok, Err, IfOk, refl, sym, ap, ◌∙◌, subst, arith, zero-le, rules}
+use Rattle.std.proofs.Common.{◌≡◌, ℕ, ◌≤◌, IsTrue, Bool, true, false, [], Option, Result, Ok, Err, IfOk, ne_eqb, refl, sym, ap, ◌∙◌, subst, arith, zero-le, rules}
+use Rattle.std.proofs.lemmas.Bool.Decides.{eqb_tells}
 use Rattle.py_flat.specs.declared.fault.IoFault.{IoFault}
 use Rattle.py_flat.specs.declared.fault.IoFault.TheVariants as fault
 use Rattle.py_flat.specs.declared.life.Life.{Life}
@@ -10,18 +11,18 @@ use Rattle.py_flat.specs.Owed.{Owed}
 use Rattle.py_flat.specs.Limits.{greatest_place}
 use Rattle.py_flat.specs.Calls.{Flush, Close, FileReply, Done, Refused}
 use Rattle.py_flat.specs.FlatFile.{FlatFile}
-use Rattle.py_flat.specs.ExactStep.{in_life}
+use Rattle.py_flat.specs.ExactStep.{in_life, is_closed}
 use Rattle.py_flat.specs.AllowedStep.{settled}
 use Rattle.py_flat.specs.BinaryStep.{BinaryStep, SettledBy}
 use Rattle.py_raw.specs.RawStream.{WhereTold, NoWait, KeepsReads}
 use Rattle.py_raw.proofs.Telling.{tells_its_bytes}
 use Rattle.py_raw.proofs.ReadingOn.{Keeps-then, no_fault_then, no_wait_then}
-use Rattle.py_stream.specs.Stream.{Stream, file_of, nothing_owed}
+use Rattle.py_stream.specs.Stream.{Stream, file_of, nothing_owed, nothing_held}
 use Rattle.py_stream.specs.Kinds.{says_fault, says_no_memory}
 use Rattle.py_stream.specs.Replies.{done_reply}
 use Rattle.py_stream.specs.Writing.{NoneAtPlace, PassesFront, LaysFront, PassedOn, PassesOn, BlocksFull, Writes}
-use Rattle.py_stream.specs.Answers.{Answers, KeepsStream, HasCauses, IsCounted, IsShort, LifeMoves, PlaceMoves, IsReplyTo, SparesBytes}
-use Rattle.py_stream.specs.Settling.{PassesSome, LivesOn, SettleOutcome}
+use Rattle.py_stream.specs.Answers.{Answers, KeepsStream, HasCauses, IsCounted, IsShort, LifeMoves, PlaceMoves, IsReplyTo, SparesBytes, parts_at_close}
+use Rattle.py_stream.specs.Settling.{PassesSome, LivesOn, FailsBack, SettleOutcome}
 use Rattle.py_stream.specs.Ending.{ClosingOutcome, ClosesRaw, CloseRawOutcome}
 use Rattle.py_stream.proofs.Begun.{answers_whole}
 use Rattle.py_stream.specs.Moving.{Begins}
@@ -29,17 +30,22 @@ use Rattle.py_stream.proofs.Stopping.{fails_there}
 use Rattle.py_stream.proofs.Taking.{answers_still}
 use Rattle.py_stream.proofs.Flat.{flat_of}
 use Rattle.py_stream.proofs.Showing.{Asked, beside_writing, shows_answers, passing_writes, IsWriting, flush_asked, close_asked}
-use Rattle.py_stream.proofs.PassingOn.{begun, FaultLeaves, passed_all, passing_front, passing_keeps, passing_file, stays_open, failing_answers, lacks_refuse, waits_refuse, settling_refuses, lacking_answers}
+use Rattle.py_stream.proofs.PassingOn.{begun, FaultLeaves, none_owed_at, passed_all, passing_front, passing_keeps, passing_file, stays_open, failing_answers, lacks_refuse, waits_refuse, settling_refuses, lacking_answers}
 
 -- Flushing.
+
+-- the raw stands at the place, and nothing is held
+pub record RestsHere (stream : Stream) : Type 0 where
+  pub stands : stream.raw_place ≡ stream.place
+  pub held : stream.held ≡ nothing_held stream.place
 
 -- a fault of the raw fails a stream that flushes
 pub fault_fails_flush : FaultLeaves Flush life.Failed
 fault_fails_flush = record { dead = refl; life_is = λ buffer current. refl; step = λ file after fails. (0, zero-le, fails) }
 
--- a `flush` that passed all on, with the raw at the place
-flushed : (old new : Stream) → IsWriting old → SettleOutcome old (Ok tt) new → new.raw_place ≡ new.place → Answers old Flush Done new
-flushed old new is passed stands =
+-- a `flush` that passed all on, with the raw at the place, and nothing held
+flushed : (old new : Stream) → IsWriting old → SettleOutcome old (Ok tt) new → RestsHere new → Answers old Flush Done new
+flushed old new is passed rests =
     let asked : Asked old Flush = (flush_asked old is).asked in
     let goes : LivesOn old new = passed.0 in
     let passes : PassesSome old new = goes.passes in
@@ -50,7 +56,7 @@ flushed old new is passed stands =
       leaves = passing_front old new new.life new.short passes;
       stands = λ behind some. passes.stands behind;
       lays = passes.lays;
-      passes = (record { none = passed.2; holds = passed_all old new passes passed.2 }, stands);
+      passes = (record { none = passed.2; holds = passed_all old new passes passed.2 }, rests.stands, rests.held);
       full = tt;
       settles = passes.at;
       unclosed = λ some. passes.kept.stays;
@@ -59,14 +65,14 @@ flushed old new is passed stands =
     let told : WhereTold old.raw (BinaryStep (file_of old) Flush Done new.short false (file_of new)) = λ tells. settled (subst (λ (refused : Option IoFault). SettledBy (file_of old) Flush refused Done (file_of new)) (sym asked.passes) (ap (λ (file : FlatFile). (Done, file)) (passing_file old new passes same tells))) in
     shows_answers old Flush Done new asked.none (search (rules, passing_keeps, stays_open))
 
-flush_ends : (old new : Stream) (result : Result (Unit {0}) IoFault) → IsWriting old → SettleOutcome old result new → IfOk result (λ done. new.raw_place ≡ new.place) → Answers old Flush (done_reply result) new
-flush_ends old new (Ok done) is passed stands = flushed old new is passed stands
+flush_ends : (old new : Stream) (result : Result (Unit {0}) IoFault) → IsWriting old → SettleOutcome old result new → IfOk result (λ done. RestsHere new) → Answers old Flush (done_reply result) new
+flush_ends old new (Ok done) is passed rests = flushed old new is passed rests
 flush_ends old new (Err why) is stops none = settling_refuses old new Flush is.size why (flush_asked old is) is.buffered is.writes (λ has. has.of) fault_fails_flush stops
 
--- a `flush` is answered by the passing on of all, after which the raw stands at the place
-pub flush_passes_on : (old started new : Stream) (result : Result (Unit {0}) IoFault) → IsWriting (begun old) → Begins old (Ok tt) started → SettleOutcome started result new → IfOk result (λ done. new.raw_place ≡ new.place) → Answers old Flush (done_reply result) new
-flush_passes_on old started new result is begins passed stands =
-    answers_whole old new Flush (done_reply result) (flush_ends (begun old) new result is (subst (λ (stream : Stream). SettleOutcome stream result new) begins.1 passed) stands)
+-- a `flush` is answered by the passing on of all, after which the raw stands at the place, and nothing is held
+pub flush_passes_on : (old started new : Stream) (result : Result (Unit {0}) IoFault) → IsWriting (begun old) → Begins old (Ok tt) started → SettleOutcome started result new → IfOk result (λ done. RestsHere new) → Answers old Flush (done_reply result) new
+flush_passes_on old started new result is begins passed rests =
+    answers_whole old new Flush (done_reply result) (flush_ends (begun old) new result is (subst (λ (stream : Stream). SettleOutcome stream result new) begins.1 passed) rests)
 
 -- Closing.
 
@@ -74,12 +80,16 @@ flush_passes_on old started new result is begins passed stands =
 pub fault_closes : FaultLeaves Close life.Closed
 fault_closes = record { dead = refl; life_is = λ buffer current. refl; step = λ file after fails. fails }
 
+-- where the raw failed to move back, it doesn't stand at the place, and didn't stand where what was owed up to the place began
+parts_there : (old failed : Stream) → PassesSome old failed → FailsBack old failed → failed.owed.bytes ≡ [] → parts_at_close old Close (Refused fault.RawFault) (record failed { life = life.Closed }) ≡ true
+parts_there old failed passes back none = grind (arith, eqb_tells, ne_eqb, none_owed_at)
+
 -- what stops the passing on refuses a `close`
 closing_refuses : (old new : Stream) (why : IoFault) → IsWriting old → ClosingOutcome old (Err why) new → Answers old Close (Refused why) new
 closing_refuses old new (fault.WouldBlock taken) is waits = waits_refuse old new Close is.size taken (close_asked old is.sound is.live is.whole) is.buffered is.writes (λ has. has.of) waits
 closing_refuses old new fault.RawFault is fails =
     subst (λ (after : Stream). Answers old Close (Refused fault.RawFault) after) (sym fails.2)
-    (failing_answers old fails.0 Close life.Closed (close_asked old is.sound is.live is.whole).asked (beside_writing old Close (Refused fault.RawFault) (record fails.0 { life = life.Closed }) is.writes (λ has. has.of)) fault_closes fails.1.0 fails.1.2 fails.1.3 (λ parts none. absurd (cc (parts, fails.1.4 none))))
+    (failing_answers old fails.0 Close life.Closed (close_asked old is.sound is.live is.whole).asked (beside_writing old Close (Refused fault.RawFault) (record fails.0 { life = life.Closed }) is.writes (λ has. has.of)) fault_closes fails.1.0 fails.1.2 fails.1.3 (λ parts none. absurd (cc (parts, parts_there old fails.0 fails.1.0 (fails.1.4 none) none))))
 closing_refuses old new fault.NoMemory is lacks = lacks_refuse old new Close (close_asked old is.sound is.live is.whole).asked is.writes (λ has. has.of) lacks
 closing_refuses old new why is never = absurd never
 
@@ -153,7 +163,41 @@ fault_shuts : IsShutting (Refused fault.RawFault)
 fault_shuts = record { shorts = λ short whole. whole; life_is = λ buffer current. refl; place = λ buffer current place. fails_there buffer Close current place; no_want = refl; passes = λ before after passed. tt; full = λ after. tt; answer = λ buffer writes. tt }
 
 shut_answers : (old new : Stream) (reply : FileReply) → Asked old Close → IsShutting reply → ShutsDown old new → ClosesWith old new reply → Answers old Close reply new
-shut_answers old new reply asked shutting shuts closes = grind (arith, shows_answers, passing_writes)
+shut_answers old new reply asked shutting shuts closes =
+    let writes : Writes old Close reply new = passing_writes old Close reply new asked.none (record {
+      leaves = shuts.leaves;
+      stands = λ _ some. absurd (some shuts.none);
+      lays = shuts.lays;
+      passes = shutting.passes old new (record { none = shuts.none; holds = shuts.holds });
+      full = shutting.full new;
+      settles = λ none _. shuts.at none;
+      unclosed = λ some. absurd (some shuts.none);
+      rests = λ dead. absurd (dead asked.live);
+    }) in
+    shows_answers old Close reply new asked.none (record {
+      keeps = shuts.keeps;
+      passes = asked.passes;
+      again = λ closes_twice. absurd (cc (asked.again));
+      shut = λ _ _ _. shuts.closed ∙ sym (ap is_closed shuts.life_is);
+      causes = closes.causes;
+      counted = closes.counted;
+      shorts = shutting.shorts new.short shuts.short;
+      life_is = subst (LifeMoves old.buffer Close reply old.life) (sym shuts.life_is) (shutting.life_is old.buffer old.life);
+      place = subst (PlaceMoves old.buffer Close reply new.life old.place) (sym shuts.place) (shutting.place old.buffer new.life old.place);
+      far = shuts.far;
+      ends = tt;
+      wants = λ wanting. absurd (cc (shutting.no_want));
+      idle = λ idle. absurd (cc (asked.busy));
+      reads = shuts.reads;
+      in_hand = λ has. absurd has.of;
+      owing = λ has. absurd has.of;
+      spares = λ reads _. shuts.spares reads;
+      writes = λ _. writes;
+      at_once = λ failed is. absurd (cc);
+      answer = shutting.answer old.buffer old.can.writable;
+      told = closes.told;
+      near = λ lives. absurd (cc (shuts.life_is));
+    })
 
 closes_raw : (old mid new : Stream) (result : Result (Unit {0}) IoFault) → ReadyToClose old mid → CloseRawOutcome mid result new → Answers old Close (done_reply result) new
 closes_raw old mid new (Ok done) ready closes =
@@ -166,7 +210,7 @@ closes_raw old mid new (Err fault.RawFault) ready closes =
     shut_answers old new (Refused fault.RawFault) asked fault_shuts shuts (grind (arith, shut_bytes))
 closes_raw old mid new (Err fault.NoMemory) ready wants =
     subst (λ (after : Stream). Answers old Close (Refused fault.NoMemory) after) (sym wants.1)
-    (lacking_answers old mid Close ready.asked (record { in_hand = λ has. absurd has.of; spares = λ reads _. ready.spares reads }) (sym ready.goes.passes.kept.raw.takes_memory ∙ wants.0) ready.goes ready.no_wait)
+    (lacking_answers old mid Close ready.asked (record { in_hand = λ has. absurd has.of; owing = λ has. absurd has.of; spares = λ reads _. ready.spares reads }) (sym ready.goes.passes.kept.raw.takes_memory ∙ wants.0) ready.goes ready.no_wait)
 closes_raw old mid new (Err why) ready never = absurd never
 
 -- As the steps of `close` come.

@@ -258,6 +258,7 @@ size_fails old mid new size within asks fails =
       idle = λ idle. absurd (cc (asked.busy));
       reads = keeps.reads;
       in_hand = λ has. absurd has.of;
+      owing = λ has. absurd has.of;
       spares = λ reads. absurd (cc (may.writes));
       writes = λ _. failing_writes old mid new size asks (lays_or_cuts old mid new (size_asked old size) asks fails);
       at_once = λ failed is. absurd (cc);

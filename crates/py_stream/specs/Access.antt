@@ -1,5 +1,5 @@
 -- What a stream is opened for, and what it can do then.
-use Rattle.std.specs.Prelude.{Bool, true, false, ◌&&◌}
+use Rattle.std.specs.Prelude.{ℕ, Bool, true, false, ◌&&◌, Option, Some, None}
 use Rattle.py_flat.specs.FlatFile.{Abilities}
 use Rattle.py_raw.specs.RawStream.{Raw}
 use Rattle.py_stream.specs.declared.access.Access.{Access}
@@ -25,9 +25,11 @@ is_appended other = false
 abbrev pub can_of : Access → Bool → Abilities
 can_of opened seekable = record { readable = is_read opened; writable = is_written opened; seekable = seekable; appending = is_appended opened }
 
--- whether a raw is able to do what the stream over it is opened for
-abbrev pub is_able : Access → Raw → Bool
-is_able access.Read raw = raw.readable
-is_able access.Write raw = raw.writable
-is_able access.Append raw = raw.writable
-is_able access.Update raw = raw.readable && raw.writable
+-- whether a raw is able to do what the stream over it is opened for, with a buffer of this size or none: one that is read and written
+-- through a buffer moves its raw
+abbrev pub is_able : Access → Option ℕ → Raw → Bool
+is_able access.Read buffer raw = raw.readable
+is_able access.Write buffer raw = raw.writable
+is_able access.Append buffer raw = raw.writable
+is_able access.Update None raw = raw.readable && raw.writable
+is_able access.Update (Some size) raw = raw.readable && raw.writable && raw.seekable

@@ -1,5 +1,5 @@
 -- The one clause of all calls of a binary stream: what a call may answer and leave, over any raw.
-use Rattle.std.specs.Prelude.{◌≡◌, ◌≢◌, ℕ, ◌+◌, ◌-◌, ◌<◌, ◌≤◌, ◌⊎◌, ℤ, pos, suc, zero, Bool, true, false, ◌&&◌, not, IsTrue, List, [], ◌++◌, length, max, Option, Some, None, IsSome, is_some, unwrap_or, if◌then◌else◌}
+use Rattle.std.specs.Prelude.{◌≡◌, ◌≢◌, ℕ, ◌+◌, ◌-◌, ◌<◌, ◌≤◌, ◌⊎◌, ℤ, pos, suc, zero, Bool, true, false, ◌&&◌, not, nat_eq, IsTrue, List, [], ◌++◌, length, max, Option, Some, None, IsSome, is_some, unwrap_or, if◌then◌else◌}
 use Rattle.py_flat.specs.declared.fault.IoFault.{IoFault}
 use Rattle.py_flat.specs.declared.fault.IoFault.TheVariants as fault
 use Rattle.py_flat.specs.declared.life.Life.{Life}
@@ -14,7 +14,7 @@ use Rattle.py_flat.specs.ExactStep.{is_closed}
 use Rattle.py_flat.specs.BinaryStep.{asks_end, BinaryStep}
 use Rattle.py_raw.specs.RawStream.{Raw, Keeps, WhereTold, WhereBytes, WherePlace, WhereTransfers, KeepsBytes, AnswersFor, KeepsReads, ReadsInAll}
 use Rattle.py_stream.specs.Stream.{Span, Stream, size_of, buffering_of, file_of, nothing_owed}
-use Rattle.py_stream.specs.Kinds.{profile, is_reading, moves_raw, reads_on, by_several, has_room, takes_space_first, calls_none, says_wait, says_fault, says_no_memory}
+use Rattle.py_stream.specs.Kinds.{profile, is_reading, moves_raw, reads_on, by_several, has_room, takes_space_first, calls_none, says_wait, says_fault, says_no_memory, says_given}
 use Rattle.py_stream.specs.Writing.{Writes}
 
 -- What every call keeps.
@@ -36,10 +36,15 @@ pub record Leaves (before : Stream) (expected reply : FileReply) (after : Stream
 abbrev pub moves_back : Stream → Bool
 moves_back stream = is_some stream.buffer && (stream.can.readable && stream.can.writable)
 
--- a stream that has to move its raw back does so before it closes it: where that fails, it is closed, and its raw isn't asked to close
-abbrev pub parts_at_close : Stream → FileCall → FileReply → Bool
-parts_at_close stream Close (Refused fault.RawFault) = moves_back stream
-parts_at_close stream call reply = false
+-- what a stream owes lies right before its place, and its raw stands where that begins: with nothing owed, at the place
+abbrev pub stands_behind : Stream → Bool
+stands_behind stream = nat_eq (stream.owed.place + length stream.owed.bytes) stream.place && nat_eq stream.raw_place stream.owed.place
+
+-- a close moves the raw of such a stream back to the place once all is passed on, unless it stood where what was owed up to the place
+-- began: where that moving fails, the raw stands elsewhere, the stream is closed, and its raw isn't asked to close
+abbrev pub parts_at_close : Stream → FileCall → FileReply → Stream → Bool
+parts_at_close before Close (Refused fault.RawFault) after = moves_back before && (not (stands_behind before) && not (nat_eq after.raw_place after.place))
+parts_at_close before call reply after = false
 
 -- a raw is closed where its stream is, and only there
 abbrev pub ClosedWith : Life → Raw → Type 0
@@ -248,6 +253,10 @@ pub record IsAhead (stream : Stream) : Type 0 where
   pub none : stream.owed.bytes ≡ []
   pub stands : stream.can.writable ≡ true → stream.raw_place ≡ stream.held.to
 
+-- a reading went past the bytes held: its raw isn't as it was, or its answer ends behind them
+abbrev pub GoesPast : Stream → Stream → Type 0
+GoesPast before after = (after.raw ≢ before.raw) ⊎ (before.held.to < after.place)
+
 -- running out of memory leaves a reading that goes on as it was, the raw too, or fails it, and that only where bytes left the raw in this
 -- call
 pub record Starves (before after : Stream) : Type 0 where
@@ -344,11 +353,14 @@ pub record AsksNoMore (before : Stream) (call : FileCall) (reply : FileReply) (a
 -- The raw's place and bytes, where the raw tells them.
 
 -- a live stream's place and its raw's differ by at most the size of the buffer, which the bytes held fit; the place is among these, or
--- right after them, and of a stream that doesn't write they end where its raw stands; the raw stands where the stream counts
+-- right after them, and so is all that is owed; of a stream that doesn't write they end where its raw stands; the raw stands where the
+-- stream counts
 pub record IsNear (stream : Stream) : Type 0 where
   pub after_first : stream.held.from ≤ stream.place
   pub before_end : stream.place ≤ stream.held.to
   pub fits : stream.held.to ≤ stream.held.from + size_of stream
+  pub owed_after_first : stream.held.from ≤ stream.owed.place
+  pub owed_before_end : stream.owed.place + length stream.owed.bytes ≤ stream.held.to
   pub read_ahead : stream.can.writable ≡ false → stream.held.to ≡ stream.raw_place
   pub ahead : stream.raw_place ≤ stream.place + size_of stream
   pub behind : stream.place ≤ stream.raw_place + size_of stream
@@ -371,7 +383,7 @@ pub record AnswersWith (room : FileCall → Bool) (before : Stream) (call : File
   -- a close of a closed stream is done, and leaves all as it was
   pub again : closes_again before call ≡ true → Leaves before Done reply after
   -- the raw is closed exactly where the stream is, once nothing is owed, but where it failed to move back
-  pub shut : parts_at_close before call reply ≡ false → after.owed.bytes ≡ [] → ClosedWith before.life before.raw → ClosedWith after.life after.raw
+  pub shut : parts_at_close before call reply after ≡ false → after.owed.bytes ≡ [] → ClosedWith before.life before.raw → ClosedWith after.life after.raw
   -- a short answer comes only where the raw's waits rose in this call, RawFault only where its faults did
   pub causes : HasCauses before.raw reply after.raw after.short
   -- no fault and no wait of a raw that counts exactly goes unanswered
@@ -384,6 +396,10 @@ pub record AnswersWith (room : FileCall → Bool) (before : Stream) (call : File
   pub ends : SeeksByEnd before call reply after
   -- a call that has its room wants memory only where its raw takes some
   pub wants : WantsMemory (room call) reply before.raw
+  -- a reading that goes on from the bytes held leaves a stream so that another does
+  pub goes_on : IsTrue (is_reading call) → IsAhead before → IsAhead after
+  -- so does one that gave bytes and went past those that were held
+  pub goes_past : IsTrue (is_reading call) → IsTrue (says_given reply) → GoesPast before after → IsAhead after
   -- running out of memory leaves a reading that goes on from the bytes held as it was, or fails it once bytes left the raw
   pub starves : IsTrue (says_no_memory reply) → IsTrue (reads_on call) → IsAhead before → Starves before after
   -- a call that takes its space first leaves all as it was where there is none
@@ -400,6 +416,8 @@ pub record AnswersWith (room : FileCall → Bool) (before : Stream) (call : File
   pub unread : is_reading call ≡ false → KeepsReads before.raw after.raw
   -- what the bytes held answer by themselves asks the raw for nothing
   pub in_hand : InHand before call → AsksNothing before reply after
+  -- and passes nothing on
+  pub owing : InHand before call → after.owed.bytes ≡ before.owed.bytes
   -- a reading that goes on from the bytes held asks for no more than it answers with
   pub needs : IsTrue (by_several before.buffer call) → IsAhead before → AsksNoMore before call reply after
   -- a stream that doesn't write leaves the raw's bytes, and owes nothing; only its readings and seeks move the raw

@@ -17,7 +17,7 @@ use Rattle.py_flat.specs.BinaryStep.{asks_end, payload, BinaryStep}
 use Rattle.py_raw.specs.RawStream.{tells}
 use Rattle.py_stream.specs.Stream.{Stream, buffering_of, nothing_owed}
 use Rattle.py_stream.specs.Kinds.{is_reading, has_room, outlasts, says_fault, says_no_memory}
-use Rattle.py_stream.specs.Writing.{OwesUpTo, OwesRest, LaysFrontOf}
+use Rattle.py_stream.specs.Writing.{OwesUpTo, OwesRest, LaysFrontOf, IsFull}
 use Rattle.py_stream.specs.Answers.{IsAnswerTo, IsReplyTo, IsShort, LifeMoves, PlaceMoves, Within, UnlessStopped}
 
 -- What a buffered stream shows: whether it tells its content; told, the raw's bytes; where the raw stands, as the stream counts; its
@@ -215,7 +215,7 @@ BufferLays before own after = LaysFrontOf before.raw_bytes before.owed before.pl
 
 -- a write that the raw's waiting cut short has filled the buffer
 abbrev pub BufferBlocksFull : FileCall → FileReply → Buffer → Type 0
-BufferBlocksFull (Write bytes) (Refused (fault.WouldBlock taken)) after = Some (length after.owed.bytes) ≡ size_shown after.buffering
+BufferBlocksFull (Write bytes) (Refused (fault.WouldBlock taken)) after = (size : ℕ) × (size_shown after.buffering ≡ Some size) × IsFull after.owed after.place size taken
 BufferBlocksFull call reply after = Unit {0}
 
 -- a write takes a front of its bytes, whatever it answers
@@ -291,9 +291,11 @@ pub record TellsPlace (before : Buffer) (result : Result ℕ IoFault) (after : B
   pub says : SaysPlace (refusal (flat_of before) Tell) before.place result
   pub same : after ≡ record before { short = false }
 
--- the end was asked: all is as it was but for the counts of the raw, which rise by no wait or fault that isn't answered
+-- the end was asked: all is as it was, the raw's bytes where they are told, but for the counts of the raw, which rise by no wait or
+-- fault that isn't answered
 pub record AsksForEnd (before after : Buffer) : Type 0 where
-  pub same : after ≡ record before { short = false; faults = after.faults; waits = after.waits; life = after.life }
+  pub same : after ≡ record before { raw_bytes = after.raw_bytes; short = false; faults = after.faults; waits = after.waits; life = after.life }
+  pub bytes : WhereShown before (after.raw_bytes ≡ before.raw_bytes)
   pub faults : before.faults ≤ after.faults
   pub waits : before.waits ≤ after.waits
   pub no_wait : IsTrue before.counts_exactly → after.waits ≡ before.waits

@@ -17,14 +17,14 @@ pub record GivesHeld (old : Stream) (part : List ℕ) (new : Stream) : Type 0 wh
   pub told : WhereTold old.raw (take (length part) (rest (file_of old)) ≡ part)
 
 -- bytes are taken at the place, over those held there, and the place moves past them: what is owed then covers them and what was owed;
--- told, they are laid on in the flat bytes
+-- told, they are laid on in the flat bytes. Where none are taken, what is owed is what was
 pub record KeepsBoth (old : Stream) (bytes : List ℕ) (new : Stream) : Type 0 where
   pub kept : KeepsOn old new
   pub raw : new.raw ≡ old.raw
   pub life_is : new.life ≡ old.life
   pub place : new.place ≡ old.place + length bytes
   pub raw_place : new.raw_place ≡ old.raw_place
-  pub none : bytes ≡ [] → old.owed.bytes ≡ [] → new.owed ≡ old.owed
+  pub none : bytes ≡ [] → new.owed ≡ old.owed
   pub covers : new.owed.bytes ≢ [] → CoversBoth old.owed old.place bytes new.owed
   pub behind : OwesUpTo old.owed old.place → (new.owed.bytes ≡ old.owed.bytes ++ bytes) × OwesUpTo new.owed new.place
   pub at : NoneAtPlace old → NoneAtPlace new

@@ -1,7 +1,7 @@
 -- What kinds of calls and replies there are.
 use Rattle.std.specs.Prelude.{ℕ, Bool, true, false, ◌&&◌, ◌||◌, not, suc, zero, Option, Some, None, is_some, is_none}
 use Rattle.py_flat.specs.declared.fault.IoFault.TheVariants as fault
-use Rattle.py_flat.specs.Calls.{FileCall, Read, Read1, ReadLine, ReadLines, Peek, ReadInto, ReadInto1, Write, WriteLines, Seek, Tell, Truncate, Flush, Close, Detach, FileReply, NotReady, Refused}
+use Rattle.py_flat.specs.Calls.{FileCall, Read, Read1, ReadLine, ReadLines, Peek, ReadInto, ReadInto1, Write, WriteLines, Seek, Tell, Truncate, Flush, Close, Detach, FileReply, Bytes, Lines, NotReady, Refused}
 
 -- Calls.
 
@@ -148,6 +148,12 @@ says_would_block reply = false
 abbrev pub says_wait : FileReply → Bool
 says_wait NotReady = true
 says_wait reply = says_would_block reply
+
+-- bytes were given
+abbrev pub says_given : FileReply → Bool
+says_given (Bytes part) = true
+says_given (Lines lines) = true
+says_given reply = false
 
 -- the raw failed
 abbrev pub says_fault : FileReply → Bool

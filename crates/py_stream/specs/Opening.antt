@@ -11,7 +11,7 @@ use Rattle.py_raw.specs.declared.raw_error.RawError.{RawError}
 use Rattle.py_raw.specs.declared.raw_error.RawError.TheVariants as raw_error
 use Rattle.py_raw.specs.RawStream.{Raw, Keeps, StaysOpen, WherePlace, WhereTransfers, KeepsBytes, LeavesCounts, AnswersFor, KeepsReads}
 use Rattle.py_stream.specs.declared.new_refused.NewRefused.{NewRefused}
-use Rattle.py_stream.specs.Stream.{Stream, nothing_owed}
+use Rattle.py_stream.specs.Stream.{Stream, nothing_owed, nothing_held}
 
 -- a raw that can't seek stands at place 0, where it tells its place
 abbrev pub StandsAtStart : Raw → Type 0
@@ -42,7 +42,8 @@ tells_start true raw = if raw.seekable then raw.tells_bytes else raw.tells_place
 tells_start false raw = raw.tells_place
 
 -- a new stream, over a raw that is able to do what it needs: the raw was open; nothing was read or written; it begins where
--- the raw stands, one that appends at the end, and at 0 where the raw can't seek; the raw stands there
+-- the raw stands, one that appends at the end, and at 0 where the raw can't seek; the raw stands there, and
+-- nothing is owed or held
 pub record Opens (able : Raw → Bool) (can : Bool → Abilities) (raw : Raw) (buffer : Option ℕ) (stream : Stream) : Type 0 where
   pub was_open : raw.closed ≡ false
   pub is_able : able raw ≡ true
@@ -59,6 +60,7 @@ pub record Opens (able : Raw → Bool) (can : Bool → Abilities) (raw : Raw) (b
   pub buffer_is : stream.buffer ≡ buffer
   pub whole : stream.short ≡ false
   pub owed : stream.owed ≡ nothing_owed stream.place
+  pub held : stream.held ≡ nothing_held stream.place
 
 -- the raw is open, is able, and the size isn't 0
 pub record MayOpen (able : Raw → Bool) (raw : Raw) (buffer : Option ℕ) : Type 0 where
@@ -111,3 +113,8 @@ RefusesRaw able appends raw buffer other back = ⊥
 abbrev pub NewOutcome : {R : Type 0} → (R → Raw) → (Raw → Bool) → (Bool → Abilities) → R → Option ℕ → Result Stream (NewRefused R) → Type 0
 NewOutcome shows able can raw buffer (Ok stream) = Opens able can (shows raw) buffer stream
 NewOutcome shows able can raw buffer (Err refused) = RefusesRaw able (can (shows raw).seekable).appending (shows raw) buffer refused.fault (shows refused.raw)
+
+-- an opening's outcome, with the stream that what was opened is seen as
+abbrev pub opened_as : {V E : Type 0} → (V → Stream) → Result V E → Result Stream E
+opened_as seen (Ok view) = Ok (seen view)
+opened_as seen (Err why) = Err why

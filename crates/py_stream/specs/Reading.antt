@@ -18,8 +18,8 @@ use Rattle.py_stream.specs.Answers.{ahead, IsNear, CameByReads, EachBrings, Last
 
 -- What a reading keeps.
 
--- every step of a reading leaves the raw's bytes, and what stream and raw can do; after it nothing is owed, at the place, and a
--- live stream's raw is near
+-- every step of a reading leaves the raw's bytes, and what stream and raw can do; after it nothing is owed, at the place, a
+-- live stream's raw is near, and the raw stands after the bytes held
 pub record KeepsReading (before after : Stream) : Type 0 where
   pub raw : Keeps before.raw after.raw
   pub stays : StaysOpen before.raw after.raw
@@ -31,6 +31,7 @@ pub record KeepsReading (before after : Stream) : Type 0 where
   pub owed : after.owed ≡ nothing_owed after.place
   pub far : after.place ≤ greatest_place
   pub near : after.life ≡ life.Live → IsNear after
+  pub ahead : after.raw_place ≡ after.held.to
 
 -- What a reading asks of its raw.
 

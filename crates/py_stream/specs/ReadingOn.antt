@@ -20,13 +20,14 @@ use Rattle.py_stream.specs.LiveRaw.{starved}
 use Rattle.py_stream.specs.Answers.{Answers, IsNear, EachBrings, ahead}
 use Rattle.py_stream.specs.Reading.{KeepsReading, Reaches, FailsReading, StopOutcome}
 
--- a stream that may be read: it lives, reads and owes nothing, and its raw stands at its place or near after it
+-- a stream that may be read: it lives, reads and owes nothing, and its raw stands after the bytes held, at its place or near after it
 pub record MayRead (stream : Stream) : Type 0 where
   pub live : stream.life ≡ life.Live
   pub readable : stream.can.readable ≡ true
   pub bare : stream.owed ≡ nothing_owed stream.place
   pub far : stream.place ≤ greatest_place
   pub near : IsNear stream
+  pub ahead : stream.raw_place ≡ stream.held.to
   pub to : stream.place ≤ stream.raw_place
 
 -- a reading begins, and no answer is short yet; or it is refused, and the refusal answers it, whichever reading it is

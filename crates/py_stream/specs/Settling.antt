@@ -46,11 +46,16 @@ pub record LivesOn (old new : Stream) : Type 0 where
   pub live : new.life ≡ life.Live
   pub no_fault : NoFault old.raw new.raw
 
+-- the raw has to be moved back, and failed to: it doesn't stand at the place
+pub record FailsBack (old new : Stream) : Type 0 where
+  pub moves : moves_back old ≡ true
+  pub elsewhere : new.raw_place ≢ new.place
+
 -- all that is owed was passed on, so that nothing is owed; or a wait of the raw is remembered, while some is owed; the raw failed while
 -- some was owed, or when it was to be moved back; or it wanted memory
 abbrev pub SettleOutcome : Stream → Result (Unit {0}) IoFault → Stream → Type 0
 SettleOutcome old (Ok done) new = LivesOn old new × NoWait old.raw new.raw × (new.owed.bytes ≡ [])
 SettleOutcome old (Err (fault.WouldBlock taken)) new = (taken ≡ 0) × LivesOn old (record new { short = old.short }) × (new.short ≡ true) × Rose old.raw.waits new.raw.waits × WaitsOnce old.raw new.raw × (0 < length new.owed.bytes)
-SettleOutcome old (Err fault.RawFault) new = PassesSome old new × (new.life ≡ life.Failed) × Rose old.raw.faults new.raw.faults × NoWait old.raw new.raw × (new.owed.bytes ≡ [] → moves_back old ≡ true)
+SettleOutcome old (Err fault.RawFault) new = PassesSome old new × (new.life ≡ life.Failed) × Rose old.raw.faults new.raw.faults × NoWait old.raw new.raw × (new.owed.bytes ≡ [] → FailsBack old new)
 SettleOutcome old (Err fault.NoMemory) new = IsTrue old.raw.takes_memory × LivesOn old new × NoWait old.raw new.raw
 SettleOutcome old (Err other) new = ⊥

@@ -1,5 +1,5 @@
 -- What a stream that writes does with the bytes that it took from its callers, over any raw.
-use Rattle.std.specs.Prelude.{◌≡◌, ◌≢◌, ℕ, ◌+◌, ◌-◌, ◌<◌, ◌≤◌, ◌⊎◌, zero, suc, min, max, false, IsTrue, List, [], ◌∷◌, ◌++◌, length, take, drop, Option, unwrap_or}
+use Rattle.std.specs.Prelude.{◌≡◌, ◌≢◌, ℕ, ◌+◌, ◌-◌, ◌<◌, ◌≤◌, ◌⊎◌, min, max, false, IsTrue, List, [], ◌++◌, length, take, drop, Option, unwrap_or}
 use Rattle.py_flat.specs.declared.fault.IoFault.TheVariants as fault
 use Rattle.py_flat.specs.declared.life.Life.TheVariants as life
 use Rattle.py_flat.specs.Bytes.{lay, resized}
@@ -8,7 +8,7 @@ use Rattle.py_flat.specs.Owed.{Owed}
 use Rattle.py_flat.specs.Calls.{FileCall, Write, WriteLines, Seek, Truncate, Flush, Close, Detach, FileReply, Place, Done, Unwritten, Refused}
 use Rattle.py_flat.specs.BinaryStep.{payload}
 use Rattle.py_raw.specs.RawStream.{WhereTold, WherePlace, WhereTransfers, AnswersFor}
-use Rattle.py_stream.specs.Stream.{Stream, size_of, file_of}
+use Rattle.py_stream.specs.Stream.{Stream, size_of, file_of, nothing_held}
 use Rattle.py_stream.specs.Kinds.{is_reading, is_writing, says_no_memory}
 
 -- nothing is owed, or what is owed ends at a place
@@ -54,37 +54,32 @@ pub record PassesFront (before after : Stream) : Type 0 where
   pub bytes : after.owed.bytes ≡ drop passed before.owed.bytes
   pub place : after.owed.bytes ≢ [] → after.owed.place ≡ before.owed.place + passed
 
--- of the bytes that were owed and of those that a write gives at a place, the place of the first: that place where none were owed
-abbrev pub first_of_both : (owed : List ℕ) (start place : ℕ) → ℕ
-first_of_both [] start place = place
-first_of_both (byte ∷ more) start place = min start place
+-- of the bytes that were owed and of those that a write gives at a place, the place of the first; without any the second place
+abbrev pub first_of_both : (owed : List ℕ) (start : ℕ) (new : List ℕ) (place : ℕ) → ℕ
+first_of_both [] start new place = place
+first_of_both owed start [] place = start
+first_of_both owed start new place = min start place
 
--- the place of the first of the bytes that were owed and of those that a write gives at a place
-abbrev pub first_place : Owed → ℕ → ℕ
-first_place owed place = first_of_both owed.bytes owed.place place
+-- the place of the first of the bytes that were owed and of those that a write took at a place
+abbrev pub first_place : Owed → List ℕ → ℕ → ℕ
+first_place owed new place = first_of_both owed.bytes owed.place new place
 
--- the place after the last of the bytes that were owed and of n that a write gives at a place: for a write of none where what was owed
--- ends, and that place where nothing was
-abbrev pub end_of_both : (owed : List ℕ) (start place count : ℕ) → ℕ
-end_of_both [] start place count = place + count
-end_of_both owed start place zero = start + length owed
-end_of_both owed start place (suc count) = max (start + length owed) (place + suc count)
-
--- the place after the last of the bytes that were owed and of n that a write gives at a place
-abbrev pub last_place : Owed → ℕ → ℕ → ℕ
-last_place owed place count = end_of_both owed.bytes owed.place place count
+-- of these the place after the last; without any the second place
+abbrev pub end_of_both : (owed : List ℕ) (start : ℕ) (new : List ℕ) (place : ℕ) → ℕ
+end_of_both [] start new place = place + length new
+end_of_both owed start [] place = start + length owed
+end_of_both owed start new place = max (start + length owed) (place + length new)
 
 -- a list has some bytes at a place, as far as these reach into it: it begins at the first of two places, and they at the second
 abbrev pub HasAt : (whole : List ℕ) (begins : ℕ) (part : List ℕ) (place : ℕ) → Type 0
 HasAt whole begins part place = take (length part - (begins - place)) (drop (place - begins) whole) ≡ drop (begins - place) part
 
 -- bytes that are owed cover what was owed, at its place, and the new bytes that a write took, at the stream's: they begin no earlier than
--- both, and end where both end; where a write of none was made behind that end they may reach on, up to its place. They have the new
--- bytes at their place, and before and after them what was owed. So all of both that isn't passed on is among them
+-- both, and end where both end. They have the new bytes at their place, and before and after them what was owed. So all of both that
+-- isn't passed on is among them
 pub record CoversBoth (was : Owed) (place : ℕ) (new : List ℕ) (owed : Owed) : Type 0 where
-  pub from : first_place was place ≤ owed.place
-  pub to : last_place was place (length new) ≤ owed.place + length owed.bytes
-  pub most : owed.place + length owed.bytes ≤ max (last_place was place (length new)) (place + length new)
+  pub from : first_place was new place ≤ owed.place
+  pub to : owed.place + length owed.bytes ≡ end_of_both was.bytes was.place new place
   pub new_bytes : HasAt owed.bytes owed.place new place
   pub old_bytes : HasAt owed.bytes owed.place (take (place - was.place) was.bytes) was.place
   pub behind : HasAt owed.bytes owed.place (drop (place + length new - was.place) was.bytes) (max was.place (place + length new))
@@ -97,13 +92,26 @@ pub record OwesNewAlone (before : Stream) (new : List ℕ) (after : Stream) : Ty
   pub bytes : after.owed.bytes ≡ drop passed new
   pub place : after.owed.place ≡ before.place + passed
 
+-- what is left of owed bytes without the first n
+abbrev pub left_of : Owed → ℕ → Owed
+left_of owed count = record { bytes = drop count owed.bytes; place = owed.place + count }
+
+-- of what was owed a front is passed on, exactly as many bytes as the raw answered for: what is owed covers what was owed and the new bytes
+-- that a write took, and begins no earlier than what is left of the former and the new bytes
+pub record OwesTheRest (before : Stream) (new : List ℕ) (after : Stream) : Type 0 where
+  pub passed : ℕ
+  pub most : passed ≤ length before.owed.bytes
+  pub answered : AnswersFor passed before.raw after.raw
+  pub from : first_place (left_of before.owed passed) new before.place ≤ after.owed.place
+  pub covers : CoversBoth before.owed before.place new after.owed
+
 -- what is owed after a write that took n bytes, wherever its place lay: it covers what was owed and what is new, or all that was owed
 -- was passed on
 pub record OwesBoth (before : Stream) (bytes : List ℕ) (after : Stream) : Type 0 where
   pub taken : ℕ
   pub within : taken ≤ length bytes
   pub place : after.place ≡ before.place + taken
-  pub owes : after.owed.bytes ≢ [] → CoversBoth before.owed before.place (take taken bytes) after.owed ⊎ OwesNewAlone before (take taken bytes) after
+  pub owes : after.owed.bytes ≢ [] → OwesTheRest before (take taken bytes) after ⊎ OwesNewAlone before (take taken bytes) after
 
 -- how many of the bytes that are owed lie before a place
 unfoldable pub owed_before : Owed → ℕ → ℕ
@@ -146,20 +154,30 @@ pub record CutTo (before : Stream) (size : ℕ) (after : Stream) : Type 0 where
   pub none : after.owed.bytes ≡ []
   pub holds : WhereTold before.raw (after.raw.bytes ≡ resized (file_of before).bytes size)
 
--- what is done of a live stream leaves nothing owed; after a `flush` the raw stands at the place, and so it does after a
--- `detach`, which has nothing unwritten. A stream that doesn't read owes nothing after a `seek` either
+-- a stream that is moved to a place leaves the bytes held: it doesn't read, or the place isn't among them, nor right after them
+abbrev pub GoesAway : Stream → ℕ → Type 0
+GoesAway stream place = (stream.can.readable ≡ false) ⊎ ((place < stream.held.from) ⊎ (stream.held.to < place))
+
+-- what is done of a live stream leaves nothing owed; after a `flush` the raw stands at the place, and nothing is held; after a `detach`,
+-- which has nothing unwritten, the raw stands there too. A `seek` that leaves the bytes held leaves nothing owed either
 abbrev pub PassesOn : Stream → FileCall → FileReply → Stream → Type 0
-PassesOn before Flush Done after = PassedOn before after × (after.raw_place ≡ after.place)
+PassesOn before Flush Done after = PassedOn before after × (after.raw_place ≡ after.place) × (after.held ≡ nothing_held after.place)
 PassesOn before Close Done after = before.life ≡ life.Live → PassedOn before after
 PassesOn before Detach (Unwritten bytes place) after = before.life ≡ life.Live → PassedOn before after × (bytes ≡ []) × WherePlace before.raw (after.raw.place ≡ after.place)
 PassesOn before (Truncate size) (Place place) after = CutTo before (size_asked before size) after
-PassesOn before (Seek offset whence) (Place place) after = before.can.readable ≡ false → after.owed.bytes ≡ []
+PassesOn before (Seek offset whence) (Place place) after = GoesAway before place → after.owed.bytes ≡ []
 PassesOn before call reply after = Unit {0}
+
+-- a buffer of a size is full for a write that took n bytes: it has room for no more after the first byte that is owed, up to the place;
+-- where the write took some, all of these are owed
+pub record IsFull (owed : Owed) (place size taken : ℕ) : Type 0 where
+  pub up_to : owed.place + size ≡ place
+  pub owes : taken ≢ 0 → length owed.bytes ≡ size
 
 -- a write that couldn't take all has filled the buffer; another call that would have blocked took nothing
 abbrev pub BlocksFull : FileCall → FileReply → Stream → Type 0
-BlocksFull (Write bytes) (Refused (fault.WouldBlock taken)) after = length after.owed.bytes ≡ size_of after
-BlocksFull (WriteLines lines) (Refused (fault.WouldBlock taken)) after = length after.owed.bytes ≡ size_of after
+BlocksFull (Write bytes) (Refused (fault.WouldBlock taken)) after = IsFull after.owed after.place (size_of after) taken
+BlocksFull (WriteLines lines) (Refused (fault.WouldBlock taken)) after = IsFull after.owed after.place (size_of after) taken
 BlocksFull call (Refused (fault.WouldBlock taken)) after = taken ≡ 0
 BlocksFull call reply after = Unit {0}
 

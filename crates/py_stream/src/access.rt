@@ -39,10 +39,14 @@ impl Access {
         matches!(self, Access::Append)
     }
 
-    /// Whether a raw is able to do what the stream is opened for.
-    pub fn suits<R: RawStream>(self, raw: &R) -> bool
-        ensures { result ≡ is_able self (R.shows raw.now) }
+    /// Whether a raw is able to do what the stream is opened for, with a buffer of `buffer_size` bytes or none: to be read from, to be
+    /// written to, and to be moved where the stream is read and written through a buffer.
+    pub fn suits<R: RawStream>(self, buffer_size: Option<usize>, raw: &R) -> bool
+        ensures { result ≡ is_able self buffer_size (R.shows raw.now) }
     {
-        (!self.reads() || raw.readable()) && (!self.writes() || raw.writable())
+        let moves = matches!(self, Access::Update) && buffer_size.is_some();
+        (!self.reads() || raw.readable())
+            && (!self.writes() || raw.writable())
+            && (!moves || raw.seekable())
     }
 }

@@ -25,7 +25,7 @@ pub use laws::{
     a_stream_answers_as_a_buffered_one,
 };
 pub use live_raw::LiveRaw;
-pub use moves::{Moves, refuse, seek, tell, truncate};
+pub use moves::{Moves, end, refuse, seek, tell, truncate};
 pub use moving::{end_of_lines, life_fault, moved_by};
 pub use new_refused::NewRefused;
 pub use opening::{first_place, refused_at_first, refused_raw};

@@ -1,15 +1,16 @@
 //! Where a stream stands, moving it, and giving its bytes a size, of any stream over a raw.
-ghost use Rattle.std.specs.Prelude.{◌≡◌, ◌≤◌, true, false, [], IfOk};
+ghost use Rattle.std.specs.Prelude.{◌≡◌, ◌≤◌, ℕ, true, false, [], IfOk};
 ghost use Rattle.py_flat.specs.declared.life.Life.TheVariants.{Live};
 ghost use Rattle.py_flat.specs.Limits.{greatest_place};
 ghost use Rattle.py_flat.specs.Calls.{FileCall, Seek, Tell, Truncate, Refused};
 ghost use Rattle.py_stream.specs.Stream.{Stream};
 ghost use Rattle.py_stream.specs.Keeping.{IsSound};
 ghost use Rattle.py_stream.specs.Access.{can_of};
-ghost use Rattle.py_stream.specs.Answers.{Answers, RefusesAlone};
+ghost use Rattle.py_stream.specs.Answers.{Answers, KeepsStream, RefusesAlone};
 ghost use Rattle.py_stream.specs.Replies.{place_reply};
 ghost use Rattle.py_stream.specs.Moving.{Begins, keeps_pending, OwesBy, SettlesBy, TargetOutcome, EndOutcome, StepsTo, GoOutcome};
 ghost use Rattle.py_stream.specs.Sizing.{ResizeOutcome};
+ghost use Rattle.py_stream.specs.Buffer.{buffer_of, TellsPlace, AnswersEnd};
 
 use crate::{LiveRaw, moved_by};
 use py_raw::{GREATEST_PLACE, IoFault, RawStream};
@@ -125,13 +126,28 @@ pub fn seek<S: Moves>(stream: &mut S, offset: i64, whence: i32) -> Result<u64, I
 
 /// The place, where the stream's raw can seek.
 pub fn tell<S: Moves>(stream: &mut S) -> Result<u64, IoFault>
-    ensures { Answers (S.shows stream.old) Tell (place_reply result) (S.shows stream.new) }
+    ensures answers { Answers (S.shows stream.old) Tell (place_reply result) (S.shows stream.new) }
+    ensures tells { (taken : ℕ) → TellsPlace (buffer_of (S.shows stream.old) taken) result (buffer_of (S.shows stream.new) taken) }
 {
     stream.begin_call()?;
     if !stream.live().seekable() {
         return Err(IoFault::Unsupported);
     }
     Ok(stream.stands_at())
+}
+
+/// Where a stream ends, in bytes from the start of the file, with what it owes. The place is kept.
+///
+/// It is refused as `tell` is, with all as it was. `RawFault` fails the stream; `NoMemory`, of a raw that takes some, leaves all as it was.
+pub fn end<S: Moves>(stream: &mut S) -> Result<u64, IoFault>
+    ensures answers { (taken : ℕ) → AnswersEnd (buffer_of (S.shows stream.old) taken) result (buffer_of (S.shows stream.new) taken) }
+    ensures keeps { KeepsStream (S.shows stream.old) (S.shows stream.new) }
+{
+    stream.begin_call()?;
+    if !stream.live().seekable() {
+        return Err(IoFault::Unsupported);
+    }
+    stream.end()
 }
 
 /// Cuts a stream's bytes to a size in bytes, or lengthens them by zeros; without a size to the place, which is kept. What is owed is
@@ -159,7 +175,8 @@ pub fn truncate<S: Moves>(stream: &mut S, size: Option<u64>) -> Result<u64, IoFa
 
 /// Refuses a call by the life, or as one that the stream lacks.
 pub fn refuse<S: Moves>(stream: &mut S) -> IoFault
-    ensures { (call : FileCall) → RefusesAlone (S.shows stream.old) call → Answers (S.shows stream.old) call (Refused result) (S.shows stream.new) }
+    ensures answers { (call : FileCall) → RefusesAlone (S.shows stream.old) call → Answers (S.shows stream.old) call (Refused result) (S.shows stream.new) }
+    ensures same { S.shows stream.new ≡ record (S.shows stream.old) { short = false } }
 {
     match stream.begin_call() {
         Ok(()) => IoFault::Unsupported,

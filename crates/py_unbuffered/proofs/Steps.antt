@@ -1,5 +1,5 @@
 -- What stays of an engine from step to step.
-use Rattle.std.proofs.Common.{◌≡◌, ℕ, refl, ap, ◌∙◌, arith}
+use Rattle.std.proofs.Common.{◌≡◌, ℕ, refl, ap, ◌∙◌, arith, None}
 use Rattle.py_flat.specs.declared.life.Life.TheVariants as life
 use Rattle.py_raw.specs.RawStream.{Raw, Keeps, AnswersFor, KeepsBytes}
 use Rattle.py_raw.proofs.Telling.{keeps_same}
@@ -26,7 +26,7 @@ pub keeps_then : (old mid new : EngineView) → KeepsEngine old mid → KeepsEng
 keeps_then old mid new first second = grind (arith, Keeps-then)
 
 -- a raw stays able to do what the stream is opened for
-pub able_stays : (opened : Access) (old new : Raw) → Keeps old new → is_able opened new ≡ is_able opened old
+pub able_stays : (opened : Access) (old new : Raw) → Keeps old new → is_able opened None new ≡ is_able opened None old
 able_stays access.Read old new kept = kept.readable
 able_stays access.Write old new kept = kept.writable
 able_stays access.Append old new kept = kept.writable

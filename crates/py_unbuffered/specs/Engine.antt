@@ -42,7 +42,7 @@ stream_of engine = record {
 -- what holds of every engine
 pub record IsEngine (raw : Raw) (place : ℕ) (access : Access) (current : Life) : Type 0 where
   pub far : place ≤ greatest_place
-  pub able : is_able access raw ≡ true
+  pub able : is_able access None raw ≡ true
   pub is_open : current ≡ life.Live → raw.closed ≡ false
   pub attached : current ≢ life.Detached
   pub stands : WherePlace raw (current ≡ life.Live → raw.place ≡ place)

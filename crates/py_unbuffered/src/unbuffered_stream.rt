@@ -53,11 +53,11 @@ impl<R: RawStream> UnbufferedStream<R> {
     /// there. But for the last it is as it was; `NoMemory` comes only of a raw that takes some.
     pub fn new(raw: R, access: Access) -> Result<Self, NewRefused<R>>
         requires start { StandsAtStart (R.shows raw) }
-        ensures outcome { NewOutcome R.shows (is_able access) (can_of access) raw None result }
+        ensures outcome { NewOutcome R.shows (is_able access None) (can_of access) raw None result }
         ensures memory { IfErr result (λ refused. refused.fault ≡ IoFault.NoMemory → IsTrue (R.shows raw).takes_memory) }
     {
         let mut raw = raw;
-        if let Some(fault) = refused_at_first(&raw, access.suits(&raw), None) {
+        if let Some(fault) = refused_at_first(&raw, access.suits(None, &raw), None) {
             return Err(NewRefused { raw, fault });
         }
         match first_place(&mut raw, access.appends()) {

@@ -2,10 +2,11 @@
 use Rattle.std.proofs.Common.{◌≡◌, ℕ, ◌+◌, ◌-◌, ◌<◌, ◌≤◌, min, max, Bool, List, ◌++◌, length, take, drop, nat_eq, if◌then◌else◌, refl, sym, ap, ◌∙◌, subst, arith, ⊎_elim, ne_eqb}
 use Rattle.std.proofs.Math.ListN.{drop_of_length-le}
 use Rattle.std.proofs.lemmas.Bool.Decides.{eqb_tells}
-use Rattle.std.proofs.lemmas.Bool.{cases_lt, le-leb, lt-leb, eq-eqb}
+use Rattle.std.proofs.lemmas.Bool.{cases_lt, eq-eqb}
 use Rattle.std.proofs.lemmas.List.{length-drop, length-append, length-take-le, take_all, drop-append-le, drop-drop, append-nil}
 use Rattle.py_window.specs.Window.{WindowView, IsWindow, Collects, place_of, pending_of, is_settled, kept_before, room_of, pasted, laid_at_cursor, without_front, pushed, passed_on, emptied_at, cut_within, cut_at}
 use Rattle.py_window.proofs.Held.{from_start}
+use Rattle.py_window.proofs.Overlaying.{pushed_within, pushed_beyond}
 
 -- What is pending.
 
@@ -86,9 +87,9 @@ pushed_shows window bytes size place owed some room far shows =
     let left : WindowView = without_front front window in
     let front_is : front ≡ window.from = omega (arith, shows.is.ordered, shows.collects.to) in
     ⊎_elim
-    (λ beyond. subst (λ (fits : Bool). Shows (if fits then laid_at_cursor bytes window else laid_at_cursor bytes left) size place (owed ++ bytes)) (sym (lt-leb (window.cursor + length bytes) window.size beyond))
+    (λ beyond. subst (λ (new : WindowView). Shows new size place (owed ++ bytes)) (sym (pushed_beyond window bytes some beyond))
     (laid_shows left bytes size place owed (omega (arith, front_is, room, shows.is.held, shows.is.cursor)) (omega (arith, front_is, far, shows.is.ordered, shows.collects.to)) some (let_go_shows window size place owed shows)))
-    (λ within. subst (λ (fits : Bool). Shows (if fits then laid_at_cursor bytes window else laid_at_cursor bytes left) size place (owed ++ bytes)) (sym (le-leb (window.cursor + length bytes) window.size within))
+    (λ within. subst (λ (new : WindowView). Shows new size place (owed ++ bytes)) (sym (pushed_within window bytes some within))
     (laid_shows window bytes size place owed within far some shows))
     (cases_lt window.size (window.cursor + length bytes))
 

@@ -1,5 +1,5 @@
 -- Bytes put at the cursor of a window whose pending bytes lie anywhere among those that it holds.
-use Rattle.std.proofs.Common.{◌≡◌, ◌≢◌, ℕ, ◌+◌, ◌-◌, ◌<◌, ◌≤◌, ◌⊎◌, inl, inr, ⊎_elim, zero, suc, min, max, Bool, List, [], ◌∷◌, ◌++◌, length, take, drop, replicate, if◌then◌else◌, refl, sym, ap, ◌∙◌, subst, arith, add-zero, append_assoc, ne_eqb}
+use Rattle.std.proofs.Common.{◌≡◌, ◌≢◌, ℕ, ◌+◌, ◌-◌, ◌<◌, ◌≤◌, inl, inr, ⊎_elim, zero, suc, min, max, Bool, List, [], ◌∷◌, ◌++◌, length, take, drop, replicate, if◌then◌else◌, refl, sym, ap, ◌∙◌, subst, arith, add-zero, append_assoc, ne_eqb}
 use Rattle.std.proofs.Math.Seq.{take-append-add, drop-append-add, take-add}
 use Rattle.std.proofs.lemmas.Bool.Decides.{eqb_tells}
 use Rattle.std.proofs.lemmas.Bool.{cases_lt, le-leb, lt-leb}
@@ -155,22 +155,17 @@ has_none whole begins place = grind arith
 front_of_all : (count : ℕ) (whole : List ℕ) → take (length (take count whole)) whole ≡ take count whole
 front_of_all count whole = ap (λ (n : ℕ). take n whole) (length-take count whole) ∙ take_min count whole
 
--- the place of the first of both, where none of what is owed is before it
-first_is : (owed : List ℕ) (start place : ℕ) → (owed ≡ [] → start ≡ place) → first_of_both owed start place ≡ min start place
-first_is [] start place rests = omega (arith, rests refl)
-first_is (byte ∷ more) start place rests = refl
+-- where some are put, the place of the first of both: the first of the two
+first_is : (owed put : List ℕ) (start place : ℕ) → (owed ≡ [] → start ≡ place) → 0 < length put → first_of_both owed start put place ≡ min start place
+first_is [] put start place rests some = omega (arith, rests refl)
+first_is (byte ∷ more) [] start place rests some = absurd (omega (arith, some))
+first_is (byte ∷ more) (next ∷ others) start place rests some = refl
 
--- the place after the last of both lies behind neither end
-end_within : (owed : List ℕ) (start place count : ℕ) → end_of_both owed start place count ≤ max (start + length owed) (place + count)
-end_within [] start place count = omega arith
-end_within (byte ∷ more) start place zero = omega arith
-end_within (byte ∷ more) start place (suc count) = omega arith
-
--- what is owed ends no later than that place, or than what is new
-end_reaches : (owed : List ℕ) (start place count : ℕ) → (owed ≡ [] → start ≡ place) → start + length owed ≤ max (end_of_both owed start place count) (place + count)
-end_reaches [] start place count rests = omega (arith, rests refl)
-end_reaches (byte ∷ more) start place zero rests = omega arith
-end_reaches (byte ∷ more) start place (suc count) rests = omega arith
+-- and the place after the last of both: the last of the two
+end_is : (owed put : List ℕ) (start place : ℕ) → (owed ≡ [] → start ≡ place) → 0 < length put → end_of_both owed start put place ≡ max (start + length owed) (place + length put)
+end_is [] put start place rests some = omega (arith, rests refl)
+end_is (byte ∷ more) [] start place rests some = absurd (omega (arith, some))
+end_is (byte ∷ more) (next ∷ others) start place rests some = refl
 
 -- What a window holds, and what is pending in it.
 
@@ -229,7 +224,7 @@ pub record Overlays (window : WindowView) (bytes : List ℕ) (new : WindowView) 
   pub lays : (raw : List ℕ) → HoldsBytes (flat_over raw window) window → LaysOn raw window bytes new
 
 -- a window whose cursor moved over bytes put there: pending is all from the first to the last of what was and of what was put
-abbrev overlaid : List ℕ → WindowView → WindowView
+abbrev pub overlaid : List ℕ → WindowView → WindowView
 overlaid bytes window = record window {
   held = pasted window.held window.cursor bytes;
   cursor = window.cursor + length bytes;
@@ -237,7 +232,7 @@ overlaid bytes window = record window {
   to = max window.to (window.cursor + length bytes);
 }
 
-module _ (window : WindowView) (bytes : List ℕ) (is : IsWindow window) (some : (0 < length bytes) ⊎ (window.from ≢ window.to)) where
+module _ (window : WindowView) (bytes : List ℕ) (is : IsWindow window) (some : 0 < length bytes) where
   abbrev laid : List ℕ
   laid = pasted window.held window.cursor bytes
 
@@ -255,11 +250,7 @@ module _ (window : WindowView) (bytes : List ℕ) (is : IsWindow window) (some :
 
   -- some are pending then
   pends : first < last
-  pends = ⊎_elim (λ (put : 0 < length bytes). omega (arith, put, is.ordered)) (λ (pending : window.from ≢ window.to). omega (arith, pending, is.ordered)) some
-
-  -- where none was pending some bytes were put
-  put_some : window.to ≤ window.from → 0 < length bytes
-  put_some none = ⊎_elim (λ (put : 0 < length bytes). put) (λ (pending : window.from ≢ window.to). absurd (pending (omega (arith, none, is.ordered)))) some
+  pends = omega (arith, some)
 
   -- it holds as many as it did, or as reach to the cursor
   long : length laid ≡ max (length window.held) after
@@ -335,9 +326,8 @@ module _ (window : WindowView) (bytes : List ℕ) (is : IsWindow window) (some :
       let start : ℕ = window.begin + window.from in
       let place : ℕ = place_of window in
       record {
-        from = omega (arith, first_is (pending_of window) start place (none_rests window is));
-        to = omega (arith, as_many, end_within (pending_of window) start place (length bytes), pending_length window is, is.ordered);
-        most = omega (arith, as_many, end_reaches (pending_of window) start place (length bytes) (none_rests window is), pending_length window is, is.ordered);
+        from = omega (arith, first_is (pending_of window) bytes start place (none_rests window is) some);
+        to = omega (arith, as_many, end_is (pending_of window) bytes start place (none_rests window is) some, pending_length window is, is.ordered);
         new_bytes = has_new;
         old_bytes = has_before (place - start) (omega arith);
         behind = has_behind (place + length bytes - start) (omega arith);
@@ -385,7 +375,7 @@ module _ (window : WindowView) (bytes : List ℕ) (is : IsWindow window) (some :
       (λ (pending : window.from < window.to).
       let to_end : end_of window ≤ length flat = omega (arith, pending, is.within, held_within flat window holds, length-drop window.begin flat) in
       omega (arith, to_end, is.within, lays_reach flat (place_of window) bytes (omega (arith, to_end, is.cursor))))
-      (λ (none : window.to ≤ window.from). omega (arith, none, is.rests, is.ordered, reaches_end flat (place_of window) bytes (put_some none)))
+      (λ (none : window.to ≤ window.from). omega (arith, none, is.rests, is.ordered, reaches_end flat (place_of window) bytes some))
       (cases_lt window.from window.to)
 
   -- the flat bytes over it are those over the window before, with the bytes laid on that were put
@@ -401,7 +391,7 @@ module _ (window : WindowView) (bytes : List ℕ) (is : IsWindow window) (some :
       record { flat = same; holds = subst (λ (held : List ℕ). HoldsBytes held new) (sym same) holds_new }
 
   -- over what is held there, the words of a window and of what is pending say the same
-  laid_is : laid_at_cursor bytes window ≡ new
+  pub laid_is : laid_at_cursor bytes window ≡ new
   laid_is =
       let from_is : (if is_settled window then window.cursor else first) ≡ first = grind (arith, eqb_tells, is.rests) in
       let to_is : (if is_settled window then after else last) ≡ last = grind (arith, eqb_tells, is.rests) in
@@ -523,29 +513,34 @@ over_rest window left bytes new go over =
           record { flat = lays.flat ∙ (ap (λ (place : ℕ). lay (flat_over raw left) place bytes) go.place ∙ ap (λ (under : List ℕ). lay under (place_of window) bytes) (go.flat raw)); holds = lays.holds };
     }
 
--- where some bytes are put or were pending, so it is once a window let go of bytes before those
-left_some : (window : WindowView) (bytes : List ℕ) (count : ℕ) → IsWindow window → count ≤ window.from → (0 < length bytes) ⊎ (window.from ≢ window.to) → (0 < length bytes) ⊎ (window.from - count ≢ window.to - count)
-left_some window bytes count is from (inl put) = inl put
-left_some window bytes count is from (inr pending) = inr (λ none. pending (omega (arith, none, from, is.ordered)))
+-- where there is room after the cursor, some bytes are put there
+pub pushed_within : (window : WindowView) (bytes : List ℕ) → 0 < length bytes → window.cursor + length bytes ≤ window.size → pushed bytes window ≡ laid_at_cursor bytes window
+pushed_within window [] some fits = absurd (omega (arith, some))
+pushed_within window (byte ∷ more) some fits = ap (λ (fits : Bool). if fits then laid_at_cursor (byte ∷ more) window else laid_at_cursor (byte ∷ more) (without_front (window.cursor - kept_before window) window)) (le-leb (window.cursor + length (byte ∷ more)) window.size fits)
 
--- bytes put at the cursor of a window that has room for them: some, or none where some are pending
-pub overlays : (window : WindowView) (bytes : List ℕ) → IsWindow window → (0 < length bytes) ⊎ (window.from ≢ window.to) → length bytes ≤ room_of window → place_of window + length bytes ≤ 9223372036854775807 → Overlays window bytes (pushed bytes window)
+-- where there is none, they are put once what needn't stay is let go of
+pub pushed_beyond : (window : WindowView) (bytes : List ℕ) → 0 < length bytes → window.size < window.cursor + length bytes → pushed bytes window ≡ laid_at_cursor bytes (without_front (window.cursor - kept_before window) window)
+pushed_beyond window [] some beyond = absurd (omega (arith, some))
+pushed_beyond window (byte ∷ more) some beyond = ap (λ (fits : Bool). if fits then laid_at_cursor (byte ∷ more) window else laid_at_cursor (byte ∷ more) (without_front (window.cursor - kept_before window) window)) (lt-leb (window.cursor + length (byte ∷ more)) window.size beyond)
+
+-- some bytes put at the cursor of a window that has room for them
+pub overlays : (window : WindowView) (bytes : List ℕ) → IsWindow window → 0 < length bytes → length bytes ≤ room_of window → place_of window + length bytes ≤ 9223372036854775807 → Overlays window bytes (pushed bytes window)
 overlays window bytes is some room far =
     let count : ℕ = window.cursor - kept_before window in
     let left : WindowView = without_front count window in
     let go : LetsGo window left = lets_go window is in
     ⊎_elim
-    (λ beyond. subst (λ (fits : Bool). Overlays window bytes (if fits then laid_at_cursor bytes window else laid_at_cursor bytes left)) (sym (lt-leb (window.cursor + length bytes) window.size beyond))
-    (over_rest window left bytes (laid_at_cursor bytes left) go (laid_overlays left bytes go.is (left_some window bytes count is (omega arith) some) (omega (arith, room, go.room, go.all)) (omega (arith, go.place, far)))))
-    (λ within. subst (λ (fits : Bool). Overlays window bytes (if fits then laid_at_cursor bytes window else laid_at_cursor bytes left)) (sym (le-leb (window.cursor + length bytes) window.size within))
+    (λ beyond. subst (Overlays window bytes) (sym (pushed_beyond window bytes some beyond))
+    (over_rest window left bytes (laid_at_cursor bytes left) go (laid_overlays left bytes go.is some (omega (arith, room, go.room, go.all)) (omega (arith, go.place, far)))))
+    (λ within. subst (Overlays window bytes) (sym (pushed_within window bytes some within))
     (laid_overlays window bytes is some within far))
     (cases_lt window.size (window.cursor + length bytes))
 
--- as many bytes as there is room for fill the buffer with pending ones, where some were pending
-pub full : (window : WindowView) (bytes : List ℕ) → IsWindow window → window.from ≢ window.to → length bytes ≡ room_of window → place_of window + length bytes ≤ 9223372036854775807 → length (pending_of (pushed bytes window)) ≡ window.size
+-- as many bytes as there is room for fill the buffer with pending ones
+pub full : (window : WindowView) (bytes : List ℕ) → IsWindow window → 0 < length bytes → length bytes ≡ room_of window → place_of window + length bytes ≤ 9223372036854775807 → length (pending_of (pushed bytes window)) ≡ window.size
 full window bytes is some room far =
     let new : WindowView = pushed bytes window in
-    let over : Overlays window bytes new = overlays window bytes is (inr some) (omega (arith, room)) far in
+    let over : Overlays window bytes new = overlays window bytes is some (omega (arith, room)) far in
     omega (arith, room, is.cursor, is.held, pending_length new over.is, over.is.within, over.is.held, over.size, over.place, over.first, over.reaches)
 
 -- Pieces put one after the other, where there is room after the cursor.
@@ -576,10 +571,10 @@ overlaid_twice window first second is =
     let to : max (max window.to (window.cursor + length first)) (window.cursor + length first + length second) ≡ max window.to (window.cursor + length (first ++ second)) = omega (arith, many) in
     cc (held, cursor, from, to)
 
--- a piece put after another is as if both were put at once: some, or none where some are pending
-pub laid_twice : (window : WindowView) (first second : List ℕ) → IsWindow window → (0 < length first) ⊎ (window.from ≢ window.to) → laid_at_cursor second (laid_at_cursor first window) ≡ laid_at_cursor (first ++ second) window
+-- a piece put after another is as if both were put at once
+pub laid_twice : (window : WindowView) (first second : List ℕ) → IsWindow window → 0 < length first → laid_at_cursor second (laid_at_cursor first window) ≡ laid_at_cursor (first ++ second) window
 laid_twice window first second is some =
-    let both : (0 < length (first ++ second)) ⊎ (window.from ≢ window.to) = ⊎_elim (λ (put : 0 < length first). inl (omega (arith, put, length-append first second))) (λ (pending : window.from ≢ window.to). inr pending) some in
+    let both : 0 < length (first ++ second) = omega (arith, some, length-append first second) in
     ap (laid_at_cursor second) (laid_is window first is some)
     ∙ (pending_laid (overlaid first window) second (λ none. absurd (omega (arith, none, pends window first is some)))
     ∙ (overlaid_twice window first second is

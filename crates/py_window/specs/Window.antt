@@ -115,7 +115,7 @@ abbrev pub pasted : List ℕ → ℕ → List ℕ → List ℕ
 pasted items at bytes = take at items ++ (bytes ++ drop (at + length bytes) items)
 
 -- the cursor moved on to stand after n of the bytes held: what it moved over is pending, with all that lies between that and what was
--- pending; where it moved over none, with all that lies between what was pending and the cursor
+-- pending
 abbrev pub covered : ℕ → WindowView → WindowView
 covered after window = record window {
   cursor = after;
@@ -138,8 +138,9 @@ without_front count window = record {
   to = window.to - count;
 }
 
--- bytes were put at the cursor: where there is no room after it, all is let go of that needn't stay before it
+-- bytes were put at the cursor: where there is no room after it, all is let go of that needn't stay before it. None leave all as it was
 abbrev pub pushed : List ℕ → WindowView → WindowView
+pushed [] window = window
 pushed bytes window = if nat_le (window.cursor + length bytes) window.size then laid_at_cursor bytes window else laid_at_cursor bytes (without_front (window.cursor - kept_before window) window)
 
 -- Passing pending bytes on.

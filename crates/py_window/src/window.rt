@@ -220,13 +220,15 @@ impl Window {
     }
 
     /// Puts bytes at the cursor, over those held there; they are pending from then on, with all between them and those that are pending
-    /// already. So is what lies between these and the cursor where no bytes are put. Where the buffer has no room after the cursor, what
-    /// needn't stay before it is let go of.
+    /// already. Where the buffer has no room after the cursor, what needn't stay before it is let go of. No bytes leave all as it is.
     pub fn push(&mut self, bytes: &[u8])
         requires room { length bytes.now ≤ room_of self.old }
         requires within { place_of self.old + length bytes.now ≤ greatest_place }
         ensures { self.new ≡ pushed bytes.now self.old }
     {
+        if bytes.is_empty() {
+            return;
+        }
         if bytes.len() > self.buffer.len() - self.cursor {
             self.let_go();
         }

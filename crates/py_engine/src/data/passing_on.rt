@@ -11,7 +11,7 @@ ghost use Rattle.py_stream.specs.Replies.{done_reply};
 ghost use Rattle.py_window.specs.Window.{pending_of, place_of, end_of};
 ghost use Rattle.py_engine.specs.Engine.{stream_of, IsBehind};
 ghost use Rattle.py_engine.specs.Reading.{IsReading};
-ghost use Rattle.py_engine.specs.Passing.{StandsAtOwed, DrainOutcome, FlushOutcome, MayMoveRaw, StandsHereOutcome, AlignsOutcome, PassesAll};
+ghost use Rattle.py_engine.specs.Passing.{StandsAtOwed, DrainOutcome, FlushOutcome, OwedOutcome, MayMoveRaw, StandsHereOutcome, AlignsOutcome, PassesAll};
 
 use super::BufferedData;
 use py_raw::{IoFault, Life, RawStream};
@@ -92,6 +92,22 @@ impl<R: RawStream> BufferedData<R> {
         Ok(())
     }
 
+    /// Passes on all that is owed, wherever it belongs, unless the raw would block.
+    pub(super) fn pass_owed(&mut self) -> Result<Passed, IoFault>
+        requires live { self.old.life ≡ Life.Live }
+        requires writes { is_written self.old.access ≡ true }
+        ensures outcome { OwedOutcome (stream_of self.old) result (stream_of self.new) }
+        ensures access { self.new.access ≡ self.old.access }
+        ensures none { (stream_of self.old).owed.bytes ≡ [] → self.new ≡ self.old }
+    {
+        if self.window.is_settled() {
+            return Ok(Passed::All);
+        }
+        let place = self.window.pending_place();
+        self.move_raw(place)?;
+        self.flush_pending()
+    }
+
     /// Passes on all that is owed, wherever it belongs. A wait refuses the call, and is remembered.
     pub(super) fn pass_pending(&mut self) -> Result<(), IoFault>
         requires live { self.old.life ≡ Life.Live }
@@ -101,12 +117,7 @@ impl<R: RawStream> BufferedData<R> {
         ensures access { self.new.access ≡ self.old.access }
         ensures none { (stream_of self.old).owed.bytes ≡ [] → self.new ≡ self.old }
     {
-        if self.window.is_settled() {
-            return Ok(());
-        }
-        let place = self.window.pending_place();
-        self.move_raw(place)?;
-        match self.flush_pending()? {
+        match self.pass_owed()? {
             Passed::All => Ok(()),
             Passed::Waits => {
                 self.live.note_wait(true);
@@ -116,7 +127,7 @@ impl<R: RawStream> BufferedData<R> {
     }
 
     /// Sees to it that the raw stands at the place, and lets go of what is held, where nothing is owed.
-    fn stand_here(&mut self) -> Result<(), IoFault>
+    pub(super) fn stand_here(&mut self) -> Result<(), IoFault>
         requires live { self.old.life ≡ Life.Live }
         requires writes { is_written self.old.access ≡ true }
         requires none { (stream_of self.old).owed.bytes ≡ [] }

@@ -8,13 +8,32 @@ ghost use Rattle.py_stream.specs.Replies.{bytes_reply, into_reply, lines_reply, 
 ghost use Rattle.py_window.specs.Window.{ahead_of, advanced};
 ghost use Rattle.py_engine.specs.Engine.{stream_of};
 ghost use Rattle.py_engine.specs.Reading.{IsReading};
-ghost use Rattle.py_engine.specs.Random.{GoesAhead};
+ghost use Rattle.py_engine.specs.Random.{GoesAhead, LinesIn};
 
 use super::BufferedData;
-use py_lines::{Collected, Collector, LineCollector};
+use py_lines::{Collected, Collector, LineCollector, LinesCollector};
 use py_raw::{IoFault, Lines, RawStream};
 use py_stream::{Access, read_line, read_lines};
-use std::alloc::Global;
+use std::alloc::{AllocError, Global};
+
+/// The lines at the front of a piece that are above the hint, and how many bytes they have; `None` where the piece doesn't have them.
+fn lines_in(
+    alloc: Global,
+    bytes: &[u8],
+    hint: Option<usize>,
+) -> Result<Option<(Lines, usize)>, AllocError>
+    ensures { LinesIn bytes.now hint result }
+{
+    let most = hint.unwrap_or(0);
+    if most == 0 || bytes.len() <= most {
+        return Ok(None);
+    }
+    let mut collector = LinesCollector::new(alloc, hint);
+    match collector.collect(bytes)? {
+        Collected::Enough(used) => Ok(Some((collector.into_lines(), used))),
+        Collected::All => Ok(None),
+    }
+}
 
 impl<R: RawStream> BufferedData<R> {
     /// Whether a reading goes on from the bytes held: nothing is owed, and the raw stands after them.
@@ -24,7 +43,9 @@ impl<R: RawStream> BufferedData<R> {
         ensures no { result ≡ false → IsAhead (stream_of self.now) → ⊥ }
         ensures update { result ≡ false → self.now.access ≡ Access.Update }
     {
-        let _ = &self.live;
+        if !self.live.writes() {
+            return true;
+        }
         self.window.is_settled() && self.raw_place == self.window.end_place()
     }
 
@@ -98,6 +119,13 @@ impl<R: RawStream> BufferedData<R> {
     {
         let _ = &self.live;
         self.begin()?;
+        let Ok(held) = lines_in(alloc, self.window.ahead(), hint) else {
+            return Err(IoFault::NoMemory);
+        };
+        if let Some((lines, used)) = held {
+            self.step_on(used);
+            return Ok(Some(lines));
+        }
         if !self.go_ahead()? {
             return Ok(None);
         }
@@ -227,19 +255,14 @@ impl<R: RawStream> BufferedData<R> {
         if limit == Some(0) {
             return Ok(Some(Vec::new(alloc)));
         }
-        let mut collector = LineCollector::new(alloc, limit);
-        match collector.collect(self.window.ahead()) {
-            Ok(Collected::Enough(used)) => {
-                self.step_on(used);
-                Ok(Some(collector.into_line()))
-            }
-            Ok(Collected::All) => {
-                if !self.go_ahead()? {
-                    return Ok(None);
-                }
-                read_line(self, alloc, limit)
-            }
-            Err(_) => Err(IoFault::NoMemory),
+        let collector = LineCollector::new(alloc, limit);
+        if let Some(used) = collector.end_in(self.window.ahead()) {
+            let line = self.give(alloc, used)?;
+            return Ok(Some(line));
         }
+        if !self.go_ahead()? {
+            return Ok(None);
+        }
+        read_line(self, alloc, limit)
     }
 }

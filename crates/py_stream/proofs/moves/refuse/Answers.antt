@@ -2,8 +2,8 @@ use Rattle.py_stream.proofs.Alone.{refuses_by_life, refuses_by_ability}
 use Rattle.py_stream.proofs.Refusing.{sound_placed}
 use Rattle.py_stream.proofs.moves.refuse.Goals as goal
 
-pub returns-in-Ok : goal.returns-in-Ok
-returns-in-Ok g c = refuses_by_ability _ _ (sound_placed _ c.in-Ok.ensures.sound) c.in-Ok.ensures.begins
+pub returns-in-Ok-clause-answers : goal.returns-in-Ok-clause-answers
+returns-in-Ok-clause-answers g c = refuses_by_ability _ _ (sound_placed _ c.in-Ok.ensures.sound) c.in-Ok.ensures.begins
 
-pub returns-in-Err : goal.returns-in-Err
-returns-in-Err g c = refuses_by_life _ _ c.in-Err.fault (sound_placed _ c.in-Err.ensures.sound) c.in-Err.ensures.begins
+pub returns-in-Err-clause-answers : goal.returns-in-Err-clause-answers
+returns-in-Err-clause-answers g c = refuses_by_life _ _ c.in-Err.fault (sound_placed _ c.in-Err.ensures.sound) c.in-Err.ensures.begins

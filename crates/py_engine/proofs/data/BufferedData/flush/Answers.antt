@@ -13,4 +13,4 @@ returns-in_err-begin g c =
     rw (left.1, left.2) (begins_in_vain (stream_of c.args.self.now) (stream_of c.begin.new.self) Flush c.in_err-begin.field-0.0 (is_placed c.args.self.now (subst Stands c.self.view_is c.self.invariant)) refl refl refl refl (begins c.args.self.now c.begin.new.self (Err c.in_err-begin.field-0.0) c.in_err-begin.ensures))
 
 pub returns : goal.returns
-returns g c = flushes c.begin.new.self.access c.args.self.now c.begin.new.self c.pass_all.new.self c.pass_all.result (sym (ap (λ (engine : EngineView). engine.access) c.in_ok-begin.ensures.1)) (subst Stands c.self.view_is c.self.invariant) c.in_ok-begin.ensures c.pass_all.ensures.outcome c.pass_all.ensures.stands
+returns g c = flushes c.begin.new.self.access c.args.self.now c.begin.new.self c.pass_all.new.self c.pass_all.result (sym (ap (λ (engine : EngineView). engine.access) c.in_ok-begin.ensures.1)) (subst Stands c.self.view_is c.self.invariant) c.in_ok-begin.ensures c.pass_all.ensures.outcome c.pass_all.ensures.stands c.pass_all.ensures.behind c.pass_all.ensures.rests

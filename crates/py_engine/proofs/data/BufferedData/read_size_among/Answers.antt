@@ -38,3 +38,8 @@ returns g c =
     let goes = size_goes c.begin.new.self c.args.size is.window_is more in
     went_on c.args.self.now c.begin.new.self (Read (Some c.args.size)) c.in_ok-begin.ensures goes c.go_ahead.new.self c.read_space.new.self c.in_ok-go_ahead.field-0 (bytes_reply c.read_space.result) c.if-not-branch.false c.in_ok-go_ahead.ensures c.read_space.ensures.reads
     (λ wanting first. c.read_space.ensures.memory wanting) c.read_space.ensures.answers
+
+pub returns-in_err-bytes : goal.returns-in_err-bytes
+returns-in_err-bytes g c =
+    let left = err_from_is_err_and c.from_residual-in_err-bytes.result c.from_residual-in_err-bytes.ensures.1 in
+    rw (left.1, left.2, c.in_err-bytes.ensures.0, c.in_err-bytes.ensures.1) (lacks c.args.self.now c.begin.new.self (subst Stands c.self.view_is c.self.invariant) c.requires.update c.in_ok-begin.ensures (Read (Some c.args.size)) refl refl)

@@ -1,9 +1,10 @@
-use Rattle.std.proofs.Common.{rules, length, refl, subst}
+use Rattle.std.proofs.Common.{◌≡◌, rules, length, refl, ap, subst}
 use Rattle.std.proofs.lemmas.Result.{err_from_is_err_and}
 use Rattle.py_flat.specs.Calls.{ReadInto1}
+use Rattle.py_stream.specs.Kinds.{is_zero}
 use Rattle.py_stream.specs.Replies.{into_reply}
 use Rattle.py_engine.specs.Engine.{Stands}
-use Rattle.py_engine.proofs.Random.{begins_not, went_not, went_unready, went_on, once_goes, once_copied}
+use Rattle.py_engine.proofs.Random.{begins_not, went_not, went_unready, went_on, once_goes, once_copied, asks_nothing}
 use Rattle.py_engine.proofs.data.BufferedData.readinto1_among.Goals as goal
 
 pub returns-in_err-begin-clause-answers : goal.returns-in_err-begin-clause-answers
@@ -26,3 +27,8 @@ returns-then-not-branch-clause-answers g c =
 pub returns-clause-answers : goal.returns-clause-answers
 returns-clause-answers g c =
     went_on c.args.self.now c.begin.new.self (ReadInto1 (length c.args.buffer.now)) c.in_ok-begin.ensures (once_goes c.begin.new.self (ReadInto1 (length c.args.buffer.now)) refl (search rules) (c.gives_at_once.ensures.no c.if-gives_at_once.false)) c.go_ahead.new.self c.readinto1_ahead.new.self c.in_ok-go_ahead.field-0 (into_reply c.readinto1_ahead.result c.readinto1_ahead.new.buffer) c.if-not-branch.false c.in_ok-go_ahead.ensures c.readinto1_ahead.ensures.reads (λ wanting takes. absurd (cc)) c.readinto1_ahead.ensures.answers
+
+pub returns-then-is_empty-clause-answers : goal.returns-then-is_empty-clause-answers
+returns-then-is_empty-clause-answers g c =
+    let none : length c.args.buffer.now ≡ 0 = search rules in
+    asks_nothing c.args.self.now c.begin.new.self (subst Stands c.self.view_is c.self.invariant) c.requires.update c.in_ok-begin.ensures (ReadInto1 (length c.args.buffer.now)) (ap is_zero none)

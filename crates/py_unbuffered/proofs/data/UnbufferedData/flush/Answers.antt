@@ -5,4 +5,4 @@ use Rattle.py_unbuffered.proofs.Begun.{Stands, is_placed, begins}
 use Rattle.py_unbuffered.proofs.data.UnbufferedData.flush.Goals as goal
 
 pub returns : goal.returns
-returns g c = flush_answers (stream_of c.args.self.now) (stream_of c.begin.new.self) c.begin.result (is_placed c.args.self.now (subst Stands c.self.view_is c.self.invariant)) refl (λ _. refl) (begins c.args.self.now c.begin.new.self c.begin.result c.begin.ensures)
+returns g c = flush_answers (stream_of c.args.self.now) (stream_of c.begin.new.self) c.begin.result (is_placed c.args.self.now (subst Stands c.self.view_is c.self.invariant)) refl (λ _. record { stands = refl; held = refl }) (begins c.args.self.now c.begin.new.self c.begin.result c.begin.ensures)
