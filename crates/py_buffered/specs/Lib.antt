@@ -1,2 +1,1 @@
-pub mod Buffered
 pub mod Lines

@@ -7,13 +7,15 @@ ghost use Rattle.py_flat.specs.ExactStep.{is_closed};
 ghost use Rattle.py_stream.specs.Answers.{Answers, RefusesAlone};
 ghost use Rattle.py_stream.specs.Replies.{bytes_reply, into_reply, CountFits, KeepsBuffer, KeepsUnread, lent_reply, lines_reply, place_reply, done_reply};
 ghost use Rattle.py_stream.specs.Stream.{reader_can};
+ghost use Rattle.py_stream.specs.Buffer.{buffer_of};
 ghost use Rattle.py_stream.specs.Opening.{StandsAtStart, NewOutcome};
 ghost use Rattle.py_stream.specs.Handing.{DetachOutcome, PartsOutcome, LendsRaw};
+ghost use Rattle.py_buffered_core.specs.Buffered.{Reads};
 
 use crate::BufferedLines;
-use crate::buffered::Buffered;
+use py_buffered_core::Buffered;
 use py_raw::{IoFault, Life, Lines, RawStream};
-use py_stream::{Access, Detached, NewRefused};
+use py_stream::{Access, BufferedStream, Detached, NewRefused};
 use std::alloc::Global;
 use std::marker::Model;
 
@@ -37,13 +39,13 @@ pub struct BufferedReader<R: RawStream> {
 // A function's proof knows the invariant where the function uses a field: so some begin with `let _ = &self.inner;`.
 impl<R: RawStream> Model for BufferedReader<R> {
     ghost use Rattle.py_stream.specs.Stream.{Stream};
-    ghost use Rattle.py_buffered.specs.Buffered.{seen_of, Reads};
+    ghost use Rattle.py_buffered_core.specs.Buffered.{seen_of, IsReader};
 
     ghost Value = { Stream };
 
     ghost view = { λ r. seen_of r.inner };
 
-    ghost invariant = { λ r. Reads (seen_of r.inner) };
+    ghost invariant = { λ r. IsReader r.inner };
 }
 
 impl<R: RawStream> BufferedReader<R> {
@@ -188,7 +190,8 @@ impl<R: RawStream> BufferedReader<R> {
     /// The refusal of a call that a reader lacks (one that writes, or that moves what can't seek), or that the life doesn't let
     /// through: by the life, else `Unsupported`, with all as it was. It calls no raw. It is for those who take calls as values.
     pub fn refuse(&mut self) -> IoFault
-        ensures { (call : FileCall) → RefusesAlone self.old call → Answers self.old call (Refused result) self.new }
+        ensures answers { (call : FileCall) → RefusesAlone self.old call → Answers self.old call (Refused result) self.new }
+        ensures only_reads { Reads self.old }
     {
         self.inner.refuse()
     }
@@ -288,5 +291,74 @@ impl<R: RawStream> BufferedReader<R> {
         ensures { LendsRaw R.shows self.now result }
     {
         self.inner.raw()
+    }
+}
+
+// As the layer above asks for it: no write takes anything.
+impl<R: RawStream> BufferedStream for BufferedReader<R> {
+    ghost shows = { λ stream. buffer_of stream 0 };
+
+    fn read1(&mut self, alloc: Global, size: Option<usize>) -> Result<Option<Vec<u8>>, IoFault> {
+        BufferedStream::read1(&mut self.inner, alloc, size)
+    }
+
+    fn write(&mut self, bytes: &[u8]) -> Result<usize, IoFault> {
+        BufferedStream::write(&mut self.inner, bytes)
+    }
+
+    fn seek(&mut self, offset: i64, whence: i32) -> Result<u64, IoFault> {
+        BufferedStream::seek(&mut self.inner, offset, whence)
+    }
+
+    fn tell(&mut self) -> Result<u64, IoFault> {
+        BufferedStream::tell(&mut self.inner)
+    }
+
+    fn end(&mut self) -> Result<u64, IoFault> {
+        BufferedStream::end(&mut self.inner)
+    }
+
+    fn flush(&mut self) -> Result<(), IoFault> {
+        BufferedStream::flush(&mut self.inner)
+    }
+
+    fn close(&mut self) -> Result<(), IoFault> {
+        BufferedStream::close(&mut self.inner)
+    }
+
+    fn readable(&self) -> bool {
+        BufferedStream::readable(&self.inner)
+    }
+
+    fn writable(&self) -> bool {
+        BufferedStream::writable(&self.inner)
+    }
+
+    fn seekable(&self) -> bool {
+        BufferedStream::seekable(&self.inner)
+    }
+
+    fn closed(&self) -> bool {
+        BufferedStream::closed(&self.inner)
+    }
+
+    fn short(&self) -> bool {
+        BufferedStream::short(&self.inner)
+    }
+
+    fn exported(&self) -> bool {
+        BufferedStream::exported(&self.inner)
+    }
+
+    fn life(&self) -> Life {
+        BufferedStream::life(&self.inner)
+    }
+
+    fn buffer_size(&self) -> usize {
+        BufferedStream::buffer_size(&self.inner)
+    }
+
+    fn taken(&self) -> u64 {
+        BufferedStream::taken(&self.inner)
     }
 }

@@ -6,14 +6,15 @@ ghost use Rattle.py_flat.specs.ExactStep.{is_closed};
 ghost use Rattle.py_stream.specs.Stream.{writer_can};
 ghost use Rattle.py_stream.specs.Answers.{Answers, RefusesAlone};
 ghost use Rattle.py_stream.specs.Replies.{count_reply, place_reply, done_reply};
-ghost use Rattle.py_stream.specs.Taken.{taken_of};
-ghost use Rattle.py_stream.specs.Opening.{StandsAtStart, NewOutcome};
+ghost use Rattle.py_stream.specs.Taken.{stream_in, taken_of};
+ghost use Rattle.py_stream.specs.Buffer.{buffer_of};
+ghost use Rattle.py_stream.specs.Opening.{StandsAtStart, NewOutcome, opened_as};
 ghost use Rattle.py_stream.specs.Handing.{DetachOutcome, PartsOutcome, LendsRaw};
-ghost use Rattle.py_buffered.specs.Buffered.{opened_as, stream_in};
+ghost use Rattle.py_buffered_core.specs.Buffered.{Writes};
 
-use crate::buffered::Buffered;
+use py_buffered_core::Buffered;
 use py_raw::{IoFault, Life, Lines, RawStream};
-use py_stream::{Access, Detached, NewRefused};
+use py_stream::{Access, BufferedStream, Detached, NewRefused};
 use std::alloc::Global;
 use std::marker::Model;
 
@@ -39,7 +40,8 @@ pub struct BufferedWriter<R: RawStream> {
 
 // A function's proof knows the invariant where the function uses a field: so some begin with `let _ = &self.inner;`.
 impl<R: RawStream> Model for BufferedWriter<R> {
-    ghost use Rattle.py_buffered.specs.Buffered.{WriterView, seen_of, Writes};
+    ghost use Rattle.py_stream.specs.Taken.{WriterView};
+    ghost use Rattle.py_buffered_core.specs.Buffered.{seen_of, Writes};
 
     ghost Value = { WriterView };
 
@@ -143,6 +145,7 @@ impl<R: RawStream> BufferedWriter<R> {
     /// `Unsupported`, with all as it was. It calls no raw. It is for those who take calls as values.
     pub fn refuse(&mut self) -> IoFault
         ensures answers { (call : FileCall) → RefusesAlone self.old.stream call → Answers self.old.stream call (Refused result) self.new.stream }
+        ensures only_writes { Writes self.old.stream }
         ensures taken { self.new.taken ≡ self.old.taken }
     {
         self.inner.refuse()
@@ -264,5 +267,74 @@ impl<R: RawStream> BufferedWriter<R> {
         ensures { LendsRaw R.shows self.now.stream result }
     {
         self.inner.raw()
+    }
+}
+
+// As the layer above asks for it.
+impl<R: RawStream> BufferedStream for BufferedWriter<R> {
+    ghost shows = { λ writer. buffer_of writer.stream writer.taken };
+
+    fn read1(&mut self, alloc: Global, size: Option<usize>) -> Result<Option<Vec<u8>>, IoFault> {
+        BufferedStream::read1(&mut self.inner, alloc, size)
+    }
+
+    fn write(&mut self, bytes: &[u8]) -> Result<usize, IoFault> {
+        BufferedStream::write(&mut self.inner, bytes)
+    }
+
+    fn seek(&mut self, offset: i64, whence: i32) -> Result<u64, IoFault> {
+        BufferedStream::seek(&mut self.inner, offset, whence)
+    }
+
+    fn tell(&mut self) -> Result<u64, IoFault> {
+        BufferedStream::tell(&mut self.inner)
+    }
+
+    fn end(&mut self) -> Result<u64, IoFault> {
+        BufferedStream::end(&mut self.inner)
+    }
+
+    fn flush(&mut self) -> Result<(), IoFault> {
+        BufferedStream::flush(&mut self.inner)
+    }
+
+    fn close(&mut self) -> Result<(), IoFault> {
+        BufferedStream::close(&mut self.inner)
+    }
+
+    fn readable(&self) -> bool {
+        BufferedStream::readable(&self.inner)
+    }
+
+    fn writable(&self) -> bool {
+        BufferedStream::writable(&self.inner)
+    }
+
+    fn seekable(&self) -> bool {
+        BufferedStream::seekable(&self.inner)
+    }
+
+    fn closed(&self) -> bool {
+        BufferedStream::closed(&self.inner)
+    }
+
+    fn short(&self) -> bool {
+        BufferedStream::short(&self.inner)
+    }
+
+    fn exported(&self) -> bool {
+        BufferedStream::exported(&self.inner)
+    }
+
+    fn life(&self) -> Life {
+        BufferedStream::life(&self.inner)
+    }
+
+    fn buffer_size(&self) -> usize {
+        BufferedStream::buffer_size(&self.inner)
+    }
+
+    fn taken(&self) -> u64 {
+        BufferedStream::taken(&self.inner)
     }
 }

@@ -1,13 +1,10 @@
 //! Buffered streams over raw ones: one buffer, filled in one piece and given out bit by bit, or filled bit by bit and passed on.
 #![tactic(auto)]
 
-mod buffered;
-mod buffered_random;
 mod buffered_reader;
 mod buffered_writer;
 mod lines;
 
-pub use buffered_random::BufferedRandom;
 pub use buffered_reader::BufferedReader;
 pub use buffered_writer::BufferedWriter;
 pub use lines::BufferedLines;

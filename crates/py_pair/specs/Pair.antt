@@ -12,7 +12,7 @@ use Rattle.py_stream.specs.Answers.{Answers}
 use Rattle.py_stream.specs.Opening.{Opens, RefusesRaw}
 use Rattle.py_stream.specs.Handing.{PartsOutcome}
 use Rattle.py_stream.specs.Replies.{done_reply}
-use Rattle.py_buffered.specs.Buffered.{WriterView}
+use Rattle.py_stream.specs.Taken.{WriterView}
 
 -- a pair: the stream that is read, and the one that is written
 pub record PairView : Type 0 where

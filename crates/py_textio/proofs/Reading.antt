@@ -142,7 +142,7 @@ keeps_reader old new call reply before after is answers = record {
   raw = answers.keeps.raw;
   bytes = (answers.spares is.writes is.owed).bytes;
   written = (answers.spares is.writes is.owed).written;
-  shut = answers.shut (closes_whole old call reply is.writes) (none_owed new (answers.spares is.writes is.owed).owed);
+  shut = answers.shut (closes_whole old call reply new is.writes) (none_owed new (answers.spares is.writes is.owed).owed);
 }
 
 -- the place that is counted is the reader's while that lives, which a reading keeps

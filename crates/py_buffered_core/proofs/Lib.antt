@@ -1,0 +1,4 @@
+pub mod Counting
+pub mod Outer
+pub mod HandingOver
+pub mod AsBuffered

@@ -1,0 +1,10 @@
+-- What is kept beside an engine.
+use Rattle.std.proofs.Common.{◌≡◌, ℕ, Bool, Some, arith}
+use Rattle.py_stream.specs.declared.access.Access.{Access}
+use Rattle.py_stream.specs.Answers.{KeepsStream}
+use Rattle.py_engine.specs.Engine.{EngineView, stream_of}
+use Rattle.py_buffered_core.specs.Buffered.{IsBuffered}
+
+-- what is kept beside an engine that keeps its stream is the engine's own still
+pub stays_buffered : (old new : EngineView) (opened : Access) (seekable : Bool) (size : ℕ) → IsBuffered (Some old) opened seekable size → KeepsStream (stream_of old) (stream_of new) → IsBuffered (Some new) opened seekable size
+stays_buffered old new opened seekable size is keeps = grind arith

@@ -1,0 +1,12 @@
+use Rattle.std.proofs.Common.{Some, refl}
+use Rattle.py_flat.specs.Calls.{ReadLine}
+use Rattle.py_stream.specs.Access.{can_of}
+use Rattle.py_stream.proofs.Refused.{detached_answers}
+use Rattle.py_buffered_core.proofs.buffered.Buffered.readline.Goals as goal
+use Rattle.py_buffered_core.proofs.buffered.Buffered.readline.Goals.{in-Some, in-None}
+
+pub returns-clause-answers : goal.returns-clause-answers
+returns-clause-answers g c = elim c.match-self.branch [
+  | in-Some w ↦ rw (← c.self.view_is, w.in-Some.is, w.result-is, w.self-inside-is) w.readline.ensures
+  | in-None w ↦ rw (← c.self.view_is, w.result-is, w.self-inside-is, w.in-None.is) (detached_answers (can_of c.self.inside.access c.self.inside.seekable) (Some c.self.inside.size) (ReadLine c.args.limit) refl refl)
+]

@@ -1,0 +1,10 @@
+use Rattle.py_buffered_core.specs.Buffered.{seen_of}
+use Rattle.py_buffered_core.proofs.Counting.{write_takes}
+use Rattle.py_buffered_core.proofs.buffered.Buffered.write.Goals as goal
+
+pub count_from-requires : goal.count_from-requires
+count_from-requires g c = rw c.place-start.ensures.place (write_takes (seen_of c.args.self.now) (seen_of c.put-answer.new.self) c.buffer_size.result c.args.bytes.now c.put-answer.result c.buffer_size.ensures c.put-answer.ensures).forth
+
+pub returns-clause-taken : goal.returns-clause-taken
+returns-clause-taken g c =
+    rw (c.count_from.ensures, c.place-start.ensures.place) (write_takes (seen_of c.args.self.now) (seen_of c.put-answer.new.self) c.buffer_size.result c.args.bytes.now c.put-answer.result c.buffer_size.ensures c.put-answer.ensures).taken
