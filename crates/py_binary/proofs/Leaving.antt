@@ -16,7 +16,7 @@ use Rattle.py_stream.specs.Handing.{HandsOver, owed_then, handed_over}
 use Rattle.py_stream.proofs.Refused.{is_own}
 use Rattle.py_stream.proofs.Refusing.{IsPlaced, refused_with}
 use Rattle.py_binary.specs.Binary.{has_reply_room, gone_stream, left_by, HandsOwed, detached_fault, AnswersCall}
-use Rattle.py_binary.specs.Kinds.{IsHeld, IsReader, IsWriter, IsUnbuffered}
+use Rattle.py_binary.specs.Kinds.{IsHeld, IsBuffered, IsUnbuffered}
 use Rattle.py_binary.proofs.Answering.{with_reply_room}
 
 -- The life after a call that isn't a `detach` which was answered.
@@ -70,18 +70,9 @@ no_detach call reply not_it is bytes place = absurd (not_it is)
 pub no_answer : (call : FileCall) (why : IoFault) → Stays call (Refused why)
 no_answer call why is bytes place says = absurd (cc)
 
-pub reader_on : (old : Stream) (call : FileCall) (reply : FileReply) (new : Stream) → IsReader old → Stays call reply → AnswersWith has_reply_room old call reply new → IsReader new
-reader_on old call reply new is stays a = record {
+pub buffered_on : (old : Stream) (call : FileCall) (reply : FileReply) (new : Stream) → IsBuffered old → Stays call reply → AnswersWith has_reply_room old call reply new → IsBuffered new
+buffered_on old call reply new is stays a = record {
   held = held_on has_reply_room old call reply new is.held stays a;
-  reads = ap (λ (can : Abilities). can.readable) a.keeps.can ∙ is.reads;
-  writes = ap (λ (can : Abilities). can.writable) a.keeps.can ∙ is.writes;
-  buffered = (is.buffered.0, a.keeps.buffer ∙ is.buffered.1);
-}
-
-pub writer_on : (old : Stream) (call : FileCall) (reply : FileReply) (new : Stream) → IsWriter old → Stays call reply → AnswersWith has_reply_room old call reply new → IsWriter new
-writer_on old call reply new is stays a = record {
-  held = held_on has_reply_room old call reply new is.held stays a;
-  reads = ap (λ (can : Abilities). can.readable) a.keeps.can ∙ is.reads;
   buffered = (is.buffered.0, a.keeps.buffer ∙ is.buffered.1);
 }
 

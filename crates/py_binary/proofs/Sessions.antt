@@ -23,8 +23,7 @@ session_served stream None is holds = holds
 session_served stream (Some raw) is holds = absurd (cc)
 
 pub served_held : {R : Type 0} (stream : Kind R) → IsServed stream → IsHeld (shown stream)
-served_held (kind.Reader reader) served = served.held
-served_held (kind.Writer writer) served = served.held
+served_held (kind.Buffered stream) served = served.held
 served_held (kind.Unbuffered stream) served = served.held
 
 -- what holds of a session is left by forgetting a wait

@@ -9,7 +9,7 @@ use Rattle.py_stream.specs.Stream.{Stream, file_of}
 use Rattle.py_stream.specs.Kinds.{calls_none}
 use Rattle.py_stream.specs.Writing.{Writes}
 use Rattle.py_stream.specs.Answers.{AnswersWith, IsNear, refused_by}
-use Rattle.py_stream.proofs.Coming.{came_still, each_still}
+use Rattle.py_stream.proofs.Coming.{near_seen, ahead_seen, came_still, each_still}
 use Rattle.py_stream.proofs.Refused.{lays_nothing}
 use Rattle.py_stream.proofs.Stopping.{starves_alive, starves_there}
 use Rattle.py_raw.proofs.Telling.{keeps_same}
@@ -55,6 +55,8 @@ starved_into stream size is live reads = record {
   moves = record { life_is = starves_alive stream.buffer (ReadInto size) stream.life; place = starves_there stream.buffer (ReadInto size) stream.life stream.place; far = is.far; within = tt };
   ends = tt;
   wants = λ wanting room. absurd (cc);
+  goes_on = λ reading ahead. ahead_seen stream false ahead;
+  goes_past = λ reading given. absurd (cc);
   starves = λ wanting reading ahead. record {
     unmoved = λ lives. refl;
     moved = λ failed. let wrong : life.Live ≡ life.Failed = sym live ∙ failed in absurd (cc);
@@ -65,6 +67,7 @@ starved_into stream size is live reads = record {
   idle = λ keeps. absurd (let never = never_idle stream.buffer stream.can.writable size in cc);
   single = λ one none tells. omega arith;
   in_hand = λ has. record { raw = refl; fault = refl };
+  owing = λ has. refl;
   brings = λ reading none. came_still stream (record stream { short = false }) 1 refl refl;
   unread = λ reads. absurd (cc);
   needs = λ reading none. record {
@@ -80,6 +83,6 @@ starved_into stream size is live reads = record {
   complete = λ accepted calm sound. (tt, refl);
   told = λ tells. out_of_memory refl (reaches stream size live reads, inl refl);
   reach = λ reading tells. omega arith;
-  near = λ lives. let near : IsNear stream = is.near lives in record { after_first = near.after_first; before_end = near.before_end; fits = near.fits; read_ahead = near.read_ahead; ahead = near.ahead; behind = near.behind; stands = near.stands };
+  near = λ lives. near_seen stream false (is.near lives);
   hides = λ short. absurd (cc);
 }

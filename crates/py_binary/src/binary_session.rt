@@ -1,5 +1,5 @@
 //! The binary session.
-ghost use Rattle.std.specs.Prelude.{◌≡◌, ◌≢◌, Some, None, false, IsTrue, IfErr};
+ghost use Rattle.std.specs.Prelude.{◌≡◌, ◌≢◌, None, false, IsTrue, IfErr};
 ghost use Rattle.py_flat.specs.Calls.{Detach, Refused};
 ghost use Rattle.py_flat.specs.Refusals.{is_getter};
 ghost use Rattle.py_stream.specs.Handing.{PartsOutcome};
@@ -9,11 +9,10 @@ ghost use Rattle.py_calls.specs.Calls.{file_call, said};
 ghost use Rattle.py_binary.specs.Binary.{AnswersBinary, AnswersCall, detached_fault, place_left};
 ghost use Rattle.py_binary.specs.Kinds.{shown, IsServed, DetachesKind};
 
+use crate::buffered::Buffered;
+use crate::buffered_calls::answer_buffered;
 use crate::kind::Kind;
-use crate::reader_calls::answer_reader;
 use crate::unbuffered_calls::answer_unbuffered;
-use crate::writer_calls::answer_writer;
-use py_buffered::{BufferedReader, BufferedWriter};
 use py_calls::{Call, Reply};
 use py_raw::{Data, IoFault, Life, RawStream};
 use py_stream::{Access, Detached, NewRefused};
@@ -47,13 +46,14 @@ impl<R: RawStream> Model for BinarySession<R> {
 }
 
 impl<R: RawStream> BinarySession<R> {
-    /// A session over a raw that is read, written or appended to, with a buffer of `buffer_size` bytes, or none; or both read and
-    /// written, for which so far there has to be no buffer. It begins where the raw stands, one that appends at the end, to which a
-    /// raw that can seek is moved. A raw that can't seek stands at place 0.
+    /// A session over a raw that is read, written, both read and written, or appended to, with a buffer of `buffer_size` bytes, or
+    /// none. It begins where the raw stands, one that appends at the end, to which a raw that can seek is moved. A raw that can't seek
+    /// stands at place 0.
     ///
     /// Refused, the raw is handed back with nothing read or written: `Closed` where it is closed, then `Unsupported` where it
-    /// can't do what it is opened for, `BadArgument` for a buffer of no bytes, `NoMemory`, and `RawFault` where it failed to say
-    /// where it stands or ends, or to move there. Without a buffer `NoMemory` comes only of a raw that takes some.
+    /// can't do what it is opened for (what is both read and written through a buffer has to seek), `BadArgument` for a buffer of no
+    /// bytes, `NoMemory`, and `RawFault` where it failed to say where it stands or ends, or to move there. Without a buffer `NoMemory`
+    /// comes only of a raw that takes some.
     pub fn new(
         alloc: Global,
         raw: R,
@@ -61,39 +61,18 @@ impl<R: RawStream> BinarySession<R> {
         buffer_size: Option<usize>,
     ) -> Result<Self, NewRefused<R>>
         requires start { StandsAtStart (R.shows raw) }
-        requires update { access ≡ Access.Update → buffer_size ≡ None }
-        ensures outcome { NewOutcome R.shows (is_able access) (can_of access) raw buffer_size result }
+        ensures outcome { NewOutcome R.shows (is_able access buffer_size) (can_of access) raw buffer_size result }
         ensures memory { buffer_size ≡ None → IfErr result (λ refused. refused.fault ≡ IoFault.NoMemory → IsTrue (R.shows raw).takes_memory) }
     {
         match buffer_size {
-            Some(size) => BinarySession::buffered(alloc, raw, access, size),
+            Some(size) => match Buffered::new(alloc, raw, access, size) {
+                Ok(stream) => Ok(BinarySession::over(alloc, Kind::Buffered(stream))),
+                Err(refused) => Err(refused),
+            },
             None => match UnbufferedStream::new(raw, access) {
                 Ok(stream) => Ok(BinarySession::over(alloc, Kind::Unbuffered(stream))),
                 Err(refused) => Err(refused),
             },
-        }
-    }
-
-    /// Opens the stream with a buffer.
-    fn buffered(alloc: Global, raw: R, access: Access, size: usize) -> Result<Self, NewRefused<R>>
-        requires start { StandsAtStart (R.shows raw) }
-        requires alone { access ≢ Access.Update }
-        ensures { NewOutcome R.shows (is_able access) (can_of access) raw (Some size) result }
-    {
-        match access {
-            Access::Read => match BufferedReader::new(alloc, raw, size) {
-                Ok(reader) => Ok(BinarySession::over(alloc, Kind::Reader(reader))),
-                Err(refused) => Err(refused),
-            },
-            Access::Write => match BufferedWriter::new(alloc, raw, size) {
-                Ok(writer) => Ok(BinarySession::over(alloc, Kind::Writer(writer))),
-                Err(refused) => Err(refused),
-            },
-            Access::Append => match BufferedWriter::append(alloc, raw, size) {
-                Ok(writer) => Ok(BinarySession::over(alloc, Kind::Writer(writer))),
-                Err(refused) => Err(refused),
-            },
-            Access::Update => unreachable!(),
         }
     }
 
@@ -111,8 +90,8 @@ impl<R: RawStream> BinarySession<R> {
 
     /// Makes one call.
     ///
-    /// A call of the stream is answered as its own type says (`BufferedReader`, `BufferedWriter`, `UnbufferedStream`), with the
-    /// bytes that `ReadInto`, `ReadInto1` and `Peek` give as bytes of the reply, for which these may want memory. The four questions
+    /// A call of the stream is answered as its own type says (`BufferedReader`, `BufferedWriter`, `BufferedRandom`,
+    /// `UnbufferedStream`), with the bytes that `ReadInto`, `ReadInto1` and `Peek` give as bytes of the reply, for which these may want memory. The four questions
     /// (`Readable`, `Writable`, `Seekable`, `Closed`) are answered in every life.
     ///
     /// A call that the stream lacks is refused by the life, else `Unsupported`; so are the calls of texts.
@@ -234,8 +213,7 @@ fn parts_of<R: RawStream>(alloc: Global, stream: Kind<R>) -> Option<Detached<R>>
     ensures { PartsOutcome R.shows (shown stream) result }
 {
     match stream {
-        Kind::Reader(reader) => reader.into_parts(),
-        Kind::Writer(writer) => writer.into_parts(),
+        Kind::Buffered(stream) => stream.into_parts(),
         Kind::Unbuffered(stream) => Some(stream.into_parts(alloc)),
     }
 }
@@ -249,8 +227,7 @@ fn answer_stream<R: RawStream>(alloc: Global, stream: &mut Kind<R>, call: &Call)
     ensures served { IsServed stream.new }
 {
     match stream {
-        Kind::Reader(reader) => answer_reader(alloc, reader, call),
-        Kind::Writer(writer) => answer_writer(writer, call),
+        Kind::Buffered(stream) => answer_buffered(alloc, stream, call),
         Kind::Unbuffered(stream) => answer_unbuffered(alloc, stream, call),
     }
 }
@@ -272,8 +249,7 @@ fn detach_stream<R: RawStream>(stream: &mut Kind<R>) -> Result<Detached<R>, IoFa
     ensures { DetachesKind R.shows stream.old result stream.new }
 {
     match stream {
-        Kind::Reader(reader) => reader.detach(),
-        Kind::Writer(writer) => writer.detach(),
+        Kind::Buffered(stream) => stream.detach(),
         Kind::Unbuffered(stream) => Err(stream.refuse()),
     }
 }

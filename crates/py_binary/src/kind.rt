@@ -2,17 +2,15 @@
 ghost use Rattle.std.specs.Prelude.{◌≡◌, false};
 ghost use Rattle.py_binary.specs.Kinds.{shown, IsServed};
 
-use py_buffered::{BufferedReader, BufferedWriter};
+use crate::buffered::Buffered;
 use py_raw::{Life, RawStream};
 use py_unbuffered::UnbufferedStream;
 
-/// The stream of a session, by what it was opened for.
+/// The stream of a session, with a buffer or without.
 #[derive(Debug, Drop)]
 pub(crate) enum Kind<R: RawStream> {
-    /// A buffered stream that is read.
-    Reader(BufferedReader<R>),
-    /// A buffered stream that is written, or appended to.
-    Writer(BufferedWriter<R>),
+    /// A buffered stream.
+    Buffered(Buffered<R>),
     /// A stream without a buffer.
     Unbuffered(UnbufferedStream<R>),
 }
@@ -23,8 +21,7 @@ impl<R: RawStream> Kind<R> {
         ensures { result ≡ (shown self.now).can.readable }
     {
         match self {
-            Kind::Reader(reader) => reader.readable(),
-            Kind::Writer(writer) => writer.readable(),
+            Kind::Buffered(stream) => stream.readable(),
             Kind::Unbuffered(stream) => stream.readable(),
         }
     }
@@ -34,8 +31,7 @@ impl<R: RawStream> Kind<R> {
         ensures { result ≡ (shown self.now).can.writable }
     {
         match self {
-            Kind::Reader(reader) => reader.writable(),
-            Kind::Writer(writer) => writer.writable(),
+            Kind::Buffered(stream) => stream.writable(),
             Kind::Unbuffered(stream) => stream.writable(),
         }
     }
@@ -45,8 +41,7 @@ impl<R: RawStream> Kind<R> {
         ensures { result ≡ (shown self.now).can.seekable }
     {
         match self {
-            Kind::Reader(reader) => reader.seekable(),
-            Kind::Writer(writer) => writer.seekable(),
+            Kind::Buffered(stream) => stream.seekable(),
             Kind::Unbuffered(stream) => stream.seekable(),
         }
     }
@@ -56,8 +51,7 @@ impl<R: RawStream> Kind<R> {
         ensures { result ≡ (shown self.now).life }
     {
         match self {
-            Kind::Reader(reader) => reader.life(),
-            Kind::Writer(writer) => writer.life(),
+            Kind::Buffered(stream) => stream.life(),
             Kind::Unbuffered(stream) => stream.life(),
         }
     }
@@ -67,8 +61,7 @@ impl<R: RawStream> Kind<R> {
         ensures { result ≡ (shown self.now).short }
     {
         match self {
-            Kind::Reader(reader) => reader.short(),
-            Kind::Writer(writer) => writer.short(),
+            Kind::Buffered(stream) => stream.short(),
             Kind::Unbuffered(stream) => stream.short(),
         }
     }
@@ -79,8 +72,7 @@ impl<R: RawStream> Kind<R> {
         ensures served { IsServed self.old → IsServed self.new }
     {
         match self {
-            Kind::Reader(reader) => reader.forget_wait(),
-            Kind::Writer(writer) => writer.forget_wait(),
+            Kind::Buffered(stream) => stream.forget_wait(),
             Kind::Unbuffered(stream) => stream.forget_wait(),
         }
     }

@@ -5,11 +5,11 @@
 #![tactic(auto)]
 
 mod binary_session;
+mod buffered;
+mod buffered_calls;
 mod kind;
-mod reader_calls;
 mod replies;
 mod unbuffered_calls;
-mod writer_calls;
 
 pub use binary_session::BinarySession;
 pub use py_stream::Access;

@@ -2,9 +2,11 @@
 ghost use Rattle.std.specs.Prelude.{◌≡◌, Err, IfOk};
 ghost use Rattle.py_calls.specs.Calls.{said};
 ghost use Rattle.py_stream.specs.Replies as seen;
+ghost use Rattle.py_binary.specs.Kinds.{CopiesLent};
 
 use py_calls::Reply;
 use py_raw::{Data, IoFault, Lines};
+use std::alloc::Global;
 
 /// The reply of a reading that gives bytes, or isn't ready.
 pub(crate) fn bytes_reply(answer: Result<Option<Vec<u8>>, IoFault>) -> Reply
@@ -12,6 +14,20 @@ pub(crate) fn bytes_reply(answer: Result<Option<Vec<u8>>, IoFault>) -> Reply
 {
     match answer {
         Ok(Some(part)) => Reply::Bytes(Data::from_vec(part)),
+        Ok(None) => Reply::NotReady,
+        Err(fault) => Reply::Refused(fault),
+    }
+}
+
+/// The reply of a look: a copy of the bytes that it lent, or `NoMemory` without space for them.
+pub(crate) fn copy_reply(alloc: Global, answer: Result<Option<&[u8]>, IoFault>) -> Reply
+    ensures { CopiesLent answer.entry (said result) }
+{
+    match answer {
+        Ok(Some(part)) => match Data::from_slice(alloc, part) {
+            Ok(bytes) => Reply::Bytes(bytes),
+            Err(_) => Reply::Refused(IoFault::NoMemory),
+        },
         Ok(None) => Reply::NotReady,
         Err(fault) => Reply::Refused(fault),
     }

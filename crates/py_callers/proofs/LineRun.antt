@@ -66,7 +66,7 @@ line_stepped file reply after accepted (raw_faulted rises says h) = absurd (cc r
 line_stepped file reply after accepted (out_of_memory says h) = inr says
 
 abbrev OpensToRead : Raw → Stream → Type 0
-OpensToRead raw stream = Opens (is_able access.Read) (can_of access.Read) raw (Some 8192) stream
+OpensToRead raw stream = Opens (is_able access.Read (Some 8192)) (can_of access.Read) raw (Some 8192) stream
 
 -- where the raw tells, the file has left what the raw has
 rest_of : (raw : Raw) (stream : Stream) → OpensToRead raw stream → IsTrue (tells raw) → rest (file_of stream) ≡ left_at raw.bytes raw.place

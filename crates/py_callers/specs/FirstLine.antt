@@ -28,4 +28,4 @@ pub record AnswersLine (raw : Raw) (reply : FileReply) (back : Raw) : Type 0 whe
 -- the reply, with the raw; or why the opening was refused, of a raw that is read from where it stands through a buffer of 8192 bytes
 abbrev pub LineOutcome : {R : Type 0} → (R → Raw) → R → Result (FirstLine R) (OpenRefused R) → Type 0
 LineOutcome shows raw (Ok first) = AnswersLine (shows raw) (said first.reply) (shows first.raw)
-LineOutcome shows raw (Err refused) = RefusesRaw (is_able access.Read) false (shows raw) (Some 8192) refused.fault (shows refused.raw)
+LineOutcome shows raw (Err refused) = RefusesRaw (is_able access.Read (Some 8192)) false (shows raw) (Some 8192) refused.fault (shows refused.raw)

@@ -1,5 +1,5 @@
 -- Texts that are compared by their characters, and what is known of an accepted plan.
-use Rattle.std.proofs.Common.{◌≡◌, ◌≢◌, ℕ, zero, suc, ◌<◌, ℤ, pos, negsuc, Bool, true, false, not, ◌&&◌, ◌||◌, if◌then◌else◌, nat_eq, Option, Some, None, is_none, is_some, List, [], ◌∷◌, Result, Ok, Err, codes, refl, sym, ap, subst, ◌∙◌, bytes_eq, arith}
+use Rattle.std.proofs.Common.{◌≡◌, ◌≢◌, ℕ, zero, suc, ◌<◌, ℤ, pos, negsuc, Bool, true, false, not, ◌&&◌, ◌||◌, if◌then◌else◌, nat_eq, Option, Some, None, is_some, List, [], ◌∷◌, Result, Ok, Err, codes, refl, sym, ap, subst, ◌∙◌, bytes_eq, arith}
 use Rattle.std.specs.Str.{chars as characters, IsUtf8}
 use Rattle.std.proofs.lemmas.Str.{encodes-chars}
 use Rattle.std.proofs.lemmas.Slice.Eq.{bytes_eq-Decides}
@@ -70,15 +70,11 @@ text_is_planned : (encode : EncodeMode) (planned : Bool) → (not (is_text encod
 text_is_planned Text planned is text = is
 text_is_planned Bytes planned is text = cc
 
--- a plus is planned of bytes, not at the end, and without a buffer
-plus_is_planned : (encode : EncodeMode) (appends none : Bool) → (not (is_text encode) && (not appends && none)) ≡ true → (encode ≡ Bytes) × (appends ≡ false) × (none ≡ true)
-plus_is_planned Bytes false none is = (refl, refl, is)
-plus_is_planned Bytes true none is = cc
-plus_is_planned Text appends none is = cc
-
-is_not_there : (size : Option ℕ) → is_none size ≡ true → size ≡ None
-is_not_there None is = refl
-is_not_there (Some given) is = cc
+-- a plus is planned of bytes, not at the end
+plus_is_planned : (encode : EncodeMode) (appends : Bool) → (not (is_text encode) && not appends) ≡ true → (encode ≡ Bytes) × (appends ≡ false)
+plus_is_planned Bytes false is = (refl, refl)
+plus_is_planned Bytes true is = cc
+plus_is_planned Text appends is = cc
 
 first_or : (plus first : Bool) → (not plus || first) ≡ true → plus ≡ true → first ≡ true
 first_or true first is plus = is
@@ -129,11 +125,10 @@ planned_mode mode args plan planned = (accepted mode args plan planned).named
 pub planned_buffer : (mode : List ℕ) (args : OpenArgs) (plan : OpenPlan) → plan_of mode args ≡ Ok plan → plan.buffer_size ≡ buffer_size_of args.buffering
 planned_buffer mode args plan planned = (accepted mode args plan planned).buffer
 
--- an accepted plan with a plus is one of bytes, not at the end, without a buffer
-pub planned_plus : (mode : List ℕ) (args : OpenArgs) (plan : OpenPlan) → plan_of mode args ≡ Ok plan → plan.mode.plus ≡ true → (plan.mode.encode ≡ Bytes) × (is_append plan.mode.file ≡ false) × (plan.buffer_size ≡ None)
+-- an accepted plan with a plus is one of bytes, not at the end
+pub planned_plus : (mode : List ℕ) (args : OpenArgs) (plan : OpenPlan) → plan_of mode args ≡ Ok plan → plan.mode.plus ≡ true → (plan.mode.encode ≡ Bytes) × (is_append plan.mode.file ≡ false)
 planned_plus mode args plan planned plus =
-    let is = plus_is_planned plan.mode.encode (is_append plan.mode.file) (is_none (buffer_size_of args.buffering)) (first_or plan.mode.plus _ (both_hold _ _ (accepted mode args plan planned).planned).0 plus) in
-    (is.0, is.1, planned_buffer mode args plan planned ∙ is_not_there (buffer_size_of args.buffering) is.2)
+    plus_is_planned plan.mode.encode (is_append plan.mode.file) (first_or plan.mode.plus _ (both_hold _ _ (accepted mode args plan planned).planned).0 plus)
 
 -- a buffer that an accepted plan has is of at least one byte
 pub planned_buffer_has_bytes : (mode : List ℕ) (args : OpenArgs) (plan : OpenPlan) (size : ℕ) → plan_of mode args ≡ Ok plan → plan.buffer_size ≡ Some size → 0 < size

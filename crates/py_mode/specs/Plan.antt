@@ -46,13 +46,13 @@ are_planned_names args = is_utf8 args.encoding && (is_strict args.errors && is_l
 abbrev pub is_planned_text : Mode → OpenArgs → Bool
 is_planned_text mode args = is_read mode.file && (are_planned_names args && is_some (buffer_size_of args.buffering))
 
--- whether reading and writing is opened so far: of bytes, without a buffer, but not at the end
-abbrev pub is_planned_update : Mode → OpenArgs → Bool
-is_planned_update mode args = not (is_text mode.encode) && (not (is_append mode.file) && is_none (buffer_size_of args.buffering))
+-- whether reading and writing is opened so far: of bytes, through a buffer or none, but not at the end
+abbrev pub is_planned_update : Mode → Bool
+is_planned_update mode = not (is_text mode.encode) && not (is_append mode.file)
 
--- whether mode and arguments are opened so far: every binary mode without a plus, some with one, and some texts
+-- whether mode and arguments are opened so far: every binary mode but one that appends with a plus, and some texts
 abbrev pub is_planned : Mode → OpenArgs → Bool
-is_planned mode args = (not mode.plus || is_planned_update mode args) && (not (is_text mode.encode) || is_planned_text mode args)
+is_planned mode args = (not mode.plus || is_planned_update mode) && (not (is_text mode.encode) || is_planned_text mode args)
 
 -- the plan of a mode that is parsed: an argument that can't be had is refused before what isn't opened so far
 abbrev pub plan_by : Result Mode ParseModeError → OpenArgs → Result OpenPlan IoFault

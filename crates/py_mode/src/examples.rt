@@ -47,12 +47,14 @@ pub fn binary_modes_are_opened()
     ensures any_order { (args : OpenArgs) → plan_of (codes "br") args ≡ plan_of (codes "rb") args }
 {}
 
-/// A binary mode with a plus is opened without a buffer, but for one that appends.
-pub fn bytes_are_read_and_written_without_a_buffer()
+/// A binary mode with a plus is opened with any buffer or none, but for one that appends.
+pub fn bytes_are_read_and_written()
     ensures read_first { plan_of (codes "rb+") (record default_args { buffering = pos 0 }) ≡ Ok (record { mode = record { file = file.Read; encode = encode.Bytes; plus = true }; buffer_size = None }) }
     ensures made_empty { plan_of (codes "w+b") (record default_args { buffering = pos 0 }) ≡ Ok (record { mode = record { file = file.Write; encode = encode.Bytes; plus = true }; buffer_size = None }) }
     ensures made_new { plan_of (codes "+xb") (record default_args { buffering = pos 0 }) ≡ Ok (record { mode = record { file = file.Exclusive; encode = encode.Bytes; plus = true }; buffer_size = None }) }
-    ensures with_a_buffer { (size : ℕ) → plan_of (codes "rb+") (record default_args { buffering = pos (suc size) }) ≡ Err fault.Unsupported }
+    ensures with_the_default { plan_of (codes "rb+") default_args ≡ Ok (record { mode = record { file = file.Read; encode = encode.Bytes; plus = true }; buffer_size = Some 8192 }) }
+    ensures with_any_size { (size : ℕ) → plan_of (codes "w+b") (record default_args { buffering = pos (2 + size) }) ≡ Ok (record { mode = record { file = file.Write; encode = encode.Bytes; plus = true }; buffer_size = Some (2 + size) }) }
+    ensures any_order { (args : OpenArgs) → plan_of (codes "+bx") args ≡ plan_of (codes "xb+") args }
     ensures at_the_end { (args : OpenArgs) (more : ℕ) → plan_of (codes "ab+") (record default_args { buffering = args.buffering; chunk_size = suc more }) ≡ Err fault.Unsupported }
 {}
 
@@ -83,10 +85,8 @@ pub fn an_argument_is_refused_before_what_is_not_opened()
     ensures no_chunk_of_bytes { (args : OpenArgs) → plan_of (codes "rb") (record args { chunk_size = 0 }) ≡ Err fault.BadArgument }
 {}
 
-/// A text with a plus, and one that is written, aren't opened so far, whatever the arguments are that can be had; nor are bytes that are
-/// read and written through a buffer.
+/// A text with a plus, and one that is written, aren't opened so far, whatever the arguments are that can be had.
 pub fn some_modes_are_not_opened_so_far()
     ensures text_and_plus { (args : OpenArgs) (more : ℕ) → plan_of (codes "r+") (record args { chunk_size = suc more }) ≡ Err fault.Unsupported }
     ensures written_text { (args : OpenArgs) (more : ℕ) → plan_of (codes "w") (record args { chunk_size = suc more }) ≡ Err fault.Unsupported }
-    ensures read_and_written { plan_of (codes "rb+") default_args ≡ Err fault.Unsupported }
 {}

@@ -10,12 +10,11 @@ ghost use Rattle.py_mode.specs.Mode.{mode_of, is_append};
 ghost use Rattle.py_mode.specs.Plan.{are_planned_names, buffer_size_of, plan_of};
 
 /// The mode of a plan is the one that was asked for, its buffer has the size that was, never 0 bytes, and chunks have at
-/// least one. What is both read and written are bytes, not at the end, without a buffer.
+/// least one. What is both read and written are bytes, not at the end.
 pub fn an_accepted_plan_is_what_was_asked()
     ensures mode { (mode : List ℕ) (args : OpenArgs) (plan : OpenPlan) → plan_of mode args ≡ Ok plan → mode_of mode ≡ Ok plan.mode }
     ensures plus_of_bytes { (mode : List ℕ) (args : OpenArgs) (plan : OpenPlan) → plan_of mode args ≡ Ok plan → plan.mode.plus ≡ true → plan.mode.encode ≡ encode.Bytes }
     ensures plus_not_at_the_end { (mode : List ℕ) (args : OpenArgs) (plan : OpenPlan) → plan_of mode args ≡ Ok plan → plan.mode.plus ≡ true → is_append plan.mode.file ≡ false }
-    ensures plus_without_a_buffer { (mode : List ℕ) (args : OpenArgs) (plan : OpenPlan) → plan_of mode args ≡ Ok plan → plan.mode.plus ≡ true → plan.buffer_size ≡ None }
     ensures buffer { (mode : List ℕ) (args : OpenArgs) (plan : OpenPlan) → plan_of mode args ≡ Ok plan → plan.buffer_size ≡ buffer_size_of args.buffering }
     ensures some_bytes { (mode : List ℕ) (args : OpenArgs) (plan : OpenPlan) (size : ℕ) → plan_of mode args ≡ Ok plan → plan.buffer_size ≡ Some size → 0 < size }
     ensures chunk { (mode : List ℕ) (args : OpenArgs) (plan : OpenPlan) → plan_of mode args ≡ Ok plan → 0 < args.chunk_size }

@@ -14,7 +14,8 @@ mod plan;
 pub use examples::{
     a_mode_is_refused_before_any_argument, a_text_is_read_through_a_buffer,
     an_argument_is_refused_before_what_is_not_opened, binary_modes_are_opened,
-    modes_are_taken_apart, some_modes_are_not_opened_so_far, the_first_letter_that_offends_decides,
+    bytes_are_read_and_written, modes_are_taken_apart, some_modes_are_not_opened_so_far,
+    the_first_letter_that_offends_decides,
 };
 pub use laws::{
     an_accepted_binary_mode_has_no_text_argument, an_accepted_plan_is_what_was_asked,

@@ -92,17 +92,17 @@ fn is_planned_text(mode: Mode, args: &OpenArgs) -> bool
 }
 
 /// Whether reading and writing is opened so far.
-fn is_planned_update(mode: Mode, args: &OpenArgs) -> bool
-    ensures { result ≡ is_planned_update mode args.now }
+fn is_planned_update(mode: Mode) -> bool
+    ensures { result ≡ is_planned_update mode }
 {
-    !mode.encode.is_text() && !mode.file.is_append() && buffer_size_of(args.buffering).is_none()
+    !mode.encode.is_text() && !mode.file.is_append()
 }
 
 /// Whether mode and arguments are opened so far.
 fn is_planned(mode: Mode, args: &OpenArgs) -> bool
     ensures { result ≡ is_planned mode args.now }
 {
-    (!mode.plus || is_planned_update(mode, args))
+    (!mode.plus || is_planned_update(mode))
         && (!mode.encode.is_text() || is_planned_text(mode, args))
 }
 
@@ -119,8 +119,7 @@ fn is_planned(mode: Mode, args: &OpenArgs) -> bool
 /// - as `Unsupported`, where it isn't opened so far, though Python's `open` takes more.
 ///
 /// So far these are opened:
-/// - the binary modes `rb`, `wb`, `xb` and `ab`, with any `buffering`;
-/// - the binary modes `rb+`, `wb+` and `xb+`, where `buffering` is 0;
+/// - the binary modes `rb`, `wb`, `xb` and `ab`, and with a plus `rb+`, `wb+` and `xb+`, with any `buffering`;
 /// - the text mode `r`, also spelled with `t`, where `buffering` is other than 0, with encoding `None`, `locale` or `utf-8`,
 ///   all of which mean utf-8, errors `None` or `strict`, both of which mean strict, and newline LF; a name is compared
 ///   letter for letter.

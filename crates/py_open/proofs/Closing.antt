@@ -38,7 +38,7 @@ with_open life.Closed raw shut lives = absurd (lives refl)
 with_open current raw shut lives = shut
 
 -- a call that doesn't close its stream is none that closes it alone, without its raw
-whole_close : (before : Stream) (call : FileCall) (reply : FileReply) (after : Life) → LifeMoves before.buffer call reply before.life after → after ≢ life.Closed → parts_at_close before call reply ≡ false
+whole_close : (before : Stream) (call : FileCall) (reply : FileReply) (after : Stream) → LifeMoves before.buffer call reply before.life after.life → after.life ≢ life.Closed → parts_at_close before call reply after ≡ false
 whole_close before Close (Refused fault.RawFault) after moves lives = absurd (lives moves)
 whole_close before call reply after moves lives = refl
 
@@ -49,7 +49,7 @@ owing_open false before call reply a is some answers in_step = absurd (some (ap 
 
 answered_open : (left : List ℕ) (before : Stream) (call : FileCall) (reply : FileReply) (a : Stream) → a.owed.bytes ≡ left → AnswersWith has_reply_room before call reply a → IsInStep (BinarySession before) → before.life ≢ life.Closed → before.raw.closed ≡ false → a.life ≢ life.Closed → a.raw.closed ≡ false
 answered_open [] before call reply a none answers in_step was is lives =
-    with_open a.life a.raw (answers.shut (whole_close before call reply a.life answers.moves.life_is lives) none (open_with before.life before.raw was is)) lives
+    with_open a.life a.raw (answers.shut (whole_close before call reply a answers.moves.life_is lives) none (open_with before.life before.raw was is)) lives
 answered_open (byte ∷ more) before call reply a some answers in_step was is lives =
     owing_open before.can.writable before call reply a refl (λ none. let wrong : byte ∷ more ≡ [] = sym some ∙ none in absurd (cc)) answers in_step ∙ is
 

@@ -347,7 +347,7 @@ binary_shuts true before call reply after step reads shut = subst (λ (s : Strea
 binary_shuts false before call reply after step reads shut =
     let a : Stream = step.answered in
     let none : a.owed.bytes ≡ [] = ap (λ (owed : Owed). owed.bytes) (step.answers.spares reads.0 reads.1).owed in
-    let closed : ClosedWith a.life a.raw = step.answers.shut (closes_whole before call reply reads.0) none shut in
+    let closed : ClosedWith a.life a.raw = step.answers.shut (closes_whole before call reply a reads.0) none shut in
     subst (λ (s : Stream). ClosedWith s.life s.raw) (sym step.leaves)
     (subst (λ (raw : Raw). ClosedWith (left_of before.life a).life raw) (sym (left_raw before.life a.life a)) (subst (λ (current : Life). ClosedWith current a.raw) (sym (left_life before.life a.life a refl)) closed))
 

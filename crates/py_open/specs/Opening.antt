@@ -32,7 +32,7 @@ access_of mode = access_by mode.file mode.plus
 -- stands, one that appends at the end, and at 0 where the raw can't seek
 abbrev pub OpensBy : EncodeMode → Raw → OpenPlan → ℕ → SessionView → Type 0
 OpensBy Text raw plan chunk (TextSession text) = OpensText raw (unwrap_or plan.buffer_size 1) chunk text
-OpensBy Bytes raw plan chunk (BinarySession stream) = Opens (is_able (access_of plan.mode)) (can_of (access_of plan.mode)) raw plan.buffer_size stream
+OpensBy Bytes raw plan chunk (BinarySession stream) = Opens (is_able (access_of plan.mode) plan.buffer_size) (can_of (access_of plan.mode)) raw plan.buffer_size stream
 OpensBy encode raw plan chunk session = ⊥
 
 abbrev pub OpensSession : Raw → OpenPlan → ℕ → SessionView → Type 0
@@ -40,7 +40,7 @@ OpensSession raw plan chunk session = OpensBy plan.mode.encode raw plan chunk se
 
 -- why a raw isn't opened by a plan
 abbrev pub RefusesSession : Raw → OpenPlan → IoFault → Raw → Type 0
-RefusesSession raw plan why back = RefusesRaw (is_able (access_of plan.mode)) (can_of (access_of plan.mode) raw.seekable).appending raw plan.buffer_size why back
+RefusesSession raw plan why back = RefusesRaw (is_able (access_of plan.mode) plan.buffer_size) (can_of (access_of plan.mode) raw.seekable).appending raw plan.buffer_size why back
 
 abbrev pub SessionOutcome : {R : Type 0} → (R → Raw) → R → OpenPlan → ℕ → Result SessionView (NewRefused R) → Type 0
 SessionOutcome shows raw plan chunk (Ok session) = OpensSession (shows raw) plan chunk session

@@ -27,7 +27,7 @@ pub struct Run<R: RawStream> {
 /// buffer and chunks are.
 ///
 /// Refused, the raw is handed back with nothing read or written: by the plan (`plan_open`), then `Closed`, `Unsupported` where
-/// it can't do what the mode needs, `NoMemory`, and `RawFault` where it fails to say where it stands or ends, or to move there.
+/// it can't do what the mode needs (a mode with a plus moves it, through a buffer), `NoMemory`, and `RawFault` where it fails to say where it stands or ends, or to move there.
 /// Space for the replies is taken once the raw is known to be open and able, before it is asked for anything: where there is
 /// none it is `NoMemory` too, with the raw as it was. But for `RawFault` a raw that tells still stands where it stood.
 pub fn run_session<R: RawStream>(

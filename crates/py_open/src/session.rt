@@ -26,7 +26,7 @@ pub(crate) enum Kind<R: RawStream> {
 }
 
 /// A stream that was opened, and on which calls are made one by one: a text that is read, or a stream of bytes that is read,
-/// written or appended to, with a buffer or without, or both read and written, without one.
+/// written, both read and written, or appended to, with a buffer or without.
 ///
 /// It is seen as a text's state or as a stream: the flat file, the raw under it, its buffer's size, whether its last answer was
 /// short, and of a stream the bytes that it owes the raw. A session that is dropped drops its raw, and what it owes;
@@ -53,7 +53,7 @@ impl<R: RawStream> Session<R> {
     /// end, to which a raw that can seek is moved; one that can't stands at place 0.
     ///
     /// Refused, the raw is handed back with nothing read or written: `Closed`, then `Unsupported` where it can't do what it is
-    /// opened for, `NoMemory`, and `RawFault` where it fails to say where it stands or ends, or to move there. But for the last one
+    /// opened for (one that is both read and written through a buffer has to seek), `NoMemory`, and `RawFault` where it fails to say where it stands or ends, or to move there. But for the last one
     /// that tells still stands where it stood.
     pub(crate) fn open(
         alloc: Global,
@@ -98,7 +98,8 @@ impl<R: RawStream> Session<R> {
     /// - Readings answer bytes, lines or characters, as many as asked for, or all that are left; fewer come only at the end.
     ///   `Read1`, `ReadInto1`, `Peek` and, without a buffer, `Read` of a size and `ReadInto` answer what one transfer of the raw gives,
     ///   none only where none is asked for or left. Where the raw would have blocked, what came by then is answered, never nothing, or it is
-    ///   `NotReady` with nothing taken; `short` says so.
+    ///   `NotReady` with nothing taken; `short` says so. Of a stream that is both read and written through a buffer, a reading that the bytes
+    ///   held don't answer passes on first what is owed: it is `NotReady` too where that would have blocked, with the place as it was.
     /// - `Write` answers how many bytes were taken: all, or without a buffer those of one transfer; `WriteLines` is `Done`.
     /// - `Seek` and `Tell` answer the place, `Truncate` the size, `Flush` and `Close` `Done`. `Detach` answers what is unwritten, and its place; the
     ///   raw stays with the session, and every call is `Detached` from then on, but the questions.
@@ -196,8 +197,8 @@ fn access_of(mode: Mode) -> Access
 /// Why a plan's opening refuses a raw before it is asked for anything: `Closed` where it is closed, then `Unsupported` where it
 /// can't do what the mode needs, then `BadArgument` for a buffer of 0 bytes. `None` where nothing refuses it.
 pub(crate) fn raw_refusal<R: RawStream>(raw: &R, plan: OpenPlan) -> Option<IoFault>
-    ensures { result ≡ first_refusal (is_able (access_of plan.mode) (R.shows raw.now)) (R.shows raw.now) plan.buffer_size }
+    ensures { result ≡ first_refusal (is_able (access_of plan.mode) plan.buffer_size (R.shows raw.now)) (R.shows raw.now) plan.buffer_size }
 {
-    let able = access_of(plan.mode).suits(raw);
+    let able = access_of(plan.mode).suits(plan.buffer_size, raw);
     refused_at_first(raw, able, plan.buffer_size)
 }

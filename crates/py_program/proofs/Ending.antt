@@ -1,6 +1,9 @@
 -- What follows from how the program ended, a status at a time, of what the paths hold.
-use Rattle.std.proofs.Common.{◌≡◌, ℕ, ◌⊎◌, inl, inr, true, false, IsTrue, List, Option, Some, None, Result, Ok, Err, IsErr, sym, ◌∙◌, ap, subst, arith}
+use Rattle.std.proofs.Common.{◌≡◌, ℕ, ◌⊎◌, inl, inr, Bool, true, false, IsTrue, IsFalse, List, Option, Some, None, Result, Ok, Err, IsErr, refl, sym, ◌∙◌, ap, subst, arith}
 use Rattle.py_flat.specs.declared.fault.IoFault.{IoFault}
+use Rattle.py_flat.specs.declared.fault.IoFault.TheVariants as fault
+use Rattle.py_flat.specs.Causes.{Rose, RoseBy}
+use Rattle.py_raw.specs.RawStream.{Raw}
 use Rattle.py_source_sink.specs.Source.{SourceView}
 use Rattle.py_raw.specs.Opener.{OpenerView, HoldsTheSame, OthersHoldTheSame, misses, opened_bytes}
 use Rattle.py_calls.specs.declared.call.Call.{Call}
@@ -13,8 +16,8 @@ use Rattle.py_script.specs.CommandWords.{Command, Run, Help, Version, command_of
 use Rattle.py_program.specs.declared.status.Status.{Status}
 use Rattle.py_program.specs.declared.status.Status.TheVariants as status
 use Rattle.py_program.specs.Status.{code_of}
-use Rattle.py_program.specs.Outcome.{Outside, Asked, raw_mode, asked_by, OpenerFails, LacksMemory, CallsOutcome, PlannedOutcome, RunsScript, Outcome, Ends}
-use Rattle.py_program.specs.Meaning.{IsRefusedPlan, AsksToRead, LeavesPaths, KeepsOthers, IsAcceptedAt}
+use Rattle.py_program.specs.Outcome.{Outside, Asked, raw_mode, asked_by, MovesRaw, RefusesOpened, OpensPath, OpenerFails, LacksMemory, CallsOutcome, PlannedOutcome, RunsScript, Outcome, Ends}
+use Rattle.py_program.specs.Meaning.{IsRefusedPlan, AsksToRead, MayNotMove, LeavesPaths, KeepsOthers, IsAcceptedAt}
 use Rattle.py_program.proofs.Planned.{one_plan}
 use Rattle.py_program.proofs.Keeping.{path_spares, path_keeps, path_left}
 
@@ -190,6 +193,36 @@ path_left_by words old new before after path plan ends accepted tells =
     let did = all_refused ends.ended words old new before after (sym ends.code_is) ends.outcome in
     let at = accepted_path path did.path did.mode did.args plan (command_of words) did.form accepted in
     left_by path did.path did.mode did.args plan did.calls before after at.0 at.1 did.does tells
+
+-- a raw that can't seek is of an opener that doesn't tell
+never_told : (tells : Bool) (raw : Raw) → (IsTrue tells → raw.seekable ≡ true) → IsFalse raw.seekable → IsFalse tells
+never_told true raw seeks still = let both : true ≡ false = sym (seeks refl) ∙ still in absurd (cc)
+never_told false raw seeks still = refl
+
+-- faults of a raw that was opened are the opener's once it is put away
+faults_rise : (back old mid new : ℕ) → Rose 0 back → mid ≡ old → RoseBy back mid new → Rose old new
+faults_rise back old mid new rose same by = grind arith
+
+opened_refused : (path : List ℕ) (asked : Asked) (before after : Outside) (opened : OpensPath path asked status.Refused before after) (refused : IoFault) → RefusesOpened opened.raw asked.plan refused opened.back → Rose before.opener.raw_faults after.opener.raw_faults ⊎ (IsFalse before.opener.tells × MovesRaw asked.plan)
+opened_refused path asked before after opened fault.RawFault why =
+    inl (faults_rise opened.back.faults before.opener.raw_faults opened.mid.raw_faults after.opener.raw_faults (rw opened.opens.opened.faults at why.2) opened.open_keeps.raw_faults opened.done_keeps.raw_faults)
+opened_refused path asked before after opened fault.Unsupported why =
+    inr (never_told before.opener.tells opened.raw (λ tells. (opened.opens.told tells).seeks) why.1, why.0)
+opened_refused path asked before after opened _ why = absurd why
+
+planned_refused : (path mode : List ℕ) (args : OpenArgs) (calls : List Call) (before after : Outside) → PlannedOutcome path mode args calls status.Refused before after → IsErr (plan_of mode args) ⊎ (Rose before.opener.raw_faults after.opener.raw_faults ⊎ MayNotMove before.opener (Some (Run path mode args)))
+planned_refused path mode args calls before after (inl refuses) = inl (rw refuses.planned refl)
+planned_refused path mode args calls before after (inr follows) =
+    elim (opened_refused path (asked_by follows.plan args calls) before after follows.does follows.does.does.1.refused follows.does.does.1.why) [
+      | inl rose ↦ inr (inl rose)
+      | inr still ↦ inr (inr (still.0, (follows.plan, follows.planned, still.1)))
+    ]
+
+-- with the number 4 the plan refuses the opening, the raw failed, or it can't seek and has to be moved, of an opener that doesn't tell
+pub refused_by_cause : (code : ℕ) (words : List (List ℕ)) (old new : SourceView) (before after : Outside) → Ends code words old new before after → code ≡ 4 → IsRefusedPlan (command_of words) ⊎ (Rose before.opener.raw_faults after.opener.raw_faults ⊎ MayNotMove before.opener (command_of words))
+refused_by_cause code words old new before after ends is =
+    let did = all_refused ends.ended words old new before after (sym ends.code_is ∙ is) ends.outcome in
+    subst (λ (command : Option Command). IsRefusedPlan command ⊎ (Rose before.opener.raw_faults after.opener.raw_faults ⊎ MayNotMove before.opener command)) (sym did.form) (planned_refused did.path did.mode did.args did.calls before after did.does)
 
 -- Openings that the opener refuses.
 

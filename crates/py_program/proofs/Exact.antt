@@ -90,7 +90,7 @@ starts_told : (appends : Bool) (raw : Raw) → IsTrue (tells raw) → IsTrue (te
 starts_told true raw told = by_ability raw.seekable (tells_its_bytes raw told) (tells_its_place raw told)
 starts_told false raw told = tells_its_place raw told
 
-binary_file : (raw : Raw) (access : Access) (buffer : Option ℕ) (bytes : List ℕ) (stream : Stream) → Opens (is_able access) (can_of access) raw buffer stream → tells raw ≡ true → raw.seekable ≡ true → raw.place ≡ 0 → raw.bytes ≡ bytes → file_of stream ≡ record { bytes = bytes; place = begins_with (can_of access true).appending bytes; can = can_of access true; buffering = buffering_of buffer; life = life.Live }
+binary_file : (raw : Raw) (access : Access) (buffer : Option ℕ) (bytes : List ℕ) (stream : Stream) → Opens (is_able access buffer) (can_of access) raw buffer stream → tells raw ≡ true → raw.seekable ≡ true → raw.place ≡ 0 → raw.bytes ≡ bytes → file_of stream ≡ record { bytes = bytes; place = begins_with (can_of access true).appending bytes; can = can_of access true; buffering = buffering_of buffer; life = life.Live }
 binary_file raw access buffer bytes stream opens told seeks place are =
     let able : can_of access raw.seekable ≡ can_of access true = ap (can_of access) seeks in
     stream_file stream bytes (begins_with (can_of access true).appending bytes) (can_of access true) buffer

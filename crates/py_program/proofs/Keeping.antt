@@ -1,6 +1,7 @@
 -- What the paths hold, once a path that was opened was put away again.
 use Rattle.std.proofs.Common.{◌≡◌, ◌≢◌, ℕ, ◌⊎◌, Bool, true, false, inl, inr, IsTrue, List, [], Option, Some, None, is_none, unwrap_or, bytes_eq, refl, sym, ◌∙◌, ap, subst}
 use Rattle.std.proofs.lemmas.Slice.Eq.{bytes_eq-Decides}
+use Rattle.py_flat.specs.declared.fault.IoFault.{IoFault}
 use Rattle.py_flat.specs.declared.fault.IoFault.TheVariants as fault
 use Rattle.py_flat.specs.FlatFile.{Abilities}
 use Rattle.py_raw.specs.RawStream.{Raw}
@@ -25,7 +26,7 @@ use Rattle.py_open.specs.Laws.{OnlyReads}
 use Rattle.py_open.proofs.Runs.{run_spares}
 use Rattle.py_program.specs.declared.status.Status.{Status}
 use Rattle.py_program.specs.declared.status.Status.TheVariants as status
-use Rattle.py_program.specs.Outcome.{Outside, Asked, raw_mode, closed_calls, RanCalls, HasLines, PrintsSome, RawOutcome, OpensPath}
+use Rattle.py_program.specs.Outcome.{Outside, Asked, raw_mode, closed_calls, RanCalls, RefusesOpened, HasLines, PrintsSome, RawOutcome, OpensPath}
 
 -- a path is a given one or another
 same_or_other : (test : Bool) (other path : List ℕ) → bytes_eq other path ≡ test → (other ≡ path) ⊎ (other ≢ path)
@@ -80,16 +81,21 @@ none_keeps : (raw back : Raw) (asked : Asked) → (back ≡ raw) ⊎ RefusesOpen
 none_keeps raw back asked (inl same) tells = ap (λ (as_was : Raw). as_was.bytes) same
 none_keeps raw back asked (inr refused) tells = lacking_keeps (can_of (access_of asked.plan.mode) raw.seekable).appending raw back refused.1 tells
 
+refused_keeps : (raw back : Raw) (plan : OpenPlan) (refused : IoFault) → RefusesOpened raw plan refused back → IsTrue raw.tells_bytes → back.bytes ≡ raw.bytes
+refused_keeps raw back plan fault.RawFault why tells = why.3.bytes tells
+refused_keeps raw back plan fault.Unsupported why tells = ap (λ (same : Raw). same.bytes) why.2
+refused_keeps raw back plan _ why tells = absurd why
+
 lines_keep : (raw back : Raw) (asked : Asked) (lines : List ℕ) → access_of asked.plan.mode ≡ access.Read → HasLines raw asked back lines → IsTrue raw.tells_bytes → back.bytes ≡ raw.bytes
 lines_keep raw back asked lines reads (inl ran) tells = run_keeps raw back asked lines reads ran tells
-lines_keep raw back asked lines reads (inr refused) tells = refused.why.3.bytes tells
+lines_keep raw back asked lines reads (inr refused) tells = refused_keeps raw back asked.plan refused.refused refused.why tells
 
 some_keeps : (raw back : Raw) (asked : Asked) (old new : SinkView) → access_of asked.plan.mode ≡ access.Read → PrintsSome raw asked back old new → IsTrue raw.tells_bytes → back.bytes ≡ raw.bytes
 some_keeps raw back asked old new reads prints tells = lines_keep raw back asked prints.0 reads prints.1 tells
 
 outcome_keeps : (raw back : Raw) (asked : Asked) (ended : Status) (old new : SinkView) → access_of asked.plan.mode ≡ access.Read → RawOutcome raw asked ended back old new → IsTrue raw.tells_bytes → back.bytes ≡ raw.bytes
 outcome_keeps raw back asked status.Done old new reads does tells = run_keeps raw back asked does.0 reads does.1 tells
-outcome_keeps raw back asked status.Refused old new reads does tells = does.1.why.3.bytes tells
+outcome_keeps raw back asked status.Refused old new reads does tells = refused_keeps raw back asked.plan does.1.refused does.1.why tells
 outcome_keeps raw back asked status.SinkFailed old new reads does tells = some_keeps raw back asked old new reads does.0 tells
 outcome_keeps raw back asked status.NoMemory old new reads (inl prints) tells = some_keeps raw back asked old new reads prints tells
 outcome_keeps raw back asked status.NoMemory old new reads (inr none) tells = none_keeps raw back asked none.hands tells
@@ -133,4 +139,4 @@ path_keeps path asked ended before after reads opened tells =
 pub path_left : (path : List ℕ) (asked : Asked) (before after : Outside) → OpensPath path asked status.Refused before after → IsTrue before.opener.tells → after.opener.holds path ≡ Some (opened_bytes (raw_mode asked.plan) (before.opener.holds path))
 path_left path asked before after opened tells =
     let told = opened.opens.told tells in
-    (opened.puts tells).held ∙ ap Some (opened.does.1.why.3.bytes (tells_its_bytes opened.raw told.tells) ∙ told.bytes)
+    (opened.puts tells).held ∙ ap Some (refused_keeps opened.raw opened.back asked.plan opened.does.1.refused opened.does.1.why (tells_its_bytes opened.raw told.tells) ∙ told.bytes)

@@ -60,5 +60,5 @@ pub refused_printed : (raw back : Raw) (mode : List ℕ) (args : OpenArgs) (aske
 refused_printed raw back mode args asked refused old new printed ended accepted chunk opened why not_memory prints ends =
     elim (refused_by raw back mode args asked.plan refused accepted opened why) [
       | inl is ↦ absurd (not_memory is)
-      | inr by ↦ refusal_printed raw asked back (refused_line fault.RawFault) old new printed ended (record { why = by.1; lines_are = refl }) (subst (λ (named : IoFault). PrintOutcome old (refused_line named) printed new) by.0 prints) ends
+      | inr by ↦ refusal_printed raw asked back (refused_line refused) old new printed ended (record { refused = refused; why = by; lines_are = refl }) prints ends
     ]

@@ -1,11 +1,13 @@
 -- What holds of a plan that is accepted, and of one that refuses.
-use Rattle.std.proofs.Common.{◌≡◌, ◌≢◌, ℕ, ◌⊎◌, inl, inr, Bool, true, false, List, Some, Result, Ok, Err, MatchResult, refl, sym, ◌∙◌, subst}
+use Rattle.std.proofs.Common.{◌≡◌, ◌≢◌, ℕ, ◌⊎◌, inl, inr, Bool, true, false, IsFalse, List, Option, Some, None, IsSome, Result, Ok, Err, MatchResult, refl, sym, ◌∙◌, subst}
 use Rattle.py_flat.specs.declared.fault.IoFault.{IoFault}
 use Rattle.py_flat.specs.declared.fault.IoFault.TheVariants as fault
 use Rattle.py_raw.specs.RawMode.{raw_mode_text}
 use Rattle.py_source_sink.specs.Sink.{SinkView}
 use Rattle.py_raw.specs.Opener.{OpenerView, IsOpened}
 use Rattle.py_raw.specs.RawStream.{Raw}
+use Rattle.py_stream.specs.declared.access.Access.{Access}
+use Rattle.py_stream.specs.declared.access.Access.TheVariants as access
 use Rattle.py_stream.specs.Access.{is_able}
 use Rattle.py_calls.specs.declared.call.Call.{Call}
 use Rattle.py_calls.specs.declared.reply.Reply.{Reply}
@@ -17,13 +19,13 @@ use Rattle.py_mode.specs.Mode.{letter_of}
 use Rattle.py_mode.specs.Plan.{plan_of}
 use Rattle.py_mode.proofs.Planning.{planned_buffer_is_not_empty}
 use Rattle.py_open.specs.Session.{SessionView}
-use Rattle.py_open.specs.Opening.{access_by, RefusesSession}
+use Rattle.py_open.specs.Opening.{access_by, access_of, RefusesSession}
 use Rattle.py_open.specs.Run.{RefusesOpening, RefusesPlanned, RunsCalls}
 use Rattle.py_script.specs.Faults.{refused_line}
 use Rattle.py_program.specs.declared.status.Status.{Status}
 use Rattle.py_program.specs.declared.status.Status.TheVariants as status
 use Rattle.py_program.specs.Outside.{PrintOutcome}
-use Rattle.py_program.specs.Outcome.{raw_mode, RefusalPrinted, RefusesPlan, PlannedOutcome}
+use Rattle.py_program.specs.Outcome.{raw_mode, RefusesOpened, RefusalPrinted, RefusesPlan, PlannedOutcome}
 
 -- a mode and arguments have one plan
 pub one_plan : (result : Result OpenPlan IoFault) (first second : OpenPlan) → result ≡ Ok first → result ≡ Ok second → first ≡ second
@@ -40,28 +42,41 @@ refused_raw raw mode args plan refused back accepted why = subst (λ (planned : 
 
 -- A raw that was opened as it is planned.
 
--- a raw that was opened is able to do what it is opened for
-opened_able : (file : FileMode) (plus : Bool) (raw : Raw) → IsOpened (raw_mode_text (letter_of file) plus) raw → is_able (access_by file plus) raw ≡ true
-opened_able Read false raw opened = opened.reads
-opened_able Read true raw opened = rw (opened.reads, opened.writes) refl
-opened_able Write false raw opened = opened.writes
-opened_able Write true raw opened = rw (opened.reads, opened.writes) refl
-opened_able Exclusive false raw opened = opened.writes
-opened_able Exclusive true raw opened = rw (opened.reads, opened.writes) refl
-opened_able Append false raw opened = opened.writes
-opened_able Append true raw opened = opened.writes
+-- a raw is able to do what it is opened for, or has to be moved and can't seek
+abbrev IsAble : Access → Option ℕ → Raw → Type 0
+IsAble opened buffer raw = (is_able opened buffer raw ≡ true) ⊎ ((opened ≡ access.Update) × IsSome buffer × IsFalse raw.seekable)
 
--- a session over a raw that was opened is refused by a fault of the raw, or when out of memory
-refused_session : (raw back : Raw) (plan : OpenPlan) (refused : IoFault) → IsOpened (raw_mode plan) raw → plan.buffer_size ≢ Some 0 → RefusesSession raw plan refused back → (refused ≡ fault.NoMemory) ⊎ ((refused ≡ fault.RawFault) × RefusesSession raw plan fault.RawFault back)
+updates : (buffer : Option ℕ) (raw : Raw) (seeks : Bool) → raw.readable ≡ true → raw.writable ≡ true → raw.seekable ≡ seeks → IsAble access.Update buffer raw
+updates None raw seeks reads writes is = inl (rw (reads, writes) refl)
+updates (Some size) raw true reads writes is = inl (rw (reads, writes, is) refl)
+updates (Some size) raw false reads writes is = inr (refl, refl, is)
+
+opened_able : (file : FileMode) (plus : Bool) (buffer : Option ℕ) (raw : Raw) → IsOpened (raw_mode_text (letter_of file) plus) raw → IsAble (access_by file plus) buffer raw
+opened_able Read false buffer raw opened = inl opened.reads
+opened_able Read true buffer raw opened = updates buffer raw raw.seekable opened.reads opened.writes refl
+opened_able Write false buffer raw opened = inl opened.writes
+opened_able Write true buffer raw opened = updates buffer raw raw.seekable opened.reads opened.writes refl
+opened_able Exclusive false buffer raw opened = inl opened.writes
+opened_able Exclusive true buffer raw opened = updates buffer raw raw.seekable opened.reads opened.writes refl
+opened_able Append false buffer raw opened = inl opened.writes
+opened_able Append true buffer raw opened = inl opened.writes
+
+-- a raw that isn't able can't seek, and has to be moved
+unable : (raw back : Raw) (plan : OpenPlan) → IsAble (access_of plan.mode) plan.buffer_size raw → is_able (access_of plan.mode) plan.buffer_size raw ≡ false → back ≡ raw → RefusesOpened raw plan fault.Unsupported back
+unable raw back plan (inl able) lacking same = let both : true ≡ false = sym able ∙ lacking in absurd (cc)
+unable raw back plan (inr still) lacking same = ((still.0, still.1), still.2, same)
+
+-- a session over a raw that was opened is refused when out of memory, by a fault of the raw, or where it has to be moved and can't seek
+refused_session : (raw back : Raw) (plan : OpenPlan) (refused : IoFault) → IsOpened (raw_mode plan) raw → plan.buffer_size ≢ Some 0 → RefusesSession raw plan refused back → (refused ≡ fault.NoMemory) ⊎ RefusesOpened raw plan refused back
 refused_session raw back plan fault.NoMemory opened some why = inl refl
-refused_session raw back plan fault.RawFault opened some why = inr (refl, why)
+refused_session raw back plan fault.RawFault opened some why = inr why
 refused_session raw back plan fault.Closed opened some why = let closed : true ≡ false = sym why.0 ∙ opened.live in cc
-refused_session raw back plan fault.Unsupported opened some why = let able : true ≡ false = sym (opened_able plan.mode.file plan.mode.plus raw opened) ∙ why.1 in cc
+refused_session raw back plan fault.Unsupported opened some why = inr (unable raw back plan (opened_able plan.mode.file plan.mode.plus plan.buffer_size raw opened) why.1 why.2)
 refused_session raw back plan fault.BadArgument opened some why = absurd (some why.2)
 refused_session raw back plan _ opened some why = absurd why
 
--- a session over an opened raw is refused by running out of memory, or by a fault of the raw
-pub refused_by : (raw back : Raw) (mode : List ℕ) (args : OpenArgs) (plan : OpenPlan) (refused : IoFault) → plan_of mode args ≡ Ok plan → IsOpened (raw_mode plan) raw → RefusesOpening raw plan refused back → (refused ≡ fault.NoMemory) ⊎ ((refused ≡ fault.RawFault) × RefusesSession raw plan fault.RawFault back)
+-- a session over an opened raw is refused by running out of memory, or as an opened raw is
+pub refused_by : (raw back : Raw) (mode : List ℕ) (args : OpenArgs) (plan : OpenPlan) (refused : IoFault) → plan_of mode args ≡ Ok plan → IsOpened (raw_mode plan) raw → RefusesOpening raw plan refused back → (refused ≡ fault.NoMemory) ⊎ RefusesOpened raw plan refused back
 refused_by raw back mode args plan refused accepted opened why = refused_session raw back plan refused opened (planned_buffer_is_not_empty mode args plan accepted) why
 
 -- A plan that refuses.

@@ -1,5 +1,5 @@
 -- A run in which nothing went wrong does what the model says.
-use Rattle.std.proofs.Common.{◌≡◌, ◌≢◌, ℕ, ◌⊎◌, inl, inr, ◌≤◌, IsTrue, List, length, Option, Some, None, Result, Ok, IsErr, refl, sym, ◌∙◌, subst, arith}
+use Rattle.std.proofs.Common.{◌≡◌, ◌≢◌, ℕ, ◌⊎◌, inl, inr, ◌≤◌, true, false, IsTrue, List, length, Option, Some, None, Result, Ok, IsErr, refl, sym, ◌∙◌, subst, arith}
 use Rattle.py_flat.specs.declared.fault.IoFault.{IoFault}
 use Rattle.py_source_sink.specs.Source.{SourceView}
 use Rattle.py_calls.specs.declared.call.Call.{Call}
@@ -12,7 +12,7 @@ use Rattle.py_script.specs.Script.{script_calls}
 use Rattle.py_raw.specs.Opener.{opened_bytes}
 use Rattle.py_program.specs.Outside.{script_limit, IsMalformed}
 use Rattle.py_program.specs.Outcome.{Outside, raw_mode, closed_calls, Ends}
-use Rattle.py_program.specs.Meaning.{NothingFails, IsRefusedPlan, KeepsOthers, SettlesAtPath, TellsCalls, IsSmoothOutside, DoesAsTheModel}
+use Rattle.py_program.specs.Meaning.{NothingFails, IsRefusedPlan, MayNotMove, KeepsOthers, SettlesAtPath, TellsCalls, IsSmoothOutside, DoesAsTheModel}
 use Rattle.py_program.proofs.Ending.{others_kept}
 use Rattle.py_program.proofs.Exact.{prints_settled}
 
@@ -40,14 +40,16 @@ done_as_model words old new before after path mode args plan calls ends form acc
       others = subst (λ (command : Option Command). KeepsOthers command before.opener after.opener) form (others_kept 0 words old new before after ends tells);
     }
 
--- of well-formed words, where no plan refuses and nothing fails, the number is 0, 3 or 7; with 3 the script is malformed
+-- of well-formed words, where no plan refuses and nothing fails, the number is 0, 3 or 7, or 4 of an opener that doesn't tell; with 3 the
+-- script is malformed
 pub does_as_model : (code : ℕ) (words : List (List ℕ)) (old new : SourceView) (before after : Outside) → Ends code words old new before after
-    → (command_of words ≢ None → ¬ IsRefusedPlan (command_of words) → NothingFails old new before after → (code ≡ 0) ⊎ ((code ≡ 3) ⊎ (code ≡ 7)))
+    → (command_of words ≢ None → ¬ IsRefusedPlan (command_of words) → NothingFails old new before after → (code ≡ 0) ⊎ ((code ≡ 3) ⊎ ((code ≡ 7) ⊎ ((code ≡ 4) × MayNotMove before.opener (command_of words)))))
     → (code ≡ 3 → IsTrue old.tells → IsMalformed old.left)
     → (path mode : List ℕ) (args : OpenArgs) (plan : OpenPlan) (calls : List Call) → command_of words ≡ Some (Run path mode args) → plan_of mode args ≡ Ok plan → TellsCalls old calls → IsTrue before.opener.tells → IsSmoothOutside old new before after → code ≢ 7 → DoesAsTheModel code path plan args.chunk_size calls before after
 does_as_model code words old new before after ends complete malformed path mode args plan calls form accepted script tells smooth had =
     elim (complete (λ none. let wrong : Some (Run path mode args) ≡ None = sym form ∙ none in absurd (cc)) (accepted_plan (command_of words) path mode args plan form accepted) smooth.fails) [
       | inl is ↦ subst (λ (number : ℕ). DoesAsTheModel number path plan args.chunk_size calls before after) (sym is) (done_as_model words old new before after path mode args plan calls (subst (λ (number : ℕ). Ends number words old new before after) is ends) form accepted script tells smooth)
       | inr (inl is) ↦ absurd (well_formed old.left calls script.short script.form (malformed is script.told))
-      | inr (inr is) ↦ absurd (had is)
+      | inr (inr (inl is)) ↦ absurd (had is)
+      | inr (inr (inr still)) ↦ let both : true ≡ false = sym tells ∙ still.1.0 in absurd (cc)
     ]

@@ -1,5 +1,5 @@
 -- What the clauses of the program speak of beside its outcome.
-use Rattle.std.specs.Prelude.{◌≡◌, ◌≢◌, ◌≤◌, ℕ, ◌⊎◌, Bool, true, false, IsTrue, List, length, Option, Some, None, Ok, IsErr, if◌then◌else◌}
+use Rattle.std.specs.Prelude.{◌≡◌, ◌≢◌, ◌≤◌, ℕ, ◌⊎◌, Bool, true, false, IsTrue, IsFalse, List, length, Option, Some, None, Ok, IsErr, if◌then◌else◌}
 use Rattle.py_flat.specs.declared.life.Life.TheVariants as life
 use Rattle.py_flat.specs.Causes.{rose, Rose, RoseBy}
 use Rattle.py_raw.specs.RawStream.{Raw, tells as raw_tells}
@@ -26,7 +26,7 @@ use Rattle.py_script.specs.Help.{help_text, version_text}
 use Rattle.py_script.specs.Script.{script_calls}
 use Rattle.py_script.specs.ReplyLine.{reply_lines}
 use Rattle.py_program.specs.Outside.{script_limit, IsMalformed, ReadsScript, Prints}
-use Rattle.py_program.specs.Outcome.{Outside, raw_mode, closed_calls, PathHoldsFlat}
+use Rattle.py_program.specs.Outcome.{Outside, raw_mode, closed_calls, MovesRaw, PathHoldsFlat}
 
 -- the opener tells what each path holds
 abbrev pub TellsPaths : OpenerView → Type 0
@@ -124,6 +124,15 @@ abbrev pub AsksToRead : Option Command → Type 0
 AsksToRead (Some (Run path mode args)) = (plan : OpenPlan) × (plan_of mode args ≡ Ok plan) × (access_of plan.mode ≡ access.Read)
 AsksToRead command = ⊥
 
+-- the words ask for a stream that moves its raw
+abbrev pub AsksToMove : Option Command → Type 0
+AsksToMove (Some (Run path mode args)) = (plan : OpenPlan) × (plan_of mode args ≡ Ok plan) × MovesRaw plan
+AsksToMove command = ⊥
+
+-- the words ask for a stream that moves its raw, and the opener may have opened one that can't seek, as it doesn't tell
+abbrev pub MayNotMove : OpenerView → Option Command → Type 0
+MayNotMove opener asked = IsFalse opener.tells × AsksToMove asked
+
 -- the opener had nothing to change: by the status, by the plan, or since it was only read
 abbrev pub LeavesPaths : ℕ → Option Command → Type 0
 LeavesPaths code command = (code ≡ 2) ⊎ ((code ≡ 3) ⊎ ((code ≡ 5) ⊎ ((code ≡ 8) ⊎ (IsRefusedPlan command ⊎ AsksToRead command))))
@@ -218,10 +227,10 @@ pub record Promises (code : ℕ) (asked : Option Command) (old new : SourceView)
   pub once : OpensNone before.opener after.opener ⊎ OpensOne before.opener after.opener
   pub opened : (path : List ℕ) (plan : OpenPlan) → IsAcceptedAt path plan asked → (code ≡ 0) ⊎ ((code ≡ 4) ⊎ (code ≡ 6)) → OpensOne before.opener after.opener
   pub none_opened : (code ≡ 2) ⊎ ((code ≡ 3) ⊎ ((code ≡ 5) ⊎ ((code ≡ 8) × TellsPaths before.opener))) → OpensNone before.opener after.opener
-  pub refused : code ≡ 4 → IsRefusedPlan asked ⊎ Rose before.opener.raw_faults after.opener.raw_faults
+  pub refused : code ≡ 4 → IsRefusedPlan asked ⊎ (Rose before.opener.raw_faults after.opener.raw_faults ⊎ MayNotMove before.opener asked)
   pub planned : IsRefusedPlan asked → TellsWellFormed old → (code ≡ 4) ⊎ ((code ≡ 5) ⊎ ((code ≡ 6) ⊎ (code ≡ 7)))
   pub unopened : IsRefusedPlan asked → after.opener ≡ before.opener
-  pub complete : asked ≢ None → ¬ IsRefusedPlan asked → NothingFails old new before after → (code ≡ 0) ⊎ ((code ≡ 3) ⊎ (code ≡ 7))
+  pub complete : asked ≢ None → ¬ IsRefusedPlan asked → NothingFails old new before after → (code ≡ 0) ⊎ ((code ≡ 3) ⊎ ((code ≡ 7) ⊎ ((code ≡ 4) × MayNotMove before.opener asked)))
   pub malformed_script : code ≡ 3 → IsTrue old.tells → IsMalformed old.left
   pub script : AsksForRun asked → TellsMalformed old → (code ≡ 3) ⊎ ((code ≡ 5) ⊎ (code ≡ 7))
   pub missing : (path : List ℕ) (plan : OpenPlan) → IsAcceptedAt path plan asked → code ≡ 8 → TellsPaths before.opener → misses (raw_mode plan) (before.opener.holds path) ≡ true

@@ -1,5 +1,5 @@
 -- What the program did, by the status that it ends with.
-use Rattle.std.specs.Prelude.{◌≡◌, ◌≢◌, ℕ, ◌⊎◌, IsTrue, IsFalse, List, [], ◌∷◌, ◌++◌, Option, Some, None, Result, Ok, Err, String}
+use Rattle.std.specs.Prelude.{◌≡◌, ◌≢◌, ℕ, ◌⊎◌, IsTrue, IsFalse, List, [], ◌∷◌, ◌++◌, Option, Some, None, IsSome, Result, Ok, Err, String}
 use Rattle.std.specs.declared.alloc.Global.{Global}
 use Rattle.py_flat.specs.declared.fault.IoFault.TheVariants as fault
 use Rattle.py_flat.specs.declared.life.Life.TheVariants as life
@@ -15,7 +15,8 @@ use Rattle.py_calls.specs.declared.reply.Reply.{Reply}
 use Rattle.py_calls.specs.Calls.{file_call, said}
 use Rattle.py_mode.specs.Mode.{letter_of}
 use Rattle.py_open.specs.Session.{SessionView, Answers, raw_of, life_of, flat_bytes}
-use Rattle.py_open.specs.Opening.{RefusesSession}
+use Rattle.py_stream.specs.declared.access.Access.TheVariants as access
+use Rattle.py_open.specs.Opening.{RefusesSession, access_of}
 use Rattle.py_open.specs.Run.{IsRun, RefusesOpening, RunsCalls}
 use Rattle.py_open.specs.Laws.{PassesAll}
 use Rattle.py_script.specs.ReplyLine.{reply_lines}
@@ -70,11 +71,21 @@ pub record RanCalls (raw : Raw) (asked : Asked) (back : Raw) (lines : List ℕ) 
   pub raw_is : back ≡ raw_of session
   pub lines_are : lines ≡ reply_lines replies
 
--- the session couldn't be opened, since the raw failed to say where it stands or ends, or to move there; `lines` is the
--- refusal's
+-- a stream that is read and written through a buffer moves its raw
+abbrev pub MovesRaw : OpenPlan → Type 0
+MovesRaw plan = (access_of plan.mode ≡ access.Update) × IsSome plan.buffer_size
+
+-- why no session is opened over a raw: it failed to say where it stands or ends, or to move there; or it can't seek, and is to be moved
+abbrev pub RefusesOpened : Raw → OpenPlan → IoFault → Raw → Type 0
+RefusesOpened raw plan fault.RawFault back = RefusesSession raw plan fault.RawFault back
+RefusesOpened raw plan fault.Unsupported back = MovesRaw plan × IsFalse raw.seekable × (back ≡ raw)
+RefusesOpened raw plan refused back = ⊥
+
+-- the session couldn't be opened; `lines` is the refusal's
 pub record RefusedRaw (raw : Raw) (asked : Asked) (back : Raw) (lines : List ℕ) : Type 0 where
-  pub why : RefusesSession raw asked.plan fault.RawFault back
-  pub lines_are : lines ≡ refused_line fault.RawFault
+  pub refused : IoFault
+  pub why : RefusesOpened raw asked.plan refused back
+  pub lines_are : lines ≡ refused_line refused
 
 -- what a plan asks with the calls of a script
 abbrev pub asked_by : OpenPlan → OpenArgs → List Call → Asked

@@ -39,11 +39,12 @@ use std::alloc::Global;
 /// - `counts`: no count of the opener falls, neither that of its own faults nor those of its raws' faults and waits;
 /// - `once`, `opened`, `none_opened`: at most one raw is opened, and it is taken back again; of a run whose opening the plan accepts exactly
 ///   one with 0, 4 and 6, and none with 2, 3 and 5, and with 8 of an opener that tells;
-/// - `refused`: 4 comes only where the plan refuses the opening, or the raw's count of faults rose;
+/// - `refused`: 4 comes only where the plan refuses the opening, or the raw's count of faults rose, or, of an opener that doesn't tell, where
+///   the plan's stream is read and written through a buffer, which moves its raw: one that can't seek is refused as `Unsupported`;
 /// - `planned`, `unopened`: an opening that the plan refuses opens nothing, and with a script that the source tells to be
 ///   well formed it ends with 4 unless the source or the sink failed or memory ran out;
 /// - `complete`: of well-formed words, where no count rose and no plan refuses, it is 0, or 3 for a malformed script, or 7 for
-///   running out of memory;
+///   running out of memory, or 4 for a raw that can't seek, as in `refused`;
 /// - `malformed_script`, `script`: of a source that tells, 3 comes only of a malformed script, and such a script of a run ends
 ///   with 3 unless the source failed or memory ran out;
 /// - `missing`, `found`: of an opener that tells, and an opening that the plan accepts, 8 comes only where `x` finds the path or

@@ -26,7 +26,7 @@ words_help =
     codes "  newline=HEX    what ends a line, in hex of its UTF-8: 0a is LF (default: any" ∷
     codes "                 of CR LF, CR and LF, each read as LF); none: empty text" ∷
     codes "  chunk=N        bytes that a text asks its buffer for at once (default 8192)" ∷
-    codes "So far MODE is rb, wb, xb, ab; rb+, wb+, xb+ with buffering=0; or r, buffered," ∷
+    codes "So far MODE is rb, wb, xb, ab, rb+, wb+ or xb+, of bytes; or r, buffered," ∷
     codes "with newline=0a, in UTF-8, strict, by chunks of 1 byte or more." ∷
     []
 

@@ -14,7 +14,7 @@ MODE is as in Python's open. Each OPTION is given at most once, in any order:
   newline=HEX    what ends a line, in hex of its UTF-8: 0a is LF (default: any
                  of CR LF, CR and LF, each read as LF); none: empty text
   chunk=N        bytes that a text asks its buffer for at once (default 8192)
-So far MODE is rb, wb, xb, ab; rb+, wb+, xb+ with buffering=0; or r, buffered,
+So far MODE is rb, wb, xb, ab, rb+, wb+ or xb+, of bytes; or r, buffered,
 with newline=0a, in UTF-8, strict, by chunks of 1 byte or more.
 
 A script has a call a line, one space between words, and 1048576 bytes at most:

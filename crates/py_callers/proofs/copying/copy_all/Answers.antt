@@ -1,4 +1,4 @@
-use Rattle.std.proofs.Common.{rules, ◌≡◌, inl, inr, ℕ, Bool, true, false, not, List, length, Option, None, Result, Ok, Err, refl, sym, subst}
+use Rattle.std.proofs.Common.{rules, ◌≡◌, inl, inr, ℕ, Bool, true, false, not, List, length, Option, Some, None, Result, Ok, Err, refl, sym, subst}
 use Rattle.py_flat.specs.declared.fault.IoFault.{IoFault}
 use Rattle.py_flat.specs.Calls.{Read, Write, Flush, Bytes, Count, Done, NotReady, Refused}
 use Rattle.py_stream.specs.Stream.{Stream}
@@ -28,11 +28,21 @@ copies_so : (short : Bool) (reader writer read written after : Stream) (part : L
 copies_so true reader writer read written after part is reads writes flushes = (is, inl (record { part = part; written = written; reads = reads; writes = writes; flushes = flushes }))
 copies_so false reader writer read written after part is reads writes flushes = (is, record { part = part; written = written; reads = reads; writes = writes; flushes = flushes })
 
+-- a write into a buffer that answered took all that it was given
+wrote_all : (writer after : Stream) (size count : ℕ) (given part : List ℕ) → writer.buffer ≡ Some size → given ≡ part → Answers writer (Write given) (Count count) after → Answers writer (Write part) (Count (length part)) after
+wrote_all writer after size count given part sized same answers =
+    let took : Answers writer (Write part) (Count count) after = subst (λ (bytes : List ℕ). Answers writer (Write bytes) (Count count) after) same answers in
+    let all : count ≡ length part = subst (λ (buffer : Option ℕ). TakesOf buffer part count) sized took.moves.place.0 in
+    subst (λ (taken : ℕ). Answers writer (Write part) (Count taken) after) all took
+
+pub returns-in_err-flush-clause-outcome : goal.returns-in_err-flush-clause-outcome
+returns-in_err-flush-clause-outcome g c =
+    let says : c.from_residual-in_err-flush.result ≡ Err c.in_err-flush.field-0.0 = search rules in
+    let reads : Answers c.args.reader.now (Read None) (Bytes c.in-Some.bytes.items) c.read.new.self = rw c.in-Some.is at c.in_ok-bytes.ensures in
+    let wrote = wrote_all c.args.writer.now.stream c.write.new.self.stream c.buffer_size.result c.in_ok-write.field-0 c.deref.result.now c.in-Some.bytes.items c.buffer_size.ensures c.deref.ensures.value c.in_ok-write.ensures.answers in
+    subst (λ (answer : Result Bool IoFault). CopyOutcome c.args.reader.now c.args.writer.now.stream answer c.read.new.self c.flush.new.self.stream) (sym says) (inr (c.in-Some.bytes.items, reads, inr (c.write.new.self.stream, wrote, c.in_err-flush.ensures.answers)))
+
 pub returns-clause-outcome : goal.returns-clause-outcome
 returns-clause-outcome g c =
-    let writer : Stream = c.args.writer.now.stream in
-    let part : List ℕ = c.in-Some.bytes.items in
-    let count : ℕ = c.in_ok-write.field-0 in
-    let took : Answers writer (Write part) (Count count) c.write.new.self.stream = subst (λ (bytes : List ℕ). Answers writer (Write bytes) (Count count) c.write.new.self.stream) c.deref.ensures.value c.in_ok-write.ensures.answers in
-    let all : count ≡ length part = subst (λ (buffer : Option ℕ). TakesOf buffer part count) c.buffer_size.ensures took.moves.place.0 in
-    copies_so c.short.result c.args.reader.now writer c.read.new.self c.write.new.self.stream c.flush.new.self.stream part (sym c.short.ensures) (rw c.in-Some.is at c.in_ok-bytes.ensures) (subst (λ (taken : ℕ). Answers writer (Write part) (Count taken) c.write.new.self.stream) all took) c.in_ok-flush.ensures.answers
+    let wrote = wrote_all c.args.writer.now.stream c.write.new.self.stream c.buffer_size.result c.in_ok-write.field-0 c.deref.result.now c.in-Some.bytes.items c.buffer_size.ensures c.deref.ensures.value c.in_ok-write.ensures.answers in
+    copies_so c.short.result c.args.reader.now c.args.writer.now.stream c.read.new.self c.write.new.self.stream c.flush.new.self.stream c.in-Some.bytes.items (sym c.short.ensures) (rw c.in-Some.is at c.in_ok-bytes.ensures) wrote c.in_ok-flush.ensures.answers

@@ -10,9 +10,6 @@ returns-clause-plus_of_bytes c = λ mode args plan planned plus. (planned_plus m
 pub returns-clause-plus_not_at_the_end : goal.returns-clause-plus_not_at_the_end
 returns-clause-plus_not_at_the_end c = λ mode args plan planned plus. (planned_plus mode args plan planned plus).1
 
-pub returns-clause-plus_without_a_buffer : goal.returns-clause-plus_without_a_buffer
-returns-clause-plus_without_a_buffer c = λ mode args plan planned plus. (planned_plus mode args plan planned plus).2
-
 pub returns-clause-buffer : goal.returns-clause-buffer
 returns-clause-buffer c = λ mode args plan planned. planned_buffer mode args plan planned
 

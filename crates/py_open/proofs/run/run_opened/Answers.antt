@@ -30,7 +30,7 @@ by_tests able appends raw buffer why false true shut can by = let never : None �
 pub returns-in-Some : goal.returns-in-Some
 returns-in-Some g c =
     let raw : Raw = g.R.RawStream.shows c.args.raw in
-    let able : Raw → Bool = is_able (access_of c.args.plan.mode) in
+    let able : Raw → Bool = is_able (access_of c.args.plan.mode) c.args.plan.buffer_size in
     by_tests able (can_of (access_of c.args.plan.mode) raw.seekable).appending raw c.args.plan.buffer_size c.in-Some.fault raw.closed (able raw) refl refl (sym c.raw_refusal.ensures ∙ c.in-Some.is)
 
 pub loop-call-preserved : goal.loop-call-preserved

@@ -7,5 +7,5 @@ run_opened-requires-clause-planned g c = record {
   reads = planned_text_is_read c.args.mode.now c.args.args c.in-Ok.plan (sym c.in-Ok.ensures);
   buffer = planned_text_buffer c.args.mode.now c.args.args c.in-Ok.plan (sym c.in-Ok.ensures);
   chunk_size = planned_chunk c.args.mode.now c.args.args c.in-Ok.plan (sym c.in-Ok.ensures);
-  plus = λ plus. let is = planned_plus c.args.mode.now c.args.args c.in-Ok.plan (sym c.in-Ok.ensures) plus in (is.0, is.2);
+  plus = λ plus. (planned_plus c.args.mode.now c.args.args c.in-Ok.plan (sym c.in-Ok.ensures) plus).0;
 }

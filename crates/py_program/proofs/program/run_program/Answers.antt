@@ -1,10 +1,11 @@
 use Rattle.std.proofs.Common.{◌≡◌, ◌≢◌, ◌⊎◌, IsTrue, None, subst, ℕ, rules, arith}
 use Rattle.std.proofs.lemmas.Grind.{common_steps}
+use Rattle.py_flat.specs.Causes.{Rose}
 use Rattle.py_source_sink.specs.Source.{SourceView}
 use Rattle.py_program.specs.Outside.{texts, IsMalformed}
 use Rattle.py_program.specs.Outcome.{Outside, asked_in, Ends}
-use Rattle.py_program.specs.Meaning.{IsRefusedPlan, NothingFails}
-use Rattle.py_program.proofs.Ending.{paths_kept, others_kept, path_left_by, path_missed}
+use Rattle.py_program.specs.Meaning.{IsRefusedPlan, MayNotMove, NothingFails}
+use Rattle.py_program.proofs.Ending.{paths_kept, others_kept, path_left_by, refused_by_cause, path_missed}
 use Rattle.py_program.proofs.Exact.{prints_replies}
 use Rattle.py_program.proofs.Smooth.{does_as_model}
 use Rattle.py_program.proofs.Counting.{all_counts, opens_one, opens_none}
@@ -17,7 +18,8 @@ returns-clause-promises g c =
     let before : Outside = record { opener = g.O.Opener.shows c.args.opener.now; sink = g.K.Sink.shows c.args.out.now } in
     let after : Outside = record { opener = g.O.Opener.shows c.run_to_status.new.opener; sink = g.K.Sink.shows c.run_to_status.new.out } in
     let ends : Ends c.code.result (texts c.args.words.now) old new before after = record { ended = c.run_to_status.result; code_is = c.code.ensures; outcome = c.run_to_status.ensures.outcome } in
-    let complete : asked_in c.args.words.now ≢ None → ¬ IsRefusedPlan (asked_in c.args.words.now) → NothingFails old new before after → (c.code.result ≡ 0) ⊎ ((c.code.result ≡ 3) ⊎ (c.code.result ≡ 7)) = first_of (search rules, grind (arith, common_steps)) in
+    let refused : c.code.result ≡ 4 → IsRefusedPlan (asked_in c.args.words.now) ⊎ (Rose before.opener.raw_faults after.opener.raw_faults ⊎ MayNotMove before.opener (asked_in c.args.words.now)) = refused_by_cause c.code.result (texts c.args.words.now) old new before after ends in
+    let complete : asked_in c.args.words.now ≢ None → ¬ IsRefusedPlan (asked_in c.args.words.now) → NothingFails old new before after → (c.code.result ≡ 0) ⊎ ((c.code.result ≡ 3) ⊎ ((c.code.result ≡ 7) ⊎ ((c.code.result ≡ 4) × MayNotMove before.opener (asked_in c.args.words.now)))) = first_of (search rules, grind (arith, common_steps)) in
     let malformed : c.code.result ≡ 3 → IsTrue old.tells → IsMalformed old.left = first_of (search rules, grind (arith, common_steps)) in
     record {
       statuses = first_of (search rules, grind (arith, common_steps));
@@ -33,7 +35,7 @@ returns-clause-promises g c =
       once = (all_counts c.code.result (texts c.args.words.now) old new before after ends).1;
       opened = opens_one c.code.result (texts c.args.words.now) old new before after ends;
       none_opened = opens_none c.code.result (texts c.args.words.now) old new before after ends;
-      refused = first_of (search rules, grind (arith, common_steps));
+      refused = refused;
       planned = first_of (search rules, grind (arith, common_steps));
       unopened = first_of (search rules, grind (arith, common_steps));
       complete = complete;
