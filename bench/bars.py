@@ -1,6 +1,6 @@
-"""Bars for the tables of bench/buffered, bench/codecs and bench/memory: how long a task took here, and in Rust's std, beside CPython.
+"""Bars for the tables of bench/buffered, bench/codecs, bench/memory and bench/random: how long a task took here, and in Rust's std, beside CPython.
 
-The three draw them of their own figures, and `.ci/docs_examples` those of the tables in docs/SPEED.md.
+The four draw them of their own figures, and `.ci/docs_examples` those of the tables in docs/SPEED.md.
 """
 import re
 

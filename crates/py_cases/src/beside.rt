@@ -85,18 +85,33 @@ fn follow(alloc: Global, case: &SessionCase<'_>, opened: Opened) -> Result<Outco
             end.failed = Some(call);
             break;
         }
-        end.shorts = end.shorts.saturating_add(u64::from(short));
-        end.passes = passes_all(call, &reply);
-        let is_right = match &mut plain {
-            Plain::Bytes(flat) => flat.answers(alloc, call, &reply, short)?,
-            Plain::Text(text) => answers_text(alloc, text, call, &reply, short),
-        };
-        if !is_right {
-            differs = Some(format!(in alloc; "{reply:?} to {call:?}, short: {short}")?);
+        differs = difference(alloc, &mut plain, &mut end, call, &reply, short)?;
+        if differs.is_some() {
             break;
         }
     }
     settle(alloc, case, opened, plain, end, differs)
+}
+
+/// What of an answer isn't as the plain code has it, which goes on by it.
+fn difference(
+    alloc: Global,
+    plain: &mut Plain,
+    end: &mut End<'_>,
+    call: &Call,
+    reply: &Reply,
+    short: bool,
+) -> Result<Option<String>> {
+    end.shorts = end.shorts.saturating_add(u64::from(short));
+    end.passes = passes_all(plain, call, reply);
+    let is_right = match plain {
+        Plain::Bytes(flat) => flat.answers(alloc, call, reply, short)?,
+        Plain::Text(text) => answers_text(alloc, text, call, reply, short),
+    };
+    if is_right {
+        return Ok(None);
+    }
+    Ok(Some(format!(in alloc; "{reply:?} to {call:?}, short: {short}")?))
 }
 
 /// Ends a run, and compares what is handed back then where nothing differs so far.
@@ -123,13 +138,20 @@ fn settle(
     Ok(outcome_of(&handed.raw, differs))
 }
 
-/// Whether a call was answered as one that passes on all that is owed.
-fn passes_all(call: &Call, reply: &Reply) -> bool {
+/// Whether a call was answered as one that passes on all that is owed. A stream that is read and written through a buffer may owe
+/// it still after a seek.
+fn passes_all(plain: &Plain, call: &Call, reply: &Reply) -> bool {
     match call {
         Call::Flush | Call::Close => *reply == Reply::Done,
+        Call::Seek(_, _) if holds_both(plain) => false,
         Call::Seek(_, _) | Call::Truncate(_) => matches!(reply, Reply::Place(_)),
         _ => false,
     }
+}
+
+/// Whether a session is a stream that is read and written through a buffer.
+fn holds_both(plain: &Plain) -> bool {
+    matches!(plain, Plain::Bytes(flat) if flat.holds_both())
 }
 
 /// The plain code of a case, at its beginning.
@@ -218,10 +240,12 @@ fn ends(
     let waits = raw.wait_count();
     Ok(
         is_told
-            && shuts(handed, end)
+            && is_as_said(case, raw)
+            && shuts(handed, plain, end)
             && match plain {
                 Plain::Text(_) => spares && end.shorts == waits,
-                Plain::Bytes(flat) if !flat.writes || end.failed.is_some_and(gives) => {
+                Plain::Bytes(flat)
+                    if !flat.writes || !flat.holds_both() && end.failed.is_some_and(gives) => {
                     raw.bytes_of() == flat.bytes.as_slice()
                         && handed.unwritten.is_empty()
                         && end.shorts == waits
@@ -237,6 +261,14 @@ fn ends(
     )
 }
 
+/// Whether a raw holds what the case says of the end, where it does.
+fn is_as_said(case: &SessionCase<'_>, raw: &MemRaw) -> bool {
+    match &case.ends {
+        Some(bytes) => raw.bytes_of() == bytes.as_slice(),
+        None => true,
+    }
+}
+
 /// Whether a call gives bytes to its caller.
 fn gives(call: &Call) -> bool {
     matches!(
@@ -245,9 +277,11 @@ fn gives(call: &Call) -> bool {
     )
 }
 
-/// Whether the raw is closed just where it should be: by a close that was done, and by one that failed once nothing was owed.
-fn shuts(handed: &Detached<MemRaw>, end: End<'_>) -> bool {
+/// Whether the raw is closed just where it should be: by a close that was done, and by one that failed once nothing was owed; but
+/// of a stream that is read and written through a buffer it may have failed to be moved to the place before.
+fn shuts(handed: &Detached<MemRaw>, plain: &Plain, end: End<'_>) -> bool {
     let closes = match end.failed {
+        Some(Call::Close) if holds_both(plain) && !handed.raw.closed() => return true,
         Some(Call::Close) => handed.unwritten.is_empty(),
         Some(_) => false,
         None => end.closes,
@@ -277,9 +311,34 @@ fn reaches(handed: &Detached<MemRaw>, flat: &Flat, failed: Option<&Call>) -> boo
     }
 }
 
+/// How many bytes of its own a call that failed had taken, by what is handed back, and how many more it may have: those that the
+/// raw laid on without an answer. A write that failed owes none of its own. Nothing where the place can't be.
+///
+/// What a stream owes that is read and written through a buffer may be of earlier calls alone, wherever it stands; only of lines some
+/// may be their own.
+fn taken_of(
+    handed: &Detached<MemRaw>,
+    flat: &Flat,
+    failed: Option<&Call>,
+    unanswered: usize,
+) -> Option<(usize, usize)> {
+    let owes = !handed.unwritten.is_empty();
+    let is_lines = matches!(failed, Some(Call::WriteLines(_)));
+    if flat.holds_both() && owes {
+        return Some((0, if is_lines { usize::MAX } else { 0 }));
+    }
+    if flat.holds_both() && failed.is_some_and(gives) {
+        return reaches(handed, flat, failed).then_some((0, 0));
+    }
+    let end = (handed.place? as usize).saturating_add(handed.unwritten.len());
+    let count = end.checked_sub(flat.place)?;
+    let owes_own = matches!(failed, Some(Call::Write(_))) && count > 0 && owes;
+    (!owes_own).then_some((count, if owes { 0 } else { unanswered }))
+}
+
 /// Whether the bytes of the raw with those that are handed back laid at their place are all that was taken from the caller before
-/// a call that failed, and a front of what that call gave; a write that failed owes none of its own. They end where the place says;
-/// at most `unanswered` bytes more may lie after, which the raw laid on without an answer. A truncation that failed may have come about.
+/// a call that failed, and a front of what that call gave. They end where the place says; at most `unanswered` bytes more may lie
+/// after, which the raw laid on without an answer. A truncation that failed may have come about.
 fn holds_all_taken(
     alloc: Global,
     handed: &Detached<MemRaw>,
@@ -303,17 +362,14 @@ fn holds_all_taken(
         Some(call) => Flat::payload(alloc, call)?,
         None => Vec::new(alloc),
     };
-    let count = found.place.saturating_sub(flat.place);
-    let owes_own = matches!(failed, Some(Call::Write(_)))
-        && count > 0
-        && !handed.unwritten.is_empty();
-    if found.place < flat.place || payload.len() < count || owes_own {
+    let Some((count, more)) = taken_of(handed, flat, failed, unanswered as usize) else {
+        return Ok(false);
+    };
+    if payload.len() < count {
         return Ok(false);
     }
-    let (front, rest) = payload.split_at(count);
-    flat.lay(front)?;
-    for byte in rest.iter().take(unanswered as usize) {
-        if found.bytes == flat.bytes || !handed.unwritten.is_empty() {
+    for (index, byte) in payload.iter().take(count.saturating_add(more)).enumerate() {
+        if index >= count && found.bytes == flat.bytes {
             break;
         }
         flat.lay(&[*byte])?;

@@ -16,6 +16,11 @@ pub(crate) struct Flat {
 }
 
 impl Flat {
+    /// Whether the bytes that its stream holds and those that it owes lie in one buffer.
+    pub(crate) fn holds_both(&self) -> bool {
+        self.reads && self.writes && self.buffered
+    }
+
     /// Lays bytes at the place, after zeros where that lies past the end.
     pub(crate) fn lay(&mut self, part: &[u8]) -> Result<(), AllocError> {
         if !part.is_empty() && self.bytes.len() < self.place {

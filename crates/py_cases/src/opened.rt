@@ -182,6 +182,7 @@ fn open_bytes(alloc: Global, case: &SessionCase<'_>, raw: MemRaw, size: usize) -
         "rb" => Access::Read,
         "wb" | "xb" => Access::Write,
         "ab" => Access::Append,
+        "rb+" | "wb+" | "xb+" => Access::Update,
         _ => return case.open.malformed(),
     };
     Ok(BinarySession::new(alloc, raw, access, Some(size)).map(Opened::Bytes))

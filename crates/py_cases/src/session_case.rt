@@ -27,6 +27,8 @@ pub(crate) struct SessionCase<'a> {
     pub(crate) calls: Vec<Call>,
     /// Whether a session that failed is detached, and not finished.
     pub(crate) detaches: bool,
+    /// What the raw holds in the end, where the case says so.
+    pub(crate) ends: Option<Vec<u8>>,
 }
 
 impl<'a> SessionCase<'a> {
@@ -45,6 +47,7 @@ impl<'a> SessionCase<'a> {
             faults: Vec::new(alloc),
             calls: Vec::new(alloc),
             detaches: false,
+            ends: None,
         };
         for line in lines {
             case.take(alloc, *line)?;
@@ -70,6 +73,7 @@ impl<'a> SessionCase<'a> {
             "faults" => self.faults = line.numbers(alloc, line.rest)?,
             "front" => self.calls.truncate(line.number(line.rest)?),
             "detaches" => self.detaches = true,
+            "ends" => self.ends = Some(line.bytes(alloc, line.rest)?),
             _ => return line.malformed(),
         }
         Ok(())

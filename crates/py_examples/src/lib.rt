@@ -17,11 +17,17 @@ mod faults;
 #[cfg(test)]
 mod files;
 #[cfg(test)]
+mod layers;
+#[cfg(test)]
 mod memory;
 #[cfg(test)]
 mod queue;
 #[cfg(test)]
 mod random;
+#[cfg(test)]
+mod random_faults;
+#[cfg(test)]
+mod records;
 #[cfg(test)]
 mod refusals;
 #[cfg(test)]

@@ -1,5 +1,6 @@
 //! What the examples begin from: raw streams in memory, and buffered streams over them.
-use py_buffered::{BufferedRandom, BufferedReader, BufferedWriter};
+use py_buffered::{BufferedReader, BufferedWriter};
+use py_buffered_random::BufferedRandom;
 use py_raw::{Data, IoFault, Lines, RawFlags};
 use py_raw_memory::{Cut, MemRaw};
 use std::alloc::{AllocError, Global};
@@ -36,15 +37,19 @@ pub(crate) fn writer_to(
     Ok(BufferedWriter::new(alloc, raw, buffer_size)?)
 }
 
-/// A stream that is read and written, over a stream in memory that moves all that is asked of it.
+/// A stream that is read and written, over a stream in memory, whose transfers are cut and fail as a plan says, and of whose calls
+/// those with these numbers fail.
 pub(crate) fn random_over(
     alloc: Global,
     bytes: &[u8],
+    plan: &[Cut],
+    faults: &[u64],
     buffer_size: usize,
 ) -> Result<BufferedRandom<MemRaw>, Fail> {
     let flags = RawFlags::able(true, true, true);
     let bytes = bytes.to_vec(alloc)?;
-    let raw = MemRaw::new(bytes, flags, Vec::new(alloc), Vec::new(alloc));
+    let plan = plan.to_vec(alloc)?;
+    let raw = MemRaw::new(bytes, flags, plan, faults.to_vec(alloc)?);
     Ok(BufferedRandom::new(alloc, raw, buffer_size)?)
 }
 

@@ -1,6 +1,6 @@
 //! A buffered stream that is read and written: the example of docs/BUFFERED.md.
 use crate::memory::{random_over, shown};
-use py_buffered::BufferedRandom;
+use py_buffered_random::BufferedRandom;
 use py_raw::{IoFault, RawFlags};
 use py_raw_memory::MemRaw;
 use std::test::Fail;
@@ -9,7 +9,7 @@ use std::test::Fail;
 fn a_record_is_changed_in_its_middle(rt: HostRuntime) -> Result<(), Fail> {
     let alloc = rt.alloc();
     // three records of eight bytes
-    let mut stream = random_over(alloc, b"ann:03;\nbob:07;\ncyd:12;\n", 8192)?;
+    let mut stream = random_over(alloc, b"ann:03;\nbob:07;\ncyd:12;\n", &[], &[], 8192)?;
     assert_eq!(rt; stream.seek(8, 0), Ok(8));
     assert_eq!(rt;
         shown(&stream.read(alloc, Some(8))),
@@ -45,7 +45,7 @@ fn a_record_is_changed_in_its_middle(rt: HostRuntime) -> Result<(), Fail> {
 #[test]
 fn what_was_written_at_the_end_is_read_and_cut(rt: HostRuntime) -> Result<(), Fail> {
     let alloc = rt.alloc();
-    let mut stream = random_over(alloc, b"ab", 8)?;
+    let mut stream = random_over(alloc, b"ab", &[], &[], 8)?;
     assert_eq!(rt; stream.seek(2, 0), Ok(2));
     assert_eq!(rt; stream.write(b"cdef"), Ok(4));
     assert_eq!(rt; stream.seek(2, 0), Ok(2));
