@@ -42,6 +42,7 @@ writes_lent : (old new : Stream) (part : List ℕ) → Writes old Peek (Bytes pa
 writes_lent old new part w = record {
   owes = w.owes;
   takes = w.takes;
+  room = λ writing. absurd (cc);
   leaves = w.leaves;
   stands = w.stands;
   lays = w.lays;
@@ -66,6 +67,7 @@ starved_look old new part a = record {
   shorts = a.shorts;
   moves = record { life_is = a.moves.life_is; place = starves_at new.life old.place new.place a.moves.place; far = a.moves.far; within = tt };
   ends = tt;
+  seeks = tt;
   wants = λ wanting room. absurd (cc);
   goes_on = a.goes_on;
   goes_past = λ reading given. absurd (cc);
@@ -74,6 +76,7 @@ starved_look old new part a = record {
   nothing = λ asks. absurd (cc);
   idle = λ keeps. absurd (cc);
   single = a.single;
+  passes_first = λ buffered single some given. absurd (cc);
   brings = a.brings;
   unread = a.unread;
   in_hand = λ has. record { raw = (a.in_hand has).raw; fault = refl };

@@ -30,6 +30,7 @@ writes_none : (stream : Stream) (size : ℕ) → stream.life ≡ life.Live → W
 writes_none stream size live = record {
   owes = λ writing. absurd (cc);
   takes = λ writing. absurd (cc);
+  room = λ writing. absurd (cc);
   leaves = λ _. record { passed = 0; most = omega arith; answered = λ tells. refl; bytes = refl; place = λ _. omega arith };
   stands = λ is reads. absurd (cc);
   lays = λ tells. lays_nothing stream [] stream.raw.bytes refl;
@@ -54,6 +55,7 @@ starved_into stream size is live reads = record {
   shorts = refl;
   moves = record { life_is = starves_alive stream.buffer (ReadInto size) stream.life; place = starves_there stream.buffer (ReadInto size) stream.life stream.place; far = is.far; within = tt };
   ends = tt;
+  seeks = tt;
   wants = λ wanting room. absurd (cc);
   goes_on = λ reading ahead. ahead_seen stream false ahead;
   goes_past = λ reading given. absurd (cc);
@@ -66,6 +68,7 @@ starved_into stream size is live reads = record {
   nothing = λ asks. record { raw = refl; fault = refl };
   idle = λ keeps. absurd (let never = never_idle stream.buffer stream.can.writable size in cc);
   single = λ one none tells. omega arith;
+  passes_first = λ buffered single some given. absurd (cc);
   in_hand = λ has. record { raw = refl; fault = refl };
   owing = λ has. refl;
   brings = λ reading none. came_still stream (record stream { short = false }) 1 refl refl;

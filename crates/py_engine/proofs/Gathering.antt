@@ -180,7 +180,7 @@ module _ (old now : EngineView) (part : List ℕ) (moved : Bool) (took : Took ol
         no_wait_then old.raw now.raw new.raw took.kept.raw took.counts.no_wait no_wait,
         last_of new used last,
         each_then old now new 1 1 took.kept took.each (each_but_last now new 1 used),
-      ) (gathers_at_end first (reading_of old) part alone took.told (λ tells. omega (arith, took.end, used.place, last_of new used last tells)), open_asking first part asks) (λ held. absurd (wants_past first (reading_of old) part asks all_held held))
+      ) (gathers_at_end first (reading_of old) part alone took.told (λ tells. omega (arith, took.end, used.place, last_of new used last tells)), open_asking first part asks) (λ held. absurd (wants_past first (reading_of old) part asks all_held took.told held))
 
   waits_at : (new : EngineView) (first : List ℕ → List ℕ) → first part ≡ part → ((more : List ℕ) → IsFrontOf part (first (part ++ more))) → WantsOn first part → UsesUp 0 now new → Rose now.raw.waits new.raw.waits → WaitsOnce now.raw new.raw → GatherOutcome first (reading_of old) (Ok stop.Waits) part (reading_of new)
   waits_at new first alone goes_on asks used waits once =
@@ -190,7 +190,7 @@ module _ (old now : EngineView) (part : List ℕ) (moved : Bool) (took : Took ol
         used.end ∙ sym used.place,
         waits_once_then (reading_of old) (reading_of now) (reading_of new) (keeps_reading old now took.kept) took.counts.no_wait once,
         each_then old now new 1 0 took.kept took.each (each_but_last now new 0 used),
-      ) (gathers_waiting first (reading_of old) part alone goes_on took.told, open_asking first part asks) (λ held. absurd (wants_past first (reading_of old) part asks all_held held))
+      ) (gathers_waiting first (reading_of old) part alone goes_on took.told, open_asking first part asks) (λ held. absurd (wants_past first (reading_of old) part asks all_held took.told held))
 
 -- A piece of which all was taken.
 
@@ -210,7 +210,7 @@ module _ (old now : EngineView) (part after piece : List ℕ) (moved : Bool) (ga
       let parts : WhereTold old.raw (left_at old.raw.bytes place ≡ after ++ behind) = λ tells. next_parts old.raw.bytes after place (took_piece.told tells) in
       let some : WhereTold old.raw (behind ≢ []) = some_behind old now after moved took_piece new count fills in
       record {
-        wants = λ is. wants_past first (reading_of old) after (asks_first wanted first part piece after same more) (all_held old now after moved took_piece);
+        wants = λ is. wants_past first (reading_of old) after (asks_first wanted first part piece after same more) (all_held old now after moved took_piece) took_piece.told;
         alone = λ is. sym (same after) ∙ more.alone;
         asks = λ is. asks_first wanted first part piece after same more;
         left = λ is tells none. some tells (none_behind after behind (sym (parts tells) ∙ none));
@@ -267,7 +267,7 @@ fails_so_far old now new part after moved wanted first piece fault.RawFault gath
       };
       gathers = tt;
       starves = tt;
-      idle = λ held. absurd (wants_past first (reading_of old) after (asks_first wanted first part piece after same more) (all_held old now after moved took) held);
+      idle = λ held. absurd (wants_past first (reading_of old) after (asks_first wanted first part piece after same more) (all_held old now after moved took) took.told held);
       within = λ most bound. omega (arith, place, bound after, ap length (sym (same after) ∙ more.alone));
     }
 fails_so_far old now new part after moved wanted first piece fault.NoMemory gathered some lent same more fails = starves_so_far old now new part after moved first gathered some fails.1

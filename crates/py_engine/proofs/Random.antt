@@ -1,10 +1,13 @@
--- Readings of an engine that is opened to be read and written, where it doesn't read on from the bytes held as it stands.
-use Rattle.std.proofs.Common.{[], ◌≡◌, ◌≢◌, ℕ, ◌+◌, ◌<◌, ◌≤◌, Bool, true, false, IsTrue, List, length, ◌++◌, take, drop, ◌-◌, min, Option, Some, None, Ok, Err, refl, sym, ap, ◌∙◌, subst, arith}
+-- Readings of an engine that the bytes held answer, whatever it owes; and others where it doesn't read on from these as it stands.
+use Rattle.std.proofs.Common.{[], ◌∷◌, ◌≡◌, ◌≢◌, ℕ, zero, suc, ◌+◌, ◌<◌, ◌≤◌, ◌⊎◌, inl, inr, ⊎_elim, nat_lt, if◌then◌else◌, unwrap_or, length-append, Bool, true, false, IsTrue, List, length, ◌++◌, take, drop, ◌-◌, min, Option, Some, None, Ok, Err, refl, sym, ap, ◌∙◌, subst, arith}
 use Rattle.py_flat.specs.declared.fault.IoFault.{IoFault}
 use Rattle.py_flat.specs.declared.fault.IoFault.TheVariants as fault
 use Rattle.py_flat.specs.declared.life.Life.{Life}
 use Rattle.py_flat.specs.declared.life.Life.TheVariants as life
 use Rattle.std.proofs.Math.Seq.{take-append_seam}
+use Rattle.std.proofs.lemmas.Bool.{ltb-true}
+use Rattle.py_flat.proofs.Cutting.{joined_lines}
+use Rattle.py_lines.proofs.Lines.{within_some}
 use Rattle.std.proofs.lemmas.List.{length-drop, length-take, take-take, take_min, take_all, take-append-drop}
 use Rattle.py_flat.specs.Bytes.{left_at}
 use Rattle.py_flat.specs.Owed.{Owed}
@@ -22,8 +25,8 @@ use Rattle.py_stream.specs.Answers.{Answers, IsAhead, InHandOf}
 use Rattle.py_stream.specs.Settling.{SettleOutcome}
 use Rattle.py_stream.specs.Reading.{wanted_by, reply_by}
 use Rattle.py_flat.specs.ExactStep.{rest}
-use Rattle.py_lines.specs.Collecting.{HasEnough, WantsMore, LineView, line_wanted, LinesView, IsNewLines, lines_wanted, lines_collected}
-use Rattle.py_flat.specs.Lines.{joined, lines_of}
+use Rattle.py_lines.specs.Collecting.{HasEnough, WantsMore, EndsIn, LinesView, IsNewLines, lines_wanted, lines_collected}
+use Rattle.py_flat.specs.Lines.{joined, lines_of, until_above}
 use Rattle.py_stream.proofs.ReadingOn.{wants_past}
 use Rattle.py_stream.proofs.SingleReading.{asks_for, moves_by}
 use Rattle.py_engine.proofs.SingleReading.{asks_some, copied}
@@ -36,10 +39,10 @@ use Rattle.py_stream.proofs.Settled.{settled_reads}
 use Rattle.py_window.specs.Window.{WindowView, IsWindow, place_of, end_of, ahead_of, advanced, flat_over, HoldsBytes}
 use Rattle.py_engine.specs.Engine.{EngineView, stream_of, Stands, IsEngine, HasShape, HoldsRead, BeginOutcome}
 use Rattle.py_engine.specs.Reading.{reading_of, IsReading}
-use Rattle.py_engine.specs.Random.{GoesToRaw, AnswersFrom, GoesAhead}
+use Rattle.py_engine.specs.Random.{GoesToRaw, AnswersFrom, GoesAhead, WantsPast}
 use Rattle.py_engine.proofs.Transfers.{bytes_ahead}
-use Rattle.py_engine.proofs.Standing.{is_placed, is_sound, owes_nothing, reads_alone, reads_both}
-use Rattle.py_engine.proofs.Seen.{same_stream}
+use Rattle.py_engine.proofs.Standing.{is_placed, is_sound, owes_nothing, none_over, reads_alone, reads_both}
+use Rattle.py_engine.proofs.Seen.{readable, same_stream}
 use Rattle.py_engine.proofs.Draining.{none_at_cursor, pending_many}
 use Rattle.py_engine.proofs.Calls.{begins, stands_whole}
 
@@ -53,13 +56,13 @@ answers_from_begun old begun call reply after began answers = answers_whole (str
 pub begins_not : (old new : EngineView) (call : FileCall) (why : IoFault) → is_reading call ≡ true → Stands old → BeginOutcome old (Err why) new → Answers (stream_of old) call (Refused why) (stream_of new)
 begins_not old new call why reads is began = reading_refused (stream_of old) (stream_of new) call why reads (is_placed old is) (begins old new (Err why) began)
 
--- a live stream that is read and written
-pub reads_held : (engine : EngineView) → Stands engine → engine.access ≡ access.Update → engine.life ≡ life.Live → engine.short ≡ false → ReadsHeld (stream_of engine)
-reads_held engine is opened live whole = record { sound = is_sound engine is; live = live; whole = whole; readable = grind arith; size = engine.window.size; buffered = refl }
+-- a live stream that is read
+pub reads_held : (engine : EngineView) → Stands engine → is_read engine.access ≡ true → engine.life ≡ life.Live → engine.short ≡ false → ReadsHeld (stream_of engine)
+reads_held engine is reads live whole = record { sound = is_sound engine is; live = live; whole = whole; readable = readable engine.access engine.raw.seekable reads; size = engine.window.size; buffered = refl }
 
--- a reading of such a stream that has to go to the raw
+-- a reading of one that is written too, which has to go to the raw
 has_to_pass : (engine : EngineView) (call : FileCall) → Stands engine → engine.access ≡ access.Update → engine.life ≡ life.Live → engine.short ≡ false → GoesToRaw (stream_of engine) call → HasToPass (stream_of engine) call
-has_to_pass engine call is opened live whole goes = record { held = reads_held engine is opened live whole; writes = grind arith; reads = goes.reads; some = goes.some; apart = goes.apart }
+has_to_pass engine call is opened live whole goes = record { held = reads_held engine is (ap is_read opened) live whole; writes = grind arith; reads = goes.reads; some = goes.some; apart = goes.apart }
 
 -- Passing all on for a reading.
 
@@ -166,10 +169,6 @@ module _ (old begun : EngineView) (call : FileCall) (began : BeginOutcome old (O
 pub rest_goes : (engine : EngineView) → GoesToRaw (stream_of engine) (Read None)
 rest_goes engine = record { reads = refl; some = refl; apart = λ has. absurd (has.of) }
 
--- so has one of lines
-pub lines_go : (engine : EngineView) (hint : Option ℕ) → GoesToRaw (stream_of engine) (ReadLines hint)
-lines_go engine hint = record { reads = refl; some = refl; apart = λ has. absurd (has.of) }
-
 -- a size that isn't 0 asks for some
 not_zero : (size : ℕ) → 0 < size → is_zero size ≡ false
 not_zero size some = grind arith
@@ -196,26 +195,25 @@ moved_stream old count is fits = grind (arith, pending_many)
 front_told : (window : WindowView) (bytes : List ℕ) (count : ℕ) → IsWindow window → HoldsBytes bytes window → count ≤ length (ahead_of window) → take count (left_at bytes (place_of window)) ≡ take count (ahead_of window)
 front_told window bytes count is holds fits = sym (take-take count (length (ahead_of window)) (left_at bytes (place_of window)) fits) ∙ ap (take count) (bytes_ahead bytes window is.cursor holds)
 
--- told, a live stream that is read and written holds the flat bytes
-holds_flat : (opened : Access) (bytes : List ℕ) (window : WindowView) → opened ≡ access.Update → HoldsRead opened bytes window → HoldsBytes (flat_over bytes window) window
-holds_flat access.Update bytes window is holds = holds
-holds_flat access.Read bytes window is holds = absurd (cc)
-holds_flat access.Write bytes window is holds = absurd (cc)
-holds_flat access.Append bytes window is holds = absurd (cc)
+-- told, a live stream that is read holds the flat bytes
+holds_flat : (opened : Access) (bytes : List ℕ) (raw_place : ℕ) (window : WindowView) → is_read opened ≡ true → HasShape opened raw_place window → HoldsRead opened bytes window → HoldsBytes (flat_over bytes window) window
+holds_flat access.Update bytes raw_place window reads shape holds = holds
+holds_flat access.Read bytes raw_place window reads shape holds = subst (λ (flat : List ℕ). HoldsBytes flat window) (sym (none_over bytes window shape.settled)) holds
+holds_flat access.Write bytes raw_place window reads shape holds = absurd (cc)
+holds_flat access.Append bytes raw_place window reads shape holds = absurd (cc)
 
 -- a front of the bytes held is given
-pub gives_front : (old new : EngineView) (part : List ℕ) (size : ℕ) → Stands old → old.access ≡ access.Update → old.life ≡ life.Live → part ≡ take size (ahead_of old.window) → new ≡ record old { window = advanced (length part) old.window } → GivesHeld (stream_of old) part (stream_of new)
-gives_front old new part size is opened live front same =
+pub gives_front : (old new : EngineView) (part : List ℕ) (size : ℕ) → Stands old → is_read old.access ≡ true → old.life ≡ life.Live → part ≡ take size (ahead_of old.window) → new ≡ record old { window = advanced (length part) old.window } → GivesHeld (stream_of old) part (stream_of new)
+gives_front old new part size is reads live front same =
     let held : length (ahead_of old.window) ≡ length old.window.held - old.window.cursor = length-drop old.window.cursor old.window.held in
     let fits : length part ≤ length (ahead_of old.window) = omega (arith, ap length front, length-take size (ahead_of old.window)) in
-    let reads : is_read old.access ≡ true = ap is_read opened in
     let stands : Stands (record old { window = advanced (length part) old.window }) = stands_moved old.raw old.raw_place old.window old.access old.life (length part) reads fits is in
     let alone : take (length part) (ahead_of old.window) ≡ part = front_alone size part (ahead_of old.window) front in
     record {
       sound = subst (λ (engine : EngineView). IsSound (stream_of engine)) (sym same) (is_sound (record old { window = advanced (length part) old.window }) stands);
       within = omega (arith, fits, held);
       same = ap stream_of same ∙ moved_stream old (length part) is.window_is fits;
-      told = λ tells. front_told old.window (flat_over old.raw.bytes old.window) (length part) is.window_is (holds_flat old.access old.raw.bytes old.window opened (is.told tells live)) fits ∙ alone;
+      told = λ tells. front_told old.window (flat_over old.raw.bytes old.window) (length part) is.window_is (holds_flat old.access old.raw.bytes old.raw_place old.window reads is.shape (is.told tells live)) fits ∙ alone;
     }
 
 -- the lines that a collector has, which had none before
@@ -226,6 +224,47 @@ lines_are_in view new hint bytes used lines none has all =
     (subst (λ (most : Option ℕ). HasEnough (wanted_by (ReadLines most)) [] bytes used (lines_collected new)) none.2
     (subst (λ (before : List ℕ). HasEnough (wanted_by (ReadLines view.hint)) before bytes used (lines_collected new)) empty has))
 
+-- lines taken until they are above a hint are, or are all
+abbrev IsAboveOrAll : (hint total : ℕ) (lines taken : List (List ℕ)) → Type 0
+IsAboveOrAll hint total lines taken = (hint < total + length (joined taken)) ⊎ (taken ≡ lines)
+
+until_by : (above : Bool) (hint total : ℕ) (line : List ℕ) (lines : List (List ℕ)) → nat_lt hint (total + length line) ≡ above → IsAboveOrAll hint (total + length line) lines (until_above hint (total + length line) lines) → (let taken : List (List ℕ) = line ∷ (if above then [] else until_above hint (total + length line) lines) in IsAboveOrAll hint total (line ∷ lines) taken)
+until_by true hint total line lines is rest = inl (omega (arith, ltb-true hint (total + length line) is, length-append line []))
+until_by false hint total line lines is rest =
+    ⊎_elim
+    (λ (above : hint < total + length line + length (joined (until_above hint (total + length line) lines))). inl (omega (arith, above, length-append line (joined (until_above hint (total + length line) lines)))))
+    (λ (all : until_above hint (total + length line) lines ≡ lines). inr (ap (λ (more : List (List ℕ)). line ∷ more) all))
+    rest
+
+until_all : (hint total : ℕ) (lines : List (List ℕ)) → IsAboveOrAll hint total lines (until_above hint total lines)
+until_all hint total [] = inr refl
+until_all hint total (line ∷ lines) = until_by (nat_lt hint (total + length line)) hint total line lines refl (until_all hint (total + length line) lines)
+
+-- all lines of bytes have all of them
+all_past : (bytes more : List ℕ) → more ≢ [] → length bytes < length (joined (lines_of (bytes ++ more)))
+all_past bytes [] some = absurd (some refl)
+all_past bytes (byte ∷ more) some = omega (arith, ap length (joined_lines (bytes ++ (byte ∷ more))), length-append bytes (byte ∷ more))
+
+-- bytes that aren't above a hint have no lines that are, so that more is wanted
+pub short_past : (hint : Option ℕ) (bytes : List ℕ) → (unwrap_or hint 0 ≡ 0) ⊎ (length bytes ≤ unwrap_or hint 0) → WantsPast (wanted_by (ReadLines hint)) bytes
+short_past None bytes within more some = all_past bytes more some
+short_past (Some zero) bytes within more some = all_past bytes more some
+short_past (Some (suc hint)) bytes (inl none) more some = absurd (omega (arith, none))
+short_past (Some (suc hint)) bytes (inr within) more some =
+    subst (λ (lines : List (List ℕ)). length bytes < length (joined lines)) (sym (within_some hint (bytes ++ more)))
+    (⊎_elim
+    (λ (above : suc hint < 0 + length (joined (until_above (suc hint) 0 (lines_of (bytes ++ more))))). omega (arith, above, within))
+    (λ (all : until_above (suc hint) 0 (lines_of (bytes ++ more)) ≡ lines_of (bytes ++ more)). subst (λ (lines : List (List ℕ)). length bytes < length (joined lines)) (sym all) (all_past bytes more some))
+    (until_all (suc hint) 0 (lines_of (bytes ++ more))))
+
+-- a collector that had no lines, and took all of a piece, wants more than that
+pub lines_past : (view : LinesView) (after : List ℕ) (hint : Option ℕ) (bytes : List ℕ) → IsNewLines hint view → WantsMore (lines_wanted view) (lines_collected view) bytes after → WantsPast (wanted_by (ReadLines hint)) bytes
+lines_past view after hint bytes none has =
+    let empty : lines_collected view ≡ [] = ap (λ (some : List (List ℕ)). joined some ++ view.part) none.0 ∙ none.1 in
+    let all : after ≡ bytes = has.takes ∙ ap (λ (before : List ℕ). before ++ bytes) empty in
+    λ more some. subst (λ (most : Option ℕ). length bytes < length (wanted_by (ReadLines most) (bytes ++ more))) none.2
+    (subst (λ (front : List ℕ). length front < length (lines_wanted view (front ++ more))) all (has.asks more some))
+
 -- A reading that began.
 
 -- the engine with which it began stands as it did
@@ -233,33 +272,35 @@ pub stands_begun : (old begun : EngineView) → Stands old → BeginOutcome old 
 stands_begun old begun is began = subst Stands (sym began.1) (stands_whole old is)
 
 -- and its stream has what every reading needs
-pub held_begun : (old begun : EngineView) → Stands old → old.access ≡ access.Update → BeginOutcome old (Ok tt) begun → ReadsHeld (stream_of begun)
-held_begun old begun is opened began = reads_held begun (stands_begun old begun is began) (ap (λ (engine : EngineView). engine.access) began.1 ∙ opened) (ap (λ (engine : EngineView). engine.life) began.1 ∙ began.0) (ap (λ (engine : EngineView). engine.short) began.1)
+pub held_begun : (old begun : EngineView) → Stands old → is_read old.access ≡ true → BeginOutcome old (Ok tt) begun → ReadsHeld (stream_of begun)
+held_begun old begun is reads began = reads_held begun (stands_begun old begun is began) (ap (λ (engine : EngineView). is_read engine.access) began.1 ∙ reads) (ap (λ (engine : EngineView). engine.life) began.1 ∙ began.0) (ap (λ (engine : EngineView). engine.short) began.1)
 
 -- the bytes held answer a call by one transfer only where some are held and nothing is owed
 once_apart : (engine : EngineView) (call : FileCall) → is_single call ≡ true → InHandOf (stream_of engine) call → (0 < length (ahead_of engine.window) → (stream_of engine).owed.bytes ≡ [] → ⊥) → ⊥
 once_apart engine call single has apart = grind (arith, length-drop)
 
--- a limit that isn't 0 leaves some
-limit_some : (limit : Option ℕ) → limit ≢ Some 0 → asks_zero limit ≡ false
-limit_some limit some = grind arith
+-- a line that goes on after a piece may have some byte
+limit_some : (limit : Option ℕ) (piece line : List ℕ) → WantsMore (wanted_by (ReadLine limit)) [] piece line → asks_zero limit ≡ false
+limit_some None piece line more = refl
+limit_some (Some zero) piece line more = absurd (omega (arith, more.asks (0 ∷ []) (λ none. cc)))
+limit_some (Some (suc most)) piece line more = refl
 
-module _ (old begun : EngineView) (is : Stands old) (opened : old.access ≡ access.Update) (began : BeginOutcome old (Ok tt) begun) where
+module _ (old begun : EngineView) (is : Stands old) (reads : is_read old.access ≡ true) (began : BeginOutcome old (Ok tt) begun) where
   -- it stands as each does
   begun_is : Stands begun
   begun_is = stands_begun old begun is began
 
-  -- it is read and written
-  begun_opened : begun.access ≡ access.Update
-  begun_opened = ap (λ (engine : EngineView). engine.access) began.1 ∙ opened
+  -- it is read
+  begun_reads : is_read begun.access ≡ true
+  begun_reads = ap (λ (engine : EngineView). is_read engine.access) began.1 ∙ reads
 
   -- its stream has what every reading needs
   begun_held : ReadsHeld (stream_of begun)
-  begun_held = held_begun old begun is opened began
+  begun_held = held_begun old begun is reads began
 
   -- told, the bytes held from the place on come next
   begun_told : WhereTold begun.raw (take (length (ahead_of begun.window)) (rest (file_of (stream_of begun))) ≡ ahead_of begun.window)
-  begun_told tells = bytes_ahead (flat_over begun.raw.bytes begun.window) begun.window begun_is.window_is.cursor (holds_flat begun.access begun.raw.bytes begun.window begun_opened (begun_is.told tells begun_held.live))
+  begun_told tells = bytes_ahead (flat_over begun.raw.bytes begun.window) begun.window begun_is.window_is.cursor (holds_flat begun.access begun.raw.bytes begun.raw_place begun.window begun_reads begun_is.shape (begun_is.told tells begun_held.live))
 
   -- nothing is asked for
   pub asks_nothing : (call : FileCall) → asks_none (Some begun.window.size) call ≡ true → Answers (stream_of old) call (Bytes []) (stream_of begun)
@@ -273,7 +314,7 @@ module _ (old begun : EngineView) (is : Stands old) (opened : old.access ≡ acc
   pub sized_held : (new : EngineView) (call : FileCall) (size : ℕ) (part : List ℕ) → reads_on call ≡ true → ((left : List ℕ) → wanted_by call left ≡ take size left) → size ≤ length (ahead_of begun.window) → part ≡ take size (ahead_of begun.window) → new ≡ record begun { window = advanced (length part) begun.window } → Answers (stream_of old) call (reply_by call part) (stream_of new)
   sized_held new call size part on wants enough front same =
       let long : length part ≡ size = omega (arith, ap length front, length-take size (ahead_of begun.window), enough) in
-      let gives : GivesHeld (stream_of begun) part (stream_of new) = gives_front begun new part size begun_is begun_opened begun_held.live front same in
+      let gives : GivesHeld (stream_of begun) part (stream_of new) = gives_front begun new part size begun_is begun_reads begun_held.live front same in
       answers_from_begun old begun call (reply_by call part) (stream_of new) began
       (held_answers (stream_of begun) (stream_of new) call part begun_held on (wants part ∙ take_all size part (omega (arith, long))) (λ more. wants (part ++ more) ∙ (ap (λ (n : ℕ). take n (part ++ more)) (sym long) ∙ take-append_seam part more)) gives)
 
@@ -293,7 +334,7 @@ module _ (old begun : EngineView) (is : Stands old) (opened : old.access ≡ acc
   held_given : (new : EngineView) (call : FileCall) (used : ℕ) (piece part : List ℕ) → reads_on call ≡ true → piece ≡ ahead_of begun.window → HasEnough (wanted_by call) [] piece used part → new ≡ record begun { window = advanced (length part) begun.window } → Answers (stream_of old) call (reply_by call part) (stream_of new)
   held_given new call used piece part on lent enough same =
       let left : List ℕ = rest (file_of (stream_of begun)) in
-      let gives : GivesHeld (stream_of begun) part (stream_of new) = gives_front begun new part used begun_is begun_opened begun_held.live (enough.takes ∙ ap (take used) lent) same in
+      let gives : GivesHeld (stream_of begun) part (stream_of new) = gives_front begun new part used begun_is begun_reads begun_held.live (enough.takes ∙ ap (take used) lent) same in
       let behind : List ℕ = drop (length (ahead_of begun.window)) left in
       answers_from_begun old begun call (reply_by call part) (stream_of new) began
       (held_answers_told (stream_of begun) (stream_of new) call part begun_held on enough.alone
@@ -307,35 +348,43 @@ module _ (old begun : EngineView) (is : Stands old) (opened : old.access ≡ acc
       (held_given new (ReadLines hint) used piece (joined lines) refl lent enough (same ∙ ap (λ (n : ℕ). record begun { window = advanced n begun.window }) long))
 
   -- a line is given that ends among the bytes held
-  pub line_held : (new : EngineView) (limit : Option ℕ) (view : LineView) (used : ℕ) (piece line : List ℕ) → view ≡ record { line = []; limit = limit } → piece ≡ ahead_of begun.window → HasEnough (line_wanted view) view.line piece used (view.line ++ take used piece) → line ≡ take used (ahead_of begun.window) → new ≡ record begun { window = advanced (length line) begun.window } → Answers (stream_of old) (ReadLine limit) (Bytes line) (stream_of new)
-  line_held new limit view used piece line none lent has front same =
-      let enough : HasEnough (wanted_by (ReadLine limit)) [] piece used line = subst (HasEnough (wanted_by (ReadLine limit)) [] piece used) (sym (front ∙ ap (take used) (sym lent))) (subst (λ (seen : LineView). HasEnough (line_wanted seen) seen.line piece used (seen.line ++ take used piece)) none has) in
-      held_given new (ReadLine limit) used piece line refl lent enough same
+  pub line_held : (new : EngineView) (limit : Option ℕ) (used : ℕ) (piece line : List ℕ) → piece ≡ ahead_of begun.window → EndsIn (record { line = []; limit = limit }) piece (Some used) → line ≡ take used (ahead_of begun.window) → new ≡ record begun { window = advanced (length line) begun.window } → Answers (stream_of old) (ReadLine limit) (Bytes line) (stream_of new)
+  line_held new limit used piece line lent ends front same = held_given new (ReadLine limit) used piece line refl lent (subst (HasEnough (wanted_by (ReadLine limit)) [] piece used) (sym (front ∙ ap (take used) (sym lent))) ends.0) same
+
+  -- the bytes held don't answer a call by themselves that wants more than these
+  held_past : (call : FileCall) (piece : List ℕ) → reads_on call ≡ true → piece ≡ ahead_of begun.window → WantsPast (wanted_by call) piece → InHandOf (stream_of begun) call → ⊥
+  held_past call piece on lent past has =
+      wants_past (wanted_by call) (stream_of begun) piece past (omega (arith, ap length lent, length-drop begun.window.cursor begun.window.held))
+      (λ tells. subst (λ (bytes : List ℕ). take (length bytes) (rest (file_of (stream_of begun))) ≡ bytes) (sym lent) (begun_told tells)) (in_hand_held (stream_of begun) call on has)
 
   -- a line has to go to the raw that goes on after all bytes held
-  pub line_goes : (limit : Option ℕ) (view : LineView) (piece line : List ℕ) → limit ≢ Some 0 → view ≡ record { line = []; limit = limit } → piece ≡ ahead_of begun.window → WantsMore (line_wanted view) view.line piece line → GoesToRaw (stream_of begun) (ReadLine limit)
-  line_goes limit view piece line some none lent has = let more : WantsMore (wanted_by (ReadLine limit)) [] piece line = subst (λ (seen : LineView). WantsMore (line_wanted seen) seen.line piece line) none has in record {
+  pub line_goes : (limit : Option ℕ) (piece : List ℕ) → piece ≡ ahead_of begun.window → EndsIn (record { line = []; limit = limit }) piece None → GoesToRaw (stream_of begun) (ReadLine limit)
+  line_goes limit piece lent ends = let more : WantsMore (wanted_by (ReadLine limit)) [] piece piece = ends.0 in record {
     reads = refl;
-    some = limit_some limit some;
-    apart = λ hand. wants_past (wanted_by (ReadLine limit)) (stream_of begun) line more.asks (omega (arith, ap length more.takes, ap length lent, length-drop begun.window.cursor begun.window.held)) (in_hand_held (stream_of begun) (ReadLine limit) refl hand.of);
+    some = limit_some limit piece piece more;
+    apart = λ hand. held_past (ReadLine limit) piece refl lent more.asks hand.of;
   }
 
+  -- lines have to go to the raw that aren't above the hint among the bytes held
+  pub lines_go : (hint : Option ℕ) (piece : List ℕ) → piece ≡ ahead_of begun.window → WantsPast (wanted_by (ReadLines hint)) piece → GoesToRaw (stream_of begun) (ReadLines hint)
+  lines_go hint piece lent past = record { reads = refl; some = refl; apart = λ hand. held_past (ReadLines hint) piece refl lent past hand.of }
+
   -- a call by one transfer is given some of the bytes held
-  pub once_given : (new : EngineView) (call : FileCall) (size : ℕ) (part : List ℕ) → is_single call ≡ true → moves_by call (length part) ≡ length part → asks_for begun.window.size call ≡ size → size ≢ 0 → 0 < length (ahead_of begun.window) → part ≡ take size (ahead_of begun.window) → new ≡ record begun { window = advanced (length part) begun.window } → Answers (stream_of old) call (Bytes part) (stream_of new)
-  once_given new call size part single moves asked asks some front same =
+  pub once_given : (new : EngineView) (call : FileCall) (size : ℕ) (part : List ℕ) → is_single call ≡ true → moves_by call (length part) ≡ length part → asks_for begun.window.size call ≡ size → size ≢ 0 → (0 < length (ahead_of begun.window)) × ((stream_of begun).owed.bytes ≡ []) → part ≡ take size (ahead_of begun.window) → new ≡ record begun { window = advanced (length part) begun.window } → Answers (stream_of old) call (Bytes part) (stream_of new)
+  once_given new call size part single moves asked asks ready front same =
       let least : length part ≡ min size (length (ahead_of begun.window)) = ap length front ∙ length-take size (ahead_of begun.window) in
       answers_from_begun old begun call (Bytes part) (stream_of new) began
-      (held_answers_once (stream_of begun) (stream_of new) call part begun_held single moves (λ none. omega (arith, ap length none, least, asks, some)) (omega (arith, least, asked)) (gives_front begun new part size begun_is begun_opened begun_held.live front same))
+      (held_answers_once (stream_of begun) (stream_of new) call part begun_held ready.1 single moves (λ none. omega (arith, ap length none, least, asks, ready.0)) (omega (arith, least, asked)) (gives_front begun new part size begun_is begun_reads begun_held.live front same))
 
   -- bytes are copied into a buffer
-  pub once_copied : (new : EngineView) (size count : ℕ) (buffer : List ℕ) → size ≢ 0 → 0 < length (ahead_of begun.window) → count ≡ min (length (ahead_of begun.window)) size → length buffer ≡ size → take count buffer ≡ take count (ahead_of begun.window) → new ≡ record begun { window = advanced count begun.window } → Answers (stream_of old) (ReadInto1 size) (Bytes (take count buffer)) (stream_of new)
-  once_copied new size count buffer asks some least long front same =
+  pub once_copied : (new : EngineView) (size count : ℕ) (buffer : List ℕ) → size ≢ 0 → (0 < length (ahead_of begun.window)) × ((stream_of begun).owed.bytes ≡ []) → count ≡ min (length (ahead_of begun.window)) size → length buffer ≡ size → take count buffer ≡ take count (ahead_of begun.window) → new ≡ record begun { window = advanced count begun.window } → Answers (stream_of old) (ReadInto1 size) (Bytes (take count buffer)) (stream_of new)
+  once_copied new size count buffer asks ready least long front same =
       let fits : length (take count buffer) ≡ count = omega (arith, length-take count buffer, least, long) in
-      once_given new (ReadInto1 size) size (take count buffer) refl refl refl asks some (copied count size (take count buffer) (ahead_of begun.window) least front) (same ∙ ap (λ (n : ℕ). record begun { window = advanced n begun.window }) (sym fits))
+      once_given new (ReadInto1 size) size (take count buffer) refl refl refl asks ready (copied count size (take count buffer) (ahead_of begun.window) least front) (same ∙ ap (λ (n : ℕ). record begun { window = advanced n begun.window }) (sym fits))
 
   -- the bytes held are shown
-  pub held_shown : 0 < length (ahead_of begun.window) → Answers (stream_of old) Peek (Bytes (ahead_of begun.window)) (stream_of begun)
-  held_shown some = answers_from_begun old begun Peek (Bytes (ahead_of begun.window)) (stream_of begun) began (held_peek (stream_of begun) (ahead_of begun.window) begun_held (λ none. omega (arith, some, ap length none)) (omega (arith, length-drop begun.window.cursor begun.window.held)) begun_told)
+  pub held_shown : 0 < length (ahead_of begun.window) → (stream_of begun).owed.bytes ≡ [] → Answers (stream_of old) Peek (Bytes (ahead_of begun.window)) (stream_of begun)
+  held_shown some passed = answers_from_begun old begun Peek (Bytes (ahead_of begun.window)) (stream_of begun) began (held_peek (stream_of begun) (ahead_of begun.window) begun_held passed (λ none. omega (arith, some, ap length none)) (omega (arith, length-drop begun.window.cursor begun.window.held)) begun_told)
 
 -- a call by one transfer has to go to the raw that asks for some byte, where no byte is held or some is owed
 pub once_goes : (engine : EngineView) (call : FileCall) → is_single call ≡ true → asks_for engine.window.size call ≢ 0 → (0 < length (ahead_of engine.window) → (stream_of engine).owed.bytes ≡ [] → ⊥) → GoesToRaw (stream_of engine) call

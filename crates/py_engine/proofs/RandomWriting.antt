@@ -11,21 +11,21 @@ use Rattle.py_flat.specs.BinaryStep.{payload}
 use Rattle.py_raw.proofs.Telling.{keeps_same}
 use Rattle.py_stream.specs.declared.access.Access.{Access}
 use Rattle.py_stream.specs.declared.access.Access.TheVariants as access
-use Rattle.py_stream.specs.Access.{is_written}
+use Rattle.py_stream.specs.Access.{is_read, is_written}
 use Rattle.py_stream.specs.Stream.{Stream, nothing_owed}
 use Rattle.py_stream.specs.Kinds.{is_writing}
 use Rattle.py_stream.specs.Answers.{Answers}
-use Rattle.py_stream.specs.Writing.{OwesBehind, IsFull}
+use Rattle.py_stream.specs.Writing.{OwesBehind, IsFull, first_of_both, owed_from, HasRoom}
 use Rattle.py_stream.specs.Held.{KeepsBoth}
 use Rattle.py_stream.specs.Settling.{PassesSome, LivesOn, SettleOutcome}
 use Rattle.py_stream.proofs.Begun.{answers_whole}
 use Rattle.py_stream.proofs.Given.{writing_refused}
 use Rattle.py_stream.proofs.Giving.{writing_too_far, taken_reply}
 use Rattle.py_stream.proofs.Keeping.{MayKeep, accepts_kept, fits_answers, fits_after_wait, fills_after_wait, stops_failed, stops_starved}
-use Rattle.py_stream.proofs.Owing.{covers_old}
+use Rattle.py_stream.proofs.Owing.{owes_still}
 use Rattle.py_stream.proofs.Settled.{settled_writes}
 use Rattle.py_window.specs.Window.{WindowView, IsWindow, place_of, pending_of, owed_of, room_of, pushed}
-use Rattle.py_window.proofs.Overlaying.{Overlays, FollowsOn, overlays, full}
+use Rattle.py_window.proofs.Overlaying.{first_is, none_rests, Overlays, FollowsOn, overlays, full}
 use Rattle.py_engine.specs.Engine.{EngineView, stream_of, Stands, StandsAmong, HasShape, HoldsRead, IsBehind, BeginOutcome}
 use Rattle.py_engine.specs.RandomWriting.{GivesPlaced, WaitsOwing, GoesBehind, GivesOutcome, call_of, taken_all}
 use Rattle.py_engine.specs.declared.data.given.Given.{Given}
@@ -33,7 +33,7 @@ use Rattle.py_engine.specs.declared.data.given.Given.TheVariants as gives
 use Rattle.py_engine.specs.Passing.{OwedOutcome}
 use Rattle.py_engine.specs.declared.data.passing_on.Passed.TheVariants as passing
 use Rattle.py_engine.proofs.Standing.{is_placed, is_sound, owes_behind}
-use Rattle.py_engine.proofs.Draining.{none_at_cursor, pending_many}
+use Rattle.py_engine.proofs.Draining.{none_at_cursor, none_at_place, pending_many}
 use Rattle.py_engine.proofs.Calls.{begins}
 
 -- Where an engine that is read and written stands.
@@ -43,8 +43,8 @@ pub among : (engine : EngineView) → Stands engine → engine.access ≡ access
 among engine is opened = subst (λ (opened : Access). HasShape opened engine.raw_place engine.window) opened is.shape
 
 -- a call that gives bytes to a live one
-pub may_keep : (engine : EngineView) (call : FileCall) → Stands engine → engine.access ≡ access.Update → engine.life ≡ life.Live → engine.short ≡ false → GivesPlaced (stream_of engine) call → MayKeep (stream_of engine) call
-may_keep engine call is opened live whole gives = record { writing = gives.writing; sound = is_sound engine is; live = live; whole = whole; can = ap is_written opened; size = engine.window.size; buffered = refl; within = gives.within }
+pub may_keep : (engine : EngineView) (call : FileCall) → Stands engine → engine.access ≡ access.Update → engine.life ≡ life.Live → engine.short ≡ false → is_writing call ≡ true → (stream_of engine).place + length (payload call) ≤ greatest_place → MayKeep (stream_of engine) call
+may_keep engine call is opened live whole writing within = record { writing = writing; sound = is_sound engine is; live = live; whole = whole; can = ap is_written opened; size = engine.window.size; buffered = refl; within = within }
 
 -- Bytes put at the place.
 
@@ -108,7 +108,11 @@ module _ (old : EngineView) (bytes : List ℕ) (is : Stands old) (opened : old.a
     place = over.place;
     raw_place = refl;
     none = λ nothing. absurd (omega (arith, some, ap length nothing));
-    covers = λ _. over.covers;
+    owes = record {
+      none = λ none. absurd (owes_some none);
+      from = λ _. over.first ∙ sym (first_is (pending_of old.window) bytes (old.window.begin + old.window.from) (place_of old.window) (none_rests old.window is.window_is) some);
+      covers = λ _. over.covers;
+    };
     behind = λ up_to. let follows : FollowsOn old.window bytes put = over.follows up_to in (follows.pending, follows.up_to);
     at = λ _ none. absurd (owes_some none);
     stands = goes_behind;
@@ -127,7 +131,7 @@ none_put old is = record {
   place = sym (add-zero (place_of old.window));
   raw_place = refl;
   none = λ nothing. refl;
-  covers = covers_old (stream_of old).owed (place_of old.window);
+  owes = owes_still (stream_of old).owed (place_of old.window);
   behind = λ up_to. (sym (append-nil (pending_of old.window)), up_to);
   at = λ at. at;
   stands = λ was. was;
@@ -182,11 +186,12 @@ nothing_behind stream behind none = grind arith
 module _ (old new : EngineView) (is : Stands old) (opened : old.access ≡ access.Update) (live : old.life ≡ life.Live) (whole : old.short ≡ false) where
   pub goes_on_behind : Stands new → IsBehind new → SettleOutcome (stream_of old) (Ok tt) (stream_of new) → GoesBehind old (Ok true) new
   goes_on_behind now behind settled call reply after gives answers =
-      let may : MayKeep (stream_of old) call = may_keep old call is opened live whole gives in
+      let may : MayKeep (stream_of old) call = may_keep old call is opened live whole gives.writing gives.within in
       let owes : OwesBehind (stream_of new) = owes_behind new now behind in
       let none : (stream_of new).owed ≡ nothing_owed (stream_of new).place = nothing_behind (stream_of new) owes settled.2 in
       settled_writes (stream_of old) (stream_of new) after call reply gives.writing (record {
         settled = record { live = live; writes = may.can; buffered = refl; accepted = accepts_kept (stream_of old) call may; settled_by = settled };
+        roomless = gives.roomless;
         none = none;
         stands = omega (arith, owes.stands, owes.ends, ap length settled.2);
       }) answers
@@ -197,8 +202,8 @@ module _ (old new : EngineView) (is : Stands old) (opened : old.access ≡ acces
 
   -- it failed, or memory ran out
   pub goes_refused : (why : IoFault) → OwedOutcome (stream_of old) (Err why) (stream_of new) → GoesBehind old (Err why) new
-  goes_refused fault.RawFault fails call gives = stops_failed (stream_of old) (stream_of new) call (may_keep old call is opened live whole gives) fails
-  goes_refused fault.NoMemory lacks call gives = stops_starved (stream_of old) (stream_of new) call (may_keep old call is opened live whole gives) lacks
+  goes_refused fault.RawFault fails call gives = stops_failed (stream_of old) (stream_of new) call (may_keep old call is opened live whole gives.writing gives.within) gives.roomless fails
+  goes_refused fault.NoMemory lacks call gives = stops_starved (stream_of old) (stream_of new) call (may_keep old call is opened live whole gives.writing gives.within) gives.roomless lacks
   goes_refused why never call gives = absurd never
 
 -- After a wait.
@@ -206,6 +211,23 @@ module _ (old new : EngineView) (is : Stands old) (opened : old.access ≡ acces
 -- as many as don't fit, or can't be put there as the raw stands
 abbrev pub NoRoom : EngineView → ℕ → Type 0
 NoRoom engine count = (room_of engine.window < count) ⊎ (engine.raw_place < engine.window.begin + engine.window.from)
+
+-- the first byte that is owed is the first that is pending; where none is, the stream's place is theirs
+first_pending : (pending : List ℕ) (at place : ℕ) → (pending ≡ [] → at ≡ place) → first_of_both pending at [] place ≡ at
+first_pending [] at place none = sym (none refl)
+first_pending (byte ∷ more) at place none = refl
+
+first_there : (engine : EngineView) → Stands engine → owed_from (stream_of engine) ≡ engine.window.begin + engine.window.from
+first_there engine is = first_pending (pending_of engine.window) (engine.window.begin + engine.window.from) (place_of engine.window) (none_at_place engine is.window_is)
+
+-- so the stream has no room for them either
+roomless_there : (engine : EngineView) (bytes : List ℕ) → Stands engine → engine.access ≡ access.Update → NoRoom engine (length bytes) → HasRoom (stream_of engine) bytes → ⊥
+roomless_there engine bytes is opened no_room has =
+    let first : owed_from (stream_of engine) ≡ engine.window.begin + engine.window.from = first_there engine is in
+    ⊎_elim
+    (λ (beyond : room_of engine.window < length bytes). absurd (omega (arith, beyond, has.room, first)))
+    (λ (behind : engine.raw_place < engine.window.begin + engine.window.from). absurd (omega (arith, behind, has.stands (ap is_read opened), first)))
+    no_room
 
 -- bytes that had no room before the wait reach to what is owed after it
 reaches_owed : (old : EngineView) (mid : Stream) (count : ℕ) → Stands old → old.access ≡ access.Update → NoRoom old count → WaitsOwing (stream_of old) mid → mid.owed.place ≤ place_of old.window + count
@@ -252,11 +274,11 @@ module _ (old : EngineView) (given : Given) (is : Stands old) (opened : old.acce
   abbrev own : List ℕ
   own = payload (call_of given)
 
-  placed : GivesPlaced (stream_of old) (call_of given)
-  placed = record { writing = is_write given; within = within }
+  pub placed : NoRoom old (length own) → GivesPlaced (stream_of old) (call_of given)
+  placed no_room = record { writing = is_write given; within = within; roomless = roomless_there old own is opened no_room }
 
   may : MayKeep (stream_of old) (call_of given)
-  may = may_keep old (call_of given) is opened live whole placed
+  may = may_keep old (call_of given) is opened live whole (is_write given) within
 
   all_said : (new : Stream) → Answers (stream_of old) (call_of given) (taken_reply (call_of given) (length own)) new → Answers (stream_of old) (call_of given) (taken_all given) new
   all_said new answers = subst (λ (reply : FileReply). Answers (stream_of old) (call_of given) reply new) (says_all given) answers
@@ -270,18 +292,22 @@ module _ (old : EngineView) (given : Given) (is : Stands old) (opened : old.acce
   given_none none = given_fit 0 old (omega (arith, none)) (none_put old is)
 
   -- all that was owed is passed on
-  pub given_behind : (mid : EngineView) → GoesBehind old (Ok true) mid → GivesOutcome old given (Ok false) mid
-  given_behind mid goes reply after answers = goes (call_of given) reply after placed answers
+  pub given_behind : (mid : EngineView) → NoRoom old (length own) → GoesBehind old (Ok true) mid → GivesOutcome old given (Ok false) mid
+  given_behind mid no_room goes reply after answers = goes (call_of given) reply after (placed no_room) answers
+
+  -- what refused that refuses the call
+  pub given_stopped : (mid : EngineView) (why : IoFault) → NoRoom old (length own) → GoesBehind old (Err why) mid → GivesOutcome old given (Err why) mid
+  given_stopped mid why no_room goes = goes (call_of given) (placed no_room)
 
   module _ (mid new : EngineView) (waits : WaitsOwing (stream_of old) (stream_of mid)) (keeps : KeepsBoth (stream_of mid) (take (room_of mid.window) own) (stream_of new)) where
     -- after a wait they had room, and were put
     pub given_late : NoRoom old (length own) → length own ≤ room_of mid.window → GivesOutcome old given (Ok true) new
-    given_late no_room fits = all_said (stream_of new) (fits_after_wait (stream_of old) (stream_of mid) (stream_of new) (call_of given) may waits.goes waits.some
+    given_late no_room fits = all_said (stream_of new) (fits_after_wait (stream_of old) (stream_of mid) (stream_of new) (call_of given) may (roomless_there old own is opened no_room) waits.goes waits.some
         (reaches_owed old (stream_of mid) (length own) is opened no_room waits)
         (subst (λ (bytes : List ℕ). KeepsBoth (stream_of mid) bytes (stream_of new)) (take_all (room_of mid.window) own fits) keeps))
 
     -- or some of them did
-    pub given_some : IsWindow mid.window → room_of mid.window < length own → IsFull (stream_of new).owed (stream_of new).place new.window.size (room_of mid.window) → GivesOutcome old given (Err (fault.WouldBlock (room_of mid.window))) (record new { short = true })
-    given_some window_is less full =
-        fills_after_wait (stream_of old) (stream_of mid) (stream_of new) (call_of given) (room_of mid.window) may waits.goes waits.waited waits.some
+    pub given_some : NoRoom old (length own) → IsWindow mid.window → room_of mid.window < length own → IsFull (stream_of new).owed (stream_of new).place new.window.size (room_of mid.window) → GivesOutcome old given (Err (fault.WouldBlock (room_of mid.window))) (record new { short = true })
+    given_some no_room window_is less full =
+        fills_after_wait (stream_of old) (stream_of mid) (stream_of new) (call_of given) (room_of mid.window) may (roomless_there old own is opened no_room) waits.goes waits.waited waits.some
         (omega (arith, room_reaches mid.window window_is, waits.goes.passes.still)) less keeps full

@@ -1,5 +1,5 @@
 -- Where an engine and its raw stand, as a stream.
-use Rattle.std.proofs.Common.{◌≡◌, ℕ, ◌+◌, ◌-◌, ◌<◌, ◌≤◌, max, List, [], ◌∷◌, length, take, drop, false, Err, refl, sym, ap, ◌∙◌, arith}
+use Rattle.std.proofs.Common.{◌≡◌, ℕ, ◌+◌, ◌-◌, ◌<◌, ◌≤◌, max, List, [], ◌∷◌, length, take, drop, false, Err, refl, sym, subst, ap, ◌∙◌, arith}
 use Rattle.std.proofs.lemmas.List.{length-take, length-drop}
 use Rattle.py_flat.specs.declared.fault.IoFault.{IoFault}
 use Rattle.py_flat.specs.declared.fault.IoFault.TheVariants as fault
@@ -11,7 +11,7 @@ use Rattle.py_stream.specs.Access.{can_of, is_read}
 use Rattle.py_stream.specs.Stream.{nothing_owed}
 use Rattle.py_stream.specs.Answers.{IsNear}
 use Rattle.py_stream.specs.Keeping.{IsSound}
-use Rattle.py_stream.specs.Writing.{OwesBehind}
+use Rattle.py_stream.specs.Writing.{OwesWithin, OwesBehind}
 use Rattle.py_stream.specs.Moving.{end_with, StandsAsBefore, AsksEnd, EndOutcome}
 use Rattle.py_stream.proofs.Refusing.{IsPlaced}
 use Rattle.py_window.specs.Window.{WindowView, IsWindow, place_of, end_of, pending_of, owed_of, flat_over}
@@ -77,27 +77,28 @@ end_owing [] place end some = absurd (omega (arith, some))
 end_owing (byte ∷ more) place end some = grind arith
 
 -- so it answers where that ends
-asks_at : (old new : EngineView) (end last : ℕ) → Stands new → AsksRawEnd old end new → last ≤ greatest_place → end_with (owed_of new.window) end ≡ last → AsksEnd (stream_of old) last (stream_of new)
-asks_at old new end last is asks within at =
+asks_at : (old new : EngineView) (end last : ℕ) → Stands new → AsksRawEnd old end new → last ≤ greatest_place → end_with (owed_of new.window) end ≡ last → OwesWithin (owed_of new.window) last → AsksEnd (stream_of old) last (stream_of new)
+asks_at old new end last is asks within at after =
     let stands : StandsAsBefore (stream_of old) (stream_of new) = asks_stands old new end is asks in
     record {
       stands = stands;
       counts = asks.answers.counts;
       life_is = ap (λ (engine : EngineView). engine.life) asks.same;
       within = within;
+      owed = subst (λ (owed : Owed). OwesWithin owed last) stands.owed after;
       told = λ tells. sym at ∙ ap (λ (owed : Owed). end_with owed end) stands.owed ∙ ap (end_with (owed_of old.window)) (asks.answers.value tells);
     }
 
 -- the raw's end, where nothing is pending
 pub asks_settled : (old new : EngineView) (end : ℕ) → Stands new → AsksRawEnd old end new → pending_of new.window ≡ [] → AsksEnd (stream_of old) end (stream_of new)
-asks_settled old new end is asks none = asks_at old new end end is asks asks.answers.within (end_settled (pending_of new.window) (new.window.begin + new.window.from) end none)
+asks_settled old new end is asks none = asks_at old new end end is asks asks.answers.within (end_settled (pending_of new.window) (new.window.begin + new.window.from) end none) (λ some. absurd (some none))
 
 -- the later end, where some is
 pub asks_owing : (old new : EngineView) (end : ℕ) → Stands new → AsksRawEnd old end new → 0 < length (pending_of new.window) → AsksEnd (stream_of old) (max end (new.window.begin + new.window.to)) (stream_of new)
 asks_owing old new end is asks some =
     let behind : new.window.begin + new.window.from + length (pending_of new.window) ≡ new.window.begin + new.window.to = omega (arith, is.window_is.ordered, is.window_is.within, length-take (new.window.to - new.window.from) (drop new.window.from new.window.held), length-drop new.window.from new.window.held) in
     asks_at old new end (max end (new.window.begin + new.window.to)) is asks (omega (arith, asks.answers.within, is.window_is.within, is.window_is.far))
-    (end_owing (pending_of new.window) (new.window.begin + new.window.from) end some ∙ ap (max end) behind)
+    (end_owing (pending_of new.window) (new.window.begin + new.window.from) end some ∙ ap (max end) behind) (λ _. omega (arith, behind))
 
 -- the raw failed to say where it ends, or wanted memory for it
 pub end_refused : (old new : EngineView) (why : IoFault) → Stands old → RawEndOutcome old (Err why) new → EndOutcome (stream_of old) (Err why) (stream_of new)

@@ -1,5 +1,5 @@
 -- Calls of an engine that is opened to be read and written, where it doesn't read on from the bytes held as it stands.
-use Rattle.std.specs.Prelude.{◌≡◌, ℕ, Bool, true, false, IsTrue, List, [], Option, Some, Result, Ok, Err}
+use Rattle.std.specs.Prelude.{◌≡◌, ◌≢◌, ℕ, ◌<◌, Bool, true, false, IsTrue, List, [], ◌++◌, length, Option, Some, None, Result, Ok, Err}
 use Rattle.std.specs.declared.alloc.AllocError.{AllocError}
 use Rattle.py_flat.specs.declared.fault.IoFault.{IoFault}
 use Rattle.py_flat.specs.Lines.{joined, lines_of}
@@ -28,7 +28,13 @@ GoesAhead old (Ok true) new = IsReading new × AnswersFrom (stream_of old) (stre
 GoesAhead old (Ok false) new = (call : FileCall) → GoesToRaw (stream_of old) call → Answers (stream_of old) call NotReady (stream_of new)
 GoesAhead old (Err why) new = (call : FileCall) → GoesToRaw (stream_of old) call → Answers (stream_of old) call (Refused why) (stream_of new)
 
--- the lines at the front of a piece that are above a hint, and how many bytes they have, whatever comes after the piece; or nothing is told
+-- some of whatever comes after bytes is wanted with all of these
+abbrev pub WantsPast : (List ℕ → List ℕ) → List ℕ → Type 0
+WantsPast wanted bytes = (more : List ℕ) → more ≢ [] → length bytes < length (wanted (bytes ++ more))
+
+-- the lines at the front of a piece that are above a hint, and how many bytes they have, whatever comes after the piece; or more than the
+-- piece is wanted
 abbrev pub LinesIn : List ℕ → Option ℕ → Result (Option (List (List ℕ) × ℕ)) AllocError → Type 0
 LinesIn bytes hint (Ok (Some held)) = HasEnough (wanted_by (ReadLines hint)) [] bytes held.1 (joined held.0) × (lines_of (joined held.0) ≡ held.0)
-LinesIn bytes hint other = Unit {0}
+LinesIn bytes hint (Ok None) = WantsPast (wanted_by (ReadLines hint)) bytes
+LinesIn bytes hint (Err lacks) = Unit {0}

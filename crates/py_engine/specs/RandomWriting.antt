@@ -7,16 +7,18 @@ use Rattle.py_flat.specs.Calls.{FileCall, Write, WriteLines, FileReply, Count, D
 use Rattle.py_flat.specs.BinaryStep.{payload}
 use Rattle.py_stream.specs.Stream.{Stream}
 use Rattle.py_stream.specs.Kinds.{is_writing}
+use Rattle.py_stream.specs.Writing.{HasRoom}
 use Rattle.py_stream.specs.Answers.{Answers}
 use Rattle.py_stream.specs.Settling.{LivesOn}
 use Rattle.py_engine.specs.Engine.{EngineView, stream_of}
 use Rattle.py_engine.specs.declared.data.given.Given.{Given}
 use Rattle.py_engine.specs.declared.data.given.Given.TheVariants as gives
 
--- a call that gives a stream bytes that have a place
+-- a call that gives a stream bytes that have a place, but for which the buffer has no room
 pub record GivesPlaced (stream : Stream) (call : FileCall) : Type 0 where
   pub writing : is_writing call ≡ true
   pub within : stream.place + length (payload call) ≤ greatest_place
+  pub roomless : HasRoom stream (payload call) → ⊥
 
 -- the raw would have blocked while some was owed; the stream lives on, and no answer is short yet
 pub record WaitsOwing (old new : Stream) : Type 0 where

@@ -121,13 +121,14 @@ impl<R: RawStream> BufferedData<R> {
         self.live.end()
     }
 
-    /// Fills the window anew, by one transfer. `moved` tells whether bytes had moved in this call.
-    fn fill(&mut self, moved: bool) -> Result<Filled, IoFault>
+    /// Fills the window anew, by one transfer, for a call that wants n bytes more. `moved` tells whether bytes had moved in this call.
+    fn fill(&mut self, wanted: usize, moved: bool) -> Result<Filled, IoFault>
         requires live { self.old.life ≡ Life.Live }
         requires reads { IsReading self.old }
+        requires wants { 0 < wanted }
         ensures { FillsOutcome self.old moved result self.new }
     {
-        let filled = self.window.fill(&mut self.live, moved);
+        let filled = self.window.fill(&mut self.live, wanted, moved);
         self.raw_place = self.window.end_place();
         filled
     }

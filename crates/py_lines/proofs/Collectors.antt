@@ -29,6 +29,10 @@ within_along limit m n e fits = rw e at fits
 pub left_of : (left limit : Option ℕ) (line : List ℕ) (size : ℕ) (view : LineView) → left ≡ limit_left limit size → size ≡ length line → record { line = line; limit = limit } ≡ view → limit_left view.limit (length view.line) ≡ left
 left_of left limit line size view kept sized is = ap (λ (v : LineView). limit_left v.limit (length v.line)) (sym is) ∙ (ap (limit_left limit) (sym sized) ∙ sym kept)
 
+-- and no line is longer than its limit
+pub within_of : (limit : Option ℕ) (line : List ℕ) (size : ℕ) (view : LineView) → WithinLimit limit size → size ≡ length line → record { line = line; limit = limit } ≡ view → WithinLimit view.limit (length view.line)
+within_of limit line size view within sized is = subst (λ (v : LineView). WithinLimit v.limit (length v.line)) is (within_along limit size (length line) sized within)
+
 -- a test tells how many bytes are left
 pub left_is : (left : Option ℕ) (count : ℕ) → option_eq nat_eq left (Some count) ≡ true → left ≡ Some count
 left_is None count is = absurd (cc)
@@ -56,6 +60,11 @@ first_behind (Some size) part more none fits =
 left_twice : (limit : Option ℕ) (m n : ℕ) → limit_left (limit_left limit m) n ≡ limit_left limit (m + n)
 left_twice None m n = refl
 left_twice (Some size) m n = ap (λ (k : ℕ). Some k) (omega arith)
+
+-- as many bytes as a limit leaves fit behind those that were taken
+fits_behind : (limit : Option ℕ) (m n : ℕ) → WithinLimit limit m → WithinLimit (limit_left limit m) (0 + n) → WithinLimit limit (m + n)
+fits_behind None m n within fits = tt
+fits_behind (Some size) m n within fits = omega (arith, within, fits)
 
 left_fits : (limit : Option ℕ) (m n : ℕ) → WithinLimit limit (m + n) → WithinLimit (limit_left limit m) n
 left_fits None m n fits = tt
@@ -180,6 +189,50 @@ line_goes_on view bytes allowed stays within short none fits left =
     let goes = line_goes_behind view bytes stays (ap (has_end_after Lf false) (sym (take_all allowed bytes (omega (arith, all)))) ∙ none) all_fit
     (λ full. some (ap (λ (n : ℕ). limit_left view.limit (length view.line + n)) all ∙ (ap (limit_left view.limit) (sym (length-append view.line bytes)) ∙ full))) in
     (goes.1, goes.0, all_fit)
+
+-- before a line has any byte, its limit leaves all of itself
+pub none_taken : (limit : Option ℕ) → limit_left limit 0 ≡ limit
+none_taken None = refl
+none_taken (Some size) = ap (λ (left : ℕ). Some left) (omega arith)
+
+-- as many bytes fit as that allows
+pub none_fits : (limit : Option ℕ) (count : ℕ) → WithinLimit limit count → FitsLimit (record { line = []; limit = limit }) count
+none_fits limit count fits = within_along limit count (0 + count) (omega arith) fits
+
+-- and nothing ended it
+pub none_open : (limit : Option ℕ) → LineIsOpen (record { line = []; limit = limit })
+none_open limit = λ more. ap (λ (left : Option ℕ). first_line Lf left more) (sym (none_taken limit))
+
+-- where such a line ends in a piece, there a line ends that was begun before and may take as many bytes
+pub ends_behind : (view : LineView) (bytes : List ℕ) (end : Option ℕ) → LineIsOpen view → WithinLimit view.limit (length view.line) → EndsIn (record { line = []; limit = limit_left view.limit (length view.line) }) bytes end → EndsIn view bytes end
+ends_behind view bytes (Some used) stays within ends = (
+  record {
+    fits = ends.0.fits;
+    takes = refl;
+    exact = λ more. stays (bytes ++ more) ∙ ap (λ (t : List ℕ). view.line ++ t) (ends.0.exact more);
+    alone = stays (take used bytes) ∙ ap (λ (t : List ℕ). view.line ++ t) ends.0.alone;
+  },
+  fits_behind view.limit (length view.line) used within ends.1,
+)
+ends_behind view bytes None stays within ends =
+    let left : Option ℕ = limit_left view.limit (length view.line) in
+    let line : List ℕ = view.line ++ bytes in
+    let same : limit_left left (length bytes) ≡ limit_left view.limit (length line) = left_twice view.limit (length view.line) (length bytes) ∙ ap (limit_left view.limit) (sym (length-append view.line bytes)) in
+    let whole : (more : List ℕ) → first_line Lf view.limit (line ++ more) ≡ view.line ++ first_line Lf left (bytes ++ more) = λ more. ap (first_line Lf view.limit) (append_assoc view.line bytes more) ∙ stays (bytes ++ more) in
+    let opened : LineIsOpen (took view bytes) = λ more.
+    whole more
+    ∙ (ap (λ (t : List ℕ). view.line ++ t) (ends.1 more)
+    ∙ (sym (append_assoc view.line bytes (first_line Lf (limit_left left (length bytes)) more))
+    ∙ ap (λ (o : Option ℕ). line ++ first_line Lf o more) same)) in (
+      record {
+        takes = refl;
+        goes_on = open_goes_on view.limit line opened;
+        asks = λ more some. omega (arith, length-append view.line bytes, length-append view.line (first_line Lf left (bytes ++ more)), ends.0.asks more some, ap length (whole more));
+        alone = open_alone view.limit line opened;
+      },
+      opened,
+      fits_behind view.limit (length view.line) (length bytes) within ends.2,
+    )
 
 -- Lines.
 

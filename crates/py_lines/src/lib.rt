@@ -7,8 +7,10 @@
 
 mod collector;
 mod line_collector;
+mod line_ending;
 mod lines_collector;
 
 pub use collector::{Collected, Collector};
 pub use line_collector::LineCollector;
+pub use line_ending::line_end;
 pub use lines_collector::LinesCollector;

@@ -1,8 +1,7 @@
-ghost use Rattle.std.specs.Prelude.{◌≡◌, ◌+◌, ◌<◌, ◌≤◌, [], length, Some};
-ghost use Rattle.py_lines.specs.Collecting.{line_wanted, limit_left, LineIsOpen, FitsLimit, EndsIn, TakesBytes};
+ghost use Rattle.std.specs.Prelude.{◌≡◌, [], length};
+ghost use Rattle.py_lines.specs.Collecting.{line_wanted, LineIsOpen, EndsIn, FitsLimit, TakesBytes};
 
-use crate::{Collected, Collector};
-use memchr::memchr;
+use crate::{Collected, Collector, line_end};
 use std::alloc::{AllocError, Global};
 use std::marker::Model;
 
@@ -78,32 +77,12 @@ impl Collector for LineCollector {
 }
 
 impl LineCollector {
-    /// With how many bytes of a piece the line ends, by its LF or by its limit; `None` where it goes on after all of them.
-    /// Nothing is taken.
-    pub fn end_in(&self, bytes: &[u8]) -> Option<usize>
+    /// Where the line ends in a piece. Nothing is taken.
+    fn end_in(&self, bytes: &[u8]) -> Option<usize>
         requires { LineIsOpen self.now }
         ensures { EndsIn self.now bytes.now result }
     {
-        let allowed = self.allowed(bytes.len());
-        if let Some(at) = memchr(b'\n', &bytes[..allowed]) {
-            return Some(at + 1);
-        }
-        if self.left == Some(allowed) {
-            return Some(allowed);
-        }
-        None
-    }
-
-    /// How many of n bytes the limit allows.
-    fn allowed(&self, count: usize) -> usize
-        ensures within { result ≤ count }
-        ensures fits { FitsLimit self.now result }
-        ensures short { result < count → limit_left self.now.limit (length self.now.line + result) ≡ Some 0 }
-    {
-        match self.left {
-            Some(left) if left < count => left,
-            _ => count,
-        }
+        line_end(bytes, self.left)
     }
 
     /// Puts bytes after the line, no more than the limit leaves.

@@ -18,7 +18,6 @@ use Rattle.py_stream.specs.Buffer.{Buffer, taken_by, refusal_lent, refused_here,
 use Rattle.py_memio.specs.InMemory.{file_in_memory, refusal_in_memory, may_lack_memory, CarriedOutInMemory, AnswersWith, AnswersInMemory}
 use Rattle.py_memio.specs.BytesIO.{Exports, BytesView, has_some, is_lent, buffer_with, as_buffer}
 use Rattle.py_stream.specs.Stream.{nothing_owed}
-use Rattle.py_stream.proofs.Flat.{owed_before_all}
 use Rattle.py_memio.proofs.Calm.{Calmly, calm, refusedly, lays_none}
 
 -- a call that doesn't change the length is refused by the flat file alone
@@ -84,7 +83,7 @@ write_calmly : (items : List ℕ) (place was : ℕ) (bytes : List ℕ) (taken : 
 write_calmly items place was bytes taken counts far accepts =
     let laid = lay items place bytes in
     let told = subst (λ (refused : Option IoFault). SettledBy (file_in_memory items place false) (Write bytes) refused (Count (length bytes)) (file_in_memory laid (place + length bytes) false)) (sym accepts) refl in
-    calmly_by false false false items laid place (place + length bytes) was taken (Write bytes) (Count (length bytes)) counts refl accepts (λ twice. absurd (cc)) refl (record { life_is = refl; place = (refl, refl); far = far; within = tt }) tt (tt, tt) (settled told) (λ reads. absurd (cc)) (record { passed = 0; more = length bytes; laid = ap (lay items place) (sym (take_all (length bytes) bytes (omega arith))); order = λ _. owed_before_all (nothing_owed place) place 0 (omega arith) }) tt (omega arith, omega arith)
+    calmly_by false false false items laid place (place + length bytes) was taken (Write bytes) (Count (length bytes)) counts refl accepts (λ twice. absurd (cc)) refl (record { life_is = refl; place = (refl, refl); far = far; within = tt }) tt (tt, tt) (settled told) (λ reads. absurd (cc)) (record { passed = 0; more = length bytes; laid = ap (lay items place) (sym (take_all (length bytes) bytes (omega arith))); order = λ _. omega arith }) tt (omega arith, omega arith)
 
 seek_calmly : (lent : Bool) (items : List ℕ) (place was : ℕ) (offset whence : ℤ) (target : ℕ) → target ≤ greatest_place → refusal (file_in_memory items place false) (Seek offset whence) ≡ None → seek_target (file_in_memory items place false) offset whence ≡ target → SeekGoes place offset whence target → BufferSeeksByEnd (buffer_with (file_in_memory items place false) lent was) (Seek offset whence) (Place target) (buffer_with (file_in_memory items target false) lent was) → refused_here (buffer_with (file_in_memory items place false) lent was) (Seek offset whence) ≡ None → Calmly (file_in_memory items place false) lent was (Seek offset whence) (Place target) (file_in_memory items target false) was
 seek_calmly lent items place was offset whence target far accepts goes_to goes seeks here =
@@ -155,6 +154,7 @@ end_refused lent items place was offset why far small is =
     (λ asks. end_goes (buffer_with file lent was) (buffer_with file lent was) offset why (record {
       end = length items;
       within = small;
+      owed = λ some. absurd (some refl);
       told = λ told. refl;
       target = goes_refused (buffer_with file lent was) (buffer_with file lent was) (moved_by (length items) offset) (target_refusal (moved_by (length items) offset)) why refl refl refl refl is;
     }))
@@ -283,7 +283,7 @@ seek_came lent items place was offset (pos (suc (suc zero))) reply after taken k
     let target : ℕ = unwrap_or (moved_by (length items) offset) 0 in
     let new : FlatFile = file_in_memory items target false in
     let goes = goes_by (buffer_with file lent was) (buffer_with new lent was) (moved_by (length items) offset) (target_refusal (moved_by (length items) offset)) target (lands (moved_by (length items) offset) accepts) accepts in
-    known file lent was (Seek offset (pos 2)) (Place target) reply new after was taken (seek_calmly lent items place was offset (pos 2) target (far_at after new knows.far done.1) accepts refl tt (λ asks. record { end = length items; within = knows.small; told = λ told. refl; target = goes }) refl) done.0 done.1 knows.counts
+    known file lent was (Seek offset (pos 2)) (Place target) reply new after was taken (seek_calmly lent items place was offset (pos 2) target (far_at after new knows.far done.1) accepts refl tt (λ asks. record { end = length items; within = knows.small; owed = λ some. absurd (some refl); told = λ told. refl; target = goes }) refl) done.0 done.1 knows.counts
 seek_came lent items place was offset whence reply after taken knows accepts (inr done) = absurd (cc)
 
 accepted : (lent closed : Bool) (items : List ℕ) (place was : ℕ) (call : FileCall) (reply : FileReply) (after : FlatFile) (taken : ℕ) → Knows lent closed items place was call after taken → IsTrue (is_made call) → refusal_in_memory lent (file_in_memory items place closed) call ≡ None → CameOut (file_in_memory items place closed) call reply after → AnswersAsBuffer (buffer_with (file_in_memory items place closed) lent was) call reply (buffer_with after lent taken)

@@ -1,12 +1,12 @@
 -- Asking a stream where it ends, as a buffered stream is seen.
-use Rattle.std.proofs.Common.{◌≡◌, ℕ, nat_eq, Bool, true, false, length, Result, Ok, Err, if◌then◌else◌, sym, ap, ◌∙◌, subst, arith}
+use Rattle.std.proofs.Common.{◌≡◌, ℕ, true, false, Result, Ok, Err, arith}
 use Rattle.py_flat.specs.declared.fault.IoFault.{IoFault}
 use Rattle.py_flat.specs.declared.fault.IoFault.TheVariants as fault
 use Rattle.py_raw.specs.RawStream.{NoWait}
 use Rattle.py_raw.proofs.Telling.{tells_still, tells_its_bytes}
 use Rattle.py_stream.specs.Stream.{Stream}
 use Rattle.py_stream.specs.Moving.{Begins, StandsAsBefore, AsksEnd, FailsMoving, EndOutcome}
-use Rattle.py_stream.specs.Buffer.{Buffer, buffer_of, AsksForEnd, SaysEnd, FailsAtEnd, EndsAt, AnswersEnd}
+use Rattle.py_stream.specs.Buffer.{buffer_of, AsksForEnd, SaysEnd, FailsAtEnd, EndsAt, AnswersEnd}
 use Rattle.py_stream.proofs.Going.{ends_at}
 use Rattle.py_stream.proofs.PassingOn.{begun}
 

@@ -1,14 +1,14 @@
 -- What a call answers doesn't hang on whether the answer before was short.
 use Rattle.std.proofs.Common.{◌≡◌, ℕ, ℤ, pos, suc, zero, ◌⊎◌, inl, inr, Bool, true, false, IsTrue, List, take, refl, arith}
 use Rattle.py_flat.specs.declared.fault.IoFault.TheVariants as fault
-use Rattle.py_flat.specs.Calls.{FileCall, Seek, FileReply, Done, Refused}
+use Rattle.py_flat.specs.Calls.{FileCall, Seek, Tell, FileReply, Place, Done, Refused}
 use Rattle.py_flat.specs.BinaryStep.{payload}
 use Rattle.py_raw.specs.RawStream.{WhereTold}
 use Rattle.py_stream.specs.Stream.{Stream}
 use Rattle.py_stream.specs.Kinds.{is_writing, has_room}
 use Rattle.py_stream.specs.Writing.{OwesUpTo, OwesBehind, Takes, PassesFront, LaysInOrder, OwesTheRest, OwesNewAlone, OwesBoth, PassesOn, OwesNoneOfIts, Writes}
 use Rattle.py_stream.proofs.Coming.{came_seen, each_seen}
-use Rattle.py_stream.specs.Answers.{Answers, AnswersWith, Leaves, IsAhead, SeeksFromEnd, EndMoves, SeeksByEnd, closes_again}
+use Rattle.py_stream.specs.Answers.{Answers, AnswersWith, Leaves, IsAhead, SeeksFromEnd, EndMoves, SeeksByEnd, StaysAmong, WentTo, SeekStands, closes_again}
 
 -- a stream whose last answer was short, or wasn't
 abbrev pub seen : Bool → Stream → Stream
@@ -35,6 +35,18 @@ module _ (short : Bool) where
   by_end before after (Seek offset (pos (suc (suc zero)))) reply seeks = λ asks. end_moves before after offset reply (seeks asks)
   by_end before after call reply seeks = tt
 
+  stays : (before after : Stream) → StaysAmong (seen short before) after → StaysAmong before after
+  stays before after is = record { owed = is.owed; belongs = is.belongs; held = is.held; raw_place = is.raw_place; raw_bytes = is.raw_bytes; answered = is.answered }
+
+  went : (before : Stream) (place : ℕ) (after : Stream) → WentTo (seen short before) place after → WentTo before place after
+  went before place after is = record { among = λ among. stays before after (is.among (record { reads = among.reads; buffered = among.buffered; after_first = among.after_first; before_end = among.before_end })); away = is.away }
+
+  stands_seen : (before after : Stream) (call : FileCall) (reply : FileReply) → SeekStands (seen short before) call reply after → SeekStands before call reply after
+  stands_seen before after call (Refused why) stands = tt
+  stands_seen before after (Seek offset whence) (Place place) stands = went before place after stands
+  stands_seen before after Tell (Place place) stands = stands
+  stands_seen before after call reply stands = tt
+
   again : (before after : Stream) (call : FileCall) (reply : FileReply) → (closes_again (seen short before) call ≡ true → Leaves (seen short before) Done reply after) → closes_again before call ≡ true → Leaves before Done reply after
   again before after call reply closed closes = grind arith
 
@@ -48,8 +60,8 @@ module _ (short : Bool) where
   taken before after call takes writing up_to = let is = takes writing up_to in record { taken = is.taken; within = is.within; place = is.place; passed = is.passed; most = is.most; answered = is.answered; forth = λ behind. is.forth (owed_behind before behind); owed = is.owed; up_to = is.up_to; told = is.told }
 
   owed_so : (before after : Stream) (new : List ℕ) → OwesTheRest (seen short before) new after ⊎ OwesNewAlone (seen short before) new after → OwesTheRest before new after ⊎ OwesNewAlone before new after
-  owed_so before after new (inl rest) = inl (record { passed = rest.passed; most = rest.most; answered = rest.answered; from = rest.from; covers = rest.covers })
-  owed_so before after new (inr alone) = inr (record { passed = alone.passed; most = alone.most; answered = alone.answered; bytes = alone.bytes; place = alone.place })
+  owed_so before after new (inl rest) = inl (record { passed = rest.passed; answered = rest.answered; leaves = rest.leaves })
+  owed_so before after new (inr alone) = inr (record { passed = alone.passed; answered = alone.answered; leaves = alone.leaves })
 
   owed_both : (before after : Stream) (bytes : List ℕ) → OwesBoth (seen short before) bytes after → OwesBoth before bytes after
   owed_both before after bytes is = record { taken = is.taken; within = is.within; place = is.place; owes = λ some. owed_so before after (take is.taken bytes) (is.owes some) }
@@ -70,6 +82,7 @@ module _ (short : Bool) where
   writes_seen before after call reply written = record {
     owes = λ writing. owed_both before after (payload call) (written.owes writing);
     takes = taken before after call written.takes;
+    room = λ writing has. let is = written.room writing (record { lives = has.lives; buffered = has.buffered; within = has.within; room = has.room; stands = has.stands }) in record { says = is.says; whole = is.whole; raw = is.raw; raw_place = is.raw_place; owes = is.owes };
     leaves = λ spares. front_passed before after (written.leaves spares);
     stands = λ behind. written.stands (owed_behind before behind);
     lays = laid before call after.raw.bytes written.lays;
@@ -94,6 +107,7 @@ module _ (short : Bool) where
     shorts = answers.shorts;
     moves = record { life_is = answers.moves.life_is; place = answers.moves.place; far = answers.moves.far; within = answers.moves.within };
     ends = by_end before after call reply answers.ends;
+    seeks = stands_seen before after call reply answers.seeks;
     wants = answers.wants;
     goes_on = λ reads ahead. answers.goes_on reads (ahead_as before ahead);
     goes_past = answers.goes_past;
@@ -102,6 +116,7 @@ module _ (short : Bool) where
     nothing = λ asks. let none = answers.nothing asks in record { raw = none.raw; fault = none.fault };
     idle = λ keeps. let still = answers.idle keeps in record { raw = still.raw; fault = still.fault; memory = still.memory };
     single = answers.single;
+    passes_first = answers.passes_first;
     in_hand = λ has. let none = answers.in_hand (record { lives = has.lives; buffered = has.buffered; of = has.of }) in record { raw = none.raw; fault = none.fault };
     owing = λ has. answers.owing (record { lives = has.lives; buffered = has.buffered; of = has.of });
     brings = λ reads ahead. came_seen (seen short before) before after after 1 refl refl refl refl (answers.brings reads (ahead_as before ahead));

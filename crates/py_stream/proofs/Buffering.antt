@@ -1,5 +1,5 @@
 -- A stream over a raw one is a buffered stream for the layer above it.
-use Rattle.std.proofs.Common.{◌≡◌, ℕ, ℤ, pos, suc, zero, inl, Bool, true, false, IsTrue, List, [], Option, Some, None, IsSome, unwrap_or, refl, sym, ap, ◌∙◌, arith, rules}
+use Rattle.std.proofs.Common.{◌≡◌, ℕ, ℤ, pos, suc, zero, inl, Bool, true, false, IsTrue, List, [], ◌-◌, ◌⊎◌, inr, take, subst, Option, Some, None, IsSome, unwrap_or, refl, sym, ap, ◌∙◌, arith, rules}
 use Rattle.py_flat.specs.declared.fault.IoFault.{IoFault}
 use Rattle.py_flat.specs.Bytes.{lay}
 use Rattle.py_flat.specs.Owed.{Owed}
@@ -9,7 +9,7 @@ use Rattle.py_raw.specs.RawStream.{WhereTold}
 use Rattle.py_raw.proofs.Telling.{tells_still, tells_its_bytes}
 use Rattle.py_stream.specs.Stream.{Stream, buffering_of, nothing_owed}
 use Rattle.py_stream.specs.Kinds.{is_writing}
-use Rattle.py_stream.specs.Writing.{OwesRest, PassesFront, PassedOn, OwesBoth, PassesOn, LaysInOrder, BlocksFull, Writes}
+use Rattle.py_stream.specs.Writing.{OwesRest, LeavesNew, LeavesBoth, OwesNewAlone, OwesTheRest, OwedAfter, PassesFront, PassedOn, OwesBoth, PassesOn, LaysInOrder, BlocksFull, Writes}
 use Rattle.py_stream.specs.Answers.{Answers, Leaves, GivesWithin, SeeksTo, SeeksFromEnd, UnlessStopped, EndMoves, SeeksByEnd, closes_again}
 use Rattle.py_stream.specs.Buffer.{Buffer, buffer_of, taken_by, size_shown, LeavesBuffer, closes_twice, GivesAsked, GoesFromEnd, BufferSeeksFromEnd, BufferSeeksByEnd, BufferOwes, BufferPassedOn, BufferPasses, BufferLays, BufferBlocksFull, BufferTakes, OwesAsItCan, is_made, AnswersAsBuffer}
 
@@ -52,14 +52,24 @@ by_end_so was taken before after call reply seeks = tt
 rest_so : (before after : Stream) → PassesFront before after → OwesRest before.owed after.owed
 rest_so before after passes = record { passed = passes.passed; bytes = passes.bytes; place = passes.place }
 
+either_so : (before after : Stream) (new : List ℕ) → OwesTheRest before new after ⊎ OwesNewAlone before new after → ((passed : ℕ) × LeavesBoth passed before.owed before.place new after.owed) ⊎ ((passed : ℕ) × LeavesNew passed before.place new after.owed)
+either_so before after new (inl rest) = inl (rest.passed, rest.leaves)
+either_so before after new (inr alone) = inr (alone.passed, alone.leaves)
+
+both_so : (before after : Stream) (bytes : List ℕ) → OwesBoth before bytes after → OwedAfter before.owed before.place (take (after.place - before.place) bytes) after.owed
+both_so before after bytes both =
+    let count : after.place - before.place ≡ both.taken = omega (arith, both.place) in
+    λ some. either_so before after (take (after.place - before.place) bytes) (subst (λ (n : ℕ). OwesTheRest before (take n bytes) after ⊎ OwesNewAlone before (take n bytes) after) (sym count) (both.owes some))
+
 owes_so : (was taken : ℕ) (before after : Stream) (call : FileCall) (reply : FileReply) → IsTrue (is_made call) → Writes before call reply after → BufferOwes (buffer_of before was) call (buffer_of after taken)
+owes_so was taken before after (Write bytes) reply made writes = record { both = both_so before after bytes (writes.owes refl); up_to = λ up_to. (writes.takes refl up_to).up_to }
 owes_so was taken before after call reply made writes = grind (arith, rest_so)
 
 none_left : (before after : Owed) → before.bytes ≡ [] → after.bytes ≡ [] → OwesRest before after
 none_left before after was none = record { passed = 0; bytes = none ∙ sym was; place = λ some. absurd (some none) }
 
 pub owes_none_so : (before after : Buffer) (call : FileCall) → before.owed.bytes ≡ [] → after.owed.bytes ≡ [] → BufferOwes before call after
-owes_none_so before after (Write bytes) was none = λ up_to. inl none
+owes_none_so before after (Write bytes) was none = record { both = λ some. absurd (some none); up_to = λ up_to. inl none }
 owes_none_so before after call was none = none_left before.owed after.owed was none
 
 passed_so : (was taken : ℕ) (before after : Stream) → PassedOn before after → BufferPassedOn (buffer_of before was) (buffer_of after taken)

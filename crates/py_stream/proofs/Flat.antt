@@ -12,11 +12,10 @@ use Rattle.py_flat.specs.ExactStep.{after_write}
 use Rattle.py_flat.specs.BinaryStep.{Fails}
 use Rattle.py_flat.proofs.Laying.{lay_behind, lay_resumes}
 use Rattle.py_raw.specs.RawStream.{WhereTold}
-use Rattle.py_flat.specs.Owed.{Owed}
 use Rattle.py_stream.specs.Stream.{Stream, buffering_of, file_of}
 use Rattle.py_stream.specs.Keeping.{KeepsOn}
 use Rattle.py_stream.specs.Taking.{Took, FailsTaking}
-use Rattle.py_stream.specs.Writing.{owed_before, LaysFront}
+use Rattle.py_stream.specs.Writing.{LaysFront}
 
 -- Where the stream stands.
 
@@ -123,15 +122,10 @@ fails_bytes old new bytes fails tells =
 
 -- What the raw has.
 
--- no more of what is owed lies before a place than is owed
-pub owed_before_all : (owed : Owed) (place count : ℕ) → length owed.bytes ≤ count → owed_before owed place ≤ count
-unfolding owed_before
-owed_before_all owed place count all = omega (arith, all)
-
 -- told: the raw has the bytes in order, of which the first were taken
 pub lays_taken : (old new : Stream) (own : List ℕ) (taken : ℕ) → taken ≤ length own → Took old (take taken own) new → WhereTold old.raw (LaysFront old own new.raw.bytes)
-lays_taken old new own taken fits took tells = grind (arith, laid_in_order, take_front, length-take-le, owed_before_all)
+lays_taken old new own taken fits took tells = grind (arith, laid_in_order, take_front, length-take-le)
 
 -- told: the raw has the bytes in order, where it failed
 pub fails_lays : (old new : Stream) (bytes : List ℕ) → FailsTaking old bytes new → WhereTold old.raw (LaysFront old bytes new.raw.bytes)
-fails_lays old new bytes fails tells = grind (arith, laid_in_order, owed_before_all)
+fails_lays old new bytes fails tells = grind (arith, laid_in_order)

@@ -1,5 +1,5 @@
 -- The answers of the calls that give bytes to a stream, by what their steps came to.
-use Rattle.std.proofs.Common.{◌≡◌, ℕ, ◌+◌, ◌-◌, ◌<◌, ◌≤◌, inl, inr, Bool, true, false, IsTrue, List, [], ◌++◌, length, take, drop, Option, is_some, Result, Ok, Err, refl, sym, ap, ◌∙◌, subst, arith, None, rules}
+use Rattle.std.proofs.Common.{◌≡◌, ℕ, ◌+◌, ◌-◌, ◌<◌, ◌≤◌, inl, inr, Bool, true, false, IsTrue, List, [], ◌∷◌, ◌++◌, length, length-append, take, drop, Option, is_some, Result, Ok, Err, refl, sym, ap, ◌∙◌, subst, arith, None, rules}
 use Rattle.std.proofs.Math.Seq.{take-append_seam}
 use Rattle.std.proofs.lemmas.List.{length-take-le, take_all, take-append-le, append-nil, drop-take}
 use Rattle.py_flat.specs.declared.fault.IoFault.{IoFault}
@@ -15,10 +15,10 @@ use Rattle.py_flat.specs.BinaryStep.{payload, SettledBy, BinaryStep, does_work}
 use Rattle.py_raw.specs.RawStream.{WhereTransfers, WhereTold}
 use Rattle.py_stream.specs.Stream.{Stream, size_of, file_of}
 use Rattle.py_stream.specs.Kinds.{is_writing, goes_on, makes_one, says_fault, says_no_memory}
-use Rattle.py_stream.specs.Writing.{Takes, OwesNoneOfIts, TookOwn, BlocksFull}
-use Rattle.py_stream.specs.Answers.{Answers, LifeMoves, PlaceMoves, HasCauses, IsCounted}
-use Rattle.py_stream.specs.Keeping.{KeepsOn}
-use Rattle.py_stream.specs.Taking.{Took, TookAll, FailsTaking, Calm, WaitsAsOne, CutsBack, Starved, StarvesTaking, FillsUp, MayTake, BeginsWriting, PutOutcome, PutsOutcome}
+use Rattle.py_stream.specs.Writing.{OwesBehind, Takes, first_of_both, OwesNoneOfIts, TookOwn, BlocksFull, HasRoom, TakesAlone}
+use Rattle.py_stream.specs.Answers.{Answers, LifeMoves, PlaceMoves, HasCauses, IsCounted, IsNear}
+use Rattle.py_stream.specs.Keeping.{IsSound, KeepsOn}
+use Rattle.py_stream.specs.Taking.{Took, TookAll, FailsTaking, Calm, WaitsAsOne, CutsBack, Starved, StarvesTaking, FillsUp, MayTake, BeginsWriting, FitsBehind, KeepsBehind, KeepsWhatFits, PutOutcome, PutsOutcome}
 use Rattle.py_stream.proofs.Begun.{answers_whole}
 use Rattle.py_flat.specs.Lines.{joined}
 use Rattle.py_stream.specs.Moving.{EndsWithin, Begins}
@@ -27,8 +27,9 @@ use Rattle.py_stream.proofs.Stopping.{says_short, fault_answers, starves_alive, 
 use Rattle.py_stream.proofs.Taking.{fails_sound}
 use Rattle.py_stream.proofs.Flat.{took_ends, fails_ends, took_bytes, took_file, took_none_ends, took_none_file, failed_file, fails_bytes, lays_taken, fails_lays}
 use Rattle.py_stream.proofs.Alone.{begins_in_vain}
+use Rattle.py_stream.proofs.Owing.{owes_all}
 use Rattle.py_stream.proofs.Refusing.{IsPlaced}
-use Rattle.py_stream.proofs.Giving.{of_both, writing_too_far, lines_fit, MayWrite, answers_coming, accepted, works, no_tell, calm_counts, one_counts, TakesCount, taken_reply, is_taken, WaitsCount, waited_reply, is_blocked, FailsCount, is_faulted, IsPart, StepsBy}
+use Rattle.py_stream.proofs.Giving.{of_both, writing_too_far, lines_fit, MayWrite, answers_coming, accepted, works, no_tell, calm_counts, one_counts, TakesCount, taken_reply, says_all, is_taken, WaitsCount, waited_reply, is_blocked, FailsCount, is_faulted, IsPart, StepsBy}
 use Rattle.py_flat.specs.Refusals.{refusal}
 use Rattle.py_flat.specs.FlatFile.{FlatFile}
 
@@ -57,8 +58,8 @@ part_steps file after call reply true faulted work passes waited = waited_for re
 part_steps file after call reply false faulted work passes carried = settled (subst (λ (refused : Option IoFault). SettledBy file call refused reply after) (sym passes) carried)
 
 -- The first n bytes were taken: all that the call could take, or what it could before the raw would have blocked.
-part_answers : (old new : Stream) (call : FileCall) (reply : FileReply) (count : ℕ) (short : Bool) → MayWrite old call → count ≤ length (payload call) → IsPart old count old.buffer call reply short → Took old (take count (payload call)) new → (IsTrue short → length new.owed.bytes ≡ size_of new) → (IsTrue short → Rose old.raw.waits new.raw.waits) → (short ≡ false → Calm old.buffer old.raw new.raw) → (IsTrue short → WaitsAsOne old.buffer old.raw new.raw) → OneTransfer old call new → Answers old call reply (record new { short = short })
-part_answers old new call reply count short may fits is took filled waited calm once one =
+part_answers : (old new : Stream) (call : FileCall) (reply : FileReply) (count : ℕ) (short : Bool) → MayWrite old call → count ≤ length (payload call) → IsPart old count old.buffer call reply short → Took old (take count (payload call)) new → (IsTrue short → length new.owed.bytes ≡ size_of new) → (IsTrue short → Rose old.raw.waits new.raw.waits) → (short ≡ false → Calm old.buffer old.raw new.raw) → (IsTrue short → WaitsAsOne old.buffer old.raw new.raw) → OneTransfer old call new → (HasRoom old (payload call) → TakesAlone old call reply (record new { short = short })) → Answers old call reply (record new { short = short })
+part_answers old new call reply count short may fits is took filled waited calm once one room =
     let own : List ℕ = payload call in
     let life_is : LifeMoves old.buffer call reply old.life new.life = is.life_is old.life new.life (took.live ∙ sym may.live) in
     let place : PlaceMoves old.buffer call reply new.life old.place new.place = is.place new.life old.place new.place (omega (arith, took_ends old new (take count own) took, length-take-le count own fits)) in
@@ -72,16 +73,16 @@ part_answers old new call reply count short may fits is took filled waited calm 
     answers_coming old new call reply short may (search (rules, takes_front, lays_taken))
 
 -- some were taken
-pub takes_answers : (old new : Stream) (call : FileCall) (count : ℕ) → MayWrite old call → count ≤ length (payload call) → TakesCount old.buffer call count → Took old (take count (payload call)) new → Calm old.buffer old.raw new.raw → OneTransfer old call new → Answers old call (taken_reply call count) (record new { short = false })
-takes_answers old new call count may fits counts took calm one = part_answers old new call (taken_reply call count) count false may fits (is_taken old count old.buffer call may.writing fits counts) took (λ short. absurd (cc)) (λ short. absurd (cc)) (λ whole. calm) (λ short. absurd (cc)) one
+pub takes_answers : (old new : Stream) (call : FileCall) (count : ℕ) → MayWrite old call → count ≤ length (payload call) → TakesCount old.buffer call count → Took old (take count (payload call)) new → Calm old.buffer old.raw new.raw → OneTransfer old call new → (HasRoom old (payload call) → TakesAlone old call (taken_reply call count) (record new { short = false })) → Answers old call (taken_reply call count) (record new { short = false })
+takes_answers old new call count may fits counts took calm one room = part_answers old new call (taken_reply call count) count false may fits (is_taken old count old.buffer call may.writing fits counts) took (λ short. absurd (cc)) (λ short. absurd (cc)) (λ whole. calm) (λ short. absurd (cc)) one room
 
 -- the raw would have blocked
-pub waits_answers : (old new : Stream) (call : FileCall) (taken : ℕ) → MayWrite old call → taken ≤ length (payload call) → WaitsCount old.buffer call taken → Took old (take taken (payload call)) new → length new.owed.bytes ≡ size_of new → Rose old.raw.waits new.raw.waits → WaitsAsOne old.buffer old.raw new.raw → OneTransfer old call new → Answers old call (waited_reply old.buffer call taken) (record new { short = true })
-waits_answers old new call taken may fits counts took full waited once one = part_answers old new call (waited_reply old.buffer call taken) taken true may fits (is_blocked old taken old.buffer call may.writing counts) took (λ _. full) (λ _. waited) (λ whole. absurd (cc)) (λ _. once) one
+pub waits_answers : (old new : Stream) (call : FileCall) (taken : ℕ) → MayWrite old call → taken ≤ length (payload call) → WaitsCount old.buffer call taken → Took old (take taken (payload call)) new → length new.owed.bytes ≡ size_of new → Rose old.raw.waits new.raw.waits → WaitsAsOne old.buffer old.raw new.raw → OneTransfer old call new → (HasRoom old (payload call) → ⊥) → Answers old call (waited_reply old.buffer call taken) (record new { short = true })
+waits_answers old new call taken may fits counts took full waited once one roomless = part_answers old new call (waited_reply old.buffer call taken) taken true may fits (is_blocked old taken old.buffer call may.writing counts) took (λ _. full) (λ _. waited) (λ whole. absurd (cc)) (λ _. once) one (λ has. absurd (roomless has))
 
 -- The raw failed.
-pub faults_answers : (old new : Stream) (call : FileCall) → MayWrite old call → (fails : FailsTaking old (payload call) new) → FailsCount old.buffer call fails.taken → OneTransfer old call new → OwesNoneOfIts old call (Refused fault.RawFault) (record new { short = false }) → Answers old call (Refused fault.RawFault) (record new { short = false })
-faults_answers old new call may fails counts one straight =
+pub faults_answers : (old new : Stream) (call : FileCall) → MayWrite old call → (fails : FailsTaking old (payload call) new) → FailsCount old.buffer call fails.taken → OneTransfer old call new → OwesNoneOfIts old call (Refused fault.RawFault) (record new { short = false }) → (HasRoom old (payload call) → ⊥) → Answers old call (Refused fault.RawFault) (record new { short = false })
+faults_answers old new call may fails counts one straight roomless =
     let own : List ℕ = payload call in
     let is = is_faulted old fails.taken old.buffer call may.writing in
     let ends : new.place ≡ old.place + fails.taken = fails_ends old new own fails in
@@ -102,8 +103,8 @@ faults_answers old new call may fails counts one straight =
 -- Memory ran out.
 
 -- memory ran out before any of the call's own bytes went to the raw
-pub wants_answers : (old new : Stream) (call : FileCall) → MayWrite old call → IsTrue old.raw.takes_memory → Took old [] new → Calm old.buffer old.raw new.raw → OneTransfer old call new → OwesNoneOfIts old call (Refused fault.NoMemory) (record new { short = false }) → Answers old call (Refused fault.NoMemory) (record new { short = false })
-wants_answers old new call may takes took calm one straight =
+pub wants_answers : (old new : Stream) (call : FileCall) → MayWrite old call → IsTrue old.raw.takes_memory → Took old [] new → Calm old.buffer old.raw new.raw → OneTransfer old call new → OwesNoneOfIts old call (Refused fault.NoMemory) (record new { short = false }) → (HasRoom old (payload call) → ⊥) → Answers old call (Refused fault.NoMemory) (record new { short = false })
+wants_answers old new call may takes took calm one straight roomless =
     let own : List ℕ = payload call in
     let is = is_faulted old 0 old.buffer call may.writing in
     let life_is : LifeMoves old.buffer call (Refused fault.NoMemory) old.life new.life = subst (LifeMoves old.buffer call (Refused fault.NoMemory) old.life) (may.live ∙ sym took.live) (starves_alive old.buffer call old.life) in
@@ -120,8 +121,8 @@ took_own : (old new : Stream) (bytes : List ℕ) → Took old bytes new → old.
 took_own old new bytes took past = grind arith
 
 -- memory ran out after the raw took some of the call's own bytes: the stream fails
-pub midway_answers : (old between : Stream) (call : FileCall) (taken : ℕ) → MayWrite old call → goes_on old.buffer call ≡ true → taken ≤ length (payload call) → IsTrue old.raw.takes_memory → Took old (take taken (payload call)) between → Calm old.buffer old.raw between.raw → OneTransfer old call between → old.place < between.owed.place → OwesNoneOfIts old call (Refused fault.NoMemory) (record between { life = life.Failed; short = false }) → Answers old call (Refused fault.NoMemory) (record between { life = life.Failed; short = false })
-midway_answers old between call taken may goes fits takes took calm one past straight =
+pub midway_answers : (old between : Stream) (call : FileCall) (taken : ℕ) → MayWrite old call → goes_on old.buffer call ≡ true → taken ≤ length (payload call) → IsTrue old.raw.takes_memory → Took old (take taken (payload call)) between → Calm old.buffer old.raw between.raw → OneTransfer old call between → old.place < between.owed.place → OwesNoneOfIts old call (Refused fault.NoMemory) (record between { life = life.Failed; short = false }) → (HasRoom old (payload call) → ⊥) → Answers old call (Refused fault.NoMemory) (record between { life = life.Failed; short = false })
+midway_answers old between call taken may goes fits takes took calm one past straight roomless =
     let own : List ℕ = payload call in
     let is = is_faulted old taken old.buffer call may.writing in
     let new : Stream = record between { life = life.Failed } in
@@ -139,6 +140,7 @@ midway_answers old between call taken may goes fits takes took calm one past str
       work_reaches (file_of old) call (works old call may),
       is.starved (file_of new) (taken, some, fits, failed_file old new life.Failed (lay (file_of old).bytes old.place (take taken own)) kept refl (took_bytes old between (take taken own) took tells)),
     ) in
+    let room : HasRoom old own → TakesAlone old call (Refused fault.NoMemory) (record new { short = false }) = λ has. absurd (roomless has) in
     answers_coming old new call (Refused fault.NoMemory) false may (search (rules, nothing_blocked, takes_front, lays_taken, took_own))
 
 -- up to where the call began all bytes are as they were
@@ -227,15 +229,41 @@ pub record GoesOn (buffer : Option ℕ) (call : FileCall) : Type 0 where
 pub goes_on_all : (buffer : Option ℕ) (call : FileCall) → is_writing call ≡ true → goes_on buffer call ≡ true → GoesOn buffer call
 goes_on_all buffer call writing = grind arith
 
+-- where what is owed ends at a place, as many are kept before that as are owed
+kept_many : (owed : List ℕ) (start place : ℕ) → start + length owed ≡ place → place - first_of_both owed start [] place ≡ length owed
+kept_many [] start place ends = omega arith
+kept_many (byte ∷ owed) start place ends = omega (arith, ends)
+
+-- so bytes that have room at the place have room behind those that are owed
+fits_behind : (old : Stream) (bytes : List ℕ) → OwesBehind old → HasRoom old bytes → IsSound old → FitsBehind old bytes
+fits_behind old bytes behind has sound =
+    let near : IsNear old = sound.near has.lives in
+    record { buffered = has.buffered; room = omega (arith, has.room, kept_many old.owed.bytes old.owed.place old.place behind.ends, near.owed_after_first, near.owed_before_end, near.fits) }
+
+-- and where these were kept so, the call took all alone
+takes_alone : (old new : Stream) (call : FileCall) → is_writing call ≡ true → Took old (payload call) new → KeepsBehind old (payload call) new → TakesAlone old call (taken_reply call (length (payload call))) (record new { short = false })
+takes_alone old new call writing took keeps = record {
+  says = says_all call writing;
+  whole = refl;
+  raw = keeps.raw;
+  raw_place = omega (arith, took.behind.stands, took.behind.ends, took.was.stands, took.was.ends, took_ends old new (payload call) took, ap length keeps.owed, length-append old.owed.bytes (payload call));
+  owes = owes_all old.owed new.owed old.place (payload call) (inr took.was.ends) keeps.owed (took.behind.ends ∙ took_ends old new (payload call) took);
+}
+
 -- a call that took all of its bytes
-pub giving_takes : (first old new : Stream) (call : FileCall) → Begun first old call → TookAll old (payload call) new → Answers first call (taken_reply call (length (payload call))) new
-giving_takes first old new call begun took =
+pub giving_takes : (first old new : Stream) (call : FileCall) → Begun first old call → TookAll old (payload call) new → KeepsWhatFits old (payload call) (Ok true) new → Answers first call (taken_reply call (length (payload call))) new
+giving_takes first old new call begun took room =
     as_left first old new call (taken_reply call (length (payload call))) begun.began took.took.kept
-    (takes_answers old new call (length (payload call)) begun.may (omega arith) (goes_on_all old.buffer call begun.may.writing begun.goes).all (took_all old new (payload call) took.took) took.calm (no_one old new call begun.many))
+    (takes_answers old new call (length (payload call)) begun.may (omega arith) (goes_on_all old.buffer call begun.may.writing begun.goes).all (took_all old new (payload call) took.took) took.calm (no_one old new call begun.many)
+    (λ has. takes_alone old new call begun.may.writing took.took (room (fits_behind old (payload call) begun.may.behind has begun.may.sound)).1))
+
+-- bytes that weren't all kept had no room
+no_room : (old new : Stream) (call : FileCall) (result : Result Bool IoFault) → MayWrite old call → KeepsWhatFits old (payload call) result new → (result ≡ Ok true → ⊥) → HasRoom old (payload call) → ⊥
+no_room old new call result may room stops has = stops (room (fits_behind old (payload call) may.behind has may.sound)).0
 
 -- the raw would have blocked, and the call is refused by how many were taken
-pub giving_blocks : (first old new left : Stream) (call : FileCall) (start : ℕ) (why : IoFault) → Begun first old call → start ≡ old.place → FillsUp old (payload call) new → why ≡ fault.WouldBlock (new.place - start) → left ≡ record new { short = true } → Answers first call (Refused why) left
-giving_blocks first old new left call start why begun begins fills says short =
+pub giving_blocks : (first old new left : Stream) (call : FileCall) (start : ℕ) (why : IoFault) → Begun first old call → start ≡ old.place → FillsUp old (payload call) new → KeepsWhatFits old (payload call) (Ok false) new → why ≡ fault.WouldBlock (new.place - start) → left ≡ record new { short = true } → Answers first call (Refused why) left
+giving_blocks first old new left call start why begun begins fills room says short =
     let fits : fills.taken ≤ length (payload call) = omega (arith, fills.less) in
     let on : GoesOn old.buffer call = goes_on_all old.buffer call begun.may.writing begun.goes in
     let count : new.place - start ≡ fills.taken = omega (arith, begins, took_ends old new (take fills.taken (payload call)) fills.took, length-take-le fills.taken (payload call) fits) in
@@ -243,10 +271,10 @@ giving_blocks first old new left call start why begun begins fills says short =
     from_first first old call (Refused why) left begun.began
     (subst (λ (after : Stream). Answers old call (Refused why) after) (sym short)
     (subst (λ (reply : FileReply). Answers old call reply (record new { short = true })) (on.says fills.taken ∙ is)
-    (waits_answers old new call fills.taken begun.may fits (on.waits fills.taken fills.less) fills.took fills.full fills.waited fills.once (no_one old new call begun.many))))
+    (waits_answers old new call fills.taken begun.may fits (on.waits fills.taken fills.less) fills.took fills.full fills.waited fills.once (no_one old new call begun.many) (no_room old new call (Ok false) begun.may room (λ same. absurd (cc))))))
 
-starves : (first old new : Stream) (call : FileCall) → Begun first old call → StarvesTaking old (payload call) old.place new → OwesNoneOfIts old call (Refused fault.NoMemory) (record new { short = false }) → Answers first call (Refused fault.NoMemory) new
-starves first old new call begun lack straight = go lack.starved where
+starves : (first old new : Stream) (call : FileCall) → Begun first old call → StarvesTaking old (payload call) old.place new → OwesNoneOfIts old call (Refused fault.NoMemory) (record new { short = false }) → (HasRoom old (payload call) → ⊥) → Answers first call (Refused fault.NoMemory) new
+starves first old new call begun lack straight roomless = go lack.starved where
   between : Stream
   between = lack.between
 
@@ -257,18 +285,18 @@ starves first old new call begun lack straight = go lack.starved where
   go (inl before) =
       let back : Took old [] new = lets_go old between new (take lack.taken (payload call)) before.0 took before.1 in
       as_left first old new call (Refused fault.NoMemory) begun.began back.kept
-      (wants_answers old new call begun.may lack.lacks.takes back (subst (Calm old.buffer old.raw) (sym before.1.raw) lack.calm) (no_one old new call begun.many) straight)
+      (wants_answers old new call begun.may lack.lacks.takes back (subst (Calm old.buffer old.raw) (sym before.1.raw) lack.calm) (no_one old new call begun.many) straight roomless)
   go (inr past) =
       let failed : Stream = record between { life = life.Failed } in
       let sound : failed.short ≡ false = took.kept.short ∙ whole first old begun.began in
       from_first first old call (Refused fault.NoMemory) new begun.began
       (subst (λ (left : Stream). Answers old call (Refused fault.NoMemory) left) (said_short failed false sound ∙ sym past.1)
-      (midway_answers old between call lack.taken begun.may begun.goes lack.fits lack.lacks.takes took lack.calm (no_one old between call begun.many) past.0 (subst (λ (left : Stream). OwesNoneOfIts old call (Refused fault.NoMemory) (record left { short = false })) past.1 straight)))
+      (midway_answers old between call lack.taken begun.may begun.goes lack.fits lack.lacks.takes took lack.calm (no_one old between call begun.many) past.0 (subst (λ (left : Stream). OwesNoneOfIts old call (Refused fault.NoMemory) (record left { short = false })) past.1 straight) roomless))
 
 -- the raw refused
-pub giving_fails : (first old new : Stream) (call : FileCall) (start : ℕ) (why : IoFault) → Begun first old call → start ≡ old.place → PutsOutcome old (payload call) start (Err why) new → OwesNoneOfIts old call (Refused why) (record new { short = false }) → Answers first call (Refused why) new
-giving_fails first old new call start fault.RawFault begun begins fails straight =
+pub giving_fails : (first old new : Stream) (call : FileCall) (start : ℕ) (why : IoFault) → Begun first old call → start ≡ old.place → PutsOutcome old (payload call) start (Err why) new → OwesNoneOfIts old call (Refused why) (record new { short = false }) → KeepsWhatFits old (payload call) (Err why) new → Answers first call (Refused why) new
+giving_fails first old new call start fault.RawFault begun begins fails straight room =
     as_left first old new call (Refused fault.RawFault) begun.began fails.kept
-    (faults_answers old new call begun.may fails ((goes_on_all old.buffer call begun.may.writing begun.goes).fails fails.taken fails.fits) (no_one old new call begun.many) straight)
-giving_fails first old new call start fault.NoMemory begun begins wants straight = starves first old new call begun (subst (λ (at : ℕ). StarvesTaking old (payload call) at new) begins wants) straight
-giving_fails first old new call start why begun begins never straight = absurd never
+    (faults_answers old new call begun.may fails ((goes_on_all old.buffer call begun.may.writing begun.goes).fails fails.taken fails.fits) (no_one old new call begun.many) straight (no_room old new call (Err fault.RawFault) begun.may room (λ same. absurd (cc))))
+giving_fails first old new call start fault.NoMemory begun begins wants straight room = starves first old new call begun (subst (λ (at : ℕ). StarvesTaking old (payload call) at new) begins wants) straight (no_room old new call (Err fault.NoMemory) begun.may room (λ same. absurd (cc)))
+giving_fails first old new call start why begun begins never straight room = absurd never

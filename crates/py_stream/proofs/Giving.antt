@@ -14,8 +14,8 @@ use Rattle.py_raw.specs.RawStream.{Raw, WhereTold, WhereTransfers, NoWait, Waits
 use Rattle.py_stream.specs.Stream.{Stream, size_of, file_of}
 use Rattle.py_stream.specs.Moving.{EndsWithin, Begins}
 use Rattle.py_stream.specs.Kinds.{is_reading, is_writing, goes_on, asks_none, calls_none, makes_one, outlasts, says_fault, says_no_memory}
-use Rattle.py_stream.specs.Writing.{OwesBehind, Takes, LaysFront, LaysInOrder, PassesOn, IsFull, BlocksFull, OwesNoneOfIts, TookOwn, Writes}
-use Rattle.py_stream.specs.Answers.{Answers, HasCauses, IsCounted, InHandOf, IsShort, LifeMoves, PlaceMoves, SeeksByEnd, IsReplyTo, closes_again, refused_by}
+use Rattle.py_stream.specs.Writing.{OwesBehind, Takes, LaysFront, LaysInOrder, PassesOn, IsFull, BlocksFull, OwesNoneOfIts, TookOwn, HasRoom, answer_of_all, TakesAlone, Writes}
+use Rattle.py_stream.specs.Answers.{Answers, HasCauses, IsCounted, InHandOf, IsShort, LifeMoves, PlaceMoves, SeeksByEnd, SeekStands, IsReplyTo, closes_again, refused_by}
 use Rattle.py_stream.specs.Keeping.{IsSound, KeepsOn}
 use Rattle.py_stream.specs.Taking.{Calm, WaitsAsOne}
 use Rattle.py_stream.proofs.Completing.{completes}
@@ -41,6 +41,7 @@ pub record IsGiving (call : FileCall) : Type 0 where
   pub other : is_other_getter call ≡ false
   pub tells : (is_getter call || is_tell call) ≡ false
   pub ends : (before : Stream) (reply : FileReply) (after : Stream) → SeeksByEnd before call reply after
+  pub seeks : (before : Stream) (reply : FileReply) (after : Stream) → SeekStands before call reply after
   pub passes : (before : Stream) (reply : FileReply) (after : Stream) → PassesOn before call reply after
   pub lays : (before : Stream) (after : List ℕ) → LaysFront before (payload call) after → LaysInOrder before call after
   pub reads : is_reading call ≡ false
@@ -109,6 +110,7 @@ pub record Comes (old : Stream) (call : FileCall) (reply : FileReply) (short : B
   pub wants : IsTrue (says_no_memory reply) → IsTrue old.raw.takes_memory
   pub one : IsTrue (makes_one old.buffer call) → WhereTransfers old.raw (new.raw.transfers ≤ old.raw.transfers + 1)
   pub takes : Takes old (payload call) (record new { short = short })
+  pub room : HasRoom old (payload call) → TakesAlone old call reply (record new { short = short })
   pub lays : WhereTold old.raw (LaysFront old (payload call) new.raw.bytes)
   pub full : BlocksFull call reply (record new { short = short })
   pub straight : OwesNoneOfIts old call reply (record new { short = short })
@@ -138,6 +140,7 @@ answers_coming old new call reply short may comes =
       shorts = comes.shorts;
       moves = record { life_is = comes.life_is; place = comes.place; far = comes.kept.sound.far; within = gives.within (size_of old) reply };
       ends = giving.ends old reply left;
+      seeks = giving.seeks old reply left;
       wants = λ wanting room. comes.wants wanting;
       goes_on = λ reads. absurd (cc (giving.reads));
       goes_past = λ reads. absurd (cc (giving.reads));
@@ -146,6 +149,7 @@ answers_coming old new call reply short may comes =
       nothing = λ asks. absurd (cc (giving.some old.buffer));
       idle = λ keeps. absurd (cc (giving.calls old.buffer old.can.writable));
       single = λ single none. comes.one single;
+      passes_first = λ _ single. absurd (cc (gives.single));
       in_hand = λ has. absurd (giving.unheld old has.of);
       owing = λ has. absurd (giving.unheld old has.of);
       brings = λ reads. absurd (cc (giving.reads));
@@ -187,6 +191,10 @@ TakesCount buffer call count = count ≡ length (payload call)
 abbrev pub taken_reply : FileCall → ℕ → FileReply
 taken_reply (Write bytes) count = Count count
 taken_reply call count = Done
+
+-- it says so of one that took all
+pub says_all : (call : FileCall) → is_writing call ≡ true → taken_reply call (length (payload call)) ≡ answer_of_all call
+says_all call writing = grind arith
 
 -- what a call carried out, or what it did before it would have blocked
 abbrev pub StepsBy : Bool → FlatFile → FileCall → FileReply → FlatFile → Type 0

@@ -1,5 +1,5 @@
 -- The answers of `seek`, as its steps come: where it goes, what is passed on before, and the moving.
-use Rattle.std.proofs.Common.{◌≡◌, ⊎_elim, ℕ, ◌+◌, suc, zero, ℤ, pos, max, nat_eq, Bool, true, false, List, [], ◌∷◌, length, Option, Some, None, IsSome, Result, Ok, Err, ne_eqb, if◌then◌else◌, refl, sym, ap, ◌∙◌, subst, arith, zero-le, rules, IsTrue}
+use Rattle.std.proofs.Common.{◌≡◌, ◌≢◌, ⊎_elim, ℕ, ◌+◌, suc, zero, ℤ, pos, max, nat_eq, Bool, true, false, List, [], ◌∷◌, length, Option, Some, None, IsSome, Result, Ok, Err, ne_eqb, if◌then◌else◌, refl, sym, ap, ◌∙◌, subst, arith, zero-le, rules, IsTrue}
 use Rattle.std.proofs.lemmas.Bool.Decides.{eqb_tells}
 use Rattle.py_flat.specs.declared.fault.IoFault.{IoFault}
 use Rattle.py_flat.specs.declared.fault.IoFault.TheVariants as fault
@@ -8,18 +8,18 @@ use Rattle.py_flat.specs.declared.life.Life.TheVariants as life
 use Rattle.py_flat.specs.Bytes.{lay}
 use Rattle.py_flat.specs.Owed.{Owed}
 use Rattle.py_flat.specs.Calls.{FileCall, FileReply, Seek, Place, Refused}
-use Rattle.py_flat.specs.FlatFile.{FlatFile}
+use Rattle.py_flat.specs.FlatFile.{Abilities, FlatFile}
 use Rattle.py_flat.specs.Refusals.{moved_by, refusal, target_refusal}
 use Rattle.py_flat.specs.ExactStep.{seek_target}
 use Rattle.py_flat.specs.AllowedStep.{settled}
 use Rattle.py_flat.specs.BinaryStep.{BinaryStep, SettledBy}
 use Rattle.py_flat.proofs.Laying.{length-lay}
-use Rattle.py_raw.specs.RawStream.{WhereTold, LeavesCounts}
+use Rattle.py_raw.specs.RawStream.{WhereTold, KeepsBytes, LeavesCounts, AnswersFor}
 use Rattle.py_raw.proofs.Telling.{keeps_same, tells_its_bytes}
 use Rattle.py_raw.proofs.ReadingOn.{no_fault_then, no_wait_then}
-use Rattle.py_stream.specs.Stream.{Span, Stream, file_of, nothing_owed}
+use Rattle.py_stream.specs.Stream.{Span, Stream, file_of, nothing_owed, nothing_held}
 use Rattle.py_stream.specs.Writing.{GoesAway, Writes}
-use Rattle.py_stream.specs.Answers.{Answers, Leaves, SeeksTo, SeeksFromEnd, InHandOf, InHand, SparesBytes, IsCounted}
+use Rattle.py_stream.specs.Answers.{Answers, Leaves, SeeksTo, SeeksFromEnd, InHandOf, InHand, IsAmong, StaysAmong, StandsBare, WentTo, SparesBytes, IsCounted}
 use Rattle.py_stream.specs.Keeping.{KeepsOn}
 use Rattle.py_stream.specs.Settling.{PassesSome, LivesOn, SettleOutcome}
 use Rattle.py_stream.specs.Moving.{StandsAsBefore, AsksEnd, TargetFromEnd, TargetOutcome, IsHeld, owed_at, StepsTo, GoesTo, GoOutcome, Begins}
@@ -37,7 +37,7 @@ pub ends_at : (raw : List ℕ) (place : ℕ) (bytes : List ℕ) → length (lay 
 ends_at raw place bytes = grind (arith, ne_eqb, length-lay)
 
 answers_end : (old new : Stream) (end : ℕ) → AsksEnd old end new → AnswersEnd old end
-answers_end old new end asks = record { within = asks.within; told = λ tells. asks.told tells ∙ sym (ends_at old.raw.bytes old.owed.place old.owed.bytes) }
+answers_end old new end asks = record { within = asks.within; owed = asks.owed; told = λ tells. asks.told tells ∙ sym (ends_at old.raw.bytes old.owed.place old.owed.bytes) }
 
 -- Where the raw was asked, or failed.
 
@@ -83,6 +83,7 @@ end_refuses old new offset why end may asks refuses =
     let seeks : SeeksFromEnd old offset (Refused why) new = record {
       end = end;
       within = answered.within;
+      owed = answered.owed;
       told = answered.told;
       target = subst (λ (refused : Option IoFault). SeeksTo old (moved_by end offset) refused (Refused why) new) (sym refuses) (seeks_nowhere old (moved_by end offset) why new left);
     } in
@@ -150,6 +151,12 @@ IsBeyond found target = found.can.readable ≡ true → IsSome found.buffer → 
 pub apart : (old found : Stream) (offset whence : ℤ) (target : ℕ) → Finds old offset whence target found → IsBeyond found target → InHand old (Seek offset whence) → ⊥
 apart old found offset whence target finds beyond has = beyond (reads_still old found offset whence target finds has) (buffered_still old found offset whence target finds has) (held_still old found offset whence target finds has)
 
+-- so it didn't lie among them before that was found out
+beyond_before : (old found : Stream) (target : ℕ) → FoundOut old found → IsBeyond found target → IsAmong old target → ⊥
+beyond_before old found target out beyond among =
+    beyond (ap (λ (can : Abilities). can.readable) out.stands.kept.can ∙ among.reads) (subst (λ (buffer : Option ℕ). IsSome buffer) (sym out.stands.kept.buffer) among.buffered)
+    (subst (λ (held : Span). IsHeld held target) (sym out.stands.held) (among.after_first, among.before_end))
+
 -- where the target lies, a seek goes there in the model
 sought_at : (file after : FlatFile) (sought target : ℕ) → sought ≡ target → after ≡ record file { place = target } → ◌≡◌ {A = FileReply × FlatFile} (Place target, after) (Place sought, record file { place = sought })
 sought_at file after sought target same is = grind arith
@@ -189,6 +196,22 @@ step_owes old found new target out steps = ap (λ (stream : Stream). stream.owed
 step_stays : (old found new : Stream) (target : ℕ) → MaySeek old → FoundOut old found → StepsTo found target true new → GoesAway old target → ⊥
 step_stays old found new target may out steps away = grind arith
 
+-- and where it belongs, as long as some is
+owed_stays : (none : Bool) (target : ℕ) (owed : Owed) → (let kept : Owed = if none then nothing_owed target else owed in kept).bytes ≢ [] → (let kept : Owed = if none then nothing_owed target else owed in kept).place ≡ owed.place
+owed_stays true target owed some = absurd (some refl)
+owed_stays false target owed some = refl
+
+-- so it stays, and the bytes held, and the raw where it stood
+step_among : (old found new : Stream) (target : ℕ) → FoundOut old found → StepsTo found target true new → StaysAmong old new
+step_among old found new target out steps = record {
+  owed = step_owes old found new target out steps;
+  belongs = λ some. ap (λ (stream : Stream). stream.owed.place) steps.2 ∙ owed_stays (nat_eq (length found.owed.bytes) 0) target found.owed (λ none. some (ap (λ (stream : Stream). stream.owed.bytes) steps.2 ∙ none)) ∙ ap (λ (owed : Owed). owed.place) out.stands.owed;
+  held = ap (λ (stream : Stream). stream.held) steps.2 ∙ out.stands.held;
+  raw_place = ap (λ (stream : Stream). stream.raw_place) steps.2 ∙ out.stands.raw_place;
+  raw_bytes = subst (KeepsBytes old.raw) (sym (ap (λ (stream : Stream). stream.raw) steps.2)) out.stands.bytes;
+  answered = subst (AnswersFor 0 old.raw) (sym (ap (λ (stream : Stream). stream.raw) steps.2)) out.stands.answered;
+}
+
 -- a front of what was owed was passed on: none of it
 step_passes : (old found new : Stream) (offset whence : ℤ) (target : ℕ) → MaySeek old → Finds old offset whence target found → StepsTo found target true new → PassesBytes old (Seek offset whence) (Place target) new
 step_passes old found new offset whence target may finds steps = grind (arith, lays_nothing, eqb_tells, step_stays)
@@ -207,6 +230,7 @@ stepped old found new offset whence target may finds steps =
     (settled (subst (λ (refused : Option IoFault). SettledBy (file_of old) call refused (Place target) (file_of new)) (sym lies.1)
     (sought_at (file_of old) (file_of new) (seek_target (file_of old) offset whence) target lies.0 (stepped_file old found new target finds.out steps tells)))) in
     let owing : new.owed.bytes ≡ old.owed.bytes = step_owes old found new target finds.out steps in
+    let seeks : WentTo old target new = record { among = λ _. step_among old found new target finds.out steps; away = λ away. absurd (step_stays old found new target may finds.out steps away) } in
     shows_answers old call (Place target) new asked.none (grind (arith, stays_open))
 
 -- a seek to a target among the bytes held
@@ -222,9 +246,17 @@ gone_file old mid new target live passes empty kept went tells =
     let flat : flat_of new ≡ flat_of old = ap (lay new.raw.bytes new.owed.place) none ∙ bytes ∙ passed_all old mid passes empty tells in
     grind (arith, file_now)
 
+-- nothing is held where the stream stands then, or owed
+gone_bare : (mid new : Stream) (target : ℕ) → GoesTo mid target new → StandsBare new
+gone_bare mid new target goes = record {
+  none = ap (λ (owed : Owed). owed.bytes) goes.owed;
+  held = goes.held ∙ ap nothing_held (sym goes.place);
+  stands = goes.stands ∙ sym goes.place;
+}
+
 -- the stream stands where it was to go
-gone : (old mid new : Stream) (offset whence : ℤ) (target : ℕ) → MaySeek old → Goes old offset whence target → Beside old (Seek offset whence) (Place target) new → SettleOutcome old (Ok tt) mid → GoesTo mid target new → Answers old (Seek offset whence) (Place target) new
-gone old mid new offset whence target may to beside settled_by goes =
+gone : (old mid new : Stream) (offset whence : ℤ) (target : ℕ) → MaySeek old → Goes old offset whence target → (IsAmong old target → ⊥) → Beside old (Seek offset whence) (Place target) new → SettleOutcome old (Ok tt) mid → GoesTo mid target new → Answers old (Seek offset whence) (Place target) new
+gone old mid new offset whence target may to beyond beside settled_by goes =
     let call : FileCall = Seek offset whence in
     let asked : Asked old call = reaching old offset whence may to.asks in
     let passes : PassesSome old mid = settled_by.0.passes in
@@ -240,6 +272,7 @@ gone old mid new offset whence target may to beside settled_by goes =
     subst (λ (said : Bool). BinaryStep (file_of old) call (Place target) said false (file_of new)) (sym short)
     (settled (subst (λ (refused : Option IoFault). SettledBy (file_of old) call refused (Place target) (file_of new)) (sym lies.1)
     (sought_at (file_of old) (file_of new) (seek_target (file_of old) offset whence) target lies.0 (gone_file old mid new target may.live passes settled_by.2 kept goes tells)))) in
+    let seeks : WentTo old target new = record { among = λ among. absurd (beyond among); away = λ _. gone_bare mid new target goes } in
     shows_answers old call (Place target) new asked.none (search (rules, stays_open))
 
 -- A stream that owes nothing is moved at once.
@@ -257,7 +290,7 @@ pub going_answers : (old found new : Stream) (offset whence : ℤ) (target : ℕ
 going_answers old found new offset whence target may none beyond finds goes =
     let out : FoundOut (begun old) found = finds.out in
     answers_whole old new (Seek offset whence) (Place target)
-    (gone (begun old) found new offset whence target may finds.to
+    (gone (begun old) found new offset whence target may finds.to (beyond_before (begun old) found target out beyond)
     (record { in_hand = λ has. absurd (apart (begun old) found offset whence target finds beyond has); owing = λ has. absurd (apart (begun old) found offset whence target finds beyond has); spares = search (rules, goes, begun, answers_still) })
     (found_on (begun old) found may out, out.counts.no_wait, ap (λ (owed : Owed). owed.bytes) (out.stands.owed ∙ none)) goes)
 
@@ -306,5 +339,5 @@ pub seek_fails : (old found mid new : Stream) (offset whence : ℤ) (target : �
 seek_fails old found mid new offset whence target why seeks finds passed fails = search (rules, answers_whole, moving_fails, found_settles)
 
 -- a stream that writes stands where it was to go
-pub seek_answers : (old found mid new : Stream) (offset whence : ℤ) (target : ℕ) → SeeksWriting (begun old) offset whence → Finds (begun old) offset whence target found → SettleOutcome found (Ok tt) mid → GoesTo mid target new → Answers old (Seek offset whence) (Place target) new
-seek_answers old found mid new offset whence target seeks finds passed goes = search (rules, answers_whole, gone, begun, beside_writing, seeks.apart, found_settles)
+pub seek_answers : (old found mid new : Stream) (offset whence : ℤ) (target : ℕ) → SeeksWriting (begun old) offset whence → Finds (begun old) offset whence target found → IsBeyond found target → SettleOutcome found (Ok tt) mid → GoesTo mid target new → Answers old (Seek offset whence) (Place target) new
+seek_answers old found mid new offset whence target seeks finds beyond passed goes = search (rules, answers_whole, gone, beside_writing, seeks.apart, found_settles, beyond_before)

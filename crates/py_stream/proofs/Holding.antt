@@ -18,9 +18,9 @@ use Rattle.py_flat.specs.BinaryStep.{IsFrontOf, BinaryStep, SettledBy, Accepted,
 use Rattle.py_raw.specs.RawStream.{WhereTold, WhereTransfers}
 use Rattle.py_raw.proofs.Telling.{keeps_same}
 use Rattle.py_stream.specs.Stream.{Stream, size_of, file_of, nothing_owed}
-use Rattle.py_stream.specs.Kinds.{is_reading, is_single, reads_on, by_several, makes_one, asks_none, has_room, says_fault, says_no_memory, says_given}
+use Rattle.py_stream.specs.Kinds.{is_reading, is_single, asks_nothing, reads_on, by_several, makes_one, asks_none, has_room, says_fault, says_no_memory, says_given}
 use Rattle.py_stream.specs.Writing.{NoneAtPlace, LaysFront, LaysInOrder, BlocksFull, Writes}
-use Rattle.py_stream.specs.Answers.{Answers, KeepsStream, ClosedWith, HasCauses, IsCounted, IsShort, LifeMoves, PlaceMoves, GivesWithin, WantsMemory, Starves, StarvesFirst, AsksNothing, AtMostOne, CameByReads, InHand, IsAhead, GoesPast, AsksNoMore, SparesBytes, IsReplyTo, IsNear, refused_by, ahead}
+use Rattle.py_stream.specs.Answers.{Answers, KeepsStream, ClosedWith, HasCauses, IsCounted, IsShort, LifeMoves, PlaceMoves, GivesWithin, WantsMemory, Starves, StarvesFirst, AsksNothing, AtMostOne, PassesFirst, CameByReads, InHand, IsAhead, GoesPast, AsksNoMore, SparesBytes, IsReplyTo, IsNear, refused_by, ahead}
 use Rattle.py_stream.specs.Keeping.{IsSound}
 use Rattle.py_stream.specs.Settling.{PassesSome, LivesOn, SettleOutcome}
 use Rattle.py_stream.specs.Reading.{Reaches, ComesNext, wanted_by, reply_by}
@@ -72,6 +72,7 @@ pub record ShowsReading (before : Stream) (call : FileCall) (reply : FileReply) 
   pub first : StarvesFirst before call reply after
   pub nothing : IsTrue (asks_none before.buffer call) → AsksNothing before reply after
   pub single : IsTrue (makes_one before.buffer call) → before.owed.bytes ≡ [] → AtMostOne before after
+  pub passes_first : PassesFirst before call reply after
   pub brings : IsAhead before → CameByReads 1 before after
   pub in_hand : InHand before call → AsksNothing before reply after
   pub owing : InHand before call → after.owed.bytes ≡ before.owed.bytes
@@ -105,6 +106,7 @@ passing_reads before mid call reply short reads live passes full =
     record {
       owes = λ writing. absurd (cc (is.writing));
       takes = λ writing. absurd (cc (is.writing));
+      room = λ writing. absurd (cc (is.writing));
       leaves = λ _. passing_front before mid mid.life short passes;
       stands = λ behind unread. absurd (cc);
       lays = λ tells. reading_lays before call mid.raw.bytes reads (passes.lays tells);
@@ -166,6 +168,7 @@ stops_reading before mid call reply short may stops =
       first = λ wanting _ takes_none. absurd (let takes = stops.wants wanting in cc);
       nothing = λ asks. absurd (cc (may.some));
       single = λ _ none. stops.single none;
+      passes_first = λ _ _ _ given. absurd (cc (stops.ungiven));
       brings = λ ahead. absurd (stops.behind ahead);
       in_hand = λ has. absurd (may.apart has);
       owing = λ has. absurd (may.apart has);
@@ -266,6 +269,7 @@ record IsHeldAnswer (before : Stream) (call : FileCall) (reply : FileReply) (pla
   said : says_fault reply ≡ false
   fed : says_no_memory reply ≡ false
   answers : IsReplyTo before.buffer before.can.writable call reply
+  passed : IsTrue (is_single call) → asks_nothing call ≡ false → before.owed.bytes ≡ []
   told : WhereTold before.raw (Accepted (file_of before) call reply (record (file_of before) { place = place }))
   reach : WhereTold before.raw (place ≤ max before.place (length (file_of before).bytes))
 
@@ -316,6 +320,7 @@ held_reading before call reply place owed reads held moved is =
       first = λ wanting. absurd (fed wanting);
       nothing = λ _. idle;
       single = λ _ _ tells. omega arith;
+      passes_first = λ _ single some _. moved.bytes ∙ is.passed single some;
       brings = λ _. came_still before after 1 refl refl;
       in_hand = λ _. idle;
       owing = λ _. moved.bytes;
@@ -345,6 +350,10 @@ wanted_next wanted left part next all = ap wanted (sym (take-append-drop (length
 held_several : (before : Stream) (call : FileCall) → ReadsHeld before → reads_on call ≡ true → by_several before.buffer call ≡ true
 held_several before call held on = grind arith
 
+-- and more than one transfer
+several_transfers : (call : FileCall) → reads_on call ≡ true → is_single call ≡ false
+several_transfers call on = grind arith
+
 -- a reading that goes on, which a part of the bytes held answers: told, it is all that is wanted of what is left
 pub held_answers_told : (before after : Stream) (call : FileCall) (part : List ℕ) → ReadsHeld before → reads_on call ≡ true → wanted_by call part ≡ part → WhereTold before.raw (wanted_by call (rest (file_of before)) ≡ part) → GivesHeld before part after → Answers before call (reply_by call part) after
 held_answers_told before after call part held on alone wanted gives =
@@ -361,6 +370,7 @@ held_answers_told before after call part held on alone wanted gives =
       said = is.said part;
       fed = is.gave part;
       answers = is.part_answers before.buffer before.can.writable part;
+      passed = λ single. absurd (cc (several_transfers call on));
       told = λ tells. carried before.buffer file call part (record file { place = before.place + length part }) refl several (wanted tells) refl;
       reach = λ tells. within_end file.bytes part before.place (length part) (gives.told tells) refl;
     }))
@@ -391,8 +401,8 @@ held_once : (before : Stream) (call : FileCall) → ReadsHeld before → is_sing
 held_once before call held single = grind arith
 
 -- what an answer of one transfer says that some of the bytes held make
-once_answer : (before : Stream) (call : FileCall) (part : List ℕ) → ReadsHeld before → is_single call ≡ true → part ≢ [] → length part ≤ asks_for (size_of before) call → length part ≤ ahead before → WhereTold before.raw (ComesNext before part) → IsHeldAnswer before call (Bytes part) (before.place + moves_by call (length part))
-once_answer before call part held single some most within next =
+once_answer : (before : Stream) (call : FileCall) (part : List ℕ) → ReadsHeld before → before.owed.bytes ≡ [] → is_single call ≡ true → part ≢ [] → length part ≤ asks_for (size_of before) call → length part ≤ ahead before → WhereTold before.raw (ComesNext before part) → IsHeldAnswer before call (Bytes part) (before.place + moves_by call (length part))
+once_answer before call part held passed single some most within next =
     let file : FlatFile = file_of before in
     let once : reads_once before.buffer call ≡ true = held_once before call held single in
     let is : IsSingleCall before.buffer call = single_call before.buffer call once in
@@ -406,15 +416,16 @@ once_answer before call part held single some most within next =
       said = refl;
       fed = refl;
       answers = is.answers before.can.writable part;
+      passed = λ _ _. passed;
       told = λ tells. once_carried before.buffer file call part (record file { place = place }) once sized (record { front = front_of (asks_for (size_of before) call) (rest file) part most (next tells); some = λ none. absurd (some none) }) refl;
       reach = λ tells. omega (arith, moves_within call (length part), within_end file.bytes part before.place (length part) (next tells) refl);
     }
 
 -- a `read1` or `readinto1`, which some of the bytes held answer
-pub held_answers_once : (before after : Stream) (call : FileCall) (part : List ℕ) → ReadsHeld before → is_single call ≡ true → moves_by call (length part) ≡ length part → part ≢ [] → length part ≤ asks_for (size_of before) call → GivesHeld before part after → Answers before call (Bytes part) after
-held_answers_once before after call part held single moves some most gives =
+pub held_answers_once : (before after : Stream) (call : FileCall) (part : List ℕ) → ReadsHeld before → before.owed.bytes ≡ [] → is_single call ≡ true → moves_by call (length part) ≡ length part → part ≢ [] → length part ≤ asks_for (size_of before) call → GivesHeld before part after → Answers before call (Bytes part) after
+held_answers_once before after call part held passed single moves some most gives =
     let place : before.place + moves_by call (length part) ≡ before.place + length part = ap (λ (n : ℕ). before.place + n) moves in
-    let is : IsHeldAnswer before call (Bytes part) (before.place + length part) = subst (IsHeldAnswer before call (Bytes part)) place (once_answer before call part held single some most gives.within gives.told) in
+    let is : IsHeldAnswer before call (Bytes part) (before.place + length part) = subst (IsHeldAnswer before call (Bytes part)) place (once_answer before call part held passed single some most gives.within gives.told) in
     subst (Answers before call (Bytes part)) (sym gives.same)
     (held_reading before call (Bytes part) (before.place + length part) (owed_at (before.place + length part) before.owed) (single_reads call single) held (held_moved before part after gives) is)
 
@@ -423,9 +434,9 @@ held_still : (before : Stream) → ReadsHeld before → Moved before before.plac
 held_still before held = grind arith
 
 -- a `peek`, which some of the bytes held answer: all is as it was
-pub held_peek : (before : Stream) (part : List ℕ) → ReadsHeld before → part ≢ [] → length part ≤ ahead before → WhereTold before.raw (ComesNext before part) → Answers before Peek (Bytes part) before
-held_peek before part held some within next =
-    let is : IsHeldAnswer before Peek (Bytes part) before.place = subst (IsHeldAnswer before Peek (Bytes part)) (add-zero before.place) (once_answer before Peek part held refl some (omega (arith, within, ahead_fits before held)) within next) in
+pub held_peek : (before : Stream) (part : List ℕ) → ReadsHeld before → before.owed.bytes ≡ [] → part ≢ [] → length part ≤ ahead before → WhereTold before.raw (ComesNext before part) → Answers before Peek (Bytes part) before
+held_peek before part held passed some within next =
+    let is : IsHeldAnswer before Peek (Bytes part) before.place = subst (IsHeldAnswer before Peek (Bytes part)) (add-zero before.place) (once_answer before Peek part held passed refl some (omega (arith, within, ahead_fits before held)) within next) in
     held_reading before Peek (Bytes part) before.place before.owed refl held (held_still before held) is
 
 -- Readings that ask for nothing.
@@ -478,6 +489,7 @@ reading_lacks before call reads room held =
       first = λ _ _ _. (starves_same before held).unmoved held.live;
       nothing = λ _. idle;
       single = λ _ _ tells. omega arith;
+      passes_first = λ _ _ _ given. absurd (cc);
       brings = λ _. came_still before before 1 refl refl;
       in_hand = λ _. idle;
       owing = λ _. refl;

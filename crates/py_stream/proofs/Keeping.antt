@@ -17,7 +17,7 @@ use Rattle.py_raw.specs.RawStream.{Raw, WhereTold, AnswersFor}
 use Rattle.py_raw.proofs.Telling.{tells_still}
 use Rattle.py_stream.specs.Stream.{Stream, size_of, file_of}
 use Rattle.py_stream.specs.Kinds.{is_writing, outlasts, makes_one, says_fault, says_no_memory}
-use Rattle.py_stream.specs.Writing.{OwesUpTo, CoversBoth, OwesTheRest, OwesBoth, Takes, OwesOld, OwesNoneOfIts, LaysFront, IsFull, BlocksFull, Writes}
+use Rattle.py_stream.specs.Writing.{OwesUpTo, first_place, CoversBoth, OwesTheRest, OwesBoth, Takes, OwesOld, OwesNoneOfIts, LaysFront, IsFull, BlocksFull, HasRoom, TakesAlone, Writes}
 use Rattle.py_stream.specs.Answers.{Answers, HasCauses, IsCounted, IsShort, LifeMoves, PlaceMoves, IsReplyTo, refused_by}
 use Rattle.py_stream.specs.Keeping.{IsSound, KeepsOn}
 use Rattle.py_stream.specs.Held.{KeepsBoth}
@@ -29,7 +29,7 @@ use Rattle.py_stream.proofs.Stopping.{GivesNone, gives_none, work_reaches, says_
 use Rattle.py_stream.proofs.Taking.{keeps_then}
 use Rattle.py_stream.proofs.Flat.{flat_of, file_now, failed_file}
 use Rattle.py_stream.proofs.PassingOn.{passing_keeps_bytes, passing_file}
-use Rattle.py_stream.proofs.Giving.{IsGiving, is_giving, IsPart, taken_reply, waited_reply, is_taken, is_blocked, is_faulted, no_tell}
+use Rattle.py_stream.proofs.Giving.{IsGiving, is_giving, IsPart, taken_reply, says_all, waited_reply, is_taken, is_blocked, is_faulted, no_tell}
 use Rattle.py_stream.proofs.Given.{part_steps, said_short, GoesOn, goes_on_all}
 use Rattle.py_stream.proofs.Coming.{near_seen}
 use Rattle.py_stream.proofs.Owing.{first_left}
@@ -98,6 +98,7 @@ answers_left before new call reply short may left =
       shorts = left.shorts;
       moves = record { life_is = left.life_is; place = left.place; far = left.kept.sound.far; within = gives.within (size_of before) reply };
       ends = giving.ends before reply (record new { short = short });
+      seeks = giving.seeks before reply (record new { short = short });
       wants = λ wanting room. left.wants wanting;
       goes_on = λ reads. absurd (cc (giving.reads));
       goes_past = λ reads. absurd (cc (giving.reads));
@@ -106,6 +107,7 @@ answers_left before new call reply short may left =
       nothing = λ asks. absurd (cc (giving.some before.buffer));
       idle = λ keeps. absurd (cc (giving.calls before.buffer before.can.writable));
       single = λ single. absurd (cc (not_one before call may));
+      passes_first = λ _ single. absurd (cc (gives.single));
       in_hand = λ has. absurd (giving.unheld before has.of);
       owing = λ has. absurd (giving.unheld before has.of);
       brings = λ reads. absurd (cc (giving.reads));
@@ -147,23 +149,25 @@ module _ (before mid after : Stream) (own : List ℕ) (count : ℕ) (fits : coun
   -- what is owed covers what was owed and what was taken
   kept_covers : ReachesRest before mid (take count own) → after.owed.bytes ≢ [] → CoversBoth before.owed before.place (take count own) after.owed
   kept_covers reach some =
-      let covers : CoversBoth mid.owed before.place (take count own) after.owed = subst (λ (place : ℕ). CoversBoth mid.owed place (take count own) after.owed) passes.still (keeps.covers some) in
+      let covers : CoversBoth mid.owed before.place (take count own) after.owed = subst (λ (place : ℕ). CoversBoth mid.owed place (take count own) after.owed) passes.still (keeps.owes.covers some) in
       ⊎_elim
       (λ (same : mid.owed ≡ before.owed). subst (λ (was : Owed). CoversBoth was before.place (take count own) after.owed) same covers)
       (λ (rest : (mid.owed.bytes ≢ []) × (mid.owed.place ≤ before.place + length (take count own))).
       covers_rest before.owed mid.owed passes.passed before.place passes.owed (passes.place rest.0) rest.0 (take count own) after.owed rest.1 covers)
       reach
 
-  -- it begins no earlier than what is left of what was owed, and what was taken
+  -- it begins where the first begins of what is left of what was owed, and what was taken
   kept_rest : (short : Bool) → ReachesRest before mid (take count own) → after.owed.bytes ≢ [] → OwesTheRest before (take count own) (record after { short = short })
   kept_rest short reach some =
-      let covers : CoversBoth mid.owed before.place (take count own) after.owed = subst (λ (place : ℕ). CoversBoth mid.owed place (take count own) after.owed) passes.still (keeps.covers some) in
+      let from : after.owed.place ≡ first_place mid.owed (take count own) before.place = subst (λ (place : ℕ). after.owed.place ≡ first_place mid.owed (take count own) place) passes.still (keeps.owes.from some) in
       record {
         passed = passes.passed;
-        most = passes.within;
         answered = subst (λ (raw : Raw). AnswersFor passes.passed before.raw raw) (sym keeps.raw) passes.answered;
-        from = first_left (drop passes.passed before.owed.bytes) mid.owed.bytes (before.owed.place + passes.passed) mid.owed.place (take count own) before.place after.owed.place passes.owed passes.place covers.from;
-        covers = kept_covers reach some;
+        leaves = record {
+          most = passes.within;
+          from = first_left (drop passes.passed before.owed.bytes) mid.owed.bytes (before.owed.place + passes.passed) mid.owed.place (take count own) before.place after.owed.place passes.owed passes.place from;
+          covers = kept_covers reach some;
+        };
       }
 
   kept_both : (short : Bool) → ReachesRest before mid (take count own) → OwesBoth before own (record after { short = short })
@@ -209,7 +213,7 @@ module _ (before mid after : Stream) (own : List ℕ) (count : ℕ) (fits : coun
 
 -- What answers a call of which the buffer took bytes.
 
-module _ (before mid after : Stream) (call : FileCall) (reply : FileReply) (count : ℕ) (short : Bool) (may : MayKeep before call) (fits : count ≤ length (payload call)) (is : IsPart before count before.buffer call reply short) (goes : LivesOn before mid) (reach : ReachesRest before mid (take count (payload call))) (keeps : KeepsBoth mid (take count (payload call)) after) (full : IsTrue short → IsFull after.owed after.place (size_of after) count) (waited : IsTrue short → Rose before.raw.waits mid.raw.waits) where
+module _ (before mid after : Stream) (call : FileCall) (reply : FileReply) (count : ℕ) (short : Bool) (may : MayKeep before call) (fits : count ≤ length (payload call)) (is : IsPart before count before.buffer call reply short) (goes : LivesOn before mid) (reach : ReachesRest before mid (take count (payload call))) (keeps : KeepsBoth mid (take count (payload call)) after) (full : IsTrue short → IsFull after.owed after.place (size_of after) count) (waited : IsTrue short → Rose before.raw.waits mid.raw.waits) (room : HasRoom before (payload call) → TakesAlone before call reply (record after { short = short })) where
   kept_writes : Writes before call reply (record after { short = short })
   kept_writes =
       let left : Stream = record after { short = short } in
@@ -218,6 +222,7 @@ module _ (before mid after : Stream) (call : FileCall) (reply : FileReply) (coun
       record {
         owes = λ _. kept_both before mid after (payload call) count fits goes keeps short reach;
         takes = λ _. kept_takes before mid after (payload call) count fits goes keeps short;
+        room = λ _. room;
         leaves = λ spares. absurd (cc (may.writing));
         stands = λ behind reads some. (keeps.stands (left_behind before mid goes.passes behind)).stands;
         lays = λ tells. giving.lays before after.raw.bytes (kept_lays before mid after (payload call) count fits goes keeps tells);
@@ -259,33 +264,35 @@ lives_itself : (stream : Stream) → IsSound stream → stream.life ≡ life.Liv
 lives_itself stream sound live = grind arith
 
 -- bytes that are all taken into the buffer
-all_answers : (before mid after : Stream) (call : FileCall) → MayKeep before call → LivesOn before mid → ReachesRest before mid (payload call) → KeepsBoth mid (payload call) after → Answers before call (taken_reply call (length (payload call))) after
-all_answers before mid after call may goes reach keeps =
+all_answers : (before mid after : Stream) (call : FileCall) → MayKeep before call → LivesOn before mid → ReachesRest before mid (payload call) → KeepsBoth mid (payload call) after → (HasRoom before (payload call) → TakesAlone before call (taken_reply call (length (payload call))) (record after { short = false })) → Answers before call (taken_reply call (length (payload call))) after
+all_answers before mid after call may goes reach keeps room =
     let own : List ℕ = payload call in
     let all : ℕ = length own in
     let same : own ≡ take all own = sym (take_all all own (omega arith)) in
     let fits : all ≤ length (payload call) = omega arith in
     let is = is_taken before all before.buffer call may.writing fits (goes_over before call may).all in
     subst (λ (left : Stream). Answers before call (taken_reply call all) left) (said_short after false (keeps.kept.short ∙ goes.passes.kept.short ∙ may.whole))
-    (keeps_answers before mid after call (taken_reply call all) all false may fits is goes (subst (ReachesRest before mid) same reach) (subst (λ (bytes : List ℕ). KeepsBoth mid bytes after) same keeps) (λ cut. absurd (cc)) (λ cut. absurd (cc)))
+    (keeps_answers before mid after call (taken_reply call all) all false may fits is goes (subst (ReachesRest before mid) same reach) (subst (λ (bytes : List ℕ). KeepsBoth mid bytes after) same keeps) (λ cut. absurd (cc)) (λ cut. absurd (cc)) room)
 
 -- bytes that fit the buffer with no call of the raw are all taken
 pub fits_answers : (before after : Stream) (call : FileCall) → MayKeep before call → KeepsBoth before (payload call) after → Answers before call (taken_reply call (length (payload call))) after
-fits_answers before after call may keeps = all_answers before before after call may (lives_itself before may.sound may.live) (inl refl) keeps
+fits_answers before after call may keeps =
+    all_answers before before after call may (lives_itself before may.sound may.live) (inl refl) keeps
+    (λ _. record { says = says_all call may.writing; whole = refl; raw = keeps.raw; raw_place = keeps.raw_place; owes = keeps.owes })
 
 -- bytes that fit the buffer once the raw took some of what was owed, and then would have blocked, are all taken
-pub fits_after_wait : (before mid after : Stream) (call : FileCall) → MayKeep before call → LivesOn before mid → 0 < length mid.owed.bytes → mid.owed.place ≤ before.place + length (payload call) → KeepsBoth mid (payload call) after → Answers before call (taken_reply call (length (payload call))) after
-fits_after_wait before mid after call may goes some reach keeps = all_answers before mid after call may goes (inr (λ none. omega (arith, some, ap length none), reach)) keeps
+pub fits_after_wait : (before mid after : Stream) (call : FileCall) → MayKeep before call → (HasRoom before (payload call) → ⊥) → LivesOn before mid → 0 < length mid.owed.bytes → mid.owed.place ≤ before.place + length (payload call) → KeepsBoth mid (payload call) after → Answers before call (taken_reply call (length (payload call))) after
+fits_after_wait before mid after call may roomless goes some reach keeps = all_answers before mid after call may goes (inr (λ none. omega (arith, some, ap length none), reach)) keeps (λ has. absurd (roomless has))
 
 -- the buffer took the first of the bytes, and is full, as the raw would have blocked: the call is refused by how many were taken
-pub fills_after_wait : (before mid after : Stream) (call : FileCall) (taken : ℕ) → MayKeep before call → LivesOn before mid → Rose before.raw.waits mid.raw.waits → 0 < length mid.owed.bytes → mid.owed.place ≤ before.place + taken → taken < length (payload call) → KeepsBoth mid (take taken (payload call)) after → IsFull after.owed after.place (size_of after) taken → Answers before call (Refused (fault.WouldBlock taken)) (record after { short = true })
-fills_after_wait before mid after call taken may goes waited some reach less keeps full =
+pub fills_after_wait : (before mid after : Stream) (call : FileCall) (taken : ℕ) → MayKeep before call → (HasRoom before (payload call) → ⊥) → LivesOn before mid → Rose before.raw.waits mid.raw.waits → 0 < length mid.owed.bytes → mid.owed.place ≤ before.place + taken → taken < length (payload call) → KeepsBoth mid (take taken (payload call)) after → IsFull after.owed after.place (size_of after) taken → Answers before call (Refused (fault.WouldBlock taken)) (record after { short = true })
+fills_after_wait before mid after call taken may roomless goes waited some reach less keeps full =
     let own : List ℕ = payload call in
     let fits : taken ≤ length (payload call) = omega (arith, less) in
     let on : GoesOn before.buffer call = goes_over before call may in
     let reaches_rest : ReachesRest before mid (take taken own) = inr (λ none. omega (arith, some, ap length none), omega (arith, reach, length-take-le taken own fits)) in
     subst (λ (reply : FileReply). Answers before call reply (record after { short = true })) (on.says taken)
-    (keeps_answers before mid after call (waited_reply before.buffer call taken) taken true may fits (is_blocked before taken before.buffer call may.writing (on.waits taken less)) goes reaches_rest keeps (λ _. full) (λ _. waited))
+    (keeps_answers before mid after call (waited_reply before.buffer call taken) taken true may fits (is_blocked before taken before.buffer call may.writing (on.waits taken less)) goes reaches_rest keeps (λ _. full) (λ _. waited) (λ has. absurd (roomless has)))
 
 -- What stops the passing on before a call takes anything.
 
@@ -293,7 +300,7 @@ fills_after_wait before mid after call taken may goes waited some reach less kee
 owes_none : (before after : Stream) (call : FileCall) (why : IoFault) → OwesOld before after → OwesNoneOfIts before call (Refused why) after
 owes_none before after call why old = grind arith
 
-module _ (before new : Stream) (call : FileCall) (why : IoFault) (may : MayKeep before call) (passes : PassesSome before new) where
+module _ (before new : Stream) (call : FileCall) (why : IoFault) (may : MayKeep before call) (roomless : HasRoom before (payload call) → ⊥) (passes : PassesSome before new) where
   stopped_writes : (new.life ≡ life.Failed → IsTrue (says_no_memory (Refused why)) → ⊥) → BlocksFull call (Refused why) (record new { short = false }) → Writes before call (Refused why) (record new { short = false })
   stopped_writes alive unblocked =
       let left : Stream = record new { short = false } in
@@ -301,6 +308,7 @@ module _ (before new : Stream) (call : FileCall) (why : IoFault) (may : MayKeep 
       record {
         owes = λ _. left_both before new passes (payload call) false;
         takes = λ _. left_takes before new passes (payload call) false;
+        room = λ _ has. absurd (roomless has);
         leaves = λ spares. absurd (cc (may.writing));
         stands = λ behind reads some. passes.stands behind;
         lays = λ tells. giving.lays before new.raw.bytes (left_lays before new passes (payload call) tells);
@@ -314,8 +322,8 @@ module _ (before new : Stream) (call : FileCall) (why : IoFault) (may : MayKeep 
       }
 
 -- the raw failed before anything was taken
-pub stops_failed : (before after : Stream) (call : FileCall) → MayKeep before call → SettleOutcome before (Err fault.RawFault) after → Answers before call (Refused fault.RawFault) after
-stops_failed before after call may fails =
+pub stops_failed : (before after : Stream) (call : FileCall) → MayKeep before call → (HasRoom before (payload call) → ⊥) → SettleOutcome before (Err fault.RawFault) after → Answers before call (Refused fault.RawFault) after
+stops_failed before after call may roomless fails =
     let is = is_faulted before 0 before.buffer call may.writing in
     answers_unshort before after call (Refused fault.RawFault) may (record {
       kept = fails.0.kept;
@@ -326,7 +334,7 @@ stops_failed before after call may fails =
       life_is = subst (LifeMoves before.buffer call (Refused fault.RawFault) before.life) (sym fails.1) (is.life_is before.life);
       place = subst (PlaceMoves before.buffer call (Refused fault.RawFault) after.life before.place) (sym fails.0.still) (fails_there before.buffer call after.life before.place);
       wants = λ wanting. absurd (cc);
-      writes = stopped_writes before after call fault.RawFault may fails.0 (λ failed wanting. absurd (cc)) (nothing_blocked (record after { short = false }) call fault.RawFault refl);
+      writes = stopped_writes before after call fault.RawFault may roomless fails.0 (λ failed wanting. absurd (cc)) (nothing_blocked (record after { short = false }) call fault.RawFault refl);
       answers = fault_answers before.buffer true call (no_tell call may.writing);
       told = λ tells. raw_faulted refl refl (
         work_reaches (file_of before) call (reaches before call may),
@@ -335,8 +343,8 @@ stops_failed before after call may fails =
     })
 
 -- memory ran out before anything was taken
-pub stops_starved : (before after : Stream) (call : FileCall) → MayKeep before call → SettleOutcome before (Err fault.NoMemory) after → Answers before call (Refused fault.NoMemory) after
-stops_starved before after call may lacks =
+pub stops_starved : (before after : Stream) (call : FileCall) → MayKeep before call → (HasRoom before (payload call) → ⊥) → SettleOutcome before (Err fault.NoMemory) after → Answers before call (Refused fault.NoMemory) after
+stops_starved before after call may roomless lacks =
     let goes : LivesOn before after = lacks.1 in
     let passes : PassesSome before after = goes.passes in
     let lives : after.life ≡ before.life = goes.live ∙ sym may.live in
@@ -350,7 +358,7 @@ stops_starved before after call may lacks =
       life_is = subst (LifeMoves before.buffer call (Refused fault.NoMemory) before.life) (sym lives) (starves_alive before.buffer call before.life);
       place = subst (PlaceMoves before.buffer call (Refused fault.NoMemory) after.life before.place) (sym passes.still) (starves_there before.buffer call after.life before.place);
       wants = λ _. lacks.0;
-      writes = stopped_writes before after call fault.NoMemory may passes (λ failed wanting. let wrong : life.Live ≡ life.Failed = sym goes.live ∙ failed in cc) (nothing_blocked (record after { short = false }) call fault.NoMemory refl);
+      writes = stopped_writes before after call fault.NoMemory may roomless passes (λ failed wanting. let wrong : life.Live ≡ life.Failed = sym goes.live ∙ failed in cc) (nothing_blocked (record after { short = false }) call fault.NoMemory refl);
       answers = starve_answers before.buffer true call (no_tell call may.writing);
       told = λ tells. out_of_memory refl (work_reaches (file_of before) call (reaches before call may), is.same (file_of after) (passing_file before after passes lives tells));
     })

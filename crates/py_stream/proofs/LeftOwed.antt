@@ -9,7 +9,7 @@ use Rattle.py_raw.specs.RawStream.{WhereTold}
 use Rattle.py_stream.specs.Stream.{Stream}
 use Rattle.py_stream.specs.Writing.{OwesUpTo, OwesBehind, HasAt, first_of_both, end_of_both, CoversBoth, OwesTheRest, OwesBoth, Takes, OwesOld, LaysFront}
 use Rattle.py_stream.specs.Settling.{PassesSome}
-use Rattle.py_stream.proofs.Owing.{has_none, has_past, first_owed}
+use Rattle.py_stream.proofs.Owing.{has_none, has_past, first_alone}
 use Rattle.py_stream.proofs.PassingOn.{none_owed_at, passing_keeps_bytes}
 
 -- Parts of a list.
@@ -184,10 +184,12 @@ module _ (old new : Stream) (passes : PassesSome old new) where
   left_rest : (short : Bool) → new.owed.bytes ≢ [] → OwesTheRest old [] (record new { short = short })
   left_rest short some = record {
     passed = passes.passed;
-    most = passes.within;
     answered = passes.answered;
-    from = omega (arith, first_owed (drop passes.passed old.owed.bytes) (old.owed.place + passes.passed) [] old.place (λ none. some (passes.owed ∙ none)), passes.place some);
-    covers = left_covers some;
+    leaves = record {
+      most = passes.within;
+      from = omega (arith, first_alone (drop passes.passed old.owed.bytes) (old.owed.place + passes.passed) old.place (λ none. some (passes.owed ∙ none)), passes.place some);
+      covers = left_covers some;
+    };
   }
 
   -- a call that took nothing owes what is owed after a write of none

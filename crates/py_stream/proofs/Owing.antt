@@ -1,12 +1,12 @@
 -- What is owed after a write, wherever it was made.
-use Rattle.std.proofs.Common.{◌≡◌, ◌≢◌, ℕ, ◌+◌, ◌-◌, ◌<◌, ◌≤◌, ◌⊎◌, inl, inr, ⊎_elim, min, max, List, [], ◌∷◌, ◌++◌, length, take, drop, refl, sym, ap, ◌∙◌, subst, arith, length-append, length-drop, length-take}
+use Rattle.std.proofs.Common.{◌≡◌, ◌≢◌, ℕ, ◌+◌, ◌-◌, ◌<◌, ◌≤◌, ◌⊎◌, inl, inr, ⊎_elim, max, List, [], ◌∷◌, ◌++◌, length, take, drop, refl, sym, ap, ◌∙◌, subst, arith, length-append, length-drop, length-take}
 use Rattle.std.proofs.Math.Seq.{take-nil, drop-nil, drop-append-add}
 use Rattle.std.proofs.lemmas.Bool.{cases_lt}
 use Rattle.std.proofs.lemmas.List.{append-nil, take_all, take_min, drop_all, drop-append-le, take_at, length-take-le}
 use Rattle.py_flat.specs.Owed.{Owed}
 use Rattle.py_raw.specs.RawStream.{Raw, AnswersFor}
 use Rattle.py_stream.specs.Stream.{Stream}
-use Rattle.py_stream.specs.Writing.{OwesUpTo, HasAt, first_of_both, end_of_both, Takes, CoversBoth, OwesTheRest, OwesBoth}
+use Rattle.py_stream.specs.Writing.{OwesUpTo, HasAt, first_of_both, end_of_both, Takes, CoversBoth, OwesAll, OwesBoth}
 
 -- Parts of a list.
 
@@ -79,21 +79,33 @@ ends_at : (owed : Owed) (place : ℕ) → owed.bytes ≢ [] → OwesUpTo owed pl
 ends_at owed place some (inl none) = absurd (some none)
 ends_at owed place some (inr ends) = ends
 
--- the first of both lies no later than where what is owed begins
-pub first_owed : (bytes : List ℕ) (start : ℕ) (taken : List ℕ) (place : ℕ) → bytes ≢ [] → first_of_both bytes start taken place ≤ start
-first_owed [] start taken place some = absurd (some refl)
-first_owed (byte ∷ more) start [] place some = omega arith
-first_owed (byte ∷ more) start (new ∷ others) place some = omega arith
+-- what is owed from no later than a place on begins the first of both
+first_before : (bytes : List ℕ) (start : ℕ) (taken : List ℕ) (place : ℕ) → bytes ≢ [] → start ≤ place → first_of_both bytes start taken place ≡ start
+first_before [] start taken place some before = absurd (some refl)
+first_before (byte ∷ more) start [] place some before = refl
+first_before (byte ∷ more) start (new ∷ others) place some before = omega (arith, before)
 
 -- of what was owed up to a place what is left begins where it stood
-begins_left : (old : List ℕ) (start : ℕ) (taken : List ℕ) (place passed at : ℕ) → (old ≡ []) ⊎ (start + length old ≡ place) → passed < length old → place ≡ at + length (drop passed old) → first_of_both (drop passed old) (start + passed) taken place ≤ at
+begins_left : (old : List ℕ) (start : ℕ) (taken : List ℕ) (place passed at : ℕ) → (old ≡ []) ⊎ (start + length old ≡ place) → passed < length old → place ≡ at + length (drop passed old) → at ≡ first_of_both (drop passed old) (start + passed) taken place
 begins_left old start taken place passed at (inl none) early ends = absurd (omega (arith, early, ap length none))
-begins_left old start taken place passed at (inr whole) early ends = omega (arith, first_owed (drop passed old) (start + passed) taken place (λ none. omega (arith, early, length-drop passed old, ap length none)), whole, ends, length-drop passed old, early)
+begins_left old start taken place passed at (inr whole) early ends = omega (arith, first_before (drop passed old) (start + passed) taken place (λ none. omega (arith, early, length-drop passed old, ap length none)) (omega (arith, whole, early)), whole, ends, length-drop passed old, early)
 
 -- what is left of what was owed, by its bytes and where some begin, tells the first of both
-pub first_left : (bytes rest : List ℕ) (start there : ℕ) (new : List ℕ) (place at : ℕ) → rest ≡ bytes → (rest ≢ [] → there ≡ start) → first_of_both rest there new place ≤ at → first_of_both bytes start new place ≤ at
-first_left bytes [] start there new place at is same least = subst (λ (left : List ℕ). first_of_both left start new place ≤ at) is least
-first_left bytes (byte ∷ more) start there new place at is same least = subst (λ (left : List ℕ). first_of_both left start new place ≤ at) is (subst (λ (begins : ℕ). first_of_both (byte ∷ more) begins new place ≤ at) (same (λ none. absurd (cc))) least)
+pub first_left : (bytes rest : List ℕ) (start there : ℕ) (new : List ℕ) (place at : ℕ) → rest ≡ bytes → (rest ≢ [] → there ≡ start) → at ≡ first_of_both rest there new place → at ≡ first_of_both bytes start new place
+first_left bytes [] start there new place at is same first = subst (λ (left : List ℕ). at ≡ first_of_both left start new place) is first
+first_left bytes (byte ∷ more) start there new place at is same first = subst (λ (left : List ℕ). at ≡ first_of_both left start new place) is (subst (λ (begins : ℕ). at ≡ first_of_both (byte ∷ more) begins new place) (same (λ none. absurd (cc))) first)
+
+-- what is left, without a front, of what was owed up to a place and of what a write took there covers both
+covers_up_to : (was : Owed) (place passed : ℕ) (taken : List ℕ) (owed : Owed) → OwesUpTo was place → owed.bytes ≡ drop passed (was.bytes ++ taken) → owed.place + length owed.bytes ≡ place + length taken → owed.bytes ≢ [] → CoversBoth was place taken owed
+covers_up_to was place passed taken owed up_to is ends some =
+    let left : length owed.bytes ≡ length was.bytes + length taken - passed = ap length is ∙ length-drop passed (was.bytes ++ taken) ∙ ap (λ (n : ℕ). n - passed) (length-append was.bytes taken) in
+    record {
+      from = begins_by was.bytes was.place taken place owed.place up_to (omega (arith, ends, left));
+      to = ends ∙ sym (ends_by was.bytes was.place taken place up_to);
+      new_bytes = has_new was.bytes taken was.place place passed owed.place owed.bytes up_to is ends (counts_some owed.bytes some);
+      old_bytes = rw (up_to_place was.bytes was.place place up_to) (old_at was.bytes taken was.place place passed owed.place owed.bytes up_to is ends (counts_some owed.bytes some));
+      behind = rw (none_behind was.bytes was.place place (length taken) up_to) (has_none owed.bytes owed.place (max was.place (place + length taken)));
+    }
 
 -- a write that was made where what was owed ended
 pub owes_both : (before : Stream) (bytes : List ℕ) (after : Stream) → OwesUpTo before.owed before.place → Takes before bytes after → OwesBoth before bytes after
@@ -103,26 +115,20 @@ owes_both before bytes after up_to takes =
     let taken : List ℕ = take takes.taken bytes in
     let as_many : length taken ≡ takes.taken = length-take-le takes.taken bytes takes.within in
     let ends : after.owed.bytes ≢ [] → after.owed.place + length after.owed.bytes ≡ before.place + length taken = λ (some : after.owed.bytes ≢ []). ends_at after.owed after.place some takes.up_to ∙ takes.place ∙ ap (λ (n : ℕ). before.place + n) (sym as_many) in
-    let left : length after.owed.bytes ≡ length old + length taken - takes.passed = ap length takes.owed ∙ length-drop takes.passed (old ++ taken) ∙ ap (λ (n : ℕ). n - takes.passed) (length-append old taken) in
     record {
       taken = takes.taken;
       within = takes.within;
       place = takes.place;
-      owes = λ some. let last : after.owed.place + length after.owed.bytes ≡ end_of_both old start taken before.place = ends some ∙ sym (ends_by old start taken before.place up_to) in
-          ⊎_elim
+      owes = λ some. ⊎_elim
           (λ (early : takes.passed < length old).
           let here = in_old old taken start before.place takes.passed after.owed.place after.owed.bytes up_to takes.owed (ends some) (counts_some after.owed.bytes some) (omega (arith, early)) in
           inl (record {
             passed = takes.passed;
-            most = omega (arith, early);
             answered = takes.answered;
-            from = begins_left old start taken before.place takes.passed after.owed.place up_to early here.1;
-            covers = record {
-              from = begins_by old start taken before.place after.owed.place up_to (omega (arith, ends some, left));
-              to = last;
-              new_bytes = has_new old taken start before.place takes.passed after.owed.place after.owed.bytes up_to takes.owed (ends some) (counts_some after.owed.bytes some);
-              old_bytes = rw (up_to_place old start before.place up_to) (old_at old taken start before.place takes.passed after.owed.place after.owed.bytes up_to takes.owed (ends some) (counts_some after.owed.bytes some));
-              behind = rw (none_behind old start before.place (length taken) up_to) (has_none after.owed.bytes after.owed.place (max start (before.place + length taken)));
+            leaves = record {
+              most = omega (arith, early);
+              from = begins_left old start taken before.place takes.passed after.owed.place up_to early here.1;
+              covers = covers_up_to before.owed before.place takes.passed taken after.owed up_to takes.owed (ends some) some;
             };
           }))
           (λ (late : length old ≤ takes.passed).
@@ -130,18 +136,37 @@ owes_both before bytes after up_to takes =
           let parts : takes.passed ≡ length old + (takes.passed - length old) = omega (arith, late) in
           inr (record {
             passed = takes.passed - length old;
-            most = omega (arith, takes.most, as_many);
             answered = subst (λ (count : ℕ). AnswersFor count before.raw after.raw) parts takes.answered;
-            bytes = here.0;
-            place = here.1;
+            leaves = record { most = omega (arith, takes.most, as_many); bytes = here.0; at = here.1 };
           }))
           (cases_lt takes.passed (length old));
     }
 
+-- A write that passed on nothing.
+
+-- all of what was owed up to a place, and of what a write took there, begins where the first of both does
+from_both : (old taken : List ℕ) (start place at : ℕ) (new : List ℕ) → (old ≡ []) ⊎ (start + length old ≡ place) → new ≡ old ++ taken → at + length new ≡ place + length taken → at ≡ first_of_both old start taken place
+from_both [] taken start place at new up_to is ends = omega (arith, ends, ap length is)
+from_both (byte ∷ more) taken start place at new (inl none) is ends = absurd (cc)
+from_both (byte ∷ more) taken start place at new (inr whole) is ends = omega (arith, first_before (byte ∷ more) start taken place (λ none. absurd (cc)) (omega (arith, whole)), whole, ends, ap length is, length-append (byte ∷ more) taken)
+
+-- where two lists together have nothing, neither has
+none_of_both : (front back : List ℕ) → front ++ back ≡ [] → (front ≡ []) × (back ≡ [])
+none_of_both [] back none = (refl, none)
+none_of_both (byte ∷ more) back none = absurd (cc)
+
+-- what was owed up to a place, and behind it what a write took there, are all owed
+pub owes_all : (was owed : Owed) (place : ℕ) (new : List ℕ) → OwesUpTo was place → owed.bytes ≡ was.bytes ++ new → owed.place + length owed.bytes ≡ place + length new → OwesAll was place new owed
+owes_all was owed place new up_to is ends = record {
+  none = λ none. none_of_both was.bytes new (sym is ∙ none);
+  from = λ some. from_both was.bytes new was.place place owed.place owed.bytes up_to is ends;
+  covers = λ some. covers_up_to was place 0 new owed up_to is ends some;
+}
+
 -- A call that took nothing, and left what was owed.
 
 -- what was owed stays the first, and the last, of itself and nothing new
-first_alone : (bytes : List ℕ) (start place : ℕ) → bytes ≢ [] → first_of_both bytes start [] place ≡ start
+pub first_alone : (bytes : List ℕ) (start place : ℕ) → bytes ≢ [] → first_of_both bytes start [] place ≡ start
 first_alone [] start place some = absurd (some refl)
 first_alone (byte ∷ more) start place some = refl
 
@@ -157,8 +182,16 @@ front_of_all : (count : ℕ) (whole : List ℕ) → take (length (take count who
 front_of_all count whole = ap (λ (n : ℕ). take n whole) (length-take count whole) ∙ take_min count whole
 
 -- what was owed, and is owed still, covers itself and nothing new
-pub covers_old : (was : Owed) (place : ℕ) → was.bytes ≢ [] → CoversBoth was place [] was
+covers_old : (was : Owed) (place : ℕ) → was.bytes ≢ [] → CoversBoth was place [] was
 covers_old was place some = grind (arith, first_alone, last_owed, has_none, has_part, front_of_all, take_all)
+
+-- so all of it is owed
+pub owes_still : (was : Owed) (place : ℕ) → OwesAll was place [] was
+owes_still was place = record {
+  none = λ none. (none, refl);
+  from = λ some. sym (first_alone was.bytes was.place place some);
+  covers = covers_old was place;
+}
 
 -- a call that took nothing, and left what was owed, owes what is owed after a write of none
 pub owes_as_before : (before after : Stream) (bytes : List ℕ) → after.raw ≡ before.raw → after.place ≡ before.place → after.owed ≡ before.owed → OwesBoth before bytes after
@@ -168,9 +201,11 @@ owes_as_before before after bytes raw place same = record {
   place = omega (arith, place);
   owes = λ some. let was : before.owed.bytes ≢ [] = λ none. some (ap (λ (owed : Owed). owed.bytes) same ∙ none) in inl (record {
     passed = 0;
-    most = omega arith;
     answered = subst (λ (now : Raw). AnswersFor 0 before.raw now) (sym raw) (λ _. refl);
-    from = omega (arith, first_owed (drop 0 before.owed.bytes) (before.owed.place + 0) [] before.place was, ap (λ (owed : Owed). owed.place) same);
-    covers = subst (CoversBoth before.owed before.place []) (sym same) (covers_old before.owed before.place was);
+    leaves = record {
+      most = omega arith;
+      from = omega (arith, first_alone (drop 0 before.owed.bytes) (before.owed.place + 0) before.place was, ap (λ (owed : Owed). owed.place) same);
+      covers = subst (CoversBoth before.owed before.place []) (sym same) (covers_old before.owed before.place was);
+    };
   });
 }

@@ -1,5 +1,5 @@
 -- Taking all bytes of a call, piece by piece and line by line.
-use Rattle.std.proofs.Common.{◌≡◌, ◌≢◌, ℕ, ◌+◌, ◌≤◌, ◌<◌, Bool, true, false, List, [], ◌++◌, length, take, drop, get_or, Result, Ok, Err, refl, sym, ap, subst, arith, length-drop}
+use Rattle.std.proofs.Common.{◌≡◌, ◌≢◌, ℕ, ◌+◌, ◌≤◌, ◌<◌, Bool, true, false, List, [], ◌++◌, length, take, drop, get_or, Option, IsSome, unwrap_or, Result, Ok, Err, refl, sym, ap, ◌∙◌, subst, arith, length-append, append_assoc, length-drop}
 use Rattle.std.proofs.Math.Seq.{take-add}
 use Rattle.std.proofs.lemmas.List.{length-take-le, take-append-drop}
 use Rattle.py_flat.specs.declared.fault.IoFault.{IoFault}
@@ -10,7 +10,7 @@ use Rattle.py_flat.specs.Lines.{joined}
 use Rattle.py_stream.specs.Stream.{Stream}
 use Rattle.py_stream.specs.Writing.{OwesBehind}
 use Rattle.py_stream.specs.Keeping.{IsSound}
-use Rattle.py_stream.specs.Taking.{Took, TookAll, PutsOutcome}
+use Rattle.py_stream.specs.Taking.{Took, TookAll, FitsBehind, KeepsBehind, KeepsWhatFits, PutsOutcome}
 use Rattle.py_stream.proofs.Joined.{joined_more, joined_parts, length-joined_parts}
 use Rattle.py_stream.proofs.Taking.{calm_of, calm_then, took_none, took_then, fails_then, fails_more, starves_then, starves_more, fills_then, fills_more}
 use Rattle.py_stream.proofs.Flat.{took_ends}
@@ -66,6 +66,41 @@ lines_stopped old now new lines i line piece start result within is same took pu
 -- one more line was taken after those so far
 pub lines_taken : (old now new : Stream) (lines : List (List ℕ)) (i : ℕ) (line piece : List ℕ) → i < length lines → line ≡ get_or lines i line → piece ≡ line → TookAll old (joined (take i lines)) now → TookAll now piece new → TookAll old (joined (take (i + 1) lines)) new
 lines_taken old now new lines i line piece within is same took more = grind (arith, joined_more, takes_then)
+
+-- What has room in the buffer.
+
+-- bytes kept behind others are kept with them
+keeps_more : (old mid new : Stream) (front more : List ℕ) → KeepsBehind old front mid → KeepsBehind mid more new → KeepsBehind old (front ++ more) new
+keeps_more old mid new front more first second = record {
+  raw = second.raw ∙ first.raw;
+  buffer = second.buffer ∙ first.buffer;
+  owed = second.owed ∙ ap (λ (owed : List ℕ). owed ++ more) first.owed ∙ append_assoc old.owed.bytes front more;
+}
+
+-- a line has room behind the lines before it, where all bytes have
+line_fits : (old now : Stream) (front line all : List ℕ) → KeepsBehind old front now → length front + length line ≤ length all → FitsBehind old all → FitsBehind now line
+line_fits old now front line all keeps within fits = record {
+  buffered = subst (λ (buffer : Option ℕ). IsSome buffer) (sym keeps.buffer) fits.buffered;
+  room = omega (arith, fits.room, within, ap length keeps.owed, length-append old.owed.bytes front, ap (λ (buffer : Option ℕ). unwrap_or buffer 0) keeps.buffer);
+}
+
+-- lines so far were kept, and the next one has room, where all bytes have
+next_fits : (old now : Stream) (front line piece all : List ℕ) → piece ≡ line → (FitsBehind old front → KeepsBehind old front now) → length front + length line ≤ length all → FitsBehind old all → KeepsBehind old front now × FitsBehind now piece
+next_fits old now front line piece all same kept within fits =
+    let keeps : KeepsBehind old front now = kept (record { buffered = fits.buffered; room = omega (arith, fits.room, within) }) in
+    (keeps, subst (FitsBehind now) (sym same) (line_fits old now front line all keeps within fits))
+
+-- one more line that has room was kept after those so far
+pub lines_kept : (old now new : Stream) (lines : List (List ℕ)) (i : ℕ) (line piece : List ℕ) → i < length lines → line ≡ get_or lines i line → piece ≡ line → (FitsBehind old (joined (take i lines)) → KeepsBehind old (joined (take i lines)) now) → KeepsWhatFits now piece (Ok true) new → FitsBehind old (joined (take (i + 1) lines)) → KeepsBehind old (joined (take (i + 1) lines)) new
+lines_kept old now new lines i line piece within is same kept room fits =
+    let front : List ℕ = joined (take i lines) in
+    let more : joined (take (i + 1) lines) ≡ front ++ line = joined_more lines i line within is in
+    let next = next_fits old now front line piece (front ++ line) same kept (omega (arith, length-append front line)) (subst (FitsBehind old) more fits) in
+    subst (λ (bytes : List ℕ). KeepsBehind old bytes new) (sym more) (keeps_more old now new front line next.0 (subst (λ (bytes : List ℕ). KeepsBehind now bytes new) same (room next.1).1))
+
+-- lines of which one wasn't kept had no room
+pub lines_roomless : (old now new : Stream) (lines : List (List ℕ)) (i : ℕ) (line piece : List ℕ) (result : Result Bool IoFault) → i < length lines → line ≡ get_or lines i line → piece ≡ line → (FitsBehind old (joined (take i lines)) → KeepsBehind old (joined (take i lines)) now) → KeepsWhatFits now piece result new → (result ≢ Ok true) → KeepsWhatFits old (joined lines) result new
+lines_roomless old now new lines i line piece result within is same kept room stops fits = absurd (stops (room (next_fits old now (joined (take i lines)) line piece (joined lines) same kept (length-joined_parts lines i line within is) fits).1).0)
 
 -- the next line has an end that a stream can have
 pub line_within : (old now : Stream) (lines all : List (List ℕ)) (i start : ℕ) (line piece : List ℕ) → lines ≡ all → i < length lines → line ≡ get_or lines i line → piece ≡ line → Took old (joined (take i lines)) now → start ≡ old.place → start + length (joined all) ≤ greatest_place → now.place + length piece ≤ greatest_place

@@ -1,12 +1,12 @@
 -- Facts about the calls that read, each proved by going over the calls.
-use Rattle.std.proofs.Common.{◌≡◌, ◌≢◌, ℕ, ◌≤◌, Bool, true, false, ◌||◌, IsTrue, List, [], length, Option, Some, None, arith}
+use Rattle.std.proofs.Common.{◌≡◌, ◌≢◌, ℕ, ◌≤◌, Bool, true, false, ◌||◌, IsTrue, List, [], ◌++◌, length, inl, inr, refl, subst, Option, Some, None, arith}
 use Rattle.std.proofs.lemmas.List.{length-take}
 use Rattle.py_flat.specs.declared.fault.IoFault.{IoFault}
 use Rattle.py_flat.specs.declared.fault.IoFault.TheVariants as fault
 use Rattle.py_flat.specs.declared.life.Life.{Life}
 use Rattle.py_flat.specs.declared.life.Life.TheVariants as life
-use Rattle.py_flat.specs.Lines.{Lf, line_after}
-use Rattle.py_flat.specs.Calls.{FileCall, Read, ReadLine, ReadInto, FileReply, NotReady, Refused}
+use Rattle.py_flat.specs.Lines.{Lf, line_after, first_line}
+use Rattle.py_flat.specs.Calls.{FileCall, Read, ReadLine, ReadLines, ReadInto, FileReply, NotReady, Refused}
 use Rattle.py_flat.specs.FlatFile.{FlatFile}
 use Rattle.py_flat.specs.Refusals.{refusal, is_getter, is_other_getter, is_close, is_detach, lacks}
 use Rattle.py_flat.specs.ExactStep.{rest}
@@ -14,8 +14,8 @@ use Rattle.py_flat.specs.BinaryStep.{asks_end, is_tell, Fails, FaultedBy, Starve
 use Rattle.py_stream.specs.Stream.{Stream}
 use Rattle.py_stream.specs.Kinds.{is_reading, reads_on, goes_on, by_several, makes_one, is_writing, asks_none, calls_none, waits_unready, says_fault, says_no_memory}
 use Rattle.py_stream.specs.Writing.{LaysInOrder, PassesOn, OwesNoneOfIts}
-use Rattle.py_stream.specs.Answers.{IsReplyTo, IsShort, LifeMoves, PlaceMoves, PlaceFails, PlaceStarves, moves_most, StarvesTo, SeeksByEnd, InHandOf, IsWhole, closes_again}
-use Rattle.py_stream.specs.Reading.{wanted_by, reply_by, WantsHeld}
+use Rattle.py_stream.specs.Answers.{IsReplyTo, IsShort, LifeMoves, PlaceMoves, PlaceFails, PlaceStarves, moves_most, StarvesTo, SeeksByEnd, SeekStands, HasAllHeld, ahead, InHandOf, IsWhole, closes_again}
+use Rattle.py_stream.specs.Reading.{wanted_by, reply_by, ComesHeld, WantsHeld}
 
 -- What holds of every call that reads.
 
@@ -31,6 +31,7 @@ pub record IsReadingCall (call : FileCall) : Type 0 where
   pub kept : (buffer : Option ℕ) (writes : Bool) → calls_none buffer writes call ≡ false
   pub unended : (file : FlatFile) → asks_end file call ≡ false
   pub ends : (before : Stream) (reply : FileReply) (after : Stream) → SeeksByEnd before call reply after
+  pub seeks : (before : Stream) (reply : FileReply) (after : Stream) → SeekStands before call reply after
   pub again : (stream : Stream) → closes_again stream call ≡ false
   pub accepts : (file : FlatFile) → file.life ≡ life.Live → lacks file call ≡ false → refusal file call ≡ None
   pub lays : (before : Stream) (bytes : List ℕ) → bytes ≡ before.raw.bytes → LaysInOrder before call bytes
@@ -79,13 +80,12 @@ is_several buffer call several = grind arith
 pub on_suits : (file : FlatFile) (call : FileCall) → reads_on call ≡ true → file.can.readable ≡ true → lacks file call ≡ false
 on_suits file call on reads = grind arith
 
+asks_for_none : (buffer : Option ℕ) (call : FileCall) (left : List ℕ) → reads_on call ≡ true → IsTrue (asks_none buffer call) → (most : ℕ) → length (wanted_by call left) ≤ most
+asks_for_none buffer call left on asks most = grind arith
+
 -- a reading that asks for nothing wants no more than is held
 pub nothing_held : (before : Stream) (call : FileCall) → reads_on call ≡ true → IsTrue (asks_none before.buffer call) → WantsHeld (wanted_by call) before
-nothing_held before call on asks left = grind arith
-
--- a reading that the bytes held answer by themselves wants no more than these
-pub in_hand_held : (before : Stream) (call : FileCall) → reads_on call ≡ true → InHandOf before call → WantsHeld (wanted_by call) before
-in_hand_held before call on has left = grind (arith, length-take)
+nothing_held before call on asks front more comes = asks_for_none before.buffer call (front ++ more) on asks (ahead before)
 
 -- no more is wanted than the call says
 pub wanted_within : (call : FileCall) (most : ℕ) → reads_on call ≡ true → moves_most call ≡ Some most → (bytes : List ℕ) → length (wanted_by call bytes) ≤ most
@@ -93,6 +93,21 @@ wanted_within (Read (Some size)) most on is bytes = let same : size ≡ most = c
 wanted_within (ReadInto size) most on is bytes = let same : size ≡ most = cc in omega (arith, same, length-take size bytes)
 wanted_within (ReadLine (Some limit)) most on is bytes = let same : limit ≡ most = cc in omega (arith, same, length-take limit (line_after Lf false bytes))
 wanted_within call most on is bytes = absurd (cc)
+
+-- the bytes held have all of what is wanted
+held_whole : (before : Stream) (wanted : List ℕ → List ℕ) → HasAllHeld wanted before → (front more : List ℕ) → ComesHeld before front → length (wanted (front ++ more)) ≤ ahead before
+held_whole before wanted has front more comes = subst (λ (held : List ℕ). length (wanted (held ++ more)) ≤ ahead before) (comes has.0) (has.1 more)
+
+-- a reading that the bytes held answer by themselves wants no more than these
+pub in_hand_held : (before : Stream) (call : FileCall) → reads_on call ≡ true → InHandOf before call → WantsHeld (wanted_by call) before
+in_hand_held before (Read (Some size)) on has front more comes = omega (arith, has, length-take size (front ++ more))
+in_hand_held before (ReadInto size) on has front more comes = omega (arith, has, length-take size (front ++ more))
+in_hand_held before (ReadLine (Some limit)) on (inl many) front more comes = omega (arith, many, wanted_within (ReadLine (Some limit)) limit refl refl (front ++ more))
+in_hand_held before (ReadLine (Some limit)) on (inr has) front more comes = held_whole before (first_line Lf (Some limit)) has front more comes
+in_hand_held before (ReadLine None) on has front more comes = held_whole before (first_line Lf None) has front more comes
+in_hand_held before (ReadLines hint) on has front more comes = held_whole before (wanted_by (ReadLines hint)) has front more comes
+in_hand_held before (Read None) on has front more comes = absurd has
+in_hand_held before call on has front more comes = absurd (cc)
 
 -- running out of memory may fail a reading that goes on, where some bytes are wanted
 pub starved_by_failing : (file : FlatFile) (call : FileCall) (after : FlatFile) → reads_on call ≡ true → wanted_by call (rest file) ≢ [] → Fails file life.Failed file.bytes after → StarvedBy file call after

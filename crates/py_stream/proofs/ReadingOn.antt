@@ -1,6 +1,6 @@
 -- What a reading that goes on answers, by where it stopped: of all that is left, of a size, of a line, of lines.
-use Rattle.std.proofs.Common.{◌≡◌, ◌≢◌, ℕ, ◌+◌, ◌<◌, ◌≤◌, inl, inr, Bool, true, false, ◌||◌, IsTrue, List, [], ◌∷◌, ◌++◌, length, take, drop, replicate, Option, None, Result, Ok, Err, refl, sym, ap, ◌∙◌, subst, arith, rules}
-use Rattle.std.proofs.lemmas.List.{append-nil, nil_from_length, length-append, length-replicate, take_all, take-take, take-append-drop}
+use Rattle.std.proofs.Common.{◌≡◌, ◌≢◌, ℕ, ◌+◌, ◌<◌, ◌≤◌, inl, inr, Bool, true, false, ◌||◌, IsTrue, List, [], ◌∷◌, ◌++◌, length, take, drop, replicate, Option, None, Result, Ok, Err, refl, sym, ap, ◌∙◌, subst, arith, rules, append_assoc}
+use Rattle.std.proofs.lemmas.List.{append-nil, nil_from_length, length-append, length-replicate, length-take, take_all, take-take, take-append-drop}
 use Rattle.std.proofs.Math.ListN.{drop_of_length-le}
 use Rattle.std.proofs.Math.Seq.{take-append_seam}
 use Rattle.std.proofs.lemmas.Bool.{eqb-true}
@@ -20,7 +20,7 @@ use Rattle.py_stream.specs.Stream.{Stream, file_of}
 use Rattle.py_stream.specs.Kinds.{has_room, takes_space_first, asks_none, by_several}
 use Rattle.py_stream.proofs.Coming.{each_more}
 use Rattle.py_stream.specs.Answers.{Answers, ahead}
-use Rattle.py_stream.specs.Reading.{ComesNext, Gives, StarvesReading, StopOutcome, RestOutcome, has_answer, answered_at, wanted_by, reply_by, GathersEnough, GathersFront, Gathers, IsOpen, WantsHeld, StarvesWanting, GatherOutcome}
+use Rattle.py_stream.specs.Reading.{ComesNext, Gives, StarvesReading, StopOutcome, RestOutcome, has_answer, answered_at, wanted_by, reply_by, GathersEnough, GathersFront, Gathers, IsOpen, ComesHeld, WantsHeld, StarvesWanting, GatherOutcome}
 use Rattle.py_stream.proofs.ReadingCalls.{reading_on, on_suits, nothing_held, in_hand_held, wanted_within, is_several}
 use Rattle.py_stream.proofs.ReadingSteps.{next_parts}
 use Rattle.py_stream.proofs.ReadingAnswers.{Reads, ReadingBegins, answers_begun}
@@ -118,8 +118,12 @@ pub open_asking : (wanted : List ℕ → List ℕ) (part : List ℕ) → WantsOn
 open_asking wanted part asks whole = omega (arith, asks (0 ∷ []) (λ none. cc), ap length (whole (0 ∷ [])))
 
 -- where a part has all bytes held, and some more is wanted after it, more is wanted than is held
-pub wants_past : (wanted : List ℕ → List ℕ) (before : Stream) (part : List ℕ) → WantsOn wanted part → ahead before ≤ length part → WantsHeld wanted before → ⊥
-wants_past wanted before part asks long held = omega (arith, asks (0 ∷ []) (λ none. cc), held (part ++ (0 ∷ [])))
+pub wants_past : (wanted : List ℕ → List ℕ) (before : Stream) (part : List ℕ) → WantsOn wanted part → ahead before ≤ length part → WhereTold before.raw (ComesNext before part) → WantsHeld wanted before → ⊥
+wants_past wanted before part asks long told held =
+    let count : ℕ = ahead before in
+    let front : ComesHeld before (take count part) = λ tells. sym (take-take count (length part) (rest (file_of before)) long) ∙ ap (take count) (told tells) in
+    let whole : take count part ++ (drop count part ++ (0 ∷ [])) ≡ part ++ (0 ∷ []) = sym (append_assoc (take count part) (drop count part) (0 ∷ [])) ∙ ap (λ (bytes : List ℕ). bytes ++ (0 ∷ [])) (take-append-drop count part) in
+    omega (arith, asks (0 ∷ []) (λ none. cc), long, subst (λ (left : List ℕ). length (wanted left) ≤ count) whole (held (take count part) (drop count part ++ (0 ∷ [])) front))
 
 -- a reading that wasn't refused
 pub gathers_ok : (wanted : List ℕ → List ℕ) (before : Stream) (stop : Stop) (part : List ℕ) (after : Stream) → StopOutcome before part (Ok stop) after → Gathers wanted before part (Ok stop) → (WantsHeld wanted before → after.raw ≡ before.raw) → GatherOutcome wanted before (Ok stop) part after
@@ -133,7 +137,10 @@ rest_unbound most bound = omega (arith, bound (replicate (most + 1) 0), length-r
 
 -- all that is left isn't known to be held
 rest_not_held : (before : Stream) → WantsHeld (wanted_by (Read None)) before → ⊥
-rest_not_held before held = rest_unbound (ahead before) held
+rest_not_held before held =
+    let front : List ℕ = take (ahead before) (rest (file_of before)) in
+    let more : List ℕ = replicate (ahead before + 1) 0 in
+    omega (arith, held front more (λ tells. refl), length-append front more, length-replicate {A = ℕ} (ahead before + 1) 0)
 
 -- some more may always come
 open_rest : (part : List ℕ) → IsOpen (wanted_by (Read None)) part
@@ -175,13 +182,21 @@ size_bound call size most wants bound =
     let zeros : List ℕ = replicate size 0 in
     omega (arith, bound zeros, ap length (wants zeros ∙ take_all size zeros (omega (arith, length-replicate {A = ℕ} size 0))), length-replicate {A = ℕ} size 0)
 
+-- what is held bounds it, where no more is wanted
+size_held : (before : Stream) (call : FileCall) (size : ℕ) → WantsSize call size → WantsHeld (wanted_by call) before → size ≤ ahead before
+size_held before call size wants held =
+    let front : List ℕ = take (ahead before) (rest (file_of before)) in
+    let zeros : List ℕ = replicate size 0 in
+    let long : length (front ++ zeros) ≡ length front + size = length-append front zeros ∙ ap (λ (n : ℕ). length front + n) (length-replicate {A = ℕ} size 0) in
+    omega (arith, long, held front zeros (λ tells. refl), ap length (wants (front ++ zeros)), length-take size (front ++ zeros))
+
 -- more than is held is wanted
 past_held : (before : Stream) (call : FileCall) (size : ℕ) → WantsSize call size → ahead before < size → WantsHeld (wanted_by call) before → ⊥
-past_held before call size wants past held = omega (arith, past, size_bound call size (ahead before) wants held)
+past_held before call size wants past held = omega (arith, past, size_held before call size wants held)
 
 -- no more is wanted than is held: the raw wasn't called
 idle_size : (before after : Stream) (call : FileCall) (size : ℕ) → WantsSize call size → (size ≤ ahead before → after.raw ≡ before.raw) → WantsHeld (wanted_by call) before → after.raw ≡ before.raw
-idle_size before after call size wants idle held = idle (size_bound call size (ahead before) wants held)
+idle_size before after call size wants idle held = idle (size_held before call size wants held)
 
 -- a reading of n bytes
 pub gathers_size : (before after : Stream) (call : FileCall) (size : ℕ) (part : List ℕ) (stop : Stop) → WantsSize call size → length part ≤ size → (stop ≡ stops.Enough → length part ≡ size) → (stop ≢ stops.Enough → length part < size) → StopOutcome before part (Ok stop) after → (size ≤ ahead before → after.raw ≡ before.raw) → GatherOutcome (wanted_by call) before (Ok stop) part after

@@ -1,5 +1,5 @@
 -- What stays of a stream from step to step of a reading.
-use Rattle.std.proofs.Common.{◌≡◌, ℕ, ◌+◌, ◌≤◌, Bool, IsTrue, List, ◌++◌, length, take, drop, max, refl, sym, ap, ◌∙◌, arith}
+use Rattle.std.proofs.Common.{◌≡◌, ℕ, ◌+◌, ◌≤◌, IsTrue, List, ◌++◌, length, take, drop, max, refl, sym, ap, ◌∙◌, arith}
 use Rattle.std.proofs.lemmas.List.{length-take, length-drop, length-append, take_all, take-append-drop, drop-drop}
 use Rattle.std.proofs.Math.Seq.{take-append-add}
 use Rattle.py_flat.specs.declared.life.Life.TheVariants as life

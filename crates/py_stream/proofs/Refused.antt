@@ -1,15 +1,16 @@
 -- A stream whose raw was handed back, and what a call leaves that is refused.
-use Rattle.std.proofs.Common.{◌≡◌, ℕ, inl, Bool, true, false, List, Option, refl, arith}
+use Rattle.std.proofs.Common.{◌≡◌, ℕ, inl, Bool, true, false, IsTrue, List, Option, refl, arith}
 use Rattle.std.proofs.lemmas.List.{append-nil}
 use Rattle.py_flat.specs.declared.fault.IoFault.{IoFault}
 use Rattle.py_flat.specs.declared.fault.IoFault.TheVariants as fault
 use Rattle.py_flat.specs.Calls.{FileCall, Truncate, Refused}
 use Rattle.py_flat.specs.FlatFile.{Abilities}
 use Rattle.py_flat.specs.Refusals.{is_getter, is_other_getter}
+use Rattle.py_flat.specs.BinaryStep.{payload}
 use Rattle.py_stream.proofs.Owing.{owes_as_before}
 use Rattle.py_stream.specs.Stream.{Stream, detached_stream}
-use Rattle.py_stream.specs.Kinds.{says_would_block, says_no_memory}
-use Rattle.py_stream.specs.Writing.{LaysFront, LaysInOrder, PassesOn, BlocksFull, OwesNoneOfIts, Writes}
+use Rattle.py_stream.specs.Kinds.{is_writing, says_would_block, says_no_memory}
+use Rattle.py_stream.specs.Writing.{HasRoom, LaysFront, LaysInOrder, PassesOn, BlocksFull, OwesNoneOfIts, Writes}
 use Rattle.py_stream.specs.Answers.{Answers}
 
 -- A call that is refused, and leaves all.
@@ -47,8 +48,8 @@ wants_none : (why : IoFault) → is_own why ≡ true → says_no_memory (Refused
 wants_none why own = grind arith
 
 -- what a refused call does with the bytes of a stream that writes
-pub leaves_all : (before : Stream) (call : FileCall) (why : IoFault) → is_own why ≡ true → before.short ≡ false → Writes before call (Refused why) before
-leaves_all before call why own whole = grind (arith, owes_as_before, append-nil, nothing_laid, nothing_passed, nothing_blocked, never_waits, wants_none, none_of_its)
+pub leaves_all : (before : Stream) (call : FileCall) (why : IoFault) → is_own why ≡ true → before.short ≡ false → (IsTrue (is_writing call) → HasRoom before (payload call) → ⊥) → Writes before call (Refused why) before
+leaves_all before call why own whole roomless = grind (arith, owes_as_before, append-nil, nothing_laid, nothing_passed, nothing_blocked, never_waits, wants_none, none_of_its)
 
 -- A stream whose raw was handed back.
 

@@ -8,12 +8,12 @@ use Rattle.py_flat.specs.Calls.{FileCall, FileReply, Refused}
 use Rattle.py_flat.specs.FlatFile.{FlatFile}
 use Rattle.py_flat.specs.Refusals.{refusal, is_getter, is_other_getter, lets_through, life_fault, lacks}
 use Rattle.py_flat.specs.Limits.{greatest_place}
-use Rattle.py_flat.specs.BinaryStep.{asks_end, is_live, SettledBy, BinaryStep}
+use Rattle.py_flat.specs.BinaryStep.{payload, asks_end, is_live, SettledBy, BinaryStep}
 use Rattle.py_flat.specs.AllowedStep.{settled}
 use Rattle.py_stream.specs.Stream.{Stream, size_of, buffering_of, file_of}
-use Rattle.py_stream.specs.Kinds.{says_fault, says_no_memory, says_given}
+use Rattle.py_stream.specs.Kinds.{is_writing, says_fault, says_no_memory, says_given}
 use Rattle.py_stream.specs.Keeping.{IsSound}
-use Rattle.py_stream.specs.Writing.{Writes}
+use Rattle.py_stream.specs.Writing.{HasRoom, Writes}
 use Rattle.py_stream.specs.Answers.{Answers, LifeMoves, PlaceMoves, IsShort, IsNear, SeeksByEnd, GivesWithin, closes_again, refused_by, IsIdle, Leaves}
 use Rattle.py_raw.proofs.Telling.{keeps_same}
 use Rattle.py_stream.proofs.Refused.{is_own, leaves_all}
@@ -55,12 +55,20 @@ pub record IsPlaced (stream : Stream) : Type 0 where
 pub sound_placed : (stream : Stream) → IsSound stream → IsPlaced stream
 sound_placed stream sound = record { far = sound.far; near = sound.near }
 
+-- bytes for which a live stream that writes has room aren't refused
+unrefused_with_room : (stream : Stream) (call : FileCall) → IsTrue (is_writing call) → stream.can.writable ≡ true → HasRoom stream (payload call) → refusal (file_of stream) call ≡ None
+unrefused_with_room stream call writing can has = grind arith
+
+-- so a call that is refused has no room for its bytes
+refused_roomless : (stream : Stream) (call : FileCall) (why : IoFault) → refusal (file_of stream) call ≡ Some why → stream.can.writable ≡ true → IsTrue (is_writing call) → HasRoom stream (payload call) → ⊥
+refused_roomless stream call why refuses can writing has = let wrong : None ≡ Some why = sym (unrefused_with_room stream call writing can has) ∙ refuses in cc
+
 -- A refusal of the stream's own leaves all as it was.
 pub refused_with : (before after : Stream) (call : FileCall) (why : IoFault) → IsPlaced before → refusal (file_of before) call ≡ Some why → asks_end (file_of before) call ≡ false → is_own why ≡ true → closes_again before call ≡ false → after ≡ record before { short = false } → Answers before call (Refused why) after
 refused_with before after call why is refuses alone own first same =
     let left : Stream = record before { short = false } in
     let by : refused_by before call ≡ Some why = refused_alone before call alone ∙ refuses in
-    let writes : Writes left call (Refused why) left = leaves_all left call why own refl in
+    let writes : before.can.writable ≡ true → Writes left call (Refused why) left = λ can. leaves_all left call why own refl (refused_roomless left call why refuses can) in
     let idle : IsIdle before (Refused why) left = record { raw = refl; fault = no_fault why own; memory = no_want why own } in
     let refused : (other : IoFault) → refused_by before call ≡ Some other → Leaves before (Refused other) (Refused why) left = λ other refused. record { says = let same_why : Some why ≡ Some other = sym by ∙ refused in cc; same = refl } in
     let fed : IsTrue (says_no_memory (Refused why)) → ⊥ = λ wanting. absurd (cc (idle.memory)) in
@@ -77,6 +85,7 @@ refused_with before after call why is refuses alone own first same =
       shorts = never_short call why own;
       moves = record { life_is = life_stays before.buffer call why before.life own; place = place_stays before.buffer call why before.life before.place own; far = is.far; within = gives_nothing (size_of before) call why };
       ends = no_end before call (Refused why) left alone;
+      seeks = tt;
       wants = λ wanting. absurd (fed wanting);
       goes_on = λ _ ahead. ahead_seen before false ahead;
       goes_past = λ _ given. absurd (ungiven given);
@@ -85,13 +94,14 @@ refused_with before after call why is refuses alone own first same =
       nothing = λ _. record { raw = refl; fault = idle.fault };
       idle = λ _. idle;
       single = λ _ _ tells. omega arith;
+      passes_first = λ _ _ _ given. absurd (ungiven given);
       in_hand = λ _. record { raw = refl; fault = idle.fault };
       owing = λ _. refl;
       brings = λ _ _. came_still before left 1 refl refl;
       unread = λ _ tells. refl;
       needs = λ _ _. record { enough = λ _ _ _. record { raw = refl; fault = idle.fault }; whole = λ _. each_still before left 0 0 refl refl; needed = λ _. inl refl; last = each_still before left 1 1 refl refl };
       spares = λ _ none. record { bytes = λ tells. refl; written = λ tells. refl; owed = none; still = λ _. refl };
-      writes = λ _. writes_whole before left call (Refused why) writes;
+      writes = λ can. writes_whole before left call (Refused why) (writes can);
       answer = λ accepted. absurd (passes accepted);
       at_once = λ _ _ accepted. absurd (passes accepted);
       complete = λ accepted. absurd (passes accepted);

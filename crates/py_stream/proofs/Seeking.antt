@@ -14,7 +14,7 @@ use Rattle.py_stream.specs.Stream.{Stream, file_of}
 use Rattle.py_stream.specs.Keeping.{IsSound}
 use Rattle.py_stream.specs.Moving.{MovedBy}
 use Rattle.py_stream.specs.Kinds.{says_fault, says_no_memory}
-use Rattle.py_stream.specs.Writing.{PassesOn, BlocksFull}
+use Rattle.py_stream.specs.Writing.{OwesWithin, PassesOn, BlocksFull}
 use Rattle.py_stream.specs.Answers.{Leaves, IsShort, LifeMoves, SeekGoes, PlaceMoves, refused_by, SeeksTo, SeeksFromEnd, SeeksByEnd, IsReplyTo, Answers}
 use Rattle.py_stream.proofs.Refused.{is_own}
 use Rattle.py_stream.proofs.Refusing.{refused_with}
@@ -78,6 +78,7 @@ end_reaches before offset may = grind arith
 -- the raw was asked where it ends, and told its bytes this is the end of the flat file
 pub record AnswersEnd (before : Stream) (end : ℕ) : Type 0 where
   pub within : end ≤ greatest_place
+  pub owed : OwesWithin before.owed end
   pub told : WhereBytes before.raw (end ≡ length (file_of before).bytes)
 
 -- how the target is found, from the start, from the place or from the end; no other whence is known

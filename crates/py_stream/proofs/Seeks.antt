@@ -67,5 +67,5 @@ seeking_fails false old found mid new offset whence target why keeps goes passed
 
 -- a seek that moved the stream answers its target
 pub seeking_arrives : (keeps : Bool) (old found mid new : Stream) (offset whence : ℤ) (target : ℕ) → keeps_pending found ≡ keeps → SeekGoesOn old offset whence target found → SettlesBy keeps found (Ok tt) mid → GoesTo mid target new → Answers old (Seek offset whence) (Place target) new
-seeking_arrives true old found mid new offset whence target keeps goes passed went = seek_answers old found mid new offset whence target (writing old found offset whence target goes.seek goes.beyond keeps) goes.seek.finds passed went
+seeking_arrives true old found mid new offset whence target keeps goes passed went = seek_answers old found mid new offset whence target (writing old found offset whence target goes.seek goes.beyond keeps) goes.seek.finds goes.beyond passed went
 seeking_arrives false old found mid new offset whence target keeps goes passed went = going_answers old found new offset whence target goes.seek.may (owing_none old found offset whence target goes.seek keeps) goes.beyond goes.seek.finds (subst (λ (stream : Stream). GoesTo stream target new) passed.1 went)

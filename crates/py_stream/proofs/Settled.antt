@@ -14,11 +14,11 @@ use Rattle.py_raw.proofs.Telling.{tells_still}
 use Rattle.py_raw.proofs.ReadingOn.{Keeps-then}
 use Rattle.py_stream.specs.Stream.{Stream, file_of, nothing_owed}
 use Rattle.py_stream.specs.Kinds.{is_reading, is_writing, reads_on, takes_space_first, makes_one, asks_none, by_several, calls_none, says_fault, says_no_memory, says_given}
-use Rattle.py_stream.specs.Writing.{OwesUpTo, OwesBehind, Takes, PassesFront, OwesBoth, LaysFront, LaysInOrder, OwesOld, OwesNoneOfIts, TookOwn, Writes}
-use Rattle.py_stream.specs.Answers.{Answers, HasCauses, IsAhead, GoesPast, InHand, AsksNoMore, AtMostOne, CameByReads, Starves, StarvesFirst, SeeksByEnd, refused_by, closes_again, parts_at_close}
+use Rattle.py_stream.specs.Writing.{HasRoom, OwesUpTo, OwesBehind, Takes, PassesFront, OwesBoth, LaysFront, LaysInOrder, OwesOld, OwesNoneOfIts, TookOwn, Writes}
+use Rattle.py_stream.specs.Answers.{Answers, HasCauses, IsAhead, GoesPast, InHand, AsksNoMore, AtMostOne, CameByReads, Starves, StarvesFirst, SeeksByEnd, SeekStands, refused_by, closes_again, parts_at_close}
 use Rattle.py_stream.specs.Settling.{PassesSome, LivesOn, SettleOutcome}
 use Rattle.py_stream.proofs.Taking.{waited_then, faulted_then, answers_then, answers_still}
-use Rattle.py_stream.proofs.Flat.{flat_of, owed_before_all}
+use Rattle.py_stream.proofs.Flat.{flat_of}
 use Rattle.py_stream.proofs.Stopping.{gives_none}
 use Rattle.py_stream.proofs.Giving.{IsGiving, is_giving}
 use Rattle.py_stream.proofs.Completing.{completes}
@@ -47,9 +47,11 @@ pub record SettledReading (before : Stream) (call : FileCall) (reply : FileReply
   pub calm : before.owed.bytes ≡ [] → WhereTransfers before.raw (mid.raw.transfers ≤ before.raw.transfers)
   pub ahead : IsAhead mid
 
--- a call that writes, for which all that was owed was passed on: nothing is owed any more, and the raw stands at the place
+-- a call that writes, for which all that was owed was passed on, as the buffer had no room: nothing is owed any more, and the raw stands at
+-- the place
 pub record SettledWriting (before : Stream) (call : FileCall) (mid : Stream) : Type 0 where
   pub settled : SettledFor before call mid
+  pub roomless : HasRoom before (payload call) → ⊥
   pub none : mid.owed ≡ nothing_owed mid.place
   pub stands : mid.raw_place ≡ mid.place
 
@@ -87,6 +89,7 @@ pub record MovesBytes (call : FileCall) : Type 0 where
   pub parts : (before : Stream) (reply : FileReply) (after : Stream) → parts_at_close before call reply after ≡ false
   pub calls : (buffer : Option ℕ) (writes : Bool) → calls_none buffer writes call ≡ false
   pub ends : (before : Stream) (reply : FileReply) (after : Stream) → SeeksByEnd before call reply after
+  pub seeks : (before : Stream) (reply : FileReply) (after : Stream) → SeekStands before call reply after
   pub accepts : (before mid : Stream) → refused_by before call ≡ None → refused_by (settled_as before mid) call ≡ None
 
 -- what is alike of these calls holds of each
@@ -140,6 +143,7 @@ then_answers before mid after call reply moves settled answers own =
       shorts = answers.shorts;
       moves = record { life_is = answers.moves.life_is; place = answers.moves.place; far = answers.moves.far; within = answers.moves.within };
       ends = is.ends before reply after;
+      seeks = is.seeks before reply after;
       wants = λ wanting room. sym kept.takes_memory ∙ answers.wants wanting room;
       goes_on = own.goes_on;
       goes_past = own.goes_past;
@@ -148,6 +152,7 @@ then_answers before mid after call reply moves settled answers own =
       nothing = λ asks. absurd (cc (own.nothing));
       idle = λ keeps. absurd (cc (is.calls before.buffer before.can.writable));
       single = own.single;
+      passes_first = answers.passes_first;
       in_hand = λ has. absurd (own.in_hand has);
       owing = λ has. absurd (own.in_hand has);
       brings = own.brings;
@@ -203,6 +208,7 @@ reading_writes before mid after call reply reads settled writes =
     record {
       owes = λ writing. absurd (cc (is.writing));
       takes = λ writing. absurd (cc (is.writing));
+      room = λ writing. absurd (cc (is.writing));
       leaves = λ _. reading_passes before mid after passes none (writes.leaves is.writing);
       stands = λ behind still. absurd (cc (reads));
       lays = λ tells. lays.of_front before after.raw.bytes (reading_lays before mid after passes none (λ told. lays.to_front (settled_as before mid) after.raw.bytes (writes.lays told)) tells);
@@ -273,14 +279,14 @@ writing_lays before mid after own passes none more tells =
     let laid = more (tells_still before.raw mid.raw passes.kept.raw ∙ tells) in
     let owed : List ℕ = before.owed.bytes in
     let all : mid.raw.bytes ≡ flat_of before = passed_all before mid passes none tells in
-    record { passed = length owed; more = laid.more; laid = grind (arith, take-nil, take_all); order = λ some. owed_before_all before.owed before.place (length owed) (omega arith) }
+    record { passed = length owed; more = laid.more; laid = grind (arith, take-nil, take_all); order = λ some. omega arith }
 
 -- the raw took some of the call's own bytes after all that was owed
 writing_took : (before mid after : Stream) → PassesSome before mid → mid.owed.bytes ≡ [] → TookOwn (settled_as before mid) after → TookOwn before after
 writing_took before mid after passes none took = record {
   further = took.further;
   stands = λ tells. took.stands (passes.kept.raw.tells_place ∙ tells);
-  answered = λ _ tells. omega (arith, all_answered before mid passes none tells, took.answered (inl none) (passes.kept.raw.tells_transfers ∙ tells), ap length none);
+  answered = λ tells. omega (arith, all_answered before mid passes none tells, took.answered (passes.kept.raw.tells_transfers ∙ tells), ap length none);
 }
 
 -- what is owed is none of a call's own bytes, and all that was owed before was passed on
@@ -307,6 +313,7 @@ writing_writes before mid after call reply writing is writes =
     record {
       owes = λ _. writing_owes before mid after (payload call) passes none takes;
       takes = λ _ _. writing_takes before mid after (payload call) passes is.none is.stands takes;
+      room = λ _ has. absurd (is.roomless has);
       leaves = λ other. absurd (cc (writing));
       stands = λ behind. writes.stands (writing_behind before mid passes is.none is.stands);
       lays = λ tells. giving.lays before after.raw.bytes (writing_lays before mid after (payload call) passes none (λ told. lays.to_front (settled_as before mid) after.raw.bytes (writes.lays told)) tells);

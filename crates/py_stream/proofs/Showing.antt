@@ -11,7 +11,7 @@ use Rattle.py_raw.specs.RawStream.{WhereTold, KeepsReads}
 use Rattle.py_stream.specs.Stream.{Stream, file_of, nothing_owed}
 use Rattle.py_stream.specs.Kinds.{is_reading, is_writing, calls_none, makes_one, says_fault, says_no_memory}
 use Rattle.py_stream.specs.Writing.{OwesBehind, NoneAtPlace, PassesFront, LaysFront, LaysInOrder, PassesOn, BlocksFull, Writes}
-use Rattle.py_stream.specs.Answers.{Answers, KeepsStream, Leaves, ClosedWith, parts_at_close, closes_again, IsReplyTo, HasCauses, IsCounted, InHand, AsksNothing, IsIdle, IsShort, LifeMoves, PlaceMoves, refused_by, SeeksByEnd, SparesBytes, IsNear}
+use Rattle.py_stream.specs.Answers.{Answers, KeepsStream, Leaves, ClosedWith, parts_at_close, closes_again, IsReplyTo, HasCauses, IsCounted, InHand, AsksNothing, IsIdle, IsShort, LifeMoves, PlaceMoves, refused_by, SeeksByEnd, SeekStands, SparesBytes, IsNear}
 use Rattle.py_stream.specs.Keeping.{IsSound}
 use Rattle.py_stream.proofs.Completing.{completes}
 use Rattle.py_stream.proofs.Stopping.{gives_none}
@@ -51,6 +51,7 @@ pub record Shows (before : Stream) (call : FileCall) (reply : FileReply) (after 
   pub place : PlaceMoves before.buffer call reply after.life before.place after.place
   pub far : after.place ≤ greatest_place
   pub ends : SeeksByEnd before call reply after
+  pub seeks : SeekStands before call reply after
   pub wants : IsTrue (says_no_memory reply) → IsTrue before.raw.takes_memory
   pub idle : IsTrue (calls_none before.buffer before.can.writable call) → IsIdle before reply after
   pub reads : KeepsReads before.raw after.raw

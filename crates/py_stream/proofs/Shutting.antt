@@ -21,7 +21,7 @@ use Rattle.py_stream.specs.Stream.{Stream, file_of, nothing_owed, nothing_held}
 use Rattle.py_stream.specs.Kinds.{says_fault, says_no_memory}
 use Rattle.py_stream.specs.Replies.{done_reply}
 use Rattle.py_stream.specs.Writing.{NoneAtPlace, PassesFront, LaysFront, PassedOn, PassesOn, BlocksFull, Writes}
-use Rattle.py_stream.specs.Answers.{Answers, KeepsStream, HasCauses, IsCounted, IsShort, LifeMoves, PlaceMoves, IsReplyTo, SparesBytes, parts_at_close}
+use Rattle.py_stream.specs.Answers.{Answers, KeepsStream, HasCauses, IsCounted, IsShort, LifeMoves, PlaceMoves, SeekStands, IsReplyTo, SparesBytes, parts_at_close}
 use Rattle.py_stream.specs.Settling.{PassesSome, LivesOn, FailsBack, SettleOutcome}
 use Rattle.py_stream.specs.Ending.{ClosingOutcome, ClosesRaw, CloseRawOutcome}
 use Rattle.py_stream.proofs.Begun.{answers_whole}
@@ -154,13 +154,14 @@ pub record IsShutting (reply : FileReply) : Type 0 where
   pub no_want : says_no_memory reply ≡ false
   pub passes : (before after : Stream) → PassedOn before after → PassesOn before Close reply after
   pub full : (after : Stream) → BlocksFull Close reply after
+  pub seeks : (before after : Stream) → SeekStands before Close reply after
   pub answer : (buffer : Option ℕ) (writes : Bool) → IsReplyTo buffer writes Close reply
 
 done_shuts : IsShutting Done
-done_shuts = record { shorts = λ short whole. whole; life_is = λ buffer current. refl; place = λ buffer current place. refl; no_want = refl; passes = λ before after passed _. passed; full = λ after. tt; answer = λ buffer writes. tt }
+done_shuts = record { shorts = λ short whole. whole; life_is = λ buffer current. refl; place = λ buffer current place. refl; no_want = refl; passes = λ before after passed _. passed; full = λ after. tt; seeks = λ before after. tt; answer = λ buffer writes. tt }
 
 fault_shuts : IsShutting (Refused fault.RawFault)
-fault_shuts = record { shorts = λ short whole. whole; life_is = λ buffer current. refl; place = λ buffer current place. fails_there buffer Close current place; no_want = refl; passes = λ before after passed. tt; full = λ after. tt; answer = λ buffer writes. tt }
+fault_shuts = record { shorts = λ short whole. whole; life_is = λ buffer current. refl; place = λ buffer current place. fails_there buffer Close current place; no_want = refl; passes = λ before after passed. tt; full = λ after. tt; seeks = λ before after. tt; answer = λ buffer writes. tt }
 
 shut_answers : (old new : Stream) (reply : FileReply) → Asked old Close → IsShutting reply → ShutsDown old new → ClosesWith old new reply → Answers old Close reply new
 shut_answers old new reply asked shutting shuts closes =
@@ -186,6 +187,7 @@ shut_answers old new reply asked shutting shuts closes =
       place = subst (PlaceMoves old.buffer Close reply new.life old.place) (sym shuts.place) (shutting.place old.buffer new.life old.place);
       far = shuts.far;
       ends = tt;
+      seeks = shutting.seeks old new;
       wants = λ wanting. absurd (cc (shutting.no_want));
       idle = λ idle. absurd (cc (asked.busy));
       reads = shuts.reads;

@@ -162,6 +162,7 @@ truncation_writes : (old mid new : Stream) (size : Option ℕ) → Asks old mid 
 truncation_writes old mid new size asks lives bytes = record {
   owes = λ writing. absurd (cc);
   takes = λ writing. absurd (cc);
+  room = λ writing. absurd (cc);
   leaves = λ _. leaves_front old mid new asks;
   stands = λ _ _ some. absurd (some (none old mid new asks));
   lays = λ tells. record { between = mid.raw.bytes; lays = asks.settled_by.0.passes.lays tells; cuts = inr (bytes tells ∙ sym (ap (λ (all : List ℕ). resized all (size_asked old size)) (passed_all old mid asks.settled_by.0.passes asks.settled_by.2 tells))) };
@@ -254,6 +255,7 @@ size_fails old mid new size within asks fails =
       place = still old mid new asks;
       far = keeps.sound.far;
       ends = tt;
+      seeks = tt;
       wants = λ wanting. absurd (cc);
       idle = λ idle. absurd (cc (asked.busy));
       reads = keeps.reads;

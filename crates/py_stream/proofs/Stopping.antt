@@ -6,7 +6,7 @@ use Rattle.py_flat.specs.declared.life.Life.{Life}
 use Rattle.py_flat.specs.Calls.{FileCall, FileReply, Refused}
 use Rattle.py_flat.specs.BinaryStep.{is_tell, asks_end, does_work, reaches_raw}
 use Rattle.py_stream.specs.Stream.{Stream}
-use Rattle.py_stream.specs.Kinds.{is_reading, reads_on, by_several, takes_space_first, asks_none, is_writing, says_would_block}
+use Rattle.py_stream.specs.Kinds.{is_reading, is_single, reads_on, by_several, takes_space_first, asks_none, is_writing, says_would_block}
 use Rattle.py_stream.specs.Writing.{BlocksFull}
 use Rattle.py_stream.specs.Answers.{IsReplyTo, IsShort, StarvesTo, LifeMoves, MovesForth, PlaceFails, PlaceMoves, GivesWithin, SeeksByEnd}
 use Rattle.py_stream.proofs.Refused.{is_own}
@@ -18,6 +18,7 @@ use Rattle.py_flat.specs.FlatFile.{FlatFile}
 pub record GivesNone (call : FileCall) : Type 0 where
   pub going_on : reads_on call ≡ false
   pub first : takes_space_first call ≡ false
+  pub single : is_single call ≡ false
   pub several : (buffer : Option ℕ) → by_several buffer call ≡ false
   pub nothing : (buffer : Option ℕ) → asks_none buffer call ≡ false
   pub within : (size : ℕ) (reply : FileReply) → GivesWithin size call reply

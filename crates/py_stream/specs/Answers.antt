@@ -1,5 +1,5 @@
 -- The one clause of all calls of a binary stream: what a call may answer and leave, over any raw.
-use Rattle.std.specs.Prelude.{◌≡◌, ◌≢◌, ℕ, ◌+◌, ◌-◌, ◌<◌, ◌≤◌, ◌⊎◌, ℤ, pos, suc, zero, Bool, true, false, ◌&&◌, not, nat_eq, IsTrue, List, [], ◌++◌, length, max, Option, Some, None, IsSome, is_some, unwrap_or, if◌then◌else◌}
+use Rattle.std.specs.Prelude.{◌≡◌, ◌≢◌, ℕ, ◌+◌, ◌-◌, ◌<◌, ◌≤◌, ◌⊎◌, ℤ, pos, suc, zero, Bool, true, false, ◌&&◌, not, nat_eq, IsTrue, List, [], ◌++◌, length, take, max, Option, Some, None, IsSome, is_some, unwrap_or, if◌then◌else◌}
 use Rattle.py_flat.specs.declared.fault.IoFault.{IoFault}
 use Rattle.py_flat.specs.declared.fault.IoFault.TheVariants as fault
 use Rattle.py_flat.specs.declared.life.Life.{Life}
@@ -10,12 +10,12 @@ use Rattle.py_flat.specs.Lines.{Lf, first_line, lines_within, joined}
 use Rattle.py_flat.specs.Causes.{Rose, rose, counted}
 use Rattle.py_flat.specs.Calls.{FileCall, Read, Read1, ReadLine, ReadLines, Peek, ReadInto, ReadInto1, Write, WriteLines, Seek, Tell, Truncate, Flush, Close, Detach, FileReply, Bytes, Lines, Count, Place, Done, NotReady, Unwritten, Refused}
 use Rattle.py_flat.specs.Refusals.{is_getter, is_other_getter, lets_through, lacks, refusal, moved_by, target_refusal}
-use Rattle.py_flat.specs.ExactStep.{is_closed}
+use Rattle.py_flat.specs.ExactStep.{rest, is_closed}
 use Rattle.py_flat.specs.BinaryStep.{asks_end, BinaryStep}
-use Rattle.py_raw.specs.RawStream.{Raw, Keeps, WhereTold, WhereBytes, WherePlace, WhereTransfers, KeepsBytes, AnswersFor, KeepsReads, ReadsInAll}
-use Rattle.py_stream.specs.Stream.{Span, Stream, size_of, buffering_of, file_of, nothing_owed}
-use Rattle.py_stream.specs.Kinds.{profile, is_reading, moves_raw, reads_on, by_several, has_room, takes_space_first, calls_none, says_wait, says_fault, says_no_memory, says_given}
-use Rattle.py_stream.specs.Writing.{Writes}
+use Rattle.py_raw.specs.RawStream.{Raw, tells, Keeps, WhereTold, WhereBytes, WherePlace, WhereTransfers, KeepsBytes, AnswersFor, KeepsReads, ReadsInAll}
+use Rattle.py_stream.specs.Stream.{Span, Stream, size_of, buffering_of, file_of, nothing_owed, nothing_held}
+use Rattle.py_stream.specs.Kinds.{profile, is_reading, is_single, asks_nothing, moves_raw, reads_on, by_several, has_room, takes_space_first, calls_none, says_wait, says_fault, says_no_memory, says_given}
+use Rattle.py_stream.specs.Writing.{OwesWithin, GoesAway, Writes}
 
 -- What every call keeps.
 
@@ -219,10 +219,12 @@ SeeksTo before (Some target) None reply after = reply ≡ Place target
 SeeksTo before target (Some why) reply after = Leaves before (Refused why) reply (record after { raw = before.raw })
 SeeksTo before None None reply after = ⊥
 
--- a seek from the end goes from some end that the raw answered; told its bytes, from the end of the flat file
+-- a seek from the end goes from some end that the raw answered, or that of what is owed, where this is later; told its bytes, from the end
+-- of the flat file
 pub record SeeksFromEnd (before : Stream) (offset : ℤ) (reply : FileReply) (after : Stream) : Type 0 where
   pub end : ℕ
   pub within : end ≤ greatest_place
+  pub owed : OwesWithin before.owed end
   pub told : WhereBytes before.raw (end ≡ length (file_of before).bytes)
   pub target : SeeksTo before (moved_by end offset) (target_refusal (moved_by end offset)) reply after
 
@@ -241,6 +243,44 @@ EndMoves before offset reply after = UnlessStopped reply (SeeksFromEnd before of
 abbrev pub SeeksByEnd : Stream → FileCall → FileReply → Stream → Type 0
 SeeksByEnd before (Seek offset (pos (suc (suc zero)))) reply after = asks_end (file_of before) (Seek offset (pos 2)) ≡ true → EndMoves before offset reply after
 SeeksByEnd before call reply after = Unit {0}
+
+-- Where a seek leaves a stream.
+
+-- a place lies among the bytes held, or right after them, of a stream that reads through a buffer
+pub record IsAmong (stream : Stream) (place : ℕ) : Type 0 where
+  pub reads : stream.can.readable ≡ true
+  pub buffered : IsSome stream.buffer
+  pub after_first : stream.held.from ≤ place
+  pub before_end : place ≤ stream.held.to
+
+-- nothing was passed on: what is owed is what was, where it belongs; the same bytes are held; and the raw stands where it stood, with its
+-- bytes as they were
+pub record StaysAmong (before after : Stream) : Type 0 where
+  pub owed : after.owed.bytes ≡ before.owed.bytes
+  pub belongs : after.owed.bytes ≢ [] → after.owed.place ≡ before.owed.place
+  pub held : after.held ≡ before.held
+  pub raw_place : after.raw_place ≡ before.raw_place
+  pub raw_bytes : KeepsBytes before.raw after.raw
+  pub answered : AnswersFor 0 before.raw after.raw
+
+-- nothing is owed, and nothing is held; the raw stands at the place, so that a reading goes on from there
+pub record StandsBare (stream : Stream) : Type 0 where
+  pub none : stream.owed.bytes ≡ []
+  pub held : stream.held ≡ nothing_held stream.place
+  pub stands : stream.raw_place ≡ stream.place
+
+-- a seek went to a place, wherever it counted from: among the bytes held it passes nothing on; one that leaves them leaves nothing owed or
+-- held
+pub record WentTo (before : Stream) (place : ℕ) (after : Stream) : Type 0 where
+  pub among : IsAmong before place → StaysAmong before after
+  pub away : GoesAway before place → StandsBare after
+
+-- how an answered seek leaves the stream, and an answered `tell`: as it was; of other calls nothing
+abbrev pub SeekStands : Stream → FileCall → FileReply → Stream → Type 0
+SeekStands before call (Refused why) after = Unit {0}
+SeekStands before (Seek offset whence) (Place place) after = WentTo before place after
+SeekStands before Tell (Place place) after = after ≡ record before { short = false }
+SeekStands before call reply after = Unit {0}
 
 -- Memory.
 
@@ -285,6 +325,11 @@ pub record AsksNothing (before : Stream) (reply : FileReply) (after : Stream) : 
 abbrev pub AtMostOne : Stream → Stream → Type 0
 AtMostOne before after = WhereTransfers before.raw (after.raw.transfers ≤ before.raw.transfers + 1)
 
+-- a reading by one transfer of a stream with a buffer that asks for some byte passes on first all that was owed: where it gives bytes, also
+-- none as the end is met, nothing is owed after it
+abbrev pub PassesFirst : Stream → FileCall → FileReply → Stream → Type 0
+PassesFirst before call reply after = IsSome before.buffer → IsTrue (is_single call) → asks_nothing call ≡ false → IsTrue (says_given reply) → after.owed.bytes ≡ []
+
 -- how many of the bytes held lie from the place on
 abbrev pub ahead : Stream → ℕ
 ahead stream = stream.held.to - stream.place
@@ -294,12 +339,19 @@ abbrev pub Covers : Span → Option ℕ → Type 0
 Covers held (Some target) = (held.from ≤ target) × (target ≤ held.to)
 Covers held None = ⊥
 
--- the bytes held answer a call by themselves: one of n bytes, or of at most n of a line, where n are held from the place on; one of a
--- single transfer where some are and nothing is owed, which it may pass on first; and a seek of a stream that reads, from the start or from the place, to a target among them
+-- the raw tells, and the bytes held from the place on have all of what is wanted, whatever comes after them
+abbrev pub HasAllHeld : (List ℕ → List ℕ) → Stream → Type 0
+HasAllHeld wanted stream = IsTrue (tells stream.raw) × ((more : List ℕ) → length (wanted (take (ahead stream) (rest (file_of stream)) ++ more)) ≤ ahead stream)
+
+-- the bytes held answer a call by themselves: one of n bytes, or of at most n of a line, where n are held from the place on; one of a line,
+-- or of lines above a hint, which end among them, where the raw tells; one of a single transfer where some are held and nothing is owed,
+-- which it may pass on first; and a seek of a stream that reads, from the start or from the place, to a target among them
 abbrev pub InHandOf : Stream → FileCall → Type 0
 InHandOf stream (Read (Some size)) = size ≤ ahead stream
 InHandOf stream (ReadInto size) = size ≤ ahead stream
-InHandOf stream (ReadLine (Some limit)) = limit ≤ ahead stream
+InHandOf stream (ReadLine (Some limit)) = (limit ≤ ahead stream) ⊎ HasAllHeld (first_line Lf (Some limit)) stream
+InHandOf stream (ReadLine None) = HasAllHeld (first_line Lf None) stream
+InHandOf stream (ReadLines hint) = HasAllHeld (λ left. joined (lines_within hint left)) stream
 InHandOf stream (Read1 size) = (0 < ahead stream) × (stream.owed.bytes ≡ [])
 InHandOf stream (ReadInto1 size) = (0 < ahead stream) × (stream.owed.bytes ≡ [])
 InHandOf stream Peek = (0 < ahead stream) × (stream.owed.bytes ≡ [])
@@ -394,6 +446,9 @@ pub record AnswersWith (room : FileCall → Bool) (before : Stream) (call : File
   pub moves : Moves before call reply after
   -- a seek from the end goes by some end that the raw answered
   pub ends : SeeksByEnd before call reply after
+  -- a seek among the bytes held passes nothing on; one that leaves them leaves nothing owed or held, and the raw at the place; a `tell`
+  -- leaves all as it was
+  pub seeks : SeekStands before call reply after
   -- a call that has its room wants memory only where its raw takes some
   pub wants : WantsMemory (room call) reply before.raw
   -- a reading that goes on from the bytes held leaves a stream so that another does
@@ -410,6 +465,8 @@ pub record AnswersWith (room : FileCall → Bool) (before : Stream) (call : File
   pub idle : IsTrue (calls_none before.buffer before.can.writable call) → IsIdle before reply after
   -- calls that make at most one transfer, where nothing was owed
   pub single : IsTrue (profile before.buffer call).one → before.owed.bytes ≡ [] → AtMostOne before after
+  -- a reading by one transfer gives bytes only once all that was owed is passed on
+  pub passes_first : PassesFirst before call reply after
   -- a reading that goes on from the bytes held moves the raw by as many bytes as its reads bring, and meets the end once at most
   pub brings : IsTrue (is_reading call) → IsAhead before → CameByReads 1 before after
   -- a call that gives no bytes reads none from the raw

@@ -1,6 +1,6 @@
 -- The one contract of buffered streams for the layer above them: what such a stream shows, over a raw stream or in memory, and what a
 -- call of it may answer and leave.
-use Rattle.std.specs.Prelude.{◌≡◌, ℕ, ◌+◌, ◌-◌, ◌≤◌, ℤ, pos, suc, zero, Bool, true, false, ◌&&◌, IsTrue, List, [], length, max, Option, Some, None, Result, Ok, Err, if◌then◌else◌}
+use Rattle.std.specs.Prelude.{◌≡◌, ℕ, ◌+◌, ◌-◌, ◌≤◌, ℤ, pos, suc, zero, Bool, true, false, ◌&&◌, IsTrue, List, [], length, take, max, Option, Some, None, Result, Ok, Err, if◌then◌else◌}
 use Rattle.py_flat.specs.declared.fault.IoFault.{IoFault}
 use Rattle.py_flat.specs.declared.fault.IoFault.TheVariants as fault
 use Rattle.py_flat.specs.declared.life.Life.{Life}
@@ -17,7 +17,7 @@ use Rattle.py_flat.specs.BinaryStep.{asks_end, payload, BinaryStep}
 use Rattle.py_raw.specs.RawStream.{tells}
 use Rattle.py_stream.specs.Stream.{Stream, buffering_of, nothing_owed}
 use Rattle.py_stream.specs.Kinds.{is_reading, has_room, outlasts, says_fault, says_no_memory}
-use Rattle.py_stream.specs.Writing.{OwesUpTo, OwesRest, LaysFrontOf, IsFull}
+use Rattle.py_stream.specs.Writing.{OwesUpTo, OwesWithin, OwesRest, OwedAfter, LaysFrontOf, IsFull}
 use Rattle.py_stream.specs.Answers.{IsAnswerTo, IsReplyTo, IsShort, LifeMoves, PlaceMoves, Within, UnlessStopped}
 
 -- What a buffered stream shows: whether it tells its content; told, the raw's bytes; where the raw stands, as the stream counts; its
@@ -178,10 +178,12 @@ GoesFromEnd before (Some target) None reply after = reply ≡ Place target
 GoesFromEnd before target (Some why) reply after = RefusesTarget before why reply after
 GoesFromEnd before None None reply after = ⊥
 
--- an accepted seek from the end goes by some end that was answered; told, that of the flat bytes
+-- an accepted seek from the end goes by some end that was answered, or that of what is owed, where this is later; told, that of the flat
+-- bytes
 pub record BufferSeeksFromEnd (before : Buffer) (offset : ℤ) (reply : FileReply) (after : Buffer) : Type 0 where
   pub end : ℕ
   pub within : end ≤ greatest_place
+  pub owed : OwesWithin before.owed end
   pub told : WhereShown before (end ≡ length (flat_of before).bytes)
   pub target : GoesFromEnd before (moved_by end offset) (target_refusal (moved_by end offset)) reply after
 
@@ -192,10 +194,15 @@ BufferSeeksByEnd before call reply after = Unit {0}
 
 -- What is owed.
 
--- after a write before which nothing was owed, or what was owed ended at the place, that is so again: what is owed ends where the bytes
--- end that were taken; every other call leaves the rest of what was owed, where that stood
+-- after a write what is owed covers what was owed and the bytes that were taken, as far as these aren't passed on, wherever the write was
+-- made; where nothing was owed, or what was owed ended at the place, it ends where the bytes end that were taken
+pub record BufferOwesBoth (before : Buffer) (bytes : List ℕ) (after : Buffer) : Type 0 where
+  pub both : OwedAfter before.owed before.place (take (after.place - before.place) bytes) after.owed
+  pub up_to : OwesUpTo before.owed before.place → OwesUpTo after.owed after.place
+
+-- what is owed after a write; every other call leaves the rest of what was owed, where that stood
 abbrev pub BufferOwes : Buffer → FileCall → Buffer → Type 0
-BufferOwes before (Write bytes) after = OwesUpTo before.owed before.place → OwesUpTo after.owed after.place
+BufferOwes before (Write bytes) after = BufferOwesBoth before bytes after
 BufferOwes before call after = OwesRest before.owed after.owed
 
 -- a done flush or close of a live stream leaves nothing owed, and told, the raw with the flat bytes
@@ -300,11 +307,12 @@ pub record AsksForEnd (before after : Buffer) : Type 0 where
   pub waits : before.waits ≤ after.waits
   pub no_wait : IsTrue before.counts_exactly → after.waits ≡ before.waits
 
--- the end is that of the flat bytes, where the stream tells them, and one that a stream can have
+-- the end is that of the flat bytes, where the stream tells them, and one that a stream can have; it isn't before that of what is owed
 pub record SaysEnd (before : Buffer) (end : ℕ) (after : Buffer) : Type 0 where
   pub asks : AsksForEnd before after
   pub life_is : after.life ≡ before.life
   pub within : end ≤ greatest_place
+  pub owed : OwesWithin before.owed end
   pub told : WhereShown before (end ≡ length (flat_of before).bytes)
   pub no_fault : IsTrue before.counts_exactly → after.faults ≡ before.faults
 

@@ -6,7 +6,8 @@ use Rattle.py_flat.specs.declared.life.Life.TheVariants as life
 use Rattle.py_flat.specs.Causes.{Rose}
 use Rattle.py_flat.specs.Owed.{Owed}
 use Rattle.py_raw.specs.RawStream.{WhereBytes, WhereTransfers, KeepsBytes, NoWait, LeavesCounts, AnswersFor}
-use Rattle.py_stream.specs.Stream.{Span, Stream, nothing_owed}
+use Rattle.py_stream.specs.Stream.{Span, Stream, nothing_owed, nothing_held}
+use Rattle.py_stream.specs.Writing.{OwesWithin}
 use Rattle.py_stream.specs.Keeping.{IsSound, KeepsOn}
 use Rattle.py_flat.specs.Limits.{greatest_place}
 use Rattle.py_flat.specs.Refusals.{life_fault, moved_by, target_refusal}
@@ -76,6 +77,7 @@ pub record AsksEnd (old : Stream) (end : ℕ) (new : Stream) : Type 0 where
   pub counts : LeavesCounts old.raw new.raw
   pub life_is : new.life ≡ old.life
   pub within : end ≤ greatest_place
+  pub owed : OwesWithin old.owed end
   pub told : WhereBytes old.raw (end ≡ end_with old.owed (length old.raw.bytes))
 
 -- what asking the raw where it ends, or moving it, leaves where it failed
@@ -129,7 +131,7 @@ abbrev pub StepsTo : Stream → ℕ → Bool → Stream → Type 0
 StepsTo old target true new = (old.can.readable ≡ true) × IsSound new × (new ≡ record old { place = target; owed = owed_at target old.owed })
 StepsTo old target false new = (new ≡ old) × (old.can.readable ≡ true → IsSome old.buffer → IsHeld old.held target → ⊥)
 
--- the stream stands at the target, with nothing owed
+-- the stream stands at the target, and its raw there, with nothing owed and nothing held
 pub record GoesTo (old : Stream) (target : ℕ) (new : Stream) : Type 0 where
   pub kept : KeepsOn old new
   pub counts : LeavesCounts old.raw new.raw
@@ -138,6 +140,8 @@ pub record GoesTo (old : Stream) (target : ℕ) (new : Stream) : Type 0 where
   pub live : new.life ≡ life.Live
   pub place : new.place ≡ target
   pub owed : new.owed ≡ nothing_owed target
+  pub held : new.held ≡ nothing_held target
+  pub stands : new.raw_place ≡ target
 
 -- a stream is moved to a target: it stands there, or its raw failed, or wanted memory
 abbrev pub GoOutcome : Stream → ℕ → Result (Unit {0}) IoFault → Stream → Type 0

@@ -161,9 +161,13 @@ abbrev pub StarvesWanting : (List ℕ → List ℕ) → Stream → Result Stop I
 StarvesWanting wanted before (Err fault.NoMemory) after = after.life ≡ life.Failed → WhereTold before.raw (wanted (rest (file_of before)) ≢ [])
 StarvesWanting wanted before result after = Unit {0}
 
--- no more is wanted than is held from the place on, whatever is left
+-- bytes come next from the place on, as many as are held there, where the raw tells; else any may
+abbrev pub ComesHeld : Stream → List ℕ → Type 0
+ComesHeld before front = WhereTold before.raw (take (ahead before) (rest (file_of before)) ≡ front)
+
+-- no more is wanted than is held from the place on, whatever comes after the bytes held
 abbrev pub WantsHeld : (List ℕ → List ℕ) → Stream → Type 0
-WantsHeld wanted before = (left : List ℕ) → length (wanted left) ≤ ahead before
+WantsHeld wanted before = (front more : List ℕ) → ComesHeld before front → length (wanted (front ++ more)) ≤ ahead before
 
 -- the raw isn't called where no more is wanted than is held
 abbrev pub IdleWanting : (List ℕ → List ℕ) → Stream → Result Stop IoFault → Stream → Type 0

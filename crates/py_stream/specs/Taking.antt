@@ -1,5 +1,5 @@
 -- What the steps of a call that gives bytes do: of a stream that owes what lies right before its place, or nothing.
-use Rattle.std.specs.Prelude.{◌≡◌, ℕ, ◌+◌, ◌-◌, ◌<◌, ◌≤◌, ◌⊎◌, Bool, true, false, IsTrue, List, ◌++◌, length, take, drop, Option, Some, None, Result, Ok, Err}
+use Rattle.std.specs.Prelude.{◌≡◌, ℕ, ◌+◌, ◌-◌, ◌<◌, ◌≤◌, ◌⊎◌, Bool, true, false, IsTrue, List, ◌++◌, length, take, drop, Option, Some, None, IsSome, Result, Ok, Err}
 use Rattle.py_flat.specs.declared.fault.IoFault.{IoFault}
 use Rattle.py_flat.specs.declared.fault.IoFault.TheVariants as fault
 use Rattle.py_flat.specs.declared.life.Life.TheVariants as life
@@ -122,6 +122,21 @@ pub record FillsUp (old : Stream) (bytes : List ℕ) (new : Stream) : Type 0 whe
 pub record TookAll (old : Stream) (bytes : List ℕ) (new : Stream) : Type 0 where
   pub took : Took old bytes new
   pub calm : Calm old.buffer old.raw new.raw
+
+-- the buffer has room for bytes behind those that are owed
+pub record FitsBehind (stream : Stream) (bytes : List ℕ) : Type 0 where
+  pub buffered : IsSome stream.buffer
+  pub room : length stream.owed.bytes + length bytes ≤ size_of stream
+
+-- bytes are owed behind those that were, and no raw is called
+pub record KeepsBehind (old : Stream) (bytes : List ℕ) (new : Stream) : Type 0 where
+  pub raw : new.raw ≡ old.raw
+  pub buffer : new.buffer ≡ old.buffer
+  pub owed : new.owed.bytes ≡ old.owed.bytes ++ bytes
+
+-- bytes for which there is room are all kept so
+abbrev pub KeepsWhatFits : Stream → List ℕ → Result Bool IoFault → Stream → Type 0
+KeepsWhatFits old bytes result new = FitsBehind old bytes → (result ≡ Ok true) × KeepsBehind old bytes new
 
 -- a stream is given several pieces, one after the other, for a call that began at a place
 abbrev pub PutsOutcome : Stream → List ℕ → ℕ → Result Bool IoFault → Stream → Type 0

@@ -1,11 +1,12 @@
 -- What a stream that writes does with the bytes that it took from its callers, over any raw.
-use Rattle.std.specs.Prelude.{◌≡◌, ◌≢◌, ℕ, ◌+◌, ◌-◌, ◌<◌, ◌≤◌, ◌⊎◌, min, max, false, IsTrue, List, [], ◌++◌, length, take, drop, Option, unwrap_or}
+use Rattle.std.specs.Prelude.{◌≡◌, ◌≢◌, ℕ, ◌+◌, ◌-◌, ◌<◌, ◌≤◌, ◌⊎◌, min, max, true, false, IsTrue, List, [], ◌++◌, length, take, drop, Option, IsSome, unwrap_or}
 use Rattle.py_flat.specs.declared.fault.IoFault.TheVariants as fault
 use Rattle.py_flat.specs.declared.life.Life.TheVariants as life
 use Rattle.py_flat.specs.Bytes.{lay, resized}
 use Rattle.py_flat.specs.Causes.{counted}
+use Rattle.py_flat.specs.Limits.{greatest_place}
 use Rattle.py_flat.specs.Owed.{Owed}
-use Rattle.py_flat.specs.Calls.{FileCall, Write, WriteLines, Seek, Truncate, Flush, Close, Detach, FileReply, Place, Done, Unwritten, Refused}
+use Rattle.py_flat.specs.Calls.{FileCall, Write, WriteLines, Seek, Truncate, Flush, Close, Detach, FileReply, Count, Place, Done, Unwritten, Refused}
 use Rattle.py_flat.specs.BinaryStep.{payload}
 use Rattle.py_raw.specs.RawStream.{WhereTold, WherePlace, WhereTransfers, AnswersFor}
 use Rattle.py_stream.specs.Stream.{Stream, size_of, file_of, nothing_held}
@@ -14,6 +15,10 @@ use Rattle.py_stream.specs.Kinds.{is_reading, is_writing, says_no_memory}
 -- nothing is owed, or what is owed ends at a place
 abbrev pub OwesUpTo : Owed → ℕ → Type 0
 OwesUpTo owed place = (owed.bytes ≡ []) ⊎ (owed.place + length owed.bytes ≡ place)
+
+-- where something is owed, it ends no later than an end
+abbrev pub OwesWithin : Owed → ℕ → Type 0
+OwesWithin owed end = owed.bytes ≢ [] → owed.place + length owed.bytes ≤ end
 
 -- what a stream owes lies right before its place, and its raw stands where that begins
 pub record OwesBehind (stream : Stream) : Type 0 where
@@ -84,26 +89,42 @@ pub record CoversBoth (was : Owed) (place : ℕ) (new : List ℕ) (owed : Owed) 
   pub old_bytes : HasAt owed.bytes owed.place (take (place - was.place) was.bytes) was.place
   pub behind : HasAt owed.bytes owed.place (drop (place + length new - was.place) was.bytes) (max was.place (place + length new))
 
--- all that was owed is passed on, and of the new bytes that a write took a front: the rest is owed, up to the place
+-- what was owed and the new bytes that a write took at a place are all owed: where nothing is, there was none of either; else what is owed
+-- covers both, and begins where the first of both does
+pub record OwesAll (was : Owed) (place : ℕ) (new : List ℕ) (owed : Owed) : Type 0 where
+  pub none : owed.bytes ≡ [] → (was.bytes ≡ []) × (new ≡ [])
+  pub from : owed.bytes ≢ [] → owed.place ≡ first_place was new place
+  pub covers : owed.bytes ≢ [] → CoversBoth was place new owed
+
+-- of the new bytes that a write took at a place the first n aren't owed: the rest is, alone
+pub record LeavesNew (passed place : ℕ) (new : List ℕ) (owed : Owed) : Type 0 where
+  pub most : passed ≤ length new
+  pub bytes : owed.bytes ≡ drop passed new
+  pub at : owed.place ≡ place + passed
+
+-- all that was owed is passed on, and of the new bytes that a write took a front, exactly as many bytes as the raw answered for: the rest is
+-- owed, up to the place
 pub record OwesNewAlone (before : Stream) (new : List ℕ) (after : Stream) : Type 0 where
   pub passed : ℕ
-  pub most : passed ≤ length new
   pub answered : AnswersFor (length before.owed.bytes + passed) before.raw after.raw
-  pub bytes : after.owed.bytes ≡ drop passed new
-  pub place : after.owed.place ≡ before.place + passed
+  pub leaves : LeavesNew passed before.place new after.owed
 
 -- what is left of owed bytes without the first n
 abbrev pub left_of : Owed → ℕ → Owed
 left_of owed count = record { bytes = drop count owed.bytes; place = owed.place + count }
 
--- of what was owed a front is passed on, exactly as many bytes as the raw answered for: what is owed covers what was owed and the new bytes
--- that a write took, and begins no earlier than what is left of the former and the new bytes
+-- what is owed covers what was owed and the new bytes that a write took at a place, and begins where the first begins of what is left of
+-- the former without the first n, and the new bytes
+pub record LeavesBoth (passed : ℕ) (was : Owed) (place : ℕ) (new : List ℕ) (owed : Owed) : Type 0 where
+  pub most : passed ≤ length was.bytes
+  pub from : owed.place ≡ first_place (left_of was passed) new place
+  pub covers : CoversBoth was place new owed
+
+-- of what was owed a front is passed on, exactly as many bytes as the raw answered for: what is left of that, and the new bytes, are owed
 pub record OwesTheRest (before : Stream) (new : List ℕ) (after : Stream) : Type 0 where
   pub passed : ℕ
-  pub most : passed ≤ length before.owed.bytes
   pub answered : AnswersFor passed before.raw after.raw
-  pub from : first_place (left_of before.owed passed) new before.place ≤ after.owed.place
-  pub covers : CoversBoth before.owed before.place new after.owed
+  pub leaves : LeavesBoth passed before.owed before.place new after.owed
 
 -- what is owed after a write that took n bytes, wherever its place lay: it covers what was owed and what is new, or all that was owed
 -- was passed on
@@ -113,17 +134,18 @@ pub record OwesBoth (before : Stream) (bytes : List ℕ) (after : Stream) : Type
   pub place : after.place ≡ before.place + taken
   pub owes : after.owed.bytes ≢ [] → OwesTheRest before (take taken bytes) after ⊎ OwesNewAlone before (take taken bytes) after
 
--- how many of the bytes that are owed lie before a place
-unfoldable pub owed_before : Owed → ℕ → ℕ
-owed_before owed place = min (length owed.bytes) (place - owed.place)
+-- the same of what is owed alone, whatever the raw answered for: it covers what was owed and the new bytes that a write took at a place, or
+-- nothing is left of the former
+abbrev pub OwedAfter : (was : Owed) (place : ℕ) (new : List ℕ) (owed : Owed) → Type 0
+OwedAfter was place new owed = owed.bytes ≢ [] → ((passed : ℕ) × LeavesBoth passed was place new owed) ⊎ ((passed : ℕ) × LeavesNew passed place new owed)
 
 -- what a call may lay on the raw's bytes: a front of what was owed at its place, and then a front of what it gives at the stream's; none of
--- the latter before all that was owed before that place
+-- the latter before all that was owed
 pub record LaysFrontOf (bytes : List ℕ) (owed : Owed) (place : ℕ) (own after : List ℕ) : Type 0 where
   pub passed : ℕ
   pub more : ℕ
   pub laid : after ≡ lay (lay bytes owed.place (take passed owed.bytes)) place (take more own)
-  pub order : more ≢ 0 → owed_before owed place ≤ passed
+  pub order : more ≢ 0 → length owed.bytes ≤ passed
 
 -- the raw's bytes after a call: those before it, with a front laid on of what was owed and what the call gives
 abbrev pub LaysFront : (before : Stream) → (own after : List ℕ) → Type 0
@@ -195,12 +217,45 @@ OwesNoneOfIts before (Write bytes) (Refused fault.RawFault) after = OwesOld befo
 OwesNoneOfIts before (Write bytes) (Refused fault.NoMemory) after = after.life ≡ life.Failed → OwesOld before after
 OwesNoneOfIts before call reply after = Unit {0}
 
--- the raw took some bytes of a call's own: it stands further on than the call began, and answered for more than was owed, where that
--- ended at the place
+-- the raw took some bytes of a call's own: it stands further on than the call began, and answered for more than was owed
 pub record TookOwn (before after : Stream) : Type 0 where
   pub further : before.place < after.raw_place
   pub stands : WherePlace before.raw (before.place < after.raw.place)
-  pub answered : OwesUpTo before.owed before.place → WhereTransfers before.raw (counted before.raw.written (length before.owed.bytes + 1) ≤ counted after.raw.written 0)
+  pub answered : WhereTransfers before.raw (counted before.raw.written (length before.owed.bytes + 1) ≤ counted after.raw.written 0)
+
+-- A write for which the buffer has room.
+
+-- the place of the first byte that is owed; where none is, the stream's own
+abbrev pub owed_from : Stream → ℕ
+owed_from stream = first_place stream.owed [] stream.place
+
+-- how many bytes have room at the place: as many as the buffer holds, but for those before the place that have to stay, from the first
+-- owed one on
+abbrev pub room_at : Stream → ℕ
+room_at stream = size_of stream - (stream.place - owed_from stream)
+
+-- a live stream has room in its buffer for bytes at its place, which they may have. Of one that reads too the raw doesn't stand before the
+-- first owed byte, nor before the place where none is owed: it does only once running out of memory kept it from being moved
+pub record HasRoom (stream : Stream) (bytes : List ℕ) : Type 0 where
+  pub lives : stream.life ≡ life.Live
+  pub buffered : IsSome stream.buffer
+  pub within : stream.place + length bytes ≤ greatest_place
+  pub room : length bytes ≤ room_at stream
+  pub stands : stream.can.readable ≡ true → owed_from stream ≤ stream.raw_place
+
+-- what a write answers that took all of its bytes
+abbrev pub answer_of_all : FileCall → FileReply
+answer_of_all (Write bytes) = Count (length bytes)
+answer_of_all call = Done
+
+-- a write took all of its bytes, and called no raw: so that is as it was in all that it shows, and stands where it stood; and all that was
+-- owed, and all that the write gave, are owed
+pub record TakesAlone (before : Stream) (call : FileCall) (reply : FileReply) (after : Stream) : Type 0 where
+  pub says : reply ≡ answer_of_all call
+  pub whole : after.short ≡ false
+  pub raw : after.raw ≡ before.raw
+  pub raw_place : after.raw_place ≡ before.raw_place
+  pub owes : OwesAll before.owed before.place (payload call) after.owed
 
 -- One call of a stream that writes.
 pub record Writes (before : Stream) (call : FileCall) (reply : FileReply) (after : Stream) : Type 0 where
@@ -208,6 +263,8 @@ pub record Writes (before : Stream) (call : FileCall) (reply : FileReply) (after
   pub owes : IsTrue (is_writing call) → OwesBoth before (payload call) after
   -- where what was owed ended at the place, also how much a write passed on
   pub takes : IsTrue (is_writing call) → OwesUpTo before.owed before.place → Takes before (payload call) after
+  -- a write for which the buffer has room takes all and calls no raw
+  pub room : IsTrue (is_writing call) → HasRoom before (payload call) → TakesAlone before call reply after
   -- a call that gives no bytes owes what is left of what was owed, where it stood
   pub leaves : is_writing call ≡ false → PassesFront before after
   -- where the raw stood where what was owed up to the place begins, it stands where what is left of that begins; a reading may move it

@@ -8,7 +8,7 @@ ghost use Rattle.py_stream.specs.Buffer.{Buffer, size_shown, TellsPlace, Answers
 use py_raw::{IoFault, Life};
 use std::alloc::Global;
 
-/// A stream of bytes with a buffer, over a raw stream or in memory: all that a text stream knows of what is below it.
+/// A stream of bytes with a buffer, over a raw stream or in memory: all that a layer above may know of what is below it.
 ///
 /// A call answers in one of four ways, as the clause of all calls says: as the flat file does; short, or not at all, where the raw would
 /// have blocked; with `RawFault`, where the raw failed; or with `NoMemory`. What was written and isn't known to have reached the raw is

@@ -6,7 +6,7 @@ ghost use Rattle.py_flat.specs.Lines.{joined};
 ghost use Rattle.py_stream.specs.Stream.{Stream};
 ghost use Rattle.py_stream.specs.Keeping.{IsSound};
 ghost use Rattle.py_stream.specs.Writing.{OwesBehind};
-ghost use Rattle.py_stream.specs.Taking.{BeginsWriting, PutsOutcome};
+ghost use Rattle.py_stream.specs.Taking.{BeginsWriting, PutsOutcome, KeepsWhatFits};
 ghost use Rattle.py_flat.specs.Calls.{WriteLines};
 ghost use Rattle.py_stream.specs.Answers.{Answers};
 ghost use Rattle.py_stream.specs.Replies.{done_reply};
@@ -46,6 +46,7 @@ pub trait TakesPieces {
         requires start { start ≤ (shows self.old).place }
         requires within { (shows self.old).place + length piece.now ≤ greatest_place }
         ensures outcome { PutsOutcome (shows self.old) piece.now start result (shows self.new) }
+        ensures room { KeepsWhatFits (shows self.old) piece.now result (shows self.new) }
         ensures takes { takes self.new };
 }
 
@@ -57,7 +58,8 @@ fn take_lines<S: TakesPieces>(stream: &mut S, lines: &Lines, start: u64) -> Resu
     requires behind { OwesBehind (S.shows stream.old) }
     requires start { start ≡ (S.shows stream.old).place }
     requires within { start + length (joined lines.now) ≤ greatest_place }
-    ensures { PutsOutcome (S.shows stream.old) (joined lines.now) start result (S.shows stream.new) }
+    ensures outcome { PutsOutcome (S.shows stream.old) (joined lines.now) start result (S.shows stream.new) }
+    ensures room { KeepsWhatFits (S.shows stream.old) (joined lines.now) result (S.shows stream.new) }
 {
     for line in lines.as_slice() {
         if !stream.take_piece(line.as_slice(), start)? {

@@ -32,7 +32,7 @@ gathered_none wanted old part nothing is live alone asks = subst (λ (xs : List 
 module _ (wanted : List ℕ → List ℕ) (old now : EngineView) (part : List ℕ) (moved : Bool) (gathered : GatheredTo wanted old part moved now) where
   -- more is wanted than is held, which is nothing
   past_held : WantsHeld wanted (stream_of old) → ⊥
-  past_held held = wants_past wanted (stream_of old) part gathered.asks (omega arith) held
+  past_held held = wants_past wanted (stream_of old) part gathered.asks (omega arith) gathered.took.told held
 
   -- nothing came any more
   pub gather_ends : (before : List ℕ) (count : ℕ) (after : List ℕ) (new : EngineView) → count ≡ 0 → Brings now before count after new → before ≢ [] → GatherOutcome wanted (stream_of old) (Ok stop.End) part (stream_of new)

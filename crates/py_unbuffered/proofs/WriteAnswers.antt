@@ -12,7 +12,7 @@ use Rattle.py_stream.proofs.Giving.{MayWrite}
 use Rattle.py_stream.specs.Taking.{BeginsWriting}
 use Rattle.py_stream.proofs.Given.{writing_begins, from_first, as_left, takes_answers, waits_answers, faults_answers, wants_answers}
 use Rattle.py_unbuffered.specs.Engine.{EngineView, stream_of, PutOutcome}
-use Rattle.py_unbuffered.proofs.Begun.{keeps_on}
+use Rattle.py_unbuffered.proofs.Begun.{keeps_on, bufferless}
 use Rattle.py_unbuffered.proofs.Putting.{puts_took, waits_took, fails_taking, fails_with_none}
 
 -- a write that was begun
@@ -34,10 +34,10 @@ pub write_answers : (old started now : EngineView) (bytes : List ℕ) (result : 
 write_answers old started now bytes (Some count) false writing fits puts is =
     let took = puts_took started bytes count now puts in
     from_first (stream_of old) (stream_of started) (Write bytes) _ _ (writing_begins (stream_of old) (stream_of started) writing)
-    (takes_answers (stream_of started) (stream_of now) (Write bytes) count (may_write old started bytes writing fits) puts.fits puts.some took.took took.calm (λ _. puts.transfers))
+    (takes_answers (stream_of started) (stream_of now) (Write bytes) count (may_write old started bytes writing fits) puts.fits puts.some took.took took.calm (λ _. puts.transfers) (λ has. absurd (bufferless None refl has.buffered)))
 write_answers old started now bytes None true writing fits waits is =
     from_first (stream_of old) (stream_of started) (Write bytes) _ _ (writing_begins (stream_of old) (stream_of started) writing)
-    (waits_answers (stream_of started) (stream_of now) (Write bytes) 0 (may_write old started bytes writing fits) (omega arith) refl (waits_took started now waits) refl waits.cause waits.once (λ _. waits.transfers))
+    (waits_answers (stream_of started) (stream_of now) (Write bytes) 0 (may_write old started bytes writing fits) (omega arith) refl (waits_took started now waits) refl waits.cause waits.once (λ _. waits.transfers) (λ has. absurd (bufferless None refl has.buffered)))
 write_answers old started now bytes (Some count) true writing fits puts is = absurd (cc)
 write_answers old started now bytes None false writing fits waits is = absurd (cc)
 
@@ -45,10 +45,10 @@ write_answers old started now bytes None false writing fits waits is = absurd (c
 pub write_fails : (old started now : EngineView) (bytes : List ℕ) (why : IoFault) → Writing old started → started.place + length bytes ≤ greatest_place → PutOutcome started false bytes (Err why) now → Answers (stream_of old) (Write bytes) (Refused why) (stream_of now)
 write_fails old started now bytes fault.RawFault writing fits fails =
     as_left (stream_of old) (stream_of started) (stream_of now) (Write bytes) (Refused fault.RawFault) (writing_begins (stream_of old) (stream_of started) writing) (keeps_on started now fails.kept fails.reads)
-    (faults_answers (stream_of started) (stream_of now) (Write bytes) (may_write old started bytes writing fits) (fails_taking started now bytes fails) (fails_with_none started now bytes fails) (λ _. fails.transfers) (owes_old started now false))
+    (faults_answers (stream_of started) (stream_of now) (Write bytes) (may_write old started bytes writing fits) (fails_taking started now bytes fails) (fails_with_none started now bytes fails) (λ _. fails.transfers) (owes_old started now false) (λ has. absurd (bufferless None refl has.buffered)))
 write_fails old started now bytes fault.NoMemory writing fits wants =
     let none = takes_nothing (stream_of started) writing.0.sound writing.0.behind writing.0.live in
     subst (λ (engine : EngineView). Answers (stream_of old) (Write bytes) (Refused fault.NoMemory) (stream_of engine)) (sym wants.1)
     (as_left (stream_of old) (stream_of started) (stream_of started) (Write bytes) (Refused fault.NoMemory) (writing_begins (stream_of old) (stream_of started) writing) none.took.kept
-    (wants_answers (stream_of started) (stream_of started) (Write bytes) (may_write old started bytes writing fits) wants.0 none.took none.calm (λ _ _. omega arith) (λ failed. owes_old started started false)))
+    (wants_answers (stream_of started) (stream_of started) (Write bytes) (may_write old started bytes writing fits) wants.0 none.took none.calm (λ _ _. omega arith) (λ failed. owes_old started started false) (λ has. absurd (bufferless None refl has.buffered))))
 write_fails old started now bytes why writing fits never = absurd never

@@ -156,7 +156,7 @@ front_of_all : (count : ℕ) (whole : List ℕ) → take (length (take count who
 front_of_all count whole = ap (λ (n : ℕ). take n whole) (length-take count whole) ∙ take_min count whole
 
 -- where some are put, the place of the first of both: the first of the two
-first_is : (owed put : List ℕ) (start place : ℕ) → (owed ≡ [] → start ≡ place) → 0 < length put → first_of_both owed start put place ≡ min start place
+pub first_is : (owed put : List ℕ) (start place : ℕ) → (owed ≡ [] → start ≡ place) → 0 < length put → first_of_both owed start put place ≡ min start place
 first_is [] put start place rests some = omega (arith, rests refl)
 first_is (byte ∷ more) [] start place rests some = absurd (omega (arith, some))
 first_is (byte ∷ more) (next ∷ others) start place rests some = refl
@@ -174,7 +174,7 @@ pending_length : (window : WindowView) → IsWindow window → length (pending_o
 pending_length window is = length-take-le (window.to - window.from) (drop window.from window.held) (omega (arith, length-drop window.from window.held, is.within))
 
 -- where none is pending, their empty range stands at the cursor
-none_rests : (window : WindowView) → IsWindow window → pending_of window ≡ [] → window.begin + window.from ≡ place_of window
+pub none_rests : (window : WindowView) → IsWindow window → pending_of window ≡ [] → window.begin + window.from ≡ place_of window
 none_rests window is none = omega (arith, is.rests, is.ordered, pending_length window is, ap length none)
 
 -- what is owed up to the place ends at the cursor

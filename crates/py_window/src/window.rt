@@ -20,7 +20,8 @@ pub enum Filled {
 }
 
 /// A part of the stream's bytes, at the front of one buffer. `begin` is the place of its first byte, and `end` tells how many it
-/// holds; the bytes from `from` up to `to` are pending. Where none are, both stand at the cursor.
+/// holds; the bytes from `from` up to `to` are pending. Where none are, both stand at the cursor. `sought` tells that it was put where
+/// it is by a seek, and that nothing has come there since.
 #[derive(Drop)]
 pub struct Window {
     buffer: Vec<u8>,
@@ -29,6 +30,7 @@ pub struct Window {
     cursor: usize,
     from: usize,
     to: usize,
+    sought: bool,
 }
 
 impl Model for Window {
@@ -85,6 +87,7 @@ impl Window {
             cursor: 0,
             from: 0,
             to: 0,
+            sought: false,
         }
     }
 
@@ -211,6 +214,15 @@ impl Window {
         self.to = 0;
     }
 
+    /// Goes to a place by a seek: lets go of what is held, and stands there. The first transfer there asks for no more than a call wants.
+    pub fn seek_to(&mut self, place: u64)
+        requires { place ≤ greatest_place }
+        ensures { self.new ≡ emptied_at place self.old }
+    {
+        self.restart_at(place);
+        self.sought = true;
+    }
+
     /// How many bytes have room at the cursor, once all is let go of that needn't stay.
     pub fn room(&self) -> usize
         ensures room { result ≡ room_of self.now }
@@ -326,6 +338,7 @@ impl Window {
             cursor: _,
             from,
             to,
+            sought: _,
         } = self;
         let mut buffer = buffer;
         buffer.copy_within(from..to, 0);

@@ -8,6 +8,7 @@ ghost use Rattle.py_window.specs.Window.{ahead_of};
 ghost use Rattle.py_engine.specs.Engine.{stream_of};
 
 use super::BufferedData;
+use py_lines::line_end;
 use py_raw::{IoFault, Lines, RawStream};
 use py_stream::{read_line, read_lines};
 use std::alloc::Global;
@@ -86,10 +87,20 @@ impl<R: RawStream> BufferedData<R> {
         requires reads { is_read self.old.access ≡ true }
         ensures { Answers (stream_of self.old) (ReadLine limit) (bytes_reply result) (stream_of self.new) }
     {
+        let _ = &self.live;
+        self.begin()?;
+        // A line that ends among the bytes held is looked for once, and takes its memory at once.
+        if let Some(used) = line_end(self.window.ahead(), limit) {
+            let line = self.give(alloc, used)?;
+            return Ok(Some(line));
+        }
         if self.is_ahead() {
             return read_line(self, alloc, limit);
         }
-        self.readline_among(alloc, limit)
+        if !self.go_ahead()? {
+            return Ok(None);
+        }
+        read_line(self, alloc, limit)
     }
 
     /// Reads lines until their total is above the hint, or all.

@@ -11,6 +11,9 @@ use py_raw::{IoFault, RawStream};
 use py_stream::{ReadsOn, Step, Stop};
 use py_window::Filled;
 
+/// How many bytes are asked for after a seek, for a line of which nothing is known.
+const GUESSED_LINE: usize = 512;
+
 impl<R: RawStream> ReadsOn for BufferedData<R> {
     ghost shows = { reading_of };
 
@@ -36,7 +39,7 @@ impl<R: RawStream> ReadsOn for BufferedData<R> {
                 Ok(Collected::All) => {}
                 Err(_) => return Err(self.starve(moved)),
             }
-            match self.fill(moved)? {
+            match self.fill(GUESSED_LINE, moved)? {
                 Filled::More(_) => moved = true,
                 Filled::End => return Ok(Stop::End),
                 Filled::Waits => return Ok(Stop::Waits),

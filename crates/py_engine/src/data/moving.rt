@@ -61,7 +61,7 @@ impl<R: RawStream> Moves for BufferedData<R> {
 
     fn go_to(&mut self, target: u64) -> Result<(), IoFault> {
         self.live.seek(target)?;
-        self.window.restart_at(target);
+        self.window.seek_to(target);
         self.raw_place = target;
         Ok(())
     }

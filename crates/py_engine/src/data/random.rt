@@ -1,7 +1,7 @@
 //! Readings of a stream that is read and written, where it owes bytes, or its raw doesn't stand after those held.
 ghost use Rattle.std.specs.Prelude.{◌≡◌, ◌<◌, ◌≤◌, Some, None, true, false, [], length, take};
 ghost use Rattle.py_flat.specs.declared.life.Life.TheVariants.{Live};
-ghost use Rattle.py_flat.specs.Calls.{Read, Read1, ReadLine, ReadLines, Peek, ReadInto, ReadInto1};
+ghost use Rattle.py_flat.specs.Calls.{Read, Read1, ReadLines, Peek, ReadInto, ReadInto1};
 ghost use Rattle.py_stream.specs.Access.{is_read};
 ghost use Rattle.py_stream.specs.Answers.{Answers, IsAhead};
 ghost use Rattle.py_stream.specs.Replies.{bytes_reply, into_reply, lines_reply, look_reply, CountFits, KeepsBuffer, KeepsUnread};
@@ -11,9 +11,9 @@ ghost use Rattle.py_engine.specs.Reading.{IsReading};
 ghost use Rattle.py_engine.specs.Random.{GoesAhead, LinesIn};
 
 use super::BufferedData;
-use py_lines::{Collected, Collector, LineCollector, LinesCollector};
+use py_lines::{Collected, Collector, LinesCollector};
 use py_raw::{IoFault, Lines, RawStream};
-use py_stream::{Access, read_line, read_lines};
+use py_stream::{Access, read_lines};
 use std::alloc::{AllocError, Global};
 
 /// The lines at the front of a piece that are above the hint, and how many bytes they have; `None` where the piece doesn't have them.
@@ -51,7 +51,7 @@ impl<R: RawStream> BufferedData<R> {
 
     /// Passes on all that is owed, so that a reading goes on from the bytes held. False where the raw would have blocked, which is
     /// remembered.
-    fn go_ahead(&mut self) -> Result<bool, IoFault>
+    pub(super) fn go_ahead(&mut self) -> Result<bool, IoFault>
         requires live { self.old.life ≡ Live }
         requires whole { self.old.short ≡ false }
         requires update { self.old.access ≡ Access.Update }
@@ -238,31 +238,5 @@ impl<R: RawStream> BufferedData<R> {
             return Ok(false);
         }
         self.look_ahead()
-    }
-
-    /// Reads a line, of at most so many bytes.
-    pub(super) fn readline_among(
-        &mut self,
-        alloc: Global,
-        limit: Option<usize>,
-    ) -> Result<Option<Vec<u8>>, IoFault>
-        requires update { self.old.access ≡ Access.Update }
-        requires not { IsAhead (stream_of self.old) → ⊥ }
-        ensures { Answers (stream_of self.old) (ReadLine limit) (bytes_reply result) (stream_of self.new) }
-    {
-        let _ = &self.live;
-        self.begin()?;
-        if limit == Some(0) {
-            return Ok(Some(Vec::new(alloc)));
-        }
-        let collector = LineCollector::new(alloc, limit);
-        if let Some(used) = collector.end_in(self.window.ahead()) {
-            let line = self.give(alloc, used)?;
-            return Ok(Some(line));
-        }
-        if !self.go_ahead()? {
-            return Ok(None);
-        }
-        read_line(self, alloc, limit)
     }
 }

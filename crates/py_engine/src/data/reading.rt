@@ -134,7 +134,7 @@ impl<R: RawStream> BufferedData<R> {
         ensures length { length rest.new ≡ length rest.old }
         ensures reads { IsReading self.new }
     {
-        let filled = self.fill(moved)?;
+        let filled = self.fill(rest.len(), moved)?;
         let count = self.copy_ahead(rest);
         if count == rest.len() {
             self.window.advance(count);

@@ -32,7 +32,7 @@ impl<R: RawStream> BufferedData<R> {
         if size == 0 {
             return Ok(Some(Vec::new(alloc)));
         }
-        let stop = self.ready()?;
+        let stop = self.ready(size)?;
         if !self.answers(stop, true) {
             return Ok(None);
         }
@@ -54,7 +54,7 @@ impl<R: RawStream> BufferedData<R> {
         if buffer.is_empty() {
             return Ok(Some(0));
         }
-        let stop = self.ready()?;
+        let stop = self.ready(buffer.len())?;
         if !self.answers(stop, true) {
             return Ok(None);
         }
@@ -71,20 +71,22 @@ impl<R: RawStream> BufferedData<R> {
     {
         let _ = &self.live;
         self.begin()?;
-        let stop = self.ready()?;
+        let size = self.window.size();
+        let stop = self.ready(size)?;
         Ok(self.answers(stop, true))
     }
 
-    /// Sees to it that some bytes are held, by one transfer where none are.
-    fn ready(&mut self) -> Result<Stop, IoFault>
+    /// Sees to it that some bytes are held, by one transfer where none are, for a call that wants n.
+    fn ready(&mut self, wanted: usize) -> Result<Stop, IoFault>
         requires live { self.old.life ≡ Live }
         requires reads { IsReading self.old }
+        requires wants { 0 < wanted }
         ensures { ReadyOutcome self.old result self.new }
     {
         if !self.window.is_used_up() {
             return Ok(Stop::Enough);
         }
-        match self.fill(false)? {
+        match self.fill(wanted, false)? {
             Filled::More(_) => Ok(Stop::Enough),
             Filled::End => Ok(Stop::End),
             Filled::Waits => Ok(Stop::Waits),

@@ -4,7 +4,7 @@ ghost use Rattle.py_flat.specs.Limits.{greatest_place};
 ghost use Rattle.py_flat.specs.Calls.{Write, WriteLines};
 ghost use Rattle.py_stream.specs.Answers.{Answers};
 ghost use Rattle.py_stream.specs.Replies.{count_reply, done_reply};
-ghost use Rattle.py_stream.specs.Taking.{Took, PutOutcome};
+ghost use Rattle.py_stream.specs.Taking.{Took, KeepsWhatFits, PutOutcome};
 ghost use Rattle.py_window.specs.Window.{place_of, pending_of};
 ghost use Rattle.py_engine.specs.Engine.{stream_of, IsBehind};
 ghost use Rattle.py_engine.specs.Passing.{room_behind, HandOnOutcome, FitOutcome, StopOutcome};
@@ -85,6 +85,7 @@ impl<R: RawStream> BufferedData<R> {
         requires start { start ≤ place_of self.old.window }
         requires within { place_of self.old.window + length bytes.now ≤ greatest_place }
         ensures outcome { PutOutcome (stream_of self.old) bytes.now start result (stream_of self.new) }
+        ensures room { KeepsWhatFits (stream_of self.old) bytes.now result (stream_of self.new) }
         ensures writes { IsBehind self.new }
     {
         if bytes.len() <= self.window.room() {

@@ -8,22 +8,25 @@ use super::{Filled, Window};
 use py_raw::{IoFault, RawStream};
 use py_stream::LiveRaw;
 
-/// One transfer of a raw that stands at a place, into the front of a buffer. `moved` tells whether bytes had moved in this call.
+/// One transfer of a raw that stands at a place, which asks for n bytes, into the front of a buffer. `moved` tells whether bytes had
+/// moved in this call.
 fn transfer<R: RawStream>(
     live: &mut LiveRaw<R>,
     buffer: &mut [u8],
+    asked: usize,
     place: u64,
     moved: bool,
 ) -> Result<Filled, IoFault>
     requires open { live.old.raw.closed ≡ false }
-    requires asks { 0 < length buffer.old }
+    requires asks { 0 < asked }
+    requires room { asked ≤ length buffer.old }
     requires within { place ≤ greatest_place }
     ensures keeps { Keeps live.old.raw live.new.raw }
     ensures open { StaysOpen live.old.raw live.new.raw }
     ensures outcome { TransferOutcome live.old moved place buffer.old result buffer.new live.new }
     ensures length { length buffer.new ≡ length buffer.old }
 {
-    match live.transfer(buffer, place, moved) {
+    match live.transfer(&mut buffer[..asked], place, moved) {
         Ok(Some(0)) => Ok(Filled::End),
         Ok(Some(count)) => Ok(Filled::More(count)),
         Ok(None) => Ok(Filled::Waits),
@@ -32,21 +35,36 @@ fn transfer<R: RawStream>(
 }
 
 impl Window {
-    /// Lets go of what is held, and fills the buffer by one transfer of a raw that stands after it.
+    /// How many bytes a transfer asks for, for a call that wants n: as many as the buffer holds, but the first after a seek no more than n.
+    fn asked(&self, wanted: usize) -> usize
+        requires { 0 < wanted }
+        ensures some { 0 < result }
+        ensures within { result ≤ self.now.size }
+    {
+        let size = self.buffer.len();
+        if self.sought { wanted.min(size) } else { size }
+    }
+
+    /// Lets go of what is held, and fills the buffer by one transfer of a raw that stands after it, for a call that wants n bytes: the
+    /// first transfer after a seek asks for no more, since the next call may go elsewhere.
     pub fn fill<R: RawStream>(
         &mut self,
         live: &mut LiveRaw<R>,
+        wanted: usize,
         moved: bool,
     ) -> Result<Filled, IoFault>
         requires open { live.old.raw.closed ≡ false }
+        requires wants { 0 < wanted }
         ensures keeps { Keeps live.old.raw live.new.raw }
         ensures open { StaysOpen live.old.raw live.new.raw }
         ensures outcome { FillOutcome live.old moved self.old result live.new self.new }
     {
         let place = self.end_place();
-        let filled = transfer(live, self.buffer.as_mut_slice(), place, moved);
+        let asked = self.asked(wanted);
+        let filled = transfer(live, self.buffer.as_mut_slice(), asked, place, moved);
         match filled {
             Ok(Filled::More(count)) => {
+                self.sought = false;
                 self.begin = place;
                 self.end = count;
                 self.cursor = 0;
@@ -75,7 +93,8 @@ impl Window {
         ensures length { length buffer.new ≡ length buffer.old }
     {
         let place = self.end_place();
-        let filled = transfer(live, buffer, place, moved);
+        let asked = buffer.len();
+        let filled = transfer(live, buffer, asked, place, moved);
         match filled {
             Ok(Filled::More(count)) => self.restart_at(place + count as u64),
             Err(IoFault::NoMemory) => {}

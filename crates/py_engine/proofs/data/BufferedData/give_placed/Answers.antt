@@ -1,4 +1,5 @@
 use Rattle.std.proofs.Common.{◌≡◌, ◌<◌, Bool, ℕ, List, length, take, true, false, Ok, Err, sym, subst, arith}
+use Rattle.std.proofs.lemmas.Result.{err_from_is_err_and}
 use Rattle.py_flat.specs.declared.fault.IoFault.TheVariants as fault
 use Rattle.py_flat.specs.BinaryStep.{payload}
 use Rattle.py_stream.specs.Held.{KeepsBoth}
@@ -6,7 +7,7 @@ use Rattle.py_stream.specs.Writing.{IsFull}
 use Rattle.py_window.specs.Window.{room_of}
 use Rattle.py_engine.specs.Engine.{EngineView, stream_of, Stands}
 use Rattle.py_engine.specs.RandomWriting.{GoesBehind, GivesOutcome, call_of}
-use Rattle.py_engine.proofs.RandomWriting.{NoRoom, given_none, given_fit, given_behind, given_late, given_some}
+use Rattle.py_engine.proofs.RandomWriting.{NoRoom, given_none, given_fit, given_behind, given_stopped, given_late, given_some}
 use Rattle.py_engine.proofs.data.BufferedData.give_placed.Goals as goal
 
 pub returns-then-count-eq0-clause-outcome : goal.returns-then-count-eq0-clause-outcome
@@ -22,7 +23,12 @@ returns-then-has_room-clause-outcome g c =
 pub returns-then-branch-clause-outcome : goal.returns-then-branch-clause-outcome
 returns-then-branch-clause-outcome g c =
     let goes : GoesBehind c.args.self.now (Ok true) c.go_behind.new.self = subst (λ (done : Bool). GoesBehind c.args.self.now (Ok done) c.go_behind.new.self) c.if-branch.true c.in_ok-go_behind.ensures.outcome in
-    given_behind c.args.self.now c.args.given (subst Stands c.self.view_is c.self.invariant) c.requires.update c.requires.live c.requires.whole (omega (arith, c.requires.within, c.requires.count)) c.go_behind.new.self goes
+    given_behind c.args.self.now c.args.given (subst Stands c.self.view_is c.self.invariant) c.requires.update c.requires.live c.requires.whole (omega (arith, c.requires.within, c.requires.count)) c.go_behind.new.self (subst (NoRoom c.args.self.now) c.requires.count (c.has_room.ensures.none c.if-has_room.false)) goes
+
+pub returns-in_err-go_behind-clause-outcome : goal.returns-in_err-go_behind-clause-outcome
+returns-in_err-go_behind-clause-outcome g c =
+    let left = err_from_is_err_and c.from_residual.result c.from_residual.ensures.1 in
+    rw (left.1, left.2) (given_stopped c.args.self.now c.args.given (subst Stands c.self.view_is c.self.invariant) c.requires.update c.requires.live c.requires.whole (omega (arith, c.requires.within, c.requires.count)) c.go_behind.new.self c.in_err-go_behind.field-0.0 (subst (NoRoom c.args.self.now) c.requires.count (c.has_room.ensures.none c.if-has_room.false)) c.in_err-go_behind.ensures.outcome)
 
 pub returns-then-count-room-clause-outcome : goal.returns-then-count-room-clause-outcome
 returns-then-count-room-clause-outcome g c =
@@ -49,5 +55,5 @@ returns-clause-outcome g c =
     rw c.note_wait.ensures
     (subst (λ (engine : EngineView). GivesOutcome old c.args.given (Err (fault.WouldBlock c.keep_over-room.result)) (record engine { short = true })) (sym c.self-3.view_is)
     (subst (λ (taken : ℕ). GivesOutcome old c.args.given (Err (fault.WouldBlock taken)) (record new { short = true })) (sym room)
-    (given_some old c.args.given (subst Stands c.self.view_is c.self.invariant) c.requires.update c.requires.live c.requires.whole (omega (arith, c.requires.within, c.requires.count)) mid new waits keeps
+    (given_some old c.args.given (subst Stands c.self.view_is c.self.invariant) c.requires.update c.requires.live c.requires.whole (omega (arith, c.requires.within, c.requires.count)) mid new waits keeps (subst (NoRoom old) c.requires.count (c.has_room.ensures.none c.if-has_room.false))
     ((subst Stands c.self-2.view_is c.self-2.invariant).window_is) less full)))

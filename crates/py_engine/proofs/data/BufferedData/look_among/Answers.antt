@@ -1,7 +1,8 @@
-use Rattle.std.proofs.Common.{refl, subst}
+use Rattle.std.proofs.Common.{refl, ap, subst}
 use Rattle.std.proofs.lemmas.Result.{err_from_is_err_and}
 use Rattle.py_flat.specs.Calls.{Peek}
 use Rattle.py_window.specs.Window.{ahead_of}
+use Rattle.py_stream.specs.Access.{is_read}
 use Rattle.py_stream.specs.Replies.{look_reply}
 use Rattle.py_engine.specs.Engine.{Stands}
 use Rattle.py_engine.proofs.Random.{begins_not, went_not, went_unready, went_on, held_shown, look_goes}
@@ -13,7 +14,7 @@ returns-in_err-begin g c =
     rw (left.1, left.2) (begins_not c.args.self.now c.begin.new.self Peek c.in_err-begin.field-0.0 refl (subst Stands c.self.view_is c.self.invariant) c.in_err-begin.ensures)
 
 pub returns-then-gives_at_once : goal.returns-then-gives_at_once
-returns-then-gives_at_once g c = held_shown c.args.self.now c.begin.new.self (subst Stands c.self.view_is c.self.invariant) c.requires.update c.in_ok-begin.ensures (c.gives_at_once.ensures.yes c.if-gives_at_once.true).0
+returns-then-gives_at_once g c = held_shown c.args.self.now c.begin.new.self (subst Stands c.self.view_is c.self.invariant) (ap is_read c.requires.update) c.in_ok-begin.ensures (c.gives_at_once.ensures.yes c.if-gives_at_once.true).0 (c.gives_at_once.ensures.yes c.if-gives_at_once.true).1
 
 pub returns-in_err-go_ahead : goal.returns-in_err-go_ahead
 returns-in_err-go_ahead g c =

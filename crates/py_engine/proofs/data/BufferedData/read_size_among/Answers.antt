@@ -1,6 +1,7 @@
 use Rattle.std.proofs.Common.{◌<◌, length, Some, refl, ap, subst, arith}
 use Rattle.std.proofs.lemmas.Result.{err_from_is_err_and}
 use Rattle.py_flat.specs.Calls.{Read}
+use Rattle.py_stream.specs.Access.{is_read}
 use Rattle.py_stream.specs.Replies.{bytes_reply}
 use Rattle.py_window.specs.Window.{ahead_of}
 use Rattle.py_engine.specs.Engine.{EngineView, Stands}
@@ -13,10 +14,10 @@ returns-in_err-begin g c =
     rw (left.1, left.2) (begins_not c.args.self.now c.begin.new.self (Read (Some c.args.size)) c.in_err-begin.field-0.0 refl (subst Stands c.self.view_is c.self.invariant) c.in_err-begin.ensures)
 
 pub returns-then-size-ahead : goal.returns-then-size-ahead
-returns-then-size-ahead g c = size_held c.args.self.now c.begin.new.self (subst Stands c.self.view_is c.self.invariant) c.requires.update c.in_ok-begin.ensures c.give.new.self c.args.size c.in_ok-bytes.bytes.items (omega (arith, c.if-size-ahead.true, ap length c.ahead.ensures, ap (λ (engine : EngineView). length (ahead_of engine.window)) c.self-2.view_is)) c.in_ok-bytes.ensures.0 c.in_ok-bytes.ensures.1
+returns-then-size-ahead g c = size_held c.args.self.now c.begin.new.self (subst Stands c.self.view_is c.self.invariant) (ap is_read c.requires.update) c.in_ok-begin.ensures c.give.new.self c.args.size c.in_ok-bytes.bytes.items (omega (arith, c.if-size-ahead.true, ap length c.ahead.ensures, ap (λ (engine : EngineView). length (ahead_of engine.window)) c.self-2.view_is)) c.in_ok-bytes.ensures.0 c.in_ok-bytes.ensures.1
 
 pub returns-in_default : goal.returns-in_default
-returns-in_default g c = lacks c.args.self.now c.begin.new.self (subst Stands c.self.view_is c.self.invariant) c.requires.update c.in_ok-begin.ensures (Read (Some c.args.size)) refl refl
+returns-in_default g c = lacks c.args.self.now c.begin.new.self (subst Stands c.self.view_is c.self.invariant) (ap is_read c.requires.update) c.in_ok-begin.ensures (Read (Some c.args.size)) refl refl
 
 pub returns-in_err-go_ahead : goal.returns-in_err-go_ahead
 returns-in_err-go_ahead g c =
@@ -42,4 +43,4 @@ returns g c =
 pub returns-in_err-bytes : goal.returns-in_err-bytes
 returns-in_err-bytes g c =
     let left = err_from_is_err_and c.from_residual-in_err-bytes.result c.from_residual-in_err-bytes.ensures.1 in
-    rw (left.1, left.2, c.in_err-bytes.ensures.0, c.in_err-bytes.ensures.1) (lacks c.args.self.now c.begin.new.self (subst Stands c.self.view_is c.self.invariant) c.requires.update c.in_ok-begin.ensures (Read (Some c.args.size)) refl refl)
+    rw (left.1, left.2, c.in_err-bytes.ensures.0, c.in_err-bytes.ensures.1) (lacks c.args.self.now c.begin.new.self (subst Stands c.self.view_is c.self.invariant) (ap is_read c.requires.update) c.in_ok-begin.ensures (Read (Some c.args.size)) refl refl)

@@ -1,6 +1,7 @@
 use Rattle.std.proofs.Common.{◌≡◌, rules, length, refl, ap, subst}
 use Rattle.std.proofs.lemmas.Result.{err_from_is_err_and}
 use Rattle.py_flat.specs.Calls.{ReadInto1}
+use Rattle.py_stream.specs.Access.{is_read}
 use Rattle.py_stream.specs.Kinds.{is_zero}
 use Rattle.py_stream.specs.Replies.{into_reply}
 use Rattle.py_engine.specs.Engine.{Stands}
@@ -13,7 +14,7 @@ returns-in_err-begin-clause-answers g c =
     rw (left.1, left.2) (begins_not c.args.self.now c.begin.new.self (ReadInto1 (length c.args.buffer.now)) c.in_err-begin.field-0.0 refl (subst Stands c.self.view_is c.self.invariant) c.in_err-begin.ensures)
 
 pub returns-then-gives_at_once-clause-answers : goal.returns-then-gives_at_once-clause-answers
-returns-then-gives_at_once-clause-answers g c = once_copied c.args.self.now c.begin.new.self (subst Stands c.self.view_is c.self.invariant) c.requires.update c.in_ok-begin.ensures c.step_on.new.self (length c.args.buffer.now) c.copy_ahead-count.result c.copy_ahead-count.new.buffer (search rules) (c.gives_at_once.ensures.yes c.if-gives_at_once.true).0 c.copy_ahead-count.ensures.count c.copy_ahead-count.ensures.length c.copy_ahead-count.ensures.front c.step_on.ensures
+returns-then-gives_at_once-clause-answers g c = once_copied c.args.self.now c.begin.new.self (subst Stands c.self.view_is c.self.invariant) (ap is_read c.requires.update) c.in_ok-begin.ensures c.step_on.new.self (length c.args.buffer.now) c.copy_ahead-count.result c.copy_ahead-count.new.buffer (search rules) (c.gives_at_once.ensures.yes c.if-gives_at_once.true) c.copy_ahead-count.ensures.count c.copy_ahead-count.ensures.length c.copy_ahead-count.ensures.front c.step_on.ensures
 
 pub returns-in_err-go_ahead-clause-answers : goal.returns-in_err-go_ahead-clause-answers
 returns-in_err-go_ahead-clause-answers g c =
@@ -31,4 +32,4 @@ returns-clause-answers g c =
 pub returns-then-is_empty-clause-answers : goal.returns-then-is_empty-clause-answers
 returns-then-is_empty-clause-answers g c =
     let none : length c.args.buffer.now ≡ 0 = search rules in
-    asks_nothing c.args.self.now c.begin.new.self (subst Stands c.self.view_is c.self.invariant) c.requires.update c.in_ok-begin.ensures (ReadInto1 (length c.args.buffer.now)) (ap is_zero none)
+    asks_nothing c.args.self.now c.begin.new.self (subst Stands c.self.view_is c.self.invariant) (ap is_read c.requires.update) c.in_ok-begin.ensures (ReadInto1 (length c.args.buffer.now)) (ap is_zero none)

@@ -2,6 +2,7 @@ use Rattle.std.proofs.Common.{◌<◌, length, refl, ap, subst, arith}
 use Rattle.std.proofs.lemmas.Result.{err_from_is_err_and}
 use Rattle.py_flat.specs.Calls.{ReadInto}
 use Rattle.py_window.specs.Window.{ahead_of}
+use Rattle.py_stream.specs.Access.{is_read}
 use Rattle.py_stream.specs.Replies.{into_reply}
 use Rattle.py_engine.specs.Engine.{EngineView, Stands}
 use Rattle.py_engine.proofs.Random.{begins_not, went_not, went_unready, went_on, stands_begun, into_goes, into_held}
@@ -13,7 +14,7 @@ returns-in_err-begin-clause-answers g c =
     rw (left.1, left.2) (begins_not c.args.self.now c.begin.new.self (ReadInto (length c.args.buffer.now)) c.in_err-begin.field-0.0 refl (subst Stands c.self.view_is c.self.invariant) c.in_err-begin.ensures)
 
 pub returns-then-buffer-ahead-clause-answers : goal.returns-then-buffer-ahead-clause-answers
-returns-then-buffer-ahead-clause-answers g c = into_held c.args.self.now c.begin.new.self (subst Stands c.self.view_is c.self.invariant) c.requires.update c.in_ok-begin.ensures c.step_on.new.self (length c.args.buffer.now) c.copy_ahead-count.result c.copy_ahead-count.new.buffer (omega (arith, c.if-buffer-ahead.true, ap length c.ahead.ensures, ap (λ (engine : EngineView). length (ahead_of engine.window)) c.self-2.view_is)) c.copy_ahead-count.ensures.count c.copy_ahead-count.ensures.front c.step_on.ensures
+returns-then-buffer-ahead-clause-answers g c = into_held c.args.self.now c.begin.new.self (subst Stands c.self.view_is c.self.invariant) (ap is_read c.requires.update) c.in_ok-begin.ensures c.step_on.new.self (length c.args.buffer.now) c.copy_ahead-count.result c.copy_ahead-count.new.buffer (omega (arith, c.if-buffer-ahead.true, ap length c.ahead.ensures, ap (λ (engine : EngineView). length (ahead_of engine.window)) c.self-2.view_is)) c.copy_ahead-count.ensures.count c.copy_ahead-count.ensures.front c.step_on.ensures
 
 pub returns-in_err-go_ahead-clause-answers : goal.returns-in_err-go_ahead-clause-answers
 returns-in_err-go_ahead-clause-answers g c =
