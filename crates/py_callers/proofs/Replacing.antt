@@ -26,10 +26,10 @@ item_given (Some (Character character length)) place rest = refl
 item_given (Some (Malformed length)) place rest = refl
 item_given (Some (Cut length)) place rest = refl
 
-onto_through : (place : ℕ) (first : FirstItem) (walk : Walk) → gives first ≡ true → is_through walk.ending ≡ true → is_through (onto_walk place first walk).ending ≡ true
-onto_through place (Given characters used) walk given through = through
-onto_through place (RefusedRange length) walk given through = cc
-onto_through place Unfinished walk given through = refl
+onto_through : (order : Order) (place : ℕ) (first : FirstItem) (walk : Walk) → gives first ≡ true → is_through walk.ending ≡ true → is_through (onto_walk order place first walk).ending ≡ true
+onto_through order place (Given characters used) walk given through = through
+onto_through order place (RefusedRange length) walk given through = cc
+onto_through order place Unfinished walk given through = refl
 
 replacing_ends : (order : Order) (place skip : ℕ) (bytes : List ℕ) → is_through (walk_from Utf8 (treatment Replace Utf8) true order place skip bytes).ending ≡ true
 replacing_ends order place skip [] = refl
@@ -37,7 +37,7 @@ replacing_ends order place (suc skip) (byte ∷ rest) = replacing_ends order (pl
 replacing_ends order place zero (byte ∷ rest) =
     let unit : Option First = first_unit Utf8 order (nat_eq place 0) (byte ∷ rest) in
     let first : FirstItem = item_of (treatment Replace Utf8) true place (byte ∷ rest) unit in
-    onto_through place first (walk_from Utf8 (treatment Replace Utf8) true (order_after Utf8 order unit) (place + 1) (used_behind first) rest) (item_given unit place (byte ∷ rest)) (replacing_ends (order_after Utf8 order unit) (place + 1) (used_behind first) rest)
+    onto_through order place first (walk_from Utf8 (treatment Replace Utf8) true (order_after Utf8 order unit) (place + 1) (used_behind first) rest) (item_given unit place (byte ∷ rest)) (replacing_ends (order_after Utf8 order unit) (place + 1) (used_behind first) rest)
 
 -- what a walk in which nothing was refused answers is no refusal
 through_refuses_nothing : (characters : List ℕ) (total : ℕ) (refusal : (start end : ℕ) → IoFault) (ending : Ending) (why : IoFault) → is_through ending ≡ true → ended characters total refusal ending ≡ Err why → ⊥

@@ -1,8 +1,8 @@
 -- A session's calls and replies as the models see them.
 use Rattle.py_flat.specs.Calls.{FileCall, FileReply, Bytes, Text, Lines, Count, Place, Done, NotReady, Flag, Name, Unwritten, Refused}
 use Rattle.py_flat.specs.Calls as file
-use Rattle.py_plain.specs.TextStep as plain
-use Rattle.py_plain.specs.TextStep.{TextCall}
+use Rattle.py_plain_text.specs.TextStep as plain
+use Rattle.py_plain_text.specs.TextStep.{TextCall}
 use Rattle.py_calls.specs.declared.call.Call.{Call}
 use Rattle.py_calls.specs.declared.call.Call.TheVariants as call
 use Rattle.py_calls.specs.declared.reply.Reply.{Reply}

@@ -7,7 +7,8 @@ use crate::session_case::SessionCase;
 use anyhow::Result;
 use py_flat::{IoFault, Life};
 use py_open::{Call, Detached, Reply};
-use py_plain::{Newlines, PlainText};
+use py_plain::Newlines;
+use py_plain_text::PlainText;
 use py_raw::RawStream;
 use py_raw_memory::{Cut, MemRaw};
 use py_stream::NewRefused;
@@ -158,7 +159,7 @@ fn holds_both(plain: &Plain) -> bool {
 fn plain_of(alloc: Global, case: &SessionCase<'_>) -> Result<Plain> {
     let bytes = Vec::from_slice(alloc, case.bytes.as_slice())?;
     if !case.mode.contains('b') {
-        return Ok(Plain::Text(PlainText::new(bytes, Newlines::Lf)));
+        return Ok(Plain::Text(plain::utf8_text(bytes, Newlines::Lf)));
     }
     let appends = case.mode.contains('a');
     Ok(Plain::Bytes(Flat {

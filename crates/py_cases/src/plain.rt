@@ -6,17 +6,28 @@ use crate::report::Report;
 use anyhow::Result;
 use py_flat::IoFault;
 use py_open::{Call, Reply};
-use py_plain::{Encoding, Newlines, PlainText, Unit, first_line, first_unit};
+use py_plain::{Encoding, Handler, Newlines, Unit, first_line, first_unit};
+use py_plain_text::{PlainSettings, PlainText};
 use std::alloc::Global;
+
+/// A plain text in UTF-8, of which no refused range is passed.
+pub(crate) fn utf8_text(bytes: Vec<u8>, newline: Newlines) -> PlainText {
+    let settings = PlainSettings {
+        encoding: Encoding::Utf8,
+        handler: Handler::Strict,
+        newline,
+    };
+    PlainText::new(bytes, settings)
+}
 
 /// Runs calls on a plain text: `text rule hex` makes it, and each line after `>` is a call.
 pub(crate) fn run_plain_block(block: &Block<'_>, report: &mut Report) -> Result<()> {
     let alloc = report.alloc;
-    let mut text = PlainText::new(Vec::new(alloc), Newlines::Universal);
+    let mut text = utf8_text(Vec::new(alloc), Newlines::Universal);
     for line in &block.lines {
         match (line.word, line.rest.split_once(' ')) {
             ("text", Some((rule, bytes))) => {
-                text = PlainText::new(line.bytes(alloc, bytes)?, rule_of(line, rule)?);
+                text = utf8_text(line.bytes(alloc, bytes)?, rule_of(line, rule)?);
             }
             (">", _) => match parse_call(alloc, line.rest)? {
                 Some(call) => report.reply(&answer(alloc, &mut text, &call), false)?,

@@ -46,7 +46,8 @@ count-encode : (c : ℕ) → count_by is_char_start (encode c) ≡ 1
 unfolding encode
 count-encode c = count-cases c (ltb c 128) (ltb c 2048) (ltb c 65536) refl
 
-count-encodes : (cs : List ℕ) → count_by is_char_start (encode_utf8_all cs) ≡ length cs
+-- the bytes of characters have as many that begin one
+pub count-encodes : (cs : List ℕ) → count_by is_char_start (encode_utf8_all cs) ≡ length cs
 count-encodes [] = refl
 count-encodes (c ∷ cs) =
     let step = sum_by-append (λ x. cond (is_char_start x) 1 0) (encode c) (encode_utf8_all cs) in

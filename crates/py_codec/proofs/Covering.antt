@@ -13,7 +13,7 @@ use Rattle.py_plain.specs.Units.{Order, Unknown, first_unit}
 use Rattle.py_plain.specs.UnitLaws.{IsWithin}
 use Rattle.py_plain.specs.Handlers.{Treatment, Handled, Replaced, Refuses, spelled_number, number_length, three_bytes, two_bytes, is_surrogate, passed, treatment, reads_texts}
 use Rattle.py_plain.specs.Escapes.{surrogate_pass}
-use Rattle.py_plain.specs.Items.{FirstItem, Given, RefusedRange, Unfinished, item_handled, item_of, first_item, used_behind, Ending, AtEnd, AtRange, AtCut, Walk, onto_walk, walk_from}
+use Rattle.py_plain.specs.Items.{FirstItem, Given, RefusedRange, Unfinished, item_handled, item_of, first_item, used_behind, Ending, AtEnd, AtRange, AtCut, Walk, ends, onto_walk, walk_from}
 use Rattle.py_plain.proofs.AnyUnits.{unit_within_any}
 use Rattle.py_plain.proofs.Looking.{reading, using}
 use Rattle.py_codec.specs.declared.handler_ref.HandlerRef.{HandlerRef}
@@ -114,13 +114,13 @@ pub record Covers (bytes : List ℕ) (from : ℕ) (walk : Walk) : Type 0 where
   pub past : from ≤ came_past bytes walk.ending
   pub covered : bytes_of_items 0 bytes walk.items ≡ take (came_past bytes walk.ending - from) (drop from bytes)
 
-covers_none : (bytes : List ℕ) (from : ℕ) (ending : Ending) → came_past bytes ending ≡ from → Covers bytes from (record { items = []; ending = ending })
-covers_none bytes from ending here =
+covers_none : (bytes : List ℕ) (from : ℕ) (order : Order) (ending : Ending) → came_past bytes ending ≡ from → Covers bytes from (ends order ending)
+covers_none bytes from order ending here =
     let none : 0 ≡ came_past bytes ending - from = omega (arith, here) in
     record { past = omega (arith, here); covered = ap (λ (k : ℕ). take k (drop from bytes)) none }
 
-covers_given : (bytes : List ℕ) (place used : ℕ) (characters : List ℕ) (walk : Walk) → Covers bytes (place + used) walk → Covers bytes place (onto_walk place (Given characters used) walk)
-covers_given bytes place used characters walk behind =
+covers_given : (order : Order) (bytes : List ℕ) (place used : ℕ) (characters : List ℕ) (walk : Walk) → Covers bytes (place + used) walk → Covers bytes place (onto_walk order place (Given characters used) walk)
+covers_given order bytes place used characters walk behind =
     let stop : ℕ = came_past bytes walk.ending in
     let here : place - 0 ≡ place = omega arith in
     let size : used + (stop - (place + used)) ≡ stop - place = omega (arith, behind.past) in
@@ -131,16 +131,16 @@ covers_given bytes place used characters walk behind =
           ∙ (sym (take-add used (stop - (place + used)) (drop place bytes)) ∙ ap (λ (k : ℕ). take k (drop place bytes)) size));
     }
 
-covers_onto : (bytes : List ℕ) (place left : ℕ) (first : FirstItem) (walk : Walk) → ((characters : List ℕ) (used : ℕ) → first ≡ Given characters used → (1 ≤ used) × (used ≤ left)) → (used_behind first ≤ left - 1 → Covers bytes (place + 1 + used_behind first) walk) → Covers bytes place (onto_walk place first walk)
-covers_onto bytes place left (Given characters used) walk within behind =
+covers_onto : (order : Order) (bytes : List ℕ) (place left : ℕ) (first : FirstItem) (walk : Walk) → ((characters : List ℕ) (used : ℕ) → first ≡ Given characters used → (1 ≤ used) × (used ≤ left)) → (used_behind first ≤ left - 1 → Covers bytes (place + 1 + used_behind first) walk) → Covers bytes place (onto_walk order place first walk)
+covers_onto order bytes place left (Given characters used) walk within behind =
     let range = within characters used refl in
     let far : place + 1 + (used - 1) ≡ place + used = omega (arith, range.0) in
-    covers_given bytes place used characters walk (subst (λ (p : ℕ). Covers bytes p walk) far (behind (omega (arith, range.1))))
-covers_onto bytes place left (RefusedRange size) walk within behind = covers_none bytes place (AtRange place (place + size)) refl
-covers_onto bytes place left Unfinished walk within behind = covers_none bytes place (AtCut place) refl
+    covers_given order bytes place used characters walk (subst (λ (p : ℕ). Covers bytes p walk) far (behind (omega (arith, range.1))))
+covers_onto order bytes place left (RefusedRange size) walk within behind = covers_none bytes place order (AtRange place (place + size)) refl
+covers_onto order bytes place left Unfinished walk within behind = covers_none bytes place order (AtCut place) refl
 
 covers : (encoding : Encoding) (treat : Treatment) (last : Bool) (order : Order) (bytes : List ℕ) (place skip : ℕ) (tail : List ℕ) → UsesWithin (len bytes) treat → place + len tail ≡ len bytes → skip ≤ len tail → Covers bytes (place + skip) (walk_from encoding treat last order place skip tail)
-covers encoding treat last order bytes place skip [] uses all fits = covers_none bytes (place + skip) AtEnd (omega (arith, all, fits))
+covers encoding treat last order bytes place skip [] uses all fits = covers_none bytes (place + skip) order AtEnd (omega (arith, all, fits))
 covers encoding treat last order bytes place (suc skip) (byte ∷ rest) uses all fits =
     let far : place + 1 + skip ≡ place + suc skip = omega arith in
     subst (λ (p : ℕ). Covers bytes p (walk_from encoding treat last order (place + 1) skip rest)) far
@@ -149,8 +149,8 @@ covers encoding treat last order bytes place zero (byte ∷ rest) uses all fits 
     let at_start = nat_eq place 0 in
     let first : FirstItem = first_item encoding treat last order place (byte ∷ rest) in
     let here : place ≡ place + 0 = omega arith in
-    subst (λ (p : ℕ). Covers bytes p (onto_walk place first (walk_from encoding treat last order (place + 1) (used_behind first) rest))) here
-    (covers_onto bytes place (len (byte ∷ rest)) first (walk_from encoding treat last order (place + 1) (used_behind first) rest)
+    subst (λ (p : ℕ). Covers bytes p (onto_walk order place first (walk_from encoding treat last order (place + 1) (used_behind first) rest))) here
+    (covers_onto order bytes place (len (byte ∷ rest)) first (walk_from encoding treat last order (place + 1) (used_behind first) rest)
     (λ characters used is. item_within (len bytes) treat last place (byte ∷ rest) (first_unit encoding order at_start (byte ∷ rest)) characters used uses all (unit_within_any encoding order at_start (byte ∷ rest)) is)
     (λ inside. covers encoding treat last order bytes (place + 1) (used_behind first) rest uses (omega (arith, all)) (omega (arith, inside))))
 

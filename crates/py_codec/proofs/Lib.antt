@@ -10,6 +10,7 @@ pub mod Ended
 pub mod Fronts
 pub mod OwnAscii
 pub mod OwnUnits
+pub mod Passing
 pub mod Refusals
 pub mod Restarts
 pub mod RunLengths

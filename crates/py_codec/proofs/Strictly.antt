@@ -48,12 +48,12 @@ item_read encoding last place rest (Some (Malformed n)) characters used is = abs
 item_read encoding true place rest (Some (Cut n)) characters used is = absurd (cc)
 item_read encoding false place rest (Some (Cut n)) characters used is = absurd (cc)
 
-own_onto : (encoding : Encoding) (bytes : List ℕ) (place : ℕ) (first : FirstItem) (walk : Walk) → ((characters : List ℕ) (used : ℕ) → first ≡ Given characters used → IsOwnItem encoding bytes (record { start = place; length = used; characters = characters })) → All (IsOwnItem encoding bytes) walk.items → All (IsOwnItem encoding bytes) (onto_walk place first walk).items
-own_onto encoding bytes place (Given characters used) walk here behind = All-cons (IsOwnItem encoding bytes) (record { start = place; length = used; characters = characters }) walk.items (here characters used refl) behind
-own_onto encoding bytes place (RefusedRange size) walk here behind = All-nil (IsOwnItem encoding bytes)
-own_onto encoding bytes place Unfinished walk here behind = All-nil (IsOwnItem encoding bytes)
+own_onto : (encoding : Encoding) (order : Order) (bytes : List ℕ) (place : ℕ) (first : FirstItem) (walk : Walk) → ((characters : List ℕ) (used : ℕ) → first ≡ Given characters used → IsOwnItem encoding bytes (record { start = place; length = used; order = order; characters = characters })) → All (IsOwnItem encoding bytes) walk.items → All (IsOwnItem encoding bytes) (onto_walk order place first walk).items
+own_onto encoding order bytes place (Given characters used) walk here behind = All-cons (IsOwnItem encoding bytes) (record { start = place; length = used; order = order; characters = characters }) walk.items (here characters used refl) behind
+own_onto encoding order bytes place (RefusedRange size) walk here behind = All-nil (IsOwnItem encoding bytes)
+own_onto encoding order bytes place Unfinished walk here behind = All-nil (IsOwnItem encoding bytes)
 
-own_here : (encoding : Encoding) (last : Bool) (order : Order) (bytes : List ℕ) (place : ℕ) (tail characters : List ℕ) (used : ℕ) → tail ≡ drop place bytes → AreBytes tail → first_item encoding (treatment Strict encoding) last order place tail ≡ Given characters used → IsOwnItem encoding bytes (record { start = place; length = used; characters = characters })
+own_here : (encoding : Encoding) (last : Bool) (order : Order) (bytes : List ℕ) (place : ℕ) (tail characters : List ℕ) (used : ℕ) → tail ≡ drop place bytes → AreBytes tail → first_item encoding (treatment Strict encoding) last order place tail ≡ Given characters used → IsOwnItem encoding bytes (record { start = place; length = used; order = order; characters = characters })
 own_here encoding last order bytes place tail characters used tail_is are is =
     let at_start = nat_eq place 0 in
     let unit = item_read encoding last place tail (first_unit encoding order at_start tail) characters used is in
@@ -71,7 +71,7 @@ own_items encoding last order bytes place (suc skip) (byte ∷ rest) tail_is are
     own_items encoding last order bytes (place + 1) skip rest (ap (drop 1) tail_is ∙ drop-drop 1 place bytes) (All-tail (λ (b : ℕ). b < 0x100) byte rest are)
 own_items encoding last order bytes place zero (byte ∷ rest) tail_is are =
     let first : FirstItem = first_item encoding (treatment Strict encoding) last order place (byte ∷ rest) in
-    own_onto encoding bytes place first (walk_from encoding (treatment Strict encoding) last order (place + 1) (used_behind first) rest)
+    own_onto encoding order bytes place first (walk_from encoding (treatment Strict encoding) last order (place + 1) (used_behind first) rest)
     (λ characters used is. own_here encoding last order bytes place (byte ∷ rest) characters used tail_is are is)
     (own_items encoding last order bytes (place + 1) (used_behind first) rest (ap (drop 1) tail_is ∙ drop-drop 1 place bytes) (All-tail (λ (b : ℕ). b < 0x100) byte rest are))
 

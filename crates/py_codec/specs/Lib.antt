@@ -6,6 +6,8 @@ pub mod Writing
 pub mod Blocks
 pub mod Substituting
 pub mod Decoding
+pub mod Front
+pub mod Passing
 pub mod Encoding
 pub mod Laws
 pub mod Refusing

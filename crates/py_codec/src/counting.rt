@@ -65,7 +65,7 @@ fn starts_in(bytes: &[u8]) -> usize
 }
 
 /// How many of some bytes begin a character, many of them at once.
-fn starts(bytes: &[u8]) -> usize
+pub(crate) fn starts(bytes: &[u8]) -> usize
     ensures { result ≡ count_by is_char_start bytes.now }
 {
     let (count, behind) = starts_in_blocks(bytes);

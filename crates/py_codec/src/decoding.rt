@@ -16,7 +16,7 @@ use std::alloc::Global;
 /// Appends what the bytes from a place on begin with: a character, or what the handler gives for a refused range.
 ///
 /// Answers how many bytes were used: `None` where none are left, or where those left may still become a character.
-fn push_item<H: ErrorHandler>(
+pub(crate) fn push_item<H: ErrorHandler>(
     alloc: Global,
     encoding: Encoding,
     errors: HandlerRef<H>,

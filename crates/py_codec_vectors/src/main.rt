@@ -1,18 +1,21 @@
 //! Compares the codecs and the plain slow program with what they must answer, and prints how many answers agree.
 //!
-//! The words are the paths of four tables. They are data of this program: three have what another program answers, CPython's
-//! codecs, and vectors/make_vectors made them (docs/CODECS.md); the fourth is text, and its head says how a row is written.
+//! The words are the paths of five tables. They are data of this program: four have what another program answers, CPython's
+//! codecs and its texts, and vectors/make_vectors made them (docs/CODECS.md); the last is text, and its head says how a row is
+//! written.
 #![tactic(auto)]
 
 mod blocks;
 mod codec;
 mod cuts;
+mod fronts;
 mod padding;
 mod pieces;
 mod records;
 mod rows;
 mod tables;
 mod tally;
+mod texts;
 mod words;
 
 use std::{env, fs, io};
@@ -46,6 +49,7 @@ fn compare_rows(rt: &HostRuntime, path: &str) -> io::Result<()> {
     print(rt, "decode rows", &tallies.decodings)?;
     print(rt, "encode rows", &tallies.encodings)?;
     print(rt, "pieces rows", &tallies.pieces)?;
+    print(rt, "front rows", &tallies.fronts)?;
     print(rt, "cuts", &tallies.cuts)?;
     match &out_of_form {
         Some(place) => println!(rt; "malformed, and the end of the rows: {place}"),
@@ -55,17 +59,21 @@ fn compare_rows(rt: &HostRuntime, path: &str) -> io::Result<()> {
 
 fn main(rt: HostRuntime) -> io::Result<()> {
     let mut words = env::args(&rt)?.skip(1);
-    let (Some(decodings), Some(surrogates), Some(encodings), Some(rows)) = (
+    let (Some(decodings), Some(surrogates), Some(encodings), Some(texts), Some(rows)) = (
+        words.next(),
         words.next(),
         words.next(),
         words.next(),
         words.next(),
     ) else {
-        return rt.println("usage: py_codec_vectors <decodings> <surrogates> <encodings> <rows>");
+        return rt.println(
+            "usage: py_codec_vectors <decodings> <surrogates> <encodings> <texts> <rows>",
+        );
     };
     compare_table(&rt, "decoding", Table::Decodings, decodings.as_str())?;
     compare_table(&rt, "surrogates", Table::Surrogates, surrogates.as_str())?;
     compare_table(&rt, "encoding", Table::Encodings, encodings.as_str())?;
+    compare_table(&rt, "texts", Table::Texts, texts.as_str())?;
     compare_rows(&rt, rows.as_str())?;
     print(&rt, "blocks", &blocks::compare(rt.alloc())?)?;
     print(&rt, "long texts", &blocks::compare_long(rt.alloc())?)

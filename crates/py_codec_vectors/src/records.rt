@@ -1,6 +1,8 @@
 use crate::codec::{Expected, Refusal};
 use crate::words::Unread;
-use py_codec::Encoding;
+use py_codec::{Encoding, Handler};
+use py_plain::Newlines;
+use py_plain_text::PlainSettings;
 
 /// The records of a table that are left to read; one that is cut is malformed.
 #[derive(Drop)]
@@ -13,7 +15,7 @@ impl<'a> Records<'a> {
         Records { left: bytes }
     }
 
-    fn byte(&mut self) -> Result<u8, Unread> {
+    pub(crate) fn byte(&mut self) -> Result<u8, Unread> {
         let [byte, left @ ..] = self.left else {
             return Err(Unread::Malformed);
         };
@@ -42,6 +44,43 @@ impl<'a> Records<'a> {
             4 => Ok(Encoding::Utf16Be),
             _ => Err(Unread::Malformed),
         }
+    }
+
+    fn handler(&mut self) -> Result<Handler, Unread> {
+        match self.byte()? {
+            0 => Ok(Handler::Strict),
+            1 => Ok(Handler::Ignore),
+            2 => Ok(Handler::Replace),
+            3 => Ok(Handler::BackslashReplace),
+            4 => Ok(Handler::SurrogateEscape),
+            _ => Err(Unread::Malformed),
+        }
+    }
+
+    fn newline(&mut self) -> Result<Newlines, Unread> {
+        match self.byte()? {
+            0 => Ok(Newlines::Universal),
+            1 => Ok(Newlines::Passthrough),
+            2 => Ok(Newlines::Lf),
+            3 => Ok(Newlines::Cr),
+            4 => Ok(Newlines::Crlf),
+            _ => Err(Unread::Malformed),
+        }
+    }
+
+    /// What a text is read by.
+    pub(crate) fn settings(&mut self) -> Result<PlainSettings, Unread> {
+        Ok(PlainSettings {
+            encoding: self.encoding()?,
+            handler: self.handler()?,
+            newline: self.newline()?,
+        })
+    }
+
+    /// A size, or none.
+    pub(crate) fn size(&mut self) -> Result<Option<usize>, Unread> {
+        let size = self.byte()?;
+        Ok((size != 255).then_some(usize::from(size)))
     }
 
     /// A refused range or run: `None` where all is accepted.

@@ -1,7 +1,7 @@
 use crate::codec::{Codec, Expected, Refusal};
 use crate::tally::Tally;
 use crate::words::{Unread, bytes, encoding, handler, number, refusal};
-use crate::{cuts, pieces};
+use crate::{cuts, fronts, pieces};
 use py_incremental::IncrementalEncoder;
 use std::alloc::{AllocError, Global};
 
@@ -11,6 +11,7 @@ pub(crate) struct Tallies {
     pub decodings: Tally,
     pub encodings: Tally,
     pub pieces: Tally,
+    pub fronts: Tally,
     pub cuts: Tally,
 }
 
@@ -144,6 +145,10 @@ fn try_row(alloc: Global, line: &str, place: &str, tallies: &mut Tallies) -> Res
             pieces::try_steps(alloc, codec, steps, &mut tallies.pieces)?;
             Ok(tallies.pieces.place(alloc, place)?)
         }
+        ("front", words, []) => {
+            fronts::try_front(alloc, codec, words, &mut tallies.fronts)?;
+            Ok(tallies.fronts.place(alloc, place)?)
+        }
         _ => Err(Unread::Malformed),
     }
 }
@@ -155,6 +160,7 @@ pub(crate) fn compare(alloc: Global, table: &str) -> Result<(Tallies, Option<Str
         decodings: Tally::new(),
         encodings: Tally::new(),
         pieces: Tally::new(),
+        fronts: Tally::new(),
         cuts: Tally::new(),
     };
     let mut number: u64 = 0;

@@ -3,6 +3,7 @@ use crate::cuts;
 use crate::padding::{pad, padding};
 use crate::records::Records;
 use crate::tally::Tally;
+use crate::texts::try_text;
 use crate::words::Unread;
 use py_codec::{Encoding, Handler};
 use std::alloc::{AllocError, Global};
@@ -13,6 +14,7 @@ pub(crate) enum Table {
     Decodings,
     Surrogates,
     Encodings,
+    Texts,
 }
 
 /// Whether an input after n characters of ASCII gives these and what is replaced: so runs of every length that
@@ -154,6 +156,7 @@ pub(crate) fn compare(alloc: Global, table: Table, bytes: &[u8]) -> Result<Tally
             Table::Decodings => try_decoding(alloc, &mut records, padding(index), &mut tally),
             Table::Surrogates => try_surrogates(alloc, &mut records, &mut tally),
             Table::Encodings => try_encoding(alloc, &mut records, padding(index), &mut tally),
+            Table::Texts => try_text(alloc, &mut records, &mut tally),
         };
         match tried {
             Ok(()) => tally.place_record(alloc, index)?,

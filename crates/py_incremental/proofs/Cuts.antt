@@ -11,7 +11,7 @@ use Rattle.py_plain.specs.OneByte.{is_ascii}
 use Rattle.py_plain.specs.Units.{Order, first_unit}
 use Rattle.py_plain.specs.UnitLaws.{IsUtf8Long, IsWithin}
 use Rattle.py_plain.specs.Handlers.{Treatment, Handled, Replaced, Refuses}
-use Rattle.py_plain.specs.Items.{FirstItem, Given, RefusedRange, Unfinished, item_handled, item_of, first_item, used_behind, AtCut, Walk, onto_walk, walk_from}
+use Rattle.py_plain.specs.Items.{FirstItem, Given, RefusedRange, Unfinished, item_handled, item_of, first_item, used_behind, AtCut, Walk, ends, onto_walk, walk_from}
 use Rattle.py_plain.proofs.UnitLaws.{unit_uses}
 use Rattle.py_plain.proofs.AnyUnits.{unit_some, unit_within_any}
 
@@ -103,7 +103,7 @@ cut_here encoding order at_start last place byte rest cut =
     let are : AreCut encoding order (byte ∷ rest) = record { size = cut.size; unit = λ there. unit_anywhere encoding order there at_start (byte ∷ rest) ∙ cut.unit_is } in
     record { more = cut.more; past = omega arith; cut = subst (λ (k : ℕ). AreCut encoding order (drop k (byte ∷ rest))) here are }
 
-cut_onto : (encoding : Encoding) (order : Order) (at_start : Bool) (last : Bool) (place byte : ℕ) (rest : List ℕ) (first : FirstItem) (walk : Walk) (start : ℕ) → (first ≡ Unfinished → IsCut last (first_unit encoding order at_start (byte ∷ rest))) → (walk.ending ≡ AtCut start → IsCutAt encoding order last (place + 1) rest start) → (onto_walk place first walk).ending ≡ AtCut start → IsCutAt encoding order last place (byte ∷ rest) start
+cut_onto : (encoding : Encoding) (order : Order) (at_start : Bool) (last : Bool) (place byte : ℕ) (rest : List ℕ) (first : FirstItem) (walk : Walk) (start : ℕ) → (first ≡ Unfinished → IsCut last (first_unit encoding order at_start (byte ∷ rest))) → (walk.ending ≡ AtCut start → IsCutAt encoding order last (place + 1) rest start) → (onto_walk order place first walk).ending ≡ AtCut start → IsCutAt encoding order last place (byte ∷ rest) start
 cut_onto encoding order at_start last place byte rest (Given characters used) walk start here behind is = cut_behind encoding order last place byte rest start (behind is)
 cut_onto encoding order at_start last place byte rest (RefusedRange size) walk start here behind is = absurd (cc)
 cut_onto encoding order at_start last place byte rest Unfinished walk start here behind is =
@@ -128,7 +128,7 @@ walk_cut encoding treat last order place zero (byte ∷ rest) start is =
 abbrev begun : Encoding → Treatment → Order → ℕ → List ℕ → Option Read → Walk
 begun encoding treat order byte rest unit =
     let first = item_of treat false 0 (byte ∷ rest) unit in
-    onto_walk 0 first (walk_from encoding treat false order 1 (used_behind first) rest)
+    onto_walk order 0 first (walk_from encoding treat false order 1 (used_behind first) rest)
 
 -- bytes that are cut are at least one and at most three
 pub cut_size : (encoding : Encoding) (order : Order) (bytes : List ℕ) → AreCut encoding order bytes → (1 ≤ len bytes) × (len bytes ≤ 3)
@@ -138,7 +138,7 @@ cut_size encoding order bytes cut =
     (omega (arith, within.0, within.1), omega (arith, within.1, short))
 
 -- a walk over bytes that are cut stops before them, while more may come
-pub cut_again : (encoding : Encoding) (treat : Treatment) (order : Order) (bytes : List ℕ) → AreCut encoding order bytes → walk_from encoding treat false order 0 0 bytes ≡ record { items = []; ending = AtCut 0 }
+pub cut_again : (encoding : Encoding) (treat : Treatment) (order : Order) (bytes : List ℕ) → AreCut encoding order bytes → walk_from encoding treat false order 0 0 bytes ≡ ends order (AtCut 0)
 cut_again encoding treat order [] cut = absurd (omega (arith, (cut_size encoding order [] cut).0))
 cut_again encoding treat order (byte ∷ rest) cut =
     ap (λ (unit : Option Read). begun encoding treat order byte rest unit) (cut.unit true)

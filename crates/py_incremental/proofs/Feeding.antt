@@ -6,10 +6,11 @@ use Rattle.py_flat.specs.declared.fault.IoFault.TheVariants.{UnicodeDecodeError}
 use Rattle.py_plain.specs.declared.encoding.Encoding.{Encoding}
 use Rattle.py_plain.specs.declared.handler.Handler.{Handler}
 use Rattle.py_plain.specs.declared.handler.Handler.TheVariants.{Strict, Ignore, Replace, XmlCharRefReplace, BackslashReplace, SurrogatePass, SurrogateEscape}
-use Rattle.py_plain.specs.Units.{Order, Unknown}
+use Rattle.py_plain.specs.Units.{Order}
 use Rattle.py_plain.specs.Handlers.{Treatment, treatment, reads_texts}
-use Rattle.py_plain.specs.Items.{Item, Ending, AtEnd, AtRange, AtCut, Walk, characters_of}
+use Rattle.py_plain.specs.Items.{Item, Ending, AtEnd, AtRange, AtCut, Walk, ends, characters_of}
 use Rattle.py_plain.specs.Pieces.{LooksAtRange, walk_at, items_before, place_behind, unused, unless_refused}
+use Rattle.py_plain.proofs.Walks.{characters-append}
 use Rattle.py_plain.proofs.Joining.{two}
 use Rattle.py_plain.proofs.Looking.{reading}
 use Rattle.py_codec.proofs.Ended.{CameTo, IsAnswered, answered}
@@ -39,7 +40,7 @@ waiting (byte ∷ rest) = AtCut 0
 
 -- bytes that a walk stops before, while more may come
 abbrev pub Waits : Encoding → Treatment → Order → List ℕ → Type 0
-Waits encoding treat order bytes = walk_at encoding treat false order 0 bytes ≡ record { items = []; ending = waiting bytes }
+Waits encoding treat order bytes = walk_at encoding treat false order 0 bytes ≡ ends order (waiting bytes)
 
 waits_cut : (encoding : Encoding) (treat : Treatment) (order : Order) (bytes : List ℕ) → AreCut encoding order bytes → Waits encoding treat order bytes
 waits_cut encoding treat order [] cut = absurd (omega (arith, (cut_size encoding order [] cut).0))
@@ -58,13 +59,8 @@ left_waits encoding treat order bytes used (AtRange start end) is came = absurd 
 
 -- The walk goes on at what is left.
 
-characters_append : (items more : List Item) → characters_of (items ++ more) ≡ characters_of items ++ characters_of more
-characters_append [] more = refl
-characters_append (item ∷ items) more =
-    ap (λ (cs : List ℕ). item.characters ++ cs) (characters_append items more) ∙ sym (append_assoc item.characters (characters_of items) (characters_of more))
-
 -- where a front was answered, the walk goes on at what is left of it
-goes_from : (encoding : Encoding) (treat : Treatment) (last : Bool) (order : Order) (front rest : List ℕ) (used : ℕ) (items : List Item) (ending : Ending) → CameTo (len front) ending used → items_before items (unless_refused ending (walk_at encoding treat last order (place_behind 0 front ending) (unused 0 front ending ++ rest))) ≡ items_before items (walk_at encoding treat last order used (drop used front ++ rest))
+goes_from : (encoding : Encoding) (treat : Treatment) (last : Bool) (order : Order) (front rest : List ℕ) (used : ℕ) (items : List Item) (ending : Ending) → CameTo (len front) ending used → items_before items (unless_refused order ending (walk_at encoding treat last order (place_behind 0 front ending) (unused 0 front ending ++ rest))) ≡ items_before items (walk_at encoding treat last order used (drop used front ++ rest))
 goes_from encoding treat last order front rest used items AtEnd came =
     let here : 0 + len front ≡ used = omega (arith, came) in
     let none : [] ≡ drop used front = sym (drop-length front) ∙ ap (λ (k : ℕ). drop k front) (sym came) in
@@ -78,19 +74,21 @@ goes_from encoding treat last order front rest used items (AtRange start end) ca
 
 behind_items : (items : List Item) (text : List ℕ) (by : ℕ) (walk far near : Walk) → characters_of items ≡ text → walk ≡ items_before items far → IsBehind [] by far near → IsBehind text by walk near
 behind_items items text by walk far near text_is walk_is behind = record {
-  characters = ap (λ (w : Walk). characters_of w.items) walk_is ∙ (characters_append items far.items ∙ (ap (λ (cs : List ℕ). cs ++ characters_of far.items) text_is ∙ ap (λ (cs : List ℕ). text ++ cs) behind.characters));
+  characters = ap (λ (w : Walk). characters_of w.items) walk_is ∙ (characters-append items far.items ∙ (ap (λ (cs : List ℕ). cs ++ characters_of far.items) text_is ∙ ap (λ (cs : List ℕ). text ++ cs) behind.characters));
+  order = ap (λ (w : Walk). w.order) walk_is ∙ behind.order;
   ending = ap (λ (w : Walk). w.ending) walk_is ∙ behind.ending;
 }
 
--- where a front was answered, the walk over all has its text, and then the walk over what is left of it and the rest
-pub goes_on : (encoding : Encoding) (treat : Treatment) → LooksAtRange treat → IgnoresPlace treat → (last : Bool) (order : Order) (front rest text : List ℕ) (used : ℕ) → characters_of (walk_at encoding treat false order 0 front).items ≡ text → CameTo (len front) (walk_at encoding treat false order 0 front).ending used → IsBehind text used (walk_at encoding treat last order 0 (front ++ rest)) (walk_at encoding treat last order 0 (drop used front ++ rest))
+-- where a front was answered, the walk over all has its text, and then the walk over what is left of it and the rest, in the order
+-- that the front reached
+pub goes_on : (encoding : Encoding) (treat : Treatment) → LooksAtRange treat → IgnoresPlace treat → (last : Bool) (order : Order) (front rest text : List ℕ) (used : ℕ) → characters_of (walk_at encoding treat false order 0 front).items ≡ text → CameTo (len front) (walk_at encoding treat false order 0 front).ending used → IsBehind text used (walk_at encoding treat last order 0 (front ++ rest)) (walk_at encoding treat last (walk_at encoding treat false order 0 front).order 0 (drop used front ++ rest))
 goes_on encoding treat looks ignores last order front rest text used text_is came =
     let first : Walk = walk_at encoding treat false order 0 front in
     let left : List ℕ = drop used front ++ rest in
     let here : used + 0 ≡ used = omega arith in
-    let split : walk_at encoding treat last order 0 (front ++ rest) ≡ items_before first.items (walk_at encoding treat last order used left) =
-    sym (two encoding treat looks last order 0 front rest) ∙ goes_from encoding treat last order front rest used first.items first.ending came in
-    let behind = subst (λ (p : ℕ). IsBehind [] used (walk_at encoding treat last order p left) (walk_at encoding treat last order 0 left)) here (walk_moved encoding treat last order used 0 0 left ignores) in
+    let split : walk_at encoding treat last order 0 (front ++ rest) ≡ items_before first.items (walk_at encoding treat last first.order used left) =
+    sym (two encoding treat looks last order 0 front rest) ∙ goes_from encoding treat last first.order front rest used first.items first.ending came in
+    let behind = subst (λ (p : ℕ). IsBehind [] used (walk_at encoding treat last first.order p left) (walk_at encoding treat last first.order 0 left)) here (walk_moved encoding treat last first.order used 0 0 left ignores) in
     behind_items first.items text used _ _ _ text_is split behind
 
 -- no handler looks at the place
@@ -108,6 +106,7 @@ ignores SurrogateEscape encoding here there rest size = refl
 then_behind : (text more : List ℕ) (by further : ℕ) (walk between behind : Walk) → IsBehind text by walk between → IsBehind more further between behind → IsBehind (text ++ more) (by + further) walk behind
 then_behind text more by further walk between behind first second = record {
   characters = first.characters ∙ (ap (λ (cs : List ℕ). text ++ cs) second.characters ∙ sym (append_assoc text more (characters_of behind.items)));
+  order = first.order ∙ second.order;
   ending = first.ending ∙ (ap (moved by) second.ending ∙ moved_twice by further behind.ending);
 }
 
@@ -116,7 +115,7 @@ pub record GoesOn (before : DecoderView) (run : List Fed) (after : DecoderView) 
   pub gone : ℕ
   pub within : gone + len after.held ≡ len (bytes_behind before run)
   pub held : after.held ≡ drop gone (bytes_behind before run)
-  pub same : after ≡ record before { held = after.held }
+  pub same : after ≡ record before { order = after.order; held = after.held }
   pub behind : reads_texts before.handler ≡ true → (last : Bool) (rest : List ℕ) → IsBehind (texts_of run) gone (walk_with before last (pieces_of run ++ rest)) (walk_with after last rest)
 
 -- the walk over the held bytes and a piece that is answered has the text of the answer, and came to the bytes that were used
@@ -128,19 +127,20 @@ goes_none before after is = record {
   gone = 0;
   within = omega (arith, ap (λ (d : DecoderView). len d.held) is, ap (λ (bytes : List ℕ). len bytes) (append-nil before.held));
   held = ap (λ (d : DecoderView). d.held) is ∙ sym (append-nil before.held);
-  same = ap (λ (d : DecoderView). record d { held = after.held }) is;
+  same = ap (λ (d : DecoderView). record d { order = after.order; held = after.held }) is;
   behind = λ reads last rest. record {
     characters = ap (λ (d : DecoderView). characters_of (walk_with d last rest).items) (sym is);
+    order = ap (λ (d : DecoderView). (walk_with d last rest).order) (sym is);
     ending = ap (λ (d : DecoderView). (walk_with d last rest).ending) (sym is) ∙ moved_none (walk_with after last rest).ending;
   };
 }
 
-goes_piece : (before after : DecoderView) (fed : Fed) (run : List Fed) (used : ℕ) → IsAnswered (characters_of (walk_with before false fed.piece).items) (len (before.held ++ fed.piece)) (walk_with before false fed.piece).ending fed.text used → GoesOn (holding before fed.piece used) run after → GoesOn before (fed ∷ run) after
+goes_piece : (before after : DecoderView) (fed : Fed) (run : List Fed) (used : ℕ) → IsAnswered (characters_of (walk_with before false fed.piece).items) (len (before.held ++ fed.piece)) (walk_with before false fed.piece).ending fed.text used → GoesOn (holding before false fed.piece used) run after → GoesOn before (fed ∷ run) after
 goes_piece before after fed run used first further =
     let treat : Treatment = treatment before.handler before.encoding in
     let front : List ℕ = before.held ++ fed.piece in
     let pieces : List ℕ = pieces_of run in
-    let fits = (left_short before.encoding treat false Unknown front used first.came).0 in
+    let fits = (left_short before.encoding treat false before.order front used first.came).0 in
     let whole : front ++ pieces ≡ before.held ++ (fed.piece ++ pieces) = append_assoc before.held fed.piece pieces in
     record {
       gone = used + further.gone;
@@ -149,8 +149,8 @@ goes_piece before after fed run used first further =
       same = further.same;
       behind = λ reads last rest.
           let split : front ++ (pieces ++ rest) ≡ before.held ++ ((fed.piece ++ pieces) ++ rest) = append_assoc before.held fed.piece (pieces ++ rest) ∙ ap (λ (bytes : List ℕ). before.held ++ bytes) (sym (append_assoc fed.piece pieces rest)) in
-          let step = goes_on before.encoding treat (reading before.handler before.encoding reads) (ignores before.handler before.encoding) last Unknown front (pieces ++ rest) fed.text used first.text_is first.came in
-          subst (λ (bytes : List ℕ). IsBehind (fed.text ++ texts_of run) (used + further.gone) (walk_at before.encoding treat last Unknown 0 bytes) (walk_with after last rest)) split
+          let step = goes_on before.encoding treat (reading before.handler before.encoding reads) (ignores before.handler before.encoding) last before.order front (pieces ++ rest) fed.text used first.text_is first.came in
+          subst (λ (bytes : List ℕ). IsBehind (fed.text ++ texts_of run) (used + further.gone) (walk_at before.encoding treat last before.order 0 bytes) (walk_with after last rest)) split
           (then_behind fed.text (texts_of run) used further.gone _ _ _ step (further.behind reads last rest));
     }
 
@@ -158,4 +158,4 @@ goes_piece before after fed run used first further =
 pub run_goes_on : (before after : DecoderView) (run : List Fed) → FedRun before run after → GoesOn before run after
 run_goes_on before after [] fed = goes_none before after fed
 run_goes_on before after (fed ∷ run) (used, is, further) =
-    goes_piece before after fed run used (step_answered before fed used is) (run_goes_on (holding before fed.piece used) after run further)
+    goes_piece before after fed run used (step_answered before fed used is) (run_goes_on (holding before false fed.piece used) after run further)

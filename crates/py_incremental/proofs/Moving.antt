@@ -43,6 +43,7 @@ moved_none (AtCut start) =
 -- a walk has some characters, and then those of another walk, whose places count from further on
 pub record IsBehind (text : List ℕ) (by : ℕ) (walk behind : Walk) : Type 0 where
   pub characters : characters_of walk.items ≡ text ++ characters_of behind.items
+  pub order : walk.order ≡ behind.order
   pub ending : walk.ending ≡ moved by behind.ending
 
 item_anywhere : (treat : Treatment) (last : Bool) (here there : ℕ) (bytes : List ℕ) (unit : Option Read) → IgnoresPlace treat → item_of treat last here bytes unit ≡ item_of treat last there bytes unit
@@ -57,16 +58,16 @@ first_anywhere encoding treat last order here there bytes ignores =
     ap (λ (unit : Option Read). item_of treat last here bytes unit) (unit_anywhere encoding order (nat_eq here 0) (nat_eq there 0) bytes)
     ∙ item_anywhere treat last here there bytes (first_unit encoding order (nat_eq there 0) bytes) ignores
 
-moved_onto : (by place : ℕ) (first : FirstItem) (walk other : Walk) → IsBehind [] by walk other → IsBehind [] by (onto_walk (by + place) first walk) (onto_walk place first other)
-moved_onto by place (Given characters used) walk other behind = record { characters = ap (λ (cs : List ℕ). characters ++ cs) behind.characters; ending = behind.ending }
-moved_onto by place (RefusedRange size) walk other behind =
+moved_onto : (order : Order) (by place : ℕ) (first : FirstItem) (walk other : Walk) → IsBehind [] by walk other → IsBehind [] by (onto_walk order (by + place) first walk) (onto_walk order place first other)
+moved_onto order by place (Given characters used) walk other behind = record { characters = ap (λ (cs : List ℕ). characters ++ cs) behind.characters; order = behind.order; ending = behind.ending }
+moved_onto order by place (RefusedRange size) walk other behind =
     let ends : by + place + size ≡ by + (place + size) = omega arith in
-    record { characters = refl; ending = ap (AtRange (by + place)) ends }
-moved_onto by place Unfinished walk other behind = record { characters = refl; ending = refl }
+    record { characters = refl; order = refl; ending = ap (AtRange (by + place)) ends }
+moved_onto order by place Unfinished walk other behind = record { characters = refl; order = refl; ending = refl }
 
 -- a walk from a place further on has the same characters, and its ending is moved
 pub walk_moved : (encoding : Encoding) (treat : Treatment) (last : Bool) (order : Order) (by place skip : ℕ) (bytes : List ℕ) → IgnoresPlace treat → IsBehind [] by (walk_from encoding treat last order (by + place) skip bytes) (walk_from encoding treat last order place skip bytes)
-walk_moved encoding treat last order by place skip [] ignores = record { characters = refl; ending = refl }
+walk_moved encoding treat last order by place skip [] ignores = record { characters = refl; order = refl; ending = refl }
 walk_moved encoding treat last order by place (suc skip) (byte ∷ rest) ignores =
     let far : by + (place + 1) ≡ by + place + 1 = omega arith in
     subst (λ (p : ℕ). IsBehind [] by (walk_from encoding treat last order p skip rest) (walk_from encoding treat last order (place + 1) skip rest)) far
@@ -76,6 +77,6 @@ walk_moved encoding treat last order by place zero (byte ∷ rest) ignores =
     let far : by + (place + 1) ≡ by + place + 1 = omega arith in
     let behind = subst (λ (p : ℕ). IsBehind [] by (walk_from encoding treat last order p (used_behind first) rest) (walk_from encoding treat last order (place + 1) (used_behind first) rest)) far
     (walk_moved encoding treat last order by (place + 1) (used_behind first) rest ignores) in
-    subst (λ (item : FirstItem). IsBehind [] by (onto_walk (by + place) item (walk_from encoding treat last order (by + place + 1) (used_behind item) rest)) (onto_walk place first (walk_from encoding treat last order (place + 1) (used_behind first) rest)))
+    subst (λ (item : FirstItem). IsBehind [] by (onto_walk order (by + place) item (walk_from encoding treat last order (by + place + 1) (used_behind item) rest)) (onto_walk order place first (walk_from encoding treat last order (place + 1) (used_behind first) rest)))
     (first_anywhere encoding treat last order place (by + place) (byte ∷ rest) ignores)
-    (moved_onto by place first _ _ behind)
+    (moved_onto order by place first _ _ behind)

@@ -20,7 +20,7 @@ texts_of (fed ∷ run) = fed.text ++ texts_of run
 -- a decoder answers each piece of a run with its text, and what that left unused is held for the next
 abbrev pub FedRun : (before : DecoderView) → List Fed → (after : DecoderView) → Type 0
 FedRun before [] after = after ≡ before
-FedRun before (fed ∷ run) after = (used : ℕ) × (decoding_with before false fed.piece ≡ Ok (fed.text, used)) × FedRun (holding before fed.piece used) run after
+FedRun before (fed ∷ run) after = (used : ℕ) × (decoding_with before false fed.piece ≡ Ok (fed.text, used)) × FedRun (holding before false fed.piece used) run after
 
 -- the bytes that a decoder has had after a run: those that it held, and the pieces
 abbrev pub bytes_behind : DecoderView → List Fed → List ℕ

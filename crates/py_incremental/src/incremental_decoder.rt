@@ -1,6 +1,7 @@
 ghost use Rattle.std.specs.Prelude.{◌≡◌, ◌≤◌, ◌++◌, ℕ, true, List, [], length, IfOk, IfErr};
 ghost use Rattle.py_plain.specs.Handlers.{reads_texts};
-ghost use Rattle.py_incremental.specs.Incremental.{DecoderView, DecoderStep};
+ghost use Rattle.py_plain.specs.Units.{Unknown};
+ghost use Rattle.py_incremental.specs.Incremental.{fresh, DecoderView, DecoderStep};
 
 use crate::DecoderState;
 use crate::held::Held;
@@ -26,7 +27,9 @@ impl Model for IncrementalDecoder {
 
     ghost Value = { DecoderView };
 
-    ghost view = { λ d. record { encoding = d.encoding; handler = d.handler; held = d.held } };
+    ghost use Rattle.py_plain.specs.Units.{Unknown};
+
+    ghost view = { λ d. record { encoding = d.encoding; handler = d.handler; order = Unknown; held = d.held } };
 
     ghost use Rattle.std.specs.Prelude.{◌≡◌, ◌≤◌, true, length};
     ghost use Rattle.py_plain.specs.Handlers.{reads_texts};
@@ -38,7 +41,7 @@ impl IncrementalDecoder {
     /// A decoder that holds nothing, with a handler that texts are read with.
     pub fn new(encoding: Encoding, handler: Handler) -> Self
         requires reads { reads_texts handler ≡ true }
-        ensures { result ≡ record { encoding = encoding; handler = handler; held = [] } }
+        ensures { result ≡ fresh encoding handler }
     {
         IncrementalDecoder {
             encoding,
@@ -124,7 +127,7 @@ impl IncrementalDecoder {
     pub fn setstate(&mut self, state: &DecoderState)
         requires short { length state.now.held ≤ 3 }
         requires flags { state.now.flags ≡ 0 }
-        ensures held { self.new ≡ record self.old { held = state.now.held } }
+        ensures held { self.new ≡ record self.old { order = Unknown; held = state.now.held } }
         ensures reads { reads_texts self.new.handler ≡ true }
     {
         self.held = Held::from_slice(state.held.as_slice());
@@ -132,7 +135,7 @@ impl IncrementalDecoder {
 
     /// Holds nothing.
     pub fn reset(&mut self)
-        ensures held { self.new ≡ record self.old { held = [] } }
+        ensures held { self.new ≡ fresh self.old.encoding self.old.handler }
         ensures reads { reads_texts self.new.handler ≡ true }
     {
         self.held = Held::new();

@@ -11,6 +11,7 @@ ghost use Rattle.py_incremental.specs.Pieces.{Fed, pieces_of, texts_of, FedRun, 
 /// the handler refuses, in bytes from the first that the decoder had. `refused_for_good`: one that comes while more bytes
 /// may come is so whatever bytes would have come after. `held`: what is held is the end of the bytes that the decoder
 /// has had. `short`: it is at most three bytes, where it was before. `none`: it is nothing after a last piece.
+/// `order`: as none of these encodings has a mark, the order stays as it was.
 ///
 /// It does nothing: what it ensures is a law of the definitions.
 pub fn a_decoder_reads_the_pieces_joined()
@@ -18,7 +19,7 @@ pub fn a_decoder_reads_the_pieces_joined()
         → reads_texts before.handler ≡ true → FedRun before (first ∷ run) after
         → let pieces = pieces_of (first ∷ run) in
         let used = used_up before (first ∷ run) after in
-        (decoding_with before false pieces ≡ Ok (texts_of (first ∷ run), used)) × (after ≡ holding before pieces used) }
+        (decoding_with before false pieces ≡ Ok (texts_of (first ∷ run), used)) × (after ≡ holding before false pieces used) }
     ensures whole { (before after : DecoderView) (run : List Fed) (final text : List ℕ) (used : ℕ)
         → reads_texts before.handler ≡ true → FedRun before run after
         → decoding_with after true final ≡ Ok (text, used)
@@ -40,6 +41,8 @@ pub fn a_decoder_reads_the_pieces_joined()
         → after.held ≡ drop (used_up before run after) (bytes_behind before run) }
     ensures short { (before after : DecoderView) (run : List Fed) → length before.held ≤ 3 → FedRun before run after
         → length after.held ≤ 3 }
+    ensures order { (before : DecoderView) (last : Bool) (piece : List ℕ) (used : ℕ)
+        → (holding before last piece used).order ≡ before.order }
     ensures none { (before : DecoderView) (final text : List ℕ) (used : ℕ)
-        → decoding_with before true final ≡ Ok (text, used) → (holding before final used).held ≡ [] }
+        → decoding_with before true final ≡ Ok (text, used) → (holding before true final used).held ≡ [] }
 {}

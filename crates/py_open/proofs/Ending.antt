@@ -8,9 +8,9 @@ use Rattle.py_flat.specs.Calls.{FileCall, Seek, Close, Flush, Detach, Readable, 
 use Rattle.py_flat.specs.Owed.{Owed}
 use Rattle.py_flat.specs.Refusals.{is_getter, or_else, refused_if}
 use Rattle.py_flat.specs.ExactStep.{is_closed}
-use Rattle.py_plain.specs.TextFile.{TextFile}
-use Rattle.py_plain.specs.TextStep.{TextCall, Read, ReadLine, OtherKind, text_life_refusal, text_lacks, TextSettled, TextStep}
-use Rattle.py_plain.specs.TextStep as plain
+use Rattle.py_plain_text.specs.TextFile.{TextFile}
+use Rattle.py_plain_text.specs.TextStep.{TextCall, Read, ReadLine, OtherKind, text_life_refusal, text_lacks, TextSettled, TextStep}
+use Rattle.py_plain_text.specs.TextStep as plain
 use Rattle.py_raw.specs.RawStream.{Raw, WhereTold}
 use Rattle.py_raw.proofs.Telling.{tells_its_bytes}
 use Rattle.py_stream.specs.Stream.{Stream, file_of, nothing_owed}

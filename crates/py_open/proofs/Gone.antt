@@ -8,8 +8,8 @@ use Rattle.py_flat.specs.FlatFile.{FlatFile}
 use Rattle.py_flat.specs.Refusals.{is_getter, refusal}
 use Rattle.py_flat.specs.AllowedStep.{settled, waited_for, raw_faulted, out_of_memory}
 use Rattle.py_flat.specs.BinaryStep.{does_work, reaches_raw, BinaryStep}
-use Rattle.py_plain.specs.TextFile.{TextFile}
-use Rattle.py_plain.specs.TextStep.{TextCall, Read, ReadLine, Close, OtherKind, text_answered, text_refusal, text_reaches_raw, TextStep}
+use Rattle.py_plain_text.specs.TextFile.{TextFile}
+use Rattle.py_plain_text.specs.TextStep.{TextCall, Read, ReadLine, Close, OtherKind, text_answered, text_refusal, text_reaches_raw, TextStep}
 use Rattle.py_stream.specs.Stream.{Stream, file_of}
 use Rattle.py_stream.specs.Answers.{AnswersWith, Leaves}
 use Rattle.py_calls.specs.declared.call.Call.{Call}

@@ -6,8 +6,8 @@ use Rattle.py_flat.specs.declared.life.Life.TheVariants as life
 use Rattle.py_flat.specs.Bytes.{lay}
 use Rattle.py_flat.specs.Calls.{FileCall, Close, Detach, FileReply, Done, Unwritten, Refused}
 use Rattle.py_flat.specs.Refusals.{is_getter}
-use Rattle.py_plain.specs.TextStep.{TextCall, text_refusal}
-use Rattle.py_plain.specs.TextStep as plain
+use Rattle.py_plain_text.specs.TextStep.{TextCall, text_refusal}
+use Rattle.py_plain_text.specs.TextStep as plain
 use Rattle.py_raw.specs.RawStream.{Raw, tells}
 use Rattle.py_raw.proofs.Telling.{tells_its_bytes, tells_still}
 use Rattle.py_stream.specs.Stream.{Stream}

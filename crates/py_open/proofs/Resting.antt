@@ -5,9 +5,9 @@ use Rattle.py_flat.specs.declared.life.Life.{Life}
 use Rattle.py_flat.specs.declared.life.Life.TheVariants as life
 use Rattle.py_flat.specs.Calls.{FileCall, Seek, Close, Detach, Readable, Writable, Seekable, Closed, OtherGetter, FileReply, Done, Unwritten, Refused}
 use Rattle.py_flat.specs.Refusals.{is_getter}
-use Rattle.py_plain.specs.TextFile.{TextFile}
-use Rattle.py_plain.specs.TextStep.{TextCall, Read, ReadLine, OtherKind, text_life_refusal, text_lacks, TextSettled, TextStep}
-use Rattle.py_plain.specs.TextStep as plain
+use Rattle.py_plain_text.specs.TextFile.{TextFile}
+use Rattle.py_plain_text.specs.TextStep.{TextCall, Read, ReadLine, OtherKind, text_life_refusal, text_lacks, TextSettled, TextStep}
+use Rattle.py_plain_text.specs.TextStep as plain
 use Rattle.py_stream.specs.Stream.{Stream}
 use Rattle.py_stream.specs.Answers.{AnswersWith, Leaves, refused_by}
 use Rattle.py_calls.specs.declared.call.Call.{Call}
@@ -21,7 +21,7 @@ use Rattle.py_open.specs.Laws.{closed_file_reply}
 use Rattle.std.proofs.Common.{inl, inr, ℕ, List, [], ◌∷◌, Option, None}
 use Rattle.py_stream.specs.Kinds.{goes_on}
 use Rattle.py_stream.specs.Answers.{LifeMoves, StarvesTo}
-use Rattle.py_plain.specs.TextStep.{text_refusal}
+use Rattle.py_plain_text.specs.TextStep.{text_refusal}
 use Rattle.py_open.specs.Run.{IsRun}
 use Rattle.py_open.proofs.Steps.{left_raw, left_life}
 use Rattle.py_open.proofs.Ending.{closed_leaves}

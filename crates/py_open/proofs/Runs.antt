@@ -5,7 +5,7 @@ use Rattle.py_flat.specs.declared.life.Life.TheVariants as life
 use Rattle.py_flat.specs.Limits.{greatest_count}
 use Rattle.py_flat.specs.Calls.{FileReply}
 use Rattle.py_flat.specs.Refusals.{is_getter}
-use Rattle.py_plain.specs.TextFile.{TextFile}
+use Rattle.py_plain_text.specs.TextFile.{TextFile}
 use Rattle.py_raw.specs.RawStream.{Raw, Keeps, tells, AnswersFor}
 use Rattle.py_raw.proofs.Telling.{keeps_same, tells_still}
 use Rattle.py_raw.proofs.ReadingOn.{Keeps-then}

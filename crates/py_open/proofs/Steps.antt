@@ -15,10 +15,10 @@ use Rattle.py_flat.specs.Refusals.{is_getter}
 use Rattle.py_flat.specs.AllowedStep.{settled, waited_for, raw_faulted, out_of_memory}
 use Rattle.py_flat.specs.BinaryStep.{Settled, BinaryStep}
 use Rattle.py_plain.specs.NewlineRule.{line_end}
-use Rattle.py_plain.specs.TextFile.{TextFile}
-use Rattle.py_plain.specs.Rest.{Rest, text_rest}
-use Rattle.py_plain.specs.TextStep.{TextCall, Read, ReadLine, OtherKind, text_refusal, range_refusal, asks_past, asks_any, after_taking, after_text_read, answered_text, text_read, text_line, text_answered, ReadsTextPart, TextWaitedBy, TextSettled, TextStep}
-use Rattle.py_plain.specs.TextStep as plain
+use Rattle.py_plain_text.specs.TextFile.{TextFile}
+use Rattle.py_plain_text.specs.Rest.{Rest, text_rest}
+use Rattle.py_plain_text.specs.TextStep.{TextCall, Read, ReadLine, OtherKind, text_refusal, range_refusal, asks_past, asks_any, after_taking, after_text_read, answered_text, text_read, text_line, text_answered, ReadsTextPart, TextWaitedBy, TextSettled, TextStep}
+use Rattle.py_plain_text.specs.TextStep as plain
 use Rattle.py_raw.specs.RawStream.{Raw, Keeps, tells, AnswersFor}
 use Rattle.py_raw.proofs.Telling.{keeps_same}
 use Rattle.py_stream.specs.Stream.{Stream, file_of, nothing_owed}

@@ -3,9 +3,9 @@ use Rattle.std.specs.Prelude.{◌≡◌, Bool, true, false, List, [], ◌∷◌,
 use Rattle.py_flat.specs.declared.fault.IoFault.TheVariants as fault
 use Rattle.py_flat.specs.Calls.{FileCall, Close, Detach, Flush, OtherGetter, FileReply, Done, Unwritten, Refused}
 use Rattle.py_flat.specs.Refusals.{is_getter}
-use Rattle.py_plain.specs.TextFile.{TextFile}
-use Rattle.py_plain.specs.TextStep.{TextCall, text_refusal, text_exact}
-use Rattle.py_plain.specs.TextStep as plain
+use Rattle.py_plain_text.specs.TextFile.{TextFile}
+use Rattle.py_plain_text.specs.TextStep.{TextCall, text_refusal, text_exact}
+use Rattle.py_plain_text.specs.TextStep as plain
 use Rattle.py_raw.specs.RawStream.{WhereTold, WhereBytes}
 use Rattle.py_stream.specs.Stream.{nothing_owed}
 use Rattle.py_stream.specs.Answers as stream

@@ -7,8 +7,8 @@ use Rattle.py_flat.specs.Calls.{FileReply, Flag, Unwritten}
 use Rattle.py_flat.specs.FlatFile.{FlatFile}
 use Rattle.py_flat.specs.Refusals.{is_getter}
 use Rattle.py_flat.specs.BinaryStep.{Settled, BinaryStep}
-use Rattle.py_plain.specs.TextFile.{TextFile}
-use Rattle.py_plain.specs.TextStep.{TextSettled, TextStep}
+use Rattle.py_plain_text.specs.TextFile.{TextFile}
+use Rattle.py_plain_text.specs.TextStep.{TextSettled, TextStep}
 use Rattle.py_raw.specs.RawStream.{Raw, WhereBytes}
 use Rattle.py_stream.specs.Stream.{Stream, file_of, nothing_owed}
 use Rattle.py_calls.specs.declared.call.Call.{Call}

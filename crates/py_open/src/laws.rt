@@ -4,7 +4,7 @@
 ghost use Rattle.std.specs.Prelude.{◌≡◌, ◌≢◌, ℕ, ◌≤◌, true, IsTrue, List, [], ◌∷◌, ◌++◌, length};
 ghost use Rattle.py_flat.specs.declared.life.Life.TheVariants as life;
 ghost use Rattle.py_flat.specs.Calls.{FileReply};
-ghost use Rattle.py_plain.specs.TextFile.{TextFile};
+ghost use Rattle.py_plain_text.specs.TextFile.{TextFile};
 ghost use Rattle.py_raw.specs.RawStream.{Raw, Keeps, AnswersFor, tells};
 ghost use Rattle.py_stream.specs.Answers.{ClosedWith};
 ghost use Rattle.py_calls.specs.declared.call.Call.{Call};

@@ -1,12 +1,12 @@
 -- What the program gives for the first item, and the decoding that it goes on with.
-use Rattle.std.proofs.Common.{◌≡◌, ℕ, ◌+◌, ◌<◌, ◌≤◌, true, List, [], ◌∷◌, ◌++◌, length as len, drop, get_or, Some, sym, ap, ◌∙◌}
+use Rattle.std.proofs.Common.{◌≡◌, ℕ, ◌+◌, ◌<◌, ◌≤◌, true, List, ◌∷◌, ◌++◌, length as len, drop, get_or, Some, sym, ap, ◌∙◌}
 use Rattle.std.proofs.lemmas.List.{drop_more, append-nil}
 use Rattle.py_plain.specs.declared.encoding.Encoding.{Encoding}
 use Rattle.py_plain.specs.declared.handler.Handler.{Handler}
 use Rattle.py_plain.specs.declared.decoded.FirstItem.TheVariants as seen
 use Rattle.py_plain.specs.Units.{Order}
 use Rattle.py_plain.specs.Handlers.{Treatment, treatment}
-use Rattle.py_plain.specs.Items.{FirstItem, Given, RefusedRange, Unfinished, AtRange, first_item, used_behind, onto_walk, walk_from, plain, characters_of, refusal_of}
+use Rattle.py_plain.specs.Items.{FirstItem, Given, RefusedRange, Unfinished, AtRange, ends, first_item, used_behind, onto_walk, walk_from, plain, characters_of, refusal_of}
 use Rattle.py_plain.specs.Decoding.{Gives}
 use Rattle.py_plain.proofs.Walks.{Continues, Continues-next}
 
@@ -23,13 +23,13 @@ Gives-range (RefusedRange length) size before after gives = (cc, gives.0)
 Gives-range Unfinished size before after gives = absurd gives
 
 -- the decoding from a place on ends at a range that is refused there
-plain-refused : (encoding : Encoding) (treat : Treatment) (order : Order) (bytes : List ℕ) (place size : ℕ) → place < len bytes → first_item encoding treat true order place (drop place bytes) ≡ RefusedRange size → plain encoding treat order bytes place ≡ record { items = []; ending = AtRange place (place + size) }
+plain-refused : (encoding : Encoding) (treat : Treatment) (order : Order) (bytes : List ℕ) (place size : ℕ) → place < len bytes → first_item encoding treat true order place (drop place bytes) ≡ RefusedRange size → plain encoding treat order bytes place ≡ ends order (AtRange place (place + size))
 plain-refused encoding treat order bytes place size inside first =
     let split = drop_more bytes place 0 inside in
     let rest = drop (place + 1) bytes in
     let here : first_item encoding treat true order place (get_or bytes place 0 ∷ rest) ≡ RefusedRange size = ap (λ bs. first_item encoding treat true order place bs) (sym split) ∙ first in
     ap (λ bs. walk_from encoding treat true order place 0 bs) split
-    ∙ ap (λ item. onto_walk place item (walk_from encoding treat true order (place + 1) (used_behind item) rest)) here
+    ∙ ap (λ item. onto_walk order place item (walk_from encoding treat true order (place + 1) (used_behind item) rest)) here
 
 -- what the program has out after an item goes on to the whole decoding
 pub Continues-given : (encoding : Encoding) (handler : Handler) (order : Order) (bytes : List ℕ) (from place used : ℕ) (before after : List ℕ) → place < len bytes → 1 ≤ used → Gives (first_item encoding (treatment handler encoding) true order place (drop place bytes)) before after (seen.Given used) → Continues encoding handler order bytes from place before → Continues encoding handler order bytes from (place + used) after

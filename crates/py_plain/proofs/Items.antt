@@ -10,7 +10,7 @@ use Rattle.py_plain.specs.declared.unit.Unit.TheVariants.{Character, Malformed, 
 use Rattle.py_plain.specs.Units.{Order, first_unit}
 use Rattle.py_plain.specs.UnitLaws.{IsWithin}
 use Rattle.py_plain.specs.Handlers.{Treatment, Handled, Replaced, Refuses, treatment, reads_texts}
-use Rattle.py_plain.specs.Items.{Item, AtEnd, Walk, FirstItem, Given, RefusedRange, Unfinished, item_handled, item_of, first_item, used_behind, onto_walk, walk_from}
+use Rattle.py_plain.specs.Items.{Item, AtEnd, Walk, ends, FirstItem, Given, RefusedRange, Unfinished, item_handled, item_of, first_item, used_behind, onto_walk, walk_from}
 use Rattle.py_plain.specs.Pieces.{LooksAtRange}
 use Rattle.py_plain.specs.Alone.{DecodesAlone}
 use Rattle.py_plain.proofs.AnyUnits.{unit_some, unit_within_any}
@@ -68,15 +68,23 @@ dropped zero bytes = refl
 dropped (suc count) [] = refl
 dropped (suc count) (byte ∷ rest) = dropped count rest
 
-given_alone : (encoding : Encoding) (treat : Treatment) (order : Order) (place byte : ℕ) (rest characters : List ℕ) (used : ℕ) → 1 ≤ used → first_item encoding treat true order place (take used (byte ∷ rest)) ≡ Given characters used → walk_from encoding treat true order place 0 (take used (byte ∷ rest)) ≡ record { items = record { start = place; length = used; characters = characters } ∷ []; ending = AtEnd }
+-- an item that was read
+abbrev item_read : Order → (place : ℕ) (characters : List ℕ) (used : ℕ) → Item
+item_read order place characters used = record { start = place; length = used; order = order; characters = characters }
+
+-- the walk whose only item is this
+abbrev only : Order → (place : ℕ) (characters : List ℕ) (used : ℕ) → Walk
+only order place characters used = onto_walk order place (Given characters used) (ends order AtEnd)
+
+given_alone : (encoding : Encoding) (treat : Treatment) (order : Order) (place byte : ℕ) (rest characters : List ℕ) (used : ℕ) → 1 ≤ used → first_item encoding treat true order place (take used (byte ∷ rest)) ≡ Given characters used → walk_from encoding treat true order place 0 (take used (byte ∷ rest)) ≡ only order place characters used
 given_alone encoding treat order place byte rest characters zero some is = absurd (omega (arith, some))
 given_alone encoding treat order place byte rest characters (suc used) some is =
     let one : suc used - 1 ≡ used = omega arith in
     let none : drop (suc used - 1) (take used rest) ≡ [] = ap (λ (k : ℕ). drop k (take used rest)) one ∙ dropped used rest in
     walk-given encoding treat true order place byte (take used rest) characters (suc used) some is
-    ∙ ap (λ (bytes : List ℕ). onto_walk place (Given characters (suc used)) (walk_from encoding treat true order (place + suc used) 0 bytes)) none
+    ∙ ap (λ (bytes : List ℕ). onto_walk order place (Given characters (suc used)) (walk_from encoding treat true order (place + suc used) 0 bytes)) none
 
-first_alone : (encoding : Encoding) (treat : Treatment) (last : Bool) (order : Order) (place byte : ℕ) (rest characters : List ℕ) (used : ℕ) → LooksAtRange treat → UsesItsBytes treat → first_item encoding treat last order place (byte ∷ rest) ≡ Given characters used → walk_from encoding treat true order place 0 (take used (byte ∷ rest)) ≡ record { items = record { start = place; length = used; characters = characters } ∷ []; ending = AtEnd }
+first_alone : (encoding : Encoding) (treat : Treatment) (last : Bool) (order : Order) (place byte : ℕ) (rest characters : List ℕ) (used : ℕ) → LooksAtRange treat → UsesItsBytes treat → first_item encoding treat last order place (byte ∷ rest) ≡ Given characters used → walk_from encoding treat true order place 0 (take used (byte ∷ rest)) ≡ only order place characters used
 first_alone encoding treat last order place byte rest characters used looks uses is =
     let bytes = byte ∷ rest in
     let at_start = nat_eq place 0 in
@@ -87,35 +95,40 @@ first_alone encoding treat last order place byte rest characters used looks uses
 
 -- Each item of a walk.
 
--- an item stands past a place, and is what its bytes decode to
-abbrev Stands : Encoding → Treatment → Order → ℕ → List ℕ → Item → Type 0
-Stands encoding treat order place bytes item = (place ≤ item.start) × DecodesAlone encoding treat order place bytes item
+-- an item is all that a walk has
+abbrev IsOnly : Item → Walk → Type 0
+IsOnly item walk = (walk.items ≡ item ∷ []) × (walk.ending ≡ AtEnd)
 
-stands_before : (encoding : Encoding) (treat : Treatment) (order : Order) (place byte : ℕ) (rest : List ℕ) (item : Item) → Stands encoding treat order (place + 1) rest item → Stands encoding treat order place (byte ∷ rest) item
-stands_before encoding treat order place byte rest item stands =
+-- an item stands past a place, and is what its bytes decode to
+abbrev Stands : Encoding → Treatment → ℕ → List ℕ → Item → Type 0
+Stands encoding treat place bytes item = (place ≤ item.start) × DecodesAlone encoding treat place bytes item
+
+stands_before : (encoding : Encoding) (treat : Treatment) (place byte : ℕ) (rest : List ℕ) (item : Item) → Stands encoding treat (place + 1) rest item → Stands encoding treat place (byte ∷ rest) item
+stands_before encoding treat place byte rest item stands =
     let far : suc (item.start - (place + 1)) ≡ item.start - place = omega (arith, stands.0) in (
       omega (arith, stands.0),
-      subst (λ (k : ℕ). walk_from encoding treat true order item.start 0 (take item.length (drop k (byte ∷ rest))) ≡ record { items = item ∷ []; ending = AtEnd }) far stands.1,
+      subst (λ (k : ℕ). IsOnly item (walk_from encoding treat true item.order item.start 0 (take item.length (drop k (byte ∷ rest))))) far stands.1,
     )
 
-stands_here : (encoding : Encoding) (treat : Treatment) (order : Order) (place : ℕ) (bytes characters : List ℕ) (used : ℕ) → walk_from encoding treat true order place 0 (take used bytes) ≡ record { items = record { start = place; length = used; characters = characters } ∷ []; ending = AtEnd } → Stands encoding treat order place bytes (record { start = place; length = used; characters = characters })
+stands_here : (encoding : Encoding) (treat : Treatment) (order : Order) (place : ℕ) (bytes characters : List ℕ) (used : ℕ) → walk_from encoding treat true order place 0 (take used bytes) ≡ only order place characters used → Stands encoding treat place bytes (item_read order place characters used)
 stands_here encoding treat order place bytes characters used is =
     let here : 0 ≡ place - place = omega arith in (
       omega arith,
-      subst (λ (k : ℕ). walk_from encoding treat true order place 0 (take used (drop k bytes)) ≡ record { items = record { start = place; length = used; characters = characters } ∷ []; ending = AtEnd }) here is,
+      subst (λ (k : ℕ). IsOnly (item_read order place characters used) (walk_from encoding treat true order place 0 (take used (drop k bytes)))) here
+          (ap (λ (w : Walk). w.items) is, ap (λ (w : Walk). w.ending) is),
     )
 
-onto_stands : (encoding : Encoding) (treat : Treatment) (order : Order) (place byte : ℕ) (rest : List ℕ) (first : FirstItem) (walk : Walk) → ((characters : List ℕ) (used : ℕ) → first ≡ Given characters used → Stands encoding treat order place (byte ∷ rest) (record { start = place; length = used; characters = characters })) → All (Stands encoding treat order (place + 1) rest) walk.items → All (Stands encoding treat order place (byte ∷ rest)) (onto_walk place first walk).items
+onto_stands : (encoding : Encoding) (treat : Treatment) (order : Order) (place byte : ℕ) (rest : List ℕ) (first : FirstItem) (walk : Walk) → ((characters : List ℕ) (used : ℕ) → first ≡ Given characters used → Stands encoding treat place (byte ∷ rest) (item_read order place characters used)) → All (Stands encoding treat (place + 1) rest) walk.items → All (Stands encoding treat place (byte ∷ rest)) (onto_walk order place first walk).items
 onto_stands encoding treat order place byte rest (Given characters used) walk here behind =
-    All-cons (Stands encoding treat order place (byte ∷ rest)) (record { start = place; length = used; characters = characters }) walk.items (here characters used refl)
-    (All-weaker (Stands encoding treat order (place + 1) rest) (Stands encoding treat order place (byte ∷ rest)) (stands_before encoding treat order place byte rest) walk.items behind)
-onto_stands encoding treat order place byte rest (RefusedRange size) walk here behind = All-nil (Stands encoding treat order place (byte ∷ rest))
-onto_stands encoding treat order place byte rest Unfinished walk here behind = All-nil (Stands encoding treat order place (byte ∷ rest))
+    All-cons (Stands encoding treat place (byte ∷ rest)) (item_read order place characters used) walk.items (here characters used refl)
+    (All-weaker (Stands encoding treat (place + 1) rest) (Stands encoding treat place (byte ∷ rest)) (stands_before encoding treat place byte rest) walk.items behind)
+onto_stands encoding treat order place byte rest (RefusedRange size) walk here behind = All-nil (Stands encoding treat place (byte ∷ rest))
+onto_stands encoding treat order place byte rest Unfinished walk here behind = All-nil (Stands encoding treat place (byte ∷ rest))
 
-each_stands : (encoding : Encoding) (treat : Treatment) (last : Bool) (order : Order) (place skip : ℕ) (bytes : List ℕ) → LooksAtRange treat → UsesItsBytes treat → All (Stands encoding treat order place bytes) (walk_from encoding treat last order place skip bytes).items
-each_stands encoding treat last order place skip [] looks uses = All-nil (Stands encoding treat order place [])
+each_stands : (encoding : Encoding) (treat : Treatment) (last : Bool) (order : Order) (place skip : ℕ) (bytes : List ℕ) → LooksAtRange treat → UsesItsBytes treat → All (Stands encoding treat place bytes) (walk_from encoding treat last order place skip bytes).items
+each_stands encoding treat last order place skip [] looks uses = All-nil (Stands encoding treat place [])
 each_stands encoding treat last order place (suc skip) (byte ∷ rest) looks uses =
-    All-weaker (Stands encoding treat order (place + 1) rest) (Stands encoding treat order place (byte ∷ rest)) (stands_before encoding treat order place byte rest) _ (each_stands encoding treat last order (place + 1) skip rest looks uses)
+    All-weaker (Stands encoding treat (place + 1) rest) (Stands encoding treat place (byte ∷ rest)) (stands_before encoding treat place byte rest) _ (each_stands encoding treat last order (place + 1) skip rest looks uses)
 each_stands encoding treat last order place zero (byte ∷ rest) looks uses =
     let first : FirstItem = first_item encoding treat last order place (byte ∷ rest) in
     onto_stands encoding treat order place byte rest first (walk_from encoding treat last order (place + 1) (used_behind first) rest)
@@ -123,7 +136,7 @@ each_stands encoding treat last order place zero (byte ∷ rest) looks uses =
     (each_stands encoding treat last order (place + 1) (used_behind first) rest looks uses)
 
 -- each item of a decoding is what its own bytes decode to alone and finally
-pub each_alone : (handler : Handler) (encoding : Encoding) → reads_texts handler ≡ true → (last : Bool) (order : Order) (place : ℕ) (bytes : List ℕ) → All (DecodesAlone encoding (treatment handler encoding) order place bytes) (walk_from encoding (treatment handler encoding) last order place 0 bytes).items
+pub each_alone : (handler : Handler) (encoding : Encoding) → reads_texts handler ≡ true → (last : Bool) (order : Order) (place : ℕ) (bytes : List ℕ) → All (DecodesAlone encoding (treatment handler encoding) place bytes) (walk_from encoding (treatment handler encoding) last order place 0 bytes).items
 each_alone handler encoding reads last order place bytes =
     let treat = treatment handler encoding in
-    All-weaker (Stands encoding treat order place bytes) (DecodesAlone encoding treat order place bytes) (λ item stands. stands.1) _ (each_stands encoding treat last order place 0 bytes (reading handler encoding reads) (using handler encoding reads))
+    All-weaker (Stands encoding treat place bytes) (DecodesAlone encoding treat place bytes) (λ item stands. stands.1) _ (each_stands encoding treat last order place 0 bytes (reading handler encoding reads) (using handler encoding reads))

@@ -31,8 +31,8 @@ pub record IsTextBefore (text : List ℕ) (walk behind : Walk) : Type 0 where
   pub characters : characters_of walk.items ≡ text ++ characters_of behind.items
   pub ending : walk.ending ≡ behind.ending
 
-character_before : (c place n : ℕ) (text : List ℕ) (walk between behind : Walk) → walk ≡ onto_walk place (Given (c ∷ []) n) between → IsTextBefore text between behind → IsTextBefore (c ∷ text) walk behind
-character_before c place n text walk between behind is before = record {
+character_before : (order : Order) (c place n : ℕ) (text : List ℕ) (walk between behind : Walk) → walk ≡ onto_walk order place (Given (c ∷ []) n) between → IsTextBefore text between behind → IsTextBefore (c ∷ text) walk behind
+character_before order c place n text walk between behind is before = record {
   characters = ap (λ (w : Walk). characters_of w.items) is ∙ ap (λ (cs : List ℕ). c ∷ cs) before.characters;
   ending = ap (λ (w : Walk). w.ending) is ∙ before.ending;
 }
@@ -53,12 +53,12 @@ walk-own encoding treat last order place (c ∷ text) bytes rest scalars is =
     let further = walk-own encoding treat last order (place + len own) text parts.back rest (All-tail IsScalar c text scalars) parts.back_is in
     let far : place + len own + len parts.back ≡ place + len bytes = omega (arith, length-append own parts.back, ap len parts.whole) in
     let split : bytes ++ rest ≡ own ++ behind = ap (λ (bs : List ℕ). bs ++ rest) parts.whole ∙ append_assoc own parts.back rest in
-    let first : walk_from encoding treat last order place 0 (bytes ++ rest) ≡ onto_walk place (Given (c ∷ []) (len own)) (walk_from encoding treat last order (place + len own) 0 behind) =
+    let first : walk_from encoding treat last order place 0 (bytes ++ rest) ≡ onto_walk order place (Given (c ∷ []) (len own)) (walk_from encoding treat last order (place + len own) 0 behind) =
     ap (λ (bs : List ℕ). walk_from encoding treat last order place 0 bs) split
     ∙ (walk-character encoding treat last order place (own ++ behind) c (len own) unit
-    ∙ ap (λ (bs : List ℕ). onto_walk place (Given (c ∷ []) (len own)) (walk_from encoding treat last order (place + len own) 0 bs)) (drop-append_seam own behind)) in
+    ∙ ap (λ (bs : List ℕ). onto_walk order place (Given (c ∷ []) (len own)) (walk_from encoding treat last order (place + len own) 0 bs)) (drop-append_seam own behind)) in
     subst (λ (p : ℕ). IsTextBefore (c ∷ text) (walk_from encoding treat last order place 0 (bytes ++ rest)) (walk_from encoding treat last order p 0 rest)) far
-    (character_before c place (len own) text _ _ _ first further)
+    (character_before order c place (len own) text _ _ _ first further)
 
 -- the bytes of a text are read as that text, to the end, where nothing stands after them
 pub walk-text : (encoding : Encoding) (treat : Treatment) (last : Bool) (order : Order) (place : ℕ) (text bytes : List ℕ) → All IsScalar text → text_bytes encoding text ≡ Some bytes → (characters_of (walk_from encoding treat last order place 0 bytes).items ≡ text) × ((walk_from encoding treat last order place 0 bytes).ending ≡ AtEnd)

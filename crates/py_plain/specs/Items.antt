@@ -6,10 +6,12 @@ use Rattle.py_plain.specs.declared.unit.Unit.TheVariants.{Character, Malformed, 
 use Rattle.py_plain.specs.Units.{Order, first_unit, order_after}
 use Rattle.py_plain.specs.Handlers.{Handled, Replaced, Refuses, Treatment}
 
--- a character with its bytes, or a refused range with what stands for it and the bytes that were used
+-- a character with its bytes, or a refused range with what stands for it and the bytes that were used; `order` is the one
+-- that it was read in
 pub record Item : Type 0 where
   pub start : ℕ
   pub length : ℕ
+  pub order : Order
   pub characters : List ℕ
 
 -- what comes first: characters for n bytes; a range that is refused; or bytes that may still become a character
@@ -44,23 +46,30 @@ pub data Ending : Type 0 where
   AtRange : (start end : ℕ) → Ending
   AtCut : (start : ℕ) → Ending
 
+-- the items, the order that holds where the walk ended, and what ended it
 pub record Walk : Type 0 where
   pub items : List Item
+  pub order : Order
   pub ending : Ending
 
--- an item before a walk; a refusal and a cut end it
-abbrev pub onto_walk : ℕ → FirstItem → Walk → Walk
-onto_walk place (Given characters used) walk = record { items = record { start = place; length = used; characters = characters } ∷ walk.items; ending = walk.ending }
-onto_walk place (RefusedRange length) walk = record { items = []; ending = AtRange place (place + length) }
-onto_walk place Unfinished walk = record { items = []; ending = AtCut place }
+-- a walk that ends where it begins
+abbrev pub ends : Order → Ending → Walk
+ends order ending = record { items = []; order = order; ending = ending }
 
--- the items of the bytes that stand at a place, after the first `skip` of them
+-- an item, read in an order at a place, before a walk; a refusal and a cut end it there
+abbrev pub onto_walk : Order → (place : ℕ) → FirstItem → Walk → Walk
+onto_walk order place (Given characters used) walk = record walk { items = record { start = place; length = used; order = order; characters = characters } ∷ walk.items }
+onto_walk order place (RefusedRange length) walk = ends order (AtRange place (place + length))
+onto_walk order place Unfinished walk = ends order (AtCut place)
+
+-- the items of the bytes that stand at a place, after the first `skip` of them, read in an order; each item after the first is
+-- read in the order that holds after the unit before it
 abbrev pub walk_from : Encoding → Treatment → Bool → Order → (place skip : ℕ) → List ℕ → Walk
-walk_from encoding treat last order place skip [] = record { items = []; ending = AtEnd }
+walk_from encoding treat last order place skip [] = ends order AtEnd
 walk_from encoding treat last order place (suc skip) (byte ∷ rest) = walk_from encoding treat last order (place + 1) skip rest
 walk_from encoding treat last order place zero (byte ∷ rest) =
     let first = first_item encoding treat last order place (byte ∷ rest) in
-    onto_walk place first (walk_from encoding treat last (order_after encoding order (first_unit encoding order (nat_eq place 0) (byte ∷ rest))) (place + 1) (used_behind first) rest)
+    onto_walk order place first (walk_from encoding treat last (order_after encoding order (first_unit encoding order (nat_eq place 0) (byte ∷ rest))) (place + 1) (used_behind first) rest)
 
 -- the characters of some items
 abbrev pub characters_of : List Item → List ℕ

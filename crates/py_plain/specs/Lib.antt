@@ -15,8 +15,3 @@ pub mod Decoding
 pub mod Pieces
 pub mod Alone
 pub mod NewlineRule
-pub mod TextFile
-pub mod Rest
-pub mod TextStep
-pub mod PlainSteps
-pub mod PlainView

@@ -13,8 +13,9 @@ pub data Order : Type 0 where
   Little : Order
   Big : Order
 
--- what some bytes begin with, read in an order; `at_start` says that they stand at byte place 0. None of these
--- encodings has a mark, and each has its own order
+-- what some bytes begin with, read in an order; `at_start` says that they stand at byte place 0. None of these encodings has a
+-- mark, and each has its own order. One that has one reads FF FE or FE FF as a mark where the order is unknown at the start, and a
+-- first byte of it alone as cut
 abbrev pub first_unit : Encoding → Order → Bool → List ℕ → Option Unit
 first_unit Utf8 order at_start bytes = utf8_unit bytes
 first_unit Latin1 order at_start bytes = latin1_unit bytes
@@ -22,6 +23,7 @@ first_unit Ascii order at_start bytes = ascii_unit bytes
 first_unit Utf16Le order at_start bytes = utf16_unit false bytes
 first_unit Utf16Be order at_start bytes = utf16_unit true bytes
 
--- the order that holds after a unit
+-- the order that holds after a unit: after a mark, the one that it says. So FE FF and then 00 61 are a mark and `a`, cut anywhere:
+-- after the piece FE FF the order is big end first, and the piece FE alone leaves its byte unused, in the order as before
 abbrev pub order_after : Encoding → Order → Option Unit → Order
 order_after encoding order unit = order

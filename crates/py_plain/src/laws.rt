@@ -1,4 +1,4 @@
-ghost use Rattle.std.specs.Prelude.{◌≡◌, ◌≤◌, ◌++◌, ℕ, Bool, false, true, List, length, take, Some};
+ghost use Rattle.std.specs.Prelude.{◌≡◌, ◌≤◌, ◌++◌, ℕ, Bool, true, List, length, take, Some};
 ghost use Rattle.std.specs.List.{All};
 ghost use Rattle.std.specs.Char.{IsScalar, encode_utf8};
 ghost use Rattle.py_plain.specs.declared.encoding.Encoding.{Encoding};
@@ -11,10 +11,6 @@ ghost use Rattle.py_plain.specs.Handlers.{treatment, reads_texts};
 ghost use Rattle.py_plain.specs.Items.{walk_from};
 ghost use Rattle.py_plain.specs.Alone.{DecodesAlone};
 ghost use Rattle.py_plain.specs.Encode.{own_bytes};
-ghost use Rattle.py_flat.specs.Calls.{FileReply};
-ghost use Rattle.py_plain.specs.TextFile.{TextFile};
-ghost use Rattle.py_plain.specs.TextStep.{TextCall, TextStep};
-ghost use Rattle.py_plain.specs.PlainSteps.{PlainStep};
 ghost use Rattle.py_plain.specs.UnitLaws.{IsUtf8Long, AreBytes};
 
 /// A unit of UTF-8 is a character exactly where the bytes begin with that character's own bytes, and a range that is
@@ -41,19 +37,11 @@ pub fn characters_and_their_bytes()
         → IsScalar c × (own_bytes encoding c ≡ Some (take n bytes)) }
 {}
 
-/// Each item of a decoding is all that its own bytes decode to alone, with nothing after them: wherever in a stream
-/// they stand, and under each of the five handlers of texts that are read.
+/// Each item of a decoding is all that its own bytes decode to alone, in the order that it was read in, with nothing
+/// after them: wherever in a stream they stand, and under each of the five handlers of texts that are read.
 ///
 /// It does nothing: what it ensures is a law of the definitions.
 pub fn items_decode_alone()
     ensures { (handler : Handler) (encoding : Encoding) → reads_texts handler ≡ true → (last : Bool) (order : Order) (place : ℕ) (bytes : List ℕ)
-        → All (DecodesAlone encoding (treatment handler encoding) order place bytes) (walk_from encoding (treatment handler encoding) last order place 0 bytes).items }
-{}
-
-/// What a call of the plain text does is what a call of any text may do where its raw neither waits nor fails.
-///
-/// It does nothing: what it ensures is a law of the definitions.
-pub fn plain_steps()
-    ensures { (before : TextFile) (call : TextCall) (reply : FileReply) (after : TextFile) → PlainStep before call reply after
-        → TextStep before call reply false false after }
+        → All (DecodesAlone encoding (treatment handler encoding) place bytes) (walk_from encoding (treatment handler encoding) last order place 0 bytes).items }
 {}

@@ -1,8 +1,8 @@
 //! What every text is compared with: the newline rule over the plain decoding of all the bytes at once.
 //!
 //! Here are the definitions (`specs/`): the first unit of some bytes, what a handler makes of a refused range, items
-//! and the plain decoding, the newline rule and the first line, the place in a text and what is left from it, and the
-//! step of each call. Beside them is the plain slow program that decodes a whole list and answers calls on it.
+//! and the plain decoding, the encoding of a text, and the newline rule. Beside them is the plain slow program that decodes
+//! a whole list. `py_plain_text` has the places in a text and the step of each call, on these.
 #![tactic(auto)]
 
 mod character_bytes;
@@ -16,7 +16,6 @@ mod newlines;
 mod one_byte;
 mod pieces;
 mod plain_encode;
-mod plain_text;
 mod replacement;
 mod unit;
 mod utf16;
@@ -26,11 +25,10 @@ pub use character_bytes::{has_bytes, push_character};
 pub use decoded::{Decoded, decode};
 pub use encoding::Encoding;
 pub use handler::Handler;
-pub use laws::{characters_and_their_bytes, items_decode_alone, plain_steps, utf8_units};
+pub use laws::{characters_and_their_bytes, items_decode_alone, utf8_units};
 pub use line::{Line, first_line};
 pub use newlines::{Newlines, translate};
 pub use pieces::pieces_decode_as_one;
 pub use plain_encode::{EncodedText, encode, push_replacement_text};
-pub use plain_text::PlainText;
 pub use replacement::push_replacement;
 pub use unit::{Unit, first_unit};

@@ -9,7 +9,7 @@ use Rattle.py_flat.specs.Owed.{Owed}
 use Rattle.py_flat.specs.FlatFile.{Abilities, FlatFile}
 use Rattle.py_flat.specs.declared.life.Life.{Life}
 use Rattle.py_flat.specs.Calls.{FileReply}
-use Rattle.py_plain.specs.TextFile.{TextFile}
+use Rattle.py_plain_text.specs.TextFile.{TextFile}
 use Rattle.py_textio.specs.TextState.{TextState}
 use Rattle.py_raw.specs.RawStream.{Raw, tells}
 use Rattle.py_raw.proofs.Telling.{tells_its_bytes, tells_its_place, tells_still}

@@ -1,12 +1,12 @@
 -- What a codec answers, built in or a user's own.
-use Rattle.std.specs.Prelude.{◌≡◌, ℕ, ◌⊎◌, Bool, true, false, List, [], Option, Some, None, Result, Ok, Err}
+use Rattle.std.specs.Prelude.{◌≡◌, ℕ, ◌⊎◌, Bool, true, false, List, Option, Some, None, Result, Ok, Err}
 use Rattle.py_flat.specs.declared.fault.IoFault.{IoFault}
 use Rattle.py_flat.specs.declared.fault.IoFault.TheVariants.{NoMemory, UnicodeDecodeError, UnicodeEncodeError}
 use Rattle.py_plain.specs.declared.handler.Handler.{Handler}
 use Rattle.py_codec.specs.declared.handler_ref.HandlerRef.{HandlerRef}
 use Rattle.py_codec.specs.ErrorHandler.{DecodeMeaning, EncodeMeaning}
 use Rattle.py_codec.specs.Answers.{Expected}
-use Rattle.py_incremental.specs.Incremental.{DecoderView, EncoderView}
+use Rattle.py_incremental.specs.Incremental.{DecoderView, fresh, EncoderView}
 use Rattle.py_codec.specs.Decoding.{decoding_by}
 use Rattle.py_codec.specs.Encoding.{encoding_by}
 use Rattle.py_registry.specs.declared.codec.PyCodec.{PyCodec}
@@ -28,9 +28,9 @@ abbrev pub incremental_encoder : {S : Type 0} → PyCodec S → Handler → Opti
 incremental_encoder (Builtin encoding) handler = Some (record { encoding = encoding; handler = handler })
 incremental_encoder (Slot owner slot) handler = None
 
--- the decoder of bytes in pieces of a built-in codec, which holds nothing
+-- the decoder of bytes in pieces of a built-in codec, which has read nothing
 abbrev pub incremental_decoder : {S : Type 0} → PyCodec S → Handler → Option DecoderView
-incremental_decoder (Builtin encoding) handler = Some (record { encoding = encoding; handler = handler; held = [] })
+incremental_decoder (Builtin encoding) handler = Some (fresh encoding handler)
 incremental_decoder (Slot owner slot) handler = None
 
 -- bytes or characters; or a refusal

@@ -15,10 +15,10 @@ use Rattle.py_plain.specs.declared.encoding.Encoding.TheVariants.{Utf8}
 use Rattle.py_plain.specs.declared.handler.Handler.TheVariants.{Strict}
 use Rattle.py_plain.specs.Units.{Unknown}
 use Rattle.py_plain.specs.Handlers.{treatment}
-use Rattle.py_plain.specs.Items.{Walk, AtEnd, walk_from, characters_of, refusal_of}
-use Rattle.py_plain.specs.Rest.{Rest, text_rest}
-use Rattle.py_plain.specs.TextFile.{TextFile, clean_at}
-use Rattle.py_plain.specs.TextStep.{TextStep, asks_any, range_refusal, after_taking, at_the_end, answered_text, text_life_refusal, text_answered, text_carried_out, text_refusal, text_exact, text_read, text_line, text_reaches_raw, TextWaitedBy}
+use Rattle.py_plain.specs.Items.{Walk, AtEnd, ends, walk_from, characters_of, refusal_of}
+use Rattle.py_plain_text.specs.Rest.{Rest, text_rest}
+use Rattle.py_plain_text.specs.TextFile.{TextFile, clean_at}
+use Rattle.py_plain_text.specs.TextStep.{TextStep, asks_any, range_refusal, after_taking, at_the_end, answered_text, text_life_refusal, text_answered, text_carried_out, text_refusal, text_exact, text_read, text_line, text_reaches_raw, TextWaitedBy}
 use Rattle.py_textio.specs.declared.text.Wanted.{Wanted}
 use Rattle.py_textio.specs.declared.text.Wanted.TheVariants as wanted
 use Rattle.py_raw.specs.RawStream.{tells as raw_tells}
@@ -167,7 +167,7 @@ pub ends_last : (text : TextView) → text.held ≡ [] → length text.reader.ra
 ends_last text none within =
     let left : List ℕ = left_at text.reader.raw.bytes text.reader.place in
     let all : text.held ++ left ≡ [] = ap (λ (held : List ℕ). held ++ left) none ∙ drop_all text.reader.place text.reader.raw.bytes within in
-    let empty : Walk = record { items = []; ending = AtEnd } in
+    let empty : Walk = ends Unknown AtEnd in
     let walk : ahead text.held text.reader.place left ≡ empty = ap (λ (bytes : List ℕ). walk_from Utf8 (treatment Strict Utf8) true Unknown (text.reader.place - length text.held) 0 bytes) all in
     record {
       characters = ap (λ (w : Walk). characters_of w.items) walk;

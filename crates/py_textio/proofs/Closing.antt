@@ -4,7 +4,7 @@ use Rattle.py_flat.specs.declared.fault.IoFault.{IoFault}
 use Rattle.py_flat.specs.declared.fault.IoFault.TheVariants as fault
 use Rattle.py_flat.specs.declared.life.Life.{Life}
 use Rattle.py_flat.specs.declared.life.Life.TheVariants as life
-use Rattle.py_plain.specs.TextStep.{Close}
+use Rattle.py_plain_text.specs.TextStep.{Close}
 use Rattle.py_stream.specs.Replies.{done_reply}
 use Rattle.py_textio.specs.Reader.{ClosesRaw, ClosesIn, CloseOutcome}
 use Rattle.py_textio.specs.Text.{TextView, KeepsKnown, file_of}

@@ -14,7 +14,7 @@ use Rattle.py_plain.specs.declared.unit.Unit.TheVariants.{Character, Malformed, 
 use Rattle.py_plain.specs.Utf8.{Lead, Alone, Leads, Never, is_within, lead, sequence, unit_after, utf8_unit}
 use Rattle.py_plain.specs.Units.{Unknown}
 use Rattle.py_plain.specs.Handlers.{treatment}
-use Rattle.py_plain.specs.Items.{Walk, Given, AtRange, item_of, used_behind, onto_walk, walk_from, characters_of, refusal_of}
+use Rattle.py_plain.specs.Items.{Walk, Given, AtRange, item_of, used_behind, ends, onto_walk, walk_from, characters_of, refusal_of}
 use Rattle.py_plain.proofs.UnitLaws.{character_own, one_unit, unit_within}
 use Rattle.py_plain.proofs.Walks.{walk-skip}
 use Rattle.py_textio.specs.Text.{stop_at, IsNoCharacter, DecodedSoFar}
@@ -45,25 +45,25 @@ walk_at place bytes = walk_by true place bytes
 abbrev begun : Bool → ℕ → ℕ → List ℕ → Option Read → Walk
 begun last place byte rest unit =
     let first = item_of (treatment Strict Utf8) last place (byte ∷ rest) unit in
-    onto_walk place first (walk_from Utf8 (treatment Strict Utf8) last Unknown (place + 1) (used_behind first) rest)
+    onto_walk Unknown place first (walk_from Utf8 (treatment Strict Utf8) last Unknown (place + 1) (used_behind first) rest)
 
 -- a decoding begins with the character that the bytes begin with
-walk_character : (last : Bool) (place : ℕ) (bytes : List ℕ) (c n : ℕ) → utf8_unit bytes ≡ Some (Character c n) → walk_by last place bytes ≡ onto_walk place (Given (c ∷ []) n) (walk_by last (place + n) (drop n bytes))
+walk_character : (last : Bool) (place : ℕ) (bytes : List ℕ) (c n : ℕ) → utf8_unit bytes ≡ Some (Character c n) → walk_by last place bytes ≡ onto_walk Unknown place (Given (c ∷ []) n) (walk_by last (place + n) (drop n bytes))
 walk_character last place [] c n is = absurd (cc)
 walk_character last place (byte ∷ rest) c zero is = absurd (omega (arith, (unit_within (byte ∷ rest) (Character c zero) is).0))
 walk_character last place (byte ∷ rest) c (suc n) is =
     let behind : suc n - 1 ≡ n = omega arith in
     let far : place + 1 + n ≡ place + suc n = omega arith in
     ap (begun last place byte rest) is
-    ∙ ap (λ (k : ℕ). onto_walk place (Given (c ∷ []) (suc n)) (walk_from Utf8 (treatment Strict Utf8) last Unknown (place + 1) k rest)) behind
-    ∙ ap (onto_walk place (Given (c ∷ []) (suc n))) (walk-skip Utf8 (treatment Strict Utf8) last Unknown (place + 1) n rest ∙ ap (λ (p : ℕ). walk_by last p (drop n rest)) far)
+    ∙ ap (λ (k : ℕ). onto_walk Unknown place (Given (c ∷ []) (suc n)) (walk_from Utf8 (treatment Strict Utf8) last Unknown (place + 1) k rest)) behind
+    ∙ ap (onto_walk Unknown place (Given (c ∷ []) (suc n))) (walk-skip Utf8 (treatment Strict Utf8) last Unknown (place + 1) n rest ∙ ap (λ (p : ℕ). walk_by last p (drop n rest)) far)
 
 -- bytes that begin with a refused range, or are cut within a character, end a last walk at that range, with no characters
-pub walk_refused : (place : ℕ) (bytes : List ℕ) (n : ℕ) → utf8_unit bytes ≡ Some (Malformed n) → walk_at place bytes ≡ record { items = []; ending = AtRange place (place + n) }
+pub walk_refused : (place : ℕ) (bytes : List ℕ) (n : ℕ) → utf8_unit bytes ≡ Some (Malformed n) → walk_at place bytes ≡ ends Unknown (AtRange place (place + n))
 walk_refused place [] n is = absurd (cc)
 walk_refused place (byte ∷ rest) n is = ap (begun true place byte rest) is
 
-pub walk_cut : (place : ℕ) (bytes : List ℕ) (n : ℕ) → utf8_unit bytes ≡ Some (Cut n) → walk_at place bytes ≡ record { items = []; ending = AtRange place (place + n) }
+pub walk_cut : (place : ℕ) (bytes : List ℕ) (n : ℕ) → utf8_unit bytes ≡ Some (Cut n) → walk_at place bytes ≡ ends Unknown (AtRange place (place + n))
 walk_cut place [] n is = absurd (cc)
 walk_cut place (byte ∷ rest) n is = ap (begun true place byte rest) is
 
@@ -87,17 +87,17 @@ pub record Precedes (characters : List ℕ) (whole behind : Walk) : Type 0 where
   pub refusal_is : refusal_of whole.ending ≡ refusal_of behind.ending
 
 -- one character more before those that precede a decoding
-precedes_more : (place c n : ℕ) (cs : List ℕ) (whole between behind : Walk) → whole ≡ onto_walk place (Given (c ∷ []) n) between → Precedes cs between behind → Precedes (c ∷ cs) whole behind
+precedes_more : (place c n : ℕ) (cs : List ℕ) (whole between behind : Walk) → whole ≡ onto_walk Unknown place (Given (c ∷ []) n) between → Precedes cs between behind → Precedes (c ∷ cs) whole behind
 precedes_more place c n cs whole between behind is precedes = record {
   characters_are = ap (λ (walk : Walk). characters_of walk.items) is ∙ ap (λ (more : List ℕ). c ∷ more) precedes.characters_are;
   refusal_is = ap (λ (walk : Walk). refusal_of walk.ending) is ∙ precedes.refusal_is;
 }
 
 -- the bytes of one character, whatever stands after them
-walk_spelled : (last : Bool) (place c : ℕ) (rest : List ℕ) → IsScalar c → walk_by last place (encode_utf8 c ++ rest) ≡ onto_walk place (Given (c ∷ []) (len (encode_utf8 c))) (walk_by last (place + len (encode_utf8 c)) rest)
+walk_spelled : (last : Bool) (place c : ℕ) (rest : List ℕ) → IsScalar c → walk_by last place (encode_utf8 c ++ rest) ≡ onto_walk Unknown place (Given (c ∷ []) (len (encode_utf8 c))) (walk_by last (place + len (encode_utf8 c)) rest)
 walk_spelled last place c rest scalar =
     walk_character last place (encode_utf8 c ++ rest) c (len (encode_utf8 c)) (one_unit c rest scalar)
-    ∙ ap (λ (bytes : List ℕ). onto_walk place (Given (c ∷ []) (len (encode_utf8 c))) (walk_by last (place + len (encode_utf8 c)) bytes)) (drop-append_seam (encode_utf8 c) rest)
+    ∙ ap (λ (bytes : List ℕ). onto_walk Unknown place (Given (c ∷ []) (len (encode_utf8 c))) (walk_by last (place + len (encode_utf8 c)) bytes)) (drop-append_seam (encode_utf8 c) rest)
 
 -- a walk over the bytes of many characters gives these, then what comes after them
 pub walk_spelling : (last : Bool) (cs : List ℕ) (place : ℕ) (rest : List ℕ) → All IsScalar cs → Precedes cs (walk_by last place (encode_utf8_all cs ++ rest)) (walk_by last (place + len (encode_utf8_all cs)) rest)

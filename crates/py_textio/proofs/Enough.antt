@@ -9,7 +9,7 @@ use Rattle.py_flat.specs.Bytes.{first_of}
 use Rattle.py_flat.specs.Lines.{Lf, lf, cr, line_after, has_end_after, first_line, reaches, is_ended}
 use Rattle.py_flat.specs.BinaryStep.{IsFrontOf}
 use Rattle.py_flat.proofs.Cutting.{first_line_is_front}
-use Rattle.py_plain.specs.TextStep.{asks_past}
+use Rattle.py_plain_text.specs.TextStep.{asks_past}
 use Rattle.py_textio.specs.declared.text.Wanted.{Wanted}
 use Rattle.py_textio.specs.declared.text.Wanted.TheVariants as wanted
 use Rattle.py_textio.specs.Text.{enough, size_of}

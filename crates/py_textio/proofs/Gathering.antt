@@ -6,7 +6,8 @@ use Rattle.py_flat.specs.Bytes.{left_at}
 use Rattle.py_plain.specs.declared.unit.Unit.{Unit as Read}
 use Rattle.py_plain.specs.declared.unit.Unit.TheVariants.{Character, Malformed, Cut}
 use Rattle.py_plain.specs.Utf8.{lead, unit_after, utf8_unit}
-use Rattle.py_plain.specs.Items.{Walk, AtRange, characters_of, refusal_of}
+use Rattle.py_plain.specs.Units.{Unknown}
+use Rattle.py_plain.specs.Items.{Walk, AtRange, ends, characters_of, refusal_of}
 use Rattle.py_plain.proofs.UnitLaws.{unit_within}
 use Rattle.py_raw.specs.RawStream.{Raw, WhereTold}
 use Rattle.py_textio.specs.declared.text.Wanted.{Wanted}
@@ -39,7 +40,7 @@ cut_in_hand (byte ∷ rest) some none is =
 -- What comes after the known characters.
 
 abbrev ended_by : ℕ → ℕ → Walk
-ended_by start n = record { items = []; ending = AtRange start (start + n) }
+ended_by start n = ends Unknown (AtRange start (start + n))
 
 comes_last : (text : TextView) (n : ℕ) → ahead text.held text.reader.place (left_at text.reader.raw.bytes text.reader.place) ≡ ended_by (text.reader.place - len text.held) n → ComesLast text (Some (text.reader.place - len text.held, text.reader.place - len text.held + n))
 comes_last text n is = record {

@@ -13,11 +13,11 @@ use Rattle.py_flat.proofs.Cutting.{front_of_front, first_of_is_front, first_line
 use Rattle.py_plain.specs.declared.newlines.Newlines.{Newlines}
 use Rattle.py_plain.specs.declared.newlines.Newlines.TheVariants as newlines
 use Rattle.py_plain.specs.Handlers.{treatment}
-use Rattle.py_plain.specs.Items.{Walk, AtEnd, walk_from, characters_of, refusal_of}
+use Rattle.py_plain.specs.Items.{Walk, AtEnd, ends, walk_from, characters_of, refusal_of}
 use Rattle.py_plain.specs.NewlineRule.{line_end, translated}
-use Rattle.py_plain.specs.Rest.{front_characters, decoded, text_rest}
-use Rattle.py_plain.specs.TextFile.{TextFile}
-use Rattle.py_plain.specs.TextStep.{TextCall, Read, ReadLine, Close, OtherKind, range_refusal, asks_any, after_taking, at_the_end, answered_text, text_refusal, text_carried_out, text_answered, ReadsTextPart, TextWaitedBy, TextStep}
+use Rattle.py_plain_text.specs.Rest.{front_characters, decoded, text_rest}
+use Rattle.py_plain_text.specs.TextFile.{TextFile}
+use Rattle.py_plain_text.specs.TextStep.{TextCall, Read, ReadLine, Close, OtherKind, range_refusal, asks_any, after_taking, at_the_end, answered_text, text_refusal, text_carried_out, text_answered, ReadsTextPart, TextWaitedBy, TextStep}
 use Rattle.py_textio.specs.Laws.{LosesNothing}
 
 -- all characters of a text before those that were taken are left out
@@ -41,7 +41,7 @@ translated_none newlines.Cr = refl
 translated_none newlines.Crlf = refl
 
 -- nothing is left at the end
-end_walk : (file : TextFile) → decoded (at_the_end file) ≡ record { items = []; ending = AtEnd }
+end_walk : (file : TextFile) → decoded (at_the_end file) ≡ ends file.place.order AtEnd
 end_walk file =
     let place : ℕ = max file.place.at (length file.bytes) in
     let none : drop place file.bytes ≡ [] = drop_all place file.bytes (omega arith) in

@@ -7,8 +7,8 @@ use Rattle.py_flat.specs.declared.life.Life.TheVariants as life
 use Rattle.py_flat.specs.Calls.{FileReply, Text, Done, NotReady, Refused}
 use Rattle.py_flat.specs.Causes.{rose}
 use Rattle.py_flat.specs.ExactStep.{is_closed}
-use Rattle.py_plain.specs.TextFile.{TextPlace, clean_at, TextFile}
-use Rattle.py_plain.specs.TextStep.{TextCall, Read, ReadLine, Close, text_refusal, asks_any, place_taking, TextStep}
+use Rattle.py_plain_text.specs.TextFile.{TextPlace, clean_at, TextFile}
+use Rattle.py_plain_text.specs.TextStep.{TextCall, Read, ReadLine, Close, text_refusal, asks_any, place_taking, TextStep}
 use Rattle.py_raw.specs.RawStream.{Raw, Keeps, KeepsBytes, WhereBytes, WhereTold, NoFault, AnswersFor}
 use Rattle.py_stream.specs.Kinds.{says_fault}
 use Rattle.py_stream.specs.Answers.{ClosedWith, HasCauses}

@@ -2,7 +2,7 @@
 use Rattle.std.specs.Prelude.{◌≡◌, ◌≢◌, ℕ, ◌<◌, ◌-◌, List, [], Option, Some, None, Result, Ok}
 use Rattle.py_flat.specs.declared.fault.IoFault.{IoFault}
 use Rattle.py_flat.specs.Calls.{FileReply, Text}
-use Rattle.py_plain.specs.TextStep.{ReadLine}
+use Rattle.py_plain_text.specs.TextStep.{ReadLine}
 use Rattle.py_textio.specs.TextState.{TextState}
 use Rattle.py_textio.specs.Answers.{Answers, text_reply}
 

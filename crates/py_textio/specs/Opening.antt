@@ -5,7 +5,7 @@ use Rattle.py_plain.specs.declared.encoding.Encoding.TheVariants.{Utf8}
 use Rattle.py_plain.specs.declared.handler.Handler.TheVariants.{Strict}
 use Rattle.py_plain.specs.declared.newlines.Newlines.TheVariants as newlines
 use Rattle.py_plain.specs.Units.{Unknown}
-use Rattle.py_plain.specs.TextFile.{clean_at, TextFile}
+use Rattle.py_plain_text.specs.TextFile.{clean_at, TextFile}
 use Rattle.py_raw.specs.RawStream.{Raw, WherePlace, LeavesCounts}
 use Rattle.py_stream.specs.declared.new_refused.NewRefused.{NewRefused}
 use Rattle.py_stream.specs.Opening.{Untouched, RefusesRaw}

@@ -22,8 +22,8 @@ use Rattle.py_raw.specs.RawStream.{Raw, WhereTold, WherePlace}
 use Rattle.py_flat.specs.Calls.{FileReply, Text, NotReady, Refused}
 use Rattle.py_flat.specs.BinaryStep.{IsFrontOf}
 use Rattle.py_plain.specs.declared.newlines.Newlines.TheVariants as newlines
-use Rattle.py_plain.specs.TextFile.{TextFile}
-use Rattle.py_plain.specs.TextStep.{TextCall, TextStep, asks_any, Read as TextRead, ReadLine as TextReadLine}
+use Rattle.py_plain_text.specs.TextFile.{TextFile}
+use Rattle.py_plain_text.specs.TextStep.{TextCall, TextStep, asks_any, Read as TextRead, ReadLine as TextReadLine}
 use Rattle.py_textio.specs.declared.text.Chunk.{Chunk}
 use Rattle.py_textio.specs.declared.text.Chunk.TheVariants as chunk
 use Rattle.py_textio.specs.declared.text.Wanted.{Wanted}

@@ -4,7 +4,7 @@ use Rattle.py_flat.specs.Bytes.{left_at}
 use Rattle.py_plain.specs.Handlers.{treatment}
 use Rattle.py_plain.specs.Items.{Walk, walk_from, characters_of, refusal_of}
 use Rattle.py_plain.specs.NewlineRule.{read_so_far}
-use Rattle.py_plain.specs.TextFile.{TextFile}
+use Rattle.py_plain_text.specs.TextFile.{TextFile}
 use Rattle.py_raw.specs.RawStream.{Raw}
 
 -- the decoding of the bytes that were taken from a raw since the text place, while more may come after them

@@ -5,8 +5,8 @@ ghost use Rattle.std.specs.Prelude.{◌≡◌, ◌≢◌, ℕ, Bool, List};
 ghost use Rattle.py_flat.specs.declared.fault.IoFault.{IoFault};
 ghost use Rattle.py_flat.specs.declared.fault.IoFault.TheVariants as fault;
 ghost use Rattle.py_flat.specs.Calls.{FileReply, Text, NotReady, Refused};
-ghost use Rattle.py_plain.specs.TextFile.{TextFile};
-ghost use Rattle.py_plain.specs.TextStep.{TextCall, TextSettled, TextStep};
+ghost use Rattle.py_plain_text.specs.TextFile.{TextFile};
+ghost use Rattle.py_plain_text.specs.TextStep.{TextCall, TextSettled, TextStep};
 ghost use Rattle.py_textio.specs.Laws.{LosesNothing};
 
 /// A settled reply of a text blames neither the raw nor memory: it is not `NotReady`, `RawFault`, `NoMemory` or

@@ -2,7 +2,7 @@
 //! that it knows. It never holds the whole file.
 ghost use Rattle.std.specs.Prelude.{◌≡◌, ◌<◌, ◌≤◌, false, [], length, drop, vec_len, vec_capacity, IfSome, MatchResult};
 ghost use Rattle.py_plain.specs.Utf8.{utf8_unit};
-ghost use Rattle.py_plain.specs.TextStep.{asks_any};
+ghost use Rattle.py_plain_text.specs.TextStep.{asks_any};
 ghost use Rattle.py_raw.specs.RawStream.{WhereTold};
 ghost use Rattle.py_textio.specs.Reader.{KeepsReader, MovesForth, CloseOutcome};
 ghost use Rattle.py_textio.specs.Text.{IsFresh, DecodedSoFar, StoppedAt, DecodeOutcome, KeepsKnown, ChunkOutcome, stop_at, IsNoCharacter, range_in_hand, enough, size_of, asks_all, Gathers, GatheredAt, IsReady, GatherOutcome, GiveOutcome, GiveLastOutcome, OnlyWhereWaits, waited_in, faulted_in, AnswerCauses, AnswerMoves, AnswerStep, AnswerHides};

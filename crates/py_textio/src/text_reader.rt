@@ -2,7 +2,7 @@
 ghost use Rattle.std.specs.Prelude.{◌≡◌, ◌<◌, true, false, []};
 ghost use Rattle.py_flat.specs.Calls.{Refused};
 ghost use Rattle.py_flat.specs.ExactStep.{is_closed};
-ghost use Rattle.py_plain.specs.TextStep.{Read, ReadLine, Close, OtherKind};
+ghost use Rattle.py_plain_text.specs.TextStep.{Read, ReadLine, Close, OtherKind};
 ghost use Rattle.py_stream.specs.Opening.{StandsAtStart};
 ghost use Rattle.py_stream.specs.Replies.{done_reply};
 ghost use Rattle.py_textio.specs.Text.{call_of};

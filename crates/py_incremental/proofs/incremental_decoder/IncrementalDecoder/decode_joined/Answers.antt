@@ -1,4 +1,4 @@
-use Rattle.std.proofs.Common.{◌≤◌, length, rules}
+use Rattle.std.proofs.Common.{◌≤◌, length, refl, rules}
 use Rattle.py_incremental.proofs.Stepping.{used_within, step_ok, step_err}
 use Rattle.py_incremental.proofs.incremental_decoder.IncrementalDecoder.decode_joined.Goals as goal
 
@@ -12,7 +12,7 @@ pub from_slice-self-inside-requires : goal.from_slice-self-inside-requires
 from_slice-self-inside-requires c = (used_within _ _ _ _ _ _ c.in-Ok.ensures).1
 
 pub returns-in-Ok-clause-step : goal.returns-in-Ok-clause-step
-returns-in-Ok-clause-step c = λ bytes is. step_ok _ _ _ _ _ _ c.in-Ok.text _ c.self.view_is is c.in-Ok.ensures c.from_slice-self-inside.ensures
+returns-in-Ok-clause-step c = λ bytes is. step_ok _ _ _ _ _ _ c.in-Ok.text _ c.self.view_is refl is c.in-Ok.ensures c.from_slice-self-inside.ensures
 
 pub returns-in-Err-clause-step : goal.returns-in-Err-clause-step
-returns-in-Err-clause-step c = λ bytes is. step_err _ _ _ _ _ _ c.self.view_is is c.in-Err.ensures
+returns-in-Err-clause-step c = λ bytes is. step_err _ _ _ _ _ _ c.self.view_is refl is c.in-Err.ensures

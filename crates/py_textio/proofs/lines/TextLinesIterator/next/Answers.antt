@@ -1,6 +1,6 @@
 use Rattle.std.proofs.Common.{◌≡◌, ℕ, List, [], Option, None, Ok, refl, ap, ◌∙◌, subst}
 use Rattle.py_flat.specs.Calls.{FileReply, Text}
-use Rattle.py_plain.specs.TextStep.{ReadLine}
+use Rattle.py_plain_text.specs.TextStep.{ReadLine}
 use Rattle.py_textio.specs.Answers.{Answers, text_reply}
 use Rattle.py_textio.proofs.lines.TextLinesIterator.next.Goals as goal
 

@@ -1,5 +1,5 @@
 use Rattle.std.proofs.Common.{false, subst}
-use Rattle.py_plain.specs.TextStep.{Close}
+use Rattle.py_plain_text.specs.TextStep.{Close}
 use Rattle.py_stream.specs.Replies.{done_reply}
 use Rattle.py_textio.specs.TextState.{TextState}
 use Rattle.py_textio.specs.Answers.{Answers}

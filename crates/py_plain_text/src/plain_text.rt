@@ -1,0 +1,269 @@
+ghost use Rattle.std.specs.Prelude.{◌≡◌, ◌+◌, ◌^◌, ◌<◌, ◌≤◌, false, length, take, IfOk, IfErr, OnOk};
+ghost use Rattle.py_plain_text.specs.PlainSteps.{plain_text, text_reply, done_reply, IsAccepted, IsUnread, IsAnswer, IsWritten, IsUnwritten, PlainStep, PlainAnswer, count_reply};
+ghost use Rattle.py_flat.specs.Bytes.{first_of};
+ghost use Rattle.py_plain_text.specs.Rest.{text_rest};
+ghost use Rattle.py_plain_text.specs.TextStep.{asks_past, asks_any, range_refusal, after_taking, at_the_end};
+ghost use Rattle.py_plain_text.specs.TextCalls.{Read, ReadLine, WriteText, Close};
+ghost use Rattle.py_plain_text.specs.TextExact.{exact};
+
+use crate::PlainSettings;
+use crate::plain_place::{PlainPlace, left};
+use crate::plain_write::{laid, written};
+use py_flat::{Chars, IoFault, Life};
+use py_plain::{Decoded, encode, first_line};
+use std::alloc::{AllocError, Global};
+use std::marker::Model;
+
+/// The greatest place of a stream, a signed number of 64 bits.
+const GREATEST_PLACE: usize = 9_223_372_036_854_775_807;
+
+/// A text over a list of bytes, read by decoding all of them again at each call.
+///
+/// It is slow, and plain on purpose: other texts are compared with it.
+#[derive(Debug, Drop)]
+pub struct PlainText {
+    bytes: Vec<u8>,
+    settings: PlainSettings,
+    place: PlainPlace,
+    closed: bool,
+}
+
+impl Model for PlainText {
+    ghost use Rattle.py_plain_text.specs.TextFile.{TextFile};
+
+    ghost Value = { TextFile };
+
+    ghost use Rattle.py_plain_text.specs.PlainView.{shown, IsPlaced};
+
+    ghost view = { shown };
+
+    ghost invariant = { IsPlaced };
+}
+
+/// The characters as a text, or `Err` when out of memory.
+fn spelled(alloc: Global, characters: &[char]) -> Result<Chars, AllocError>
+    ensures { IfOk result (λ c. c ≡ characters.now) }
+{
+    let mut text = String::new(alloc);
+    for character in characters {
+        text.push(*character)?;
+    }
+    Ok(Chars::from_string(text))
+}
+
+/// Whether a size asks for more characters than there are.
+fn asks_past(size: Option<usize>, characters: &[char]) -> bool
+    ensures { result ≡ asks_past size characters.now }
+{
+    match size {
+        None => true,
+        Some(size) => characters.len() < size,
+    }
+}
+
+/// Whether a size or limit asks for anything.
+fn asks_any(size: Option<usize>) -> bool
+    ensures { result ≡ asks_any size }
+{
+    match size {
+        None => true,
+        Some(size) => size != 0,
+    }
+}
+
+/// How many of some characters a size asks for.
+fn count_of(size: Option<usize>, characters: &[char]) -> usize
+    ensures count { take result characters.now ≡ first_of size characters.now }
+    ensures within { result ≤ length characters.now }
+{
+    match size {
+        None => characters.len(),
+        Some(size) => size.min(characters.len()),
+    }
+}
+
+/// The fault of a refused range that an answer would have to pass.
+fn range_fault(passes: bool, range: Option<(usize, usize)>) -> Option<IoFault>
+    ensures { result ≡ range_refusal passes range }
+{
+    match range {
+        Some((start, end)) if passes => Some(IoFault::UnicodeDecodeError {
+            start: start as u64,
+            end: end as u64,
+        }),
+        _ => None,
+    }
+}
+
+/// The first characters that are left, or the fault of a refused range that they would have to pass. `NoMemory` where
+/// there is none.
+fn answer(
+    alloc: Global,
+    front: &[char],
+    passes: bool,
+    range: Option<(usize, usize)>,
+) -> Result<Chars, IoFault>
+    ensures { IsAnswer result (range_refusal passes range) front.now }
+{
+    if let Some(fault) = range_fault(passes, range) {
+        return Err(fault);
+    }
+    match spelled(alloc, front) {
+        Ok(characters) => Ok(characters),
+        Err(_) => Err(IoFault::NoMemory),
+    }
+}
+
+impl PlainText {
+    /// A text of these bytes at its beginning, live, in an encoding, with a handler and a newline rule. It can be read,
+    /// and it takes no memory.
+    pub fn new(bytes: Vec<u8>, settings: PlainSettings) -> Self
+        ensures { result ≡ plain_text bytes.items settings }
+    {
+        PlainText {
+            bytes,
+            settings,
+            place: PlainPlace::clean_at(0),
+            closed: false,
+        }
+    }
+
+    /// What is left of the text: the characters up to the end or a refused range, and that range in bytes from the
+    /// start of the text. `Closed` where the text is closed, else `NoMemory` where there is none.
+    fn rest(&self, alloc: Global) -> Result<Decoded, IoFault>
+        ensures accepted { OnOk result (IsAccepted self.now) }
+        ensures characters { IfOk result (λ d. d.characters.items ≡ (text_rest self.now).characters) }
+        ensures refusal { IfOk result (λ d. d.refusal ≡ (text_rest self.now).refusal) }
+        ensures fits { IfOk result (λ d. self.now.place.taken + length d.characters.items < 2 ^ 64) }
+        ensures err { IfErr result (λ fault. IsUnread self.now fault) }
+    {
+        if self.closed {
+            return Err(IoFault::Closed);
+        }
+        match left(alloc, self.settings, &self.bytes, &self.place) {
+            Ok(rest) => Ok(rest),
+            Err(_) => Err(IoFault::NoMemory),
+        }
+    }
+
+    /// Counts characters as taken; `asks` says whether any were asked for.
+    fn take(&mut self, count: usize, asks: bool)
+        requires there { count ≤ length (text_rest self.old).characters }
+        requires fits { self.old.place.taken + count < 2 ^ 64 }
+        requires asked { asks ≡ false → count ≡ 0 }
+        ensures { self.new ≡ after_taking self.old count asks }
+    {
+        self.place.taken += count;
+        self.place.dirty = self.place.dirty || asks;
+    }
+
+    /// Goes to the end of the bytes, as a read of all does.
+    fn move_to_end(&mut self)
+        ensures { self.new ≡ at_the_end self.old }
+    {
+        self.place = PlainPlace::clean_at(self.place.at.max(self.bytes.len()));
+    }
+
+    /// Reads n characters, or all that are left for none: fewer only at the end.
+    ///
+    /// `UnicodeDecodeError` where a refused range stands before the last of them, `Closed` where the text is closed,
+    /// `NoMemory` where there is none: the text is then as it was. Otherwise those characters are taken from it.
+    pub fn read(&mut self, alloc: Global, size: Option<usize>) -> Result<Chars, IoFault>
+        ensures { PlainStep self.old (Read size) (text_reply result) self.new }
+    {
+        let rest = self.rest(alloc)?;
+        let count = count_of(size, &rest.characters);
+        let passes = asks_past(size, &rest.characters);
+        let characters = answer(alloc, &rest.characters[..count], passes, rest.refusal)?;
+        match size {
+            None => self.move_to_end(),
+            Some(size) => self.take(count, size != 0),
+        }
+        Ok(characters)
+    }
+
+    /// Reads the first line that is left, its end with it, at most `limit` characters; nothing at the end.
+    ///
+    /// `UnicodeDecodeError` where a refused range stands before the line's end, `Closed` where the text is closed,
+    /// `NoMemory` where there is none: the text is then as it was. Otherwise the line is taken from it.
+    pub fn readline(&mut self, alloc: Global, limit: Option<usize>) -> Result<Chars, IoFault>
+        ensures { PlainStep self.old (ReadLine limit) (text_reply result) self.new }
+    {
+        let rest = self.rest(alloc)?;
+        let line = first_line(self.settings.newline, limit, &rest.characters);
+        let characters = answer(
+            alloc,
+            &rest.characters[..line.length],
+            !line.ended,
+            rest.refusal,
+        )?;
+        self.take(line.length, asks_any(limit));
+        Ok(characters)
+    }
+
+    /// The bytes that a text is written as by the newline rule and the encoding, which have to end no further than
+    /// 9223372036854775807.
+    fn bytes_of(&self, alloc: Global, text: &[char]) -> Result<Vec<u8>, IoFault>
+        ensures ok { IfOk result (λ v. IsWritten self.now text.now v.items) }
+        ensures err { IfErr result (λ fault. IsUnwritten self.now text.now fault) }
+    {
+        if self.place.dirty {
+            return Err(IoFault::SeekFirst);
+        }
+        let PlainSettings {
+            encoding,
+            handler,
+            ..
+        } = self.settings;
+        if let Some((start, end)) = encode(alloc, encoding, handler, text)?.refusal {
+            return Err(IoFault::UnicodeEncodeError {
+                start: start as u64,
+                end: end as u64,
+            });
+        }
+        let characters = written(alloc, self.settings.newline, text)?;
+        let bytes = encode(alloc, encoding, handler, &characters)?.bytes;
+        match self.place.at.checked_add(bytes.len()) {
+            Some(end) if end <= GREATEST_PLACE => Ok(bytes),
+            _ => Err(IoFault::TooFar),
+        }
+    }
+
+    /// Writes a text: its bytes lie at the place of the text then, which stands behind them. It answers how many characters
+    /// the text has.
+    ///
+    /// `SeekFirst` where characters were read, `UnicodeEncodeError` where the handler refuses a run of characters, by its
+    /// places in the text, `TooFar` where the bytes would end past 9223372036854775807, `Closed` where the text is closed,
+    /// `NoMemory` where there is none: the text is then as it was.
+    pub fn write(&mut self, alloc: Global, text: &[char]) -> Result<usize, IoFault>
+        ensures { PlainAnswer self.old (WriteText text.now) (count_reply result) self.new }
+    {
+        if self.closed {
+            return Err(IoFault::Closed);
+        }
+        let bytes = self.bytes_of(alloc, text)?;
+        let laid = laid(alloc, &self.bytes, self.place.at, &bytes)?;
+        self.bytes = laid;
+        self.place.at += bytes.len();
+        Ok(text.len())
+    }
+
+    /// What became of the text: it is live, or closed.
+    pub fn life(&self) -> Life
+        ensures { result ≡ self.now.life }
+    {
+        if self.closed {
+            Life::Closed
+        } else {
+            Life::Live
+        }
+    }
+
+    /// Closes the text. It is never refused, and closing again does nothing.
+    pub fn close(&mut self) -> Result<(), IoFault>
+        ensures { (done_reply result, self.new) ≡ exact self.old Close }
+    {
+        self.closed = true;
+        Ok(())
+    }
+}
