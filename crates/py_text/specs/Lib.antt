@@ -1,0 +1,4 @@
+pub mod Sizes
+pub mod Settings
+pub mod Coders
+pub mod NewlinePieces

@@ -1,0 +1,30 @@
+//! Parts of a text stream that know no stream.
+//!
+//! Here are the newline rule over a text that comes in pieces, sizes of texts in bytes and characters, and the codec and
+//! the handler that a text stream has by their names in a registry, with its other settings. The functions of `laws` and
+//! `examples` do nothing: their contracts are a law of these definitions and what they come to in worked examples.
+#![tactic(auto)]
+
+mod coder;
+mod cutting;
+mod examples;
+mod finding;
+mod laws;
+mod newline_decoder;
+mod reading;
+mod text_settings;
+mod utf8_size;
+
+pub use coder::Coder;
+pub use examples::{
+    a_coder_has_a_codec_that_is_built_in_and_a_handler_of_its_directions,
+    a_cr_waits_for_what_follows,
+};
+pub use finding::find_coder;
+pub use laws::newline_pieces_read_as_one;
+pub use newline_decoder::IncrementalNewlineDecoder;
+pub use py_codec::IoFault;
+pub use py_plain::{Encoding, Handler, Newlines};
+pub use py_registry::{CodecsRegistry, SearchFunction};
+pub use text_settings::TextSettings;
+pub use utf8_size::Utf8size;
