@@ -1,6 +1,6 @@
 //! Buffered readers: the examples of docs/BUFFERED.md.
-use crate::memory::{reader_of, shown};
 use py_buffered::Whence;
+use py_example_streams::{reader_of, shown};
 use py_raw::{IoFault, Life};
 use py_raw_memory::Cut;
 use std::test::Fail;

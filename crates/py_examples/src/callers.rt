@@ -1,6 +1,6 @@
 //! The callers of docs/CALLING.md, each called once.
-use crate::memory::{reader_of, writer_to};
 use py_callers::{copy_all, decode_replacing, first_line};
+use py_example_streams::{reader_of, writer_to};
 use py_flat::IoFault;
 use py_open::Reply;
 use py_raw::{Data, RawFlags};

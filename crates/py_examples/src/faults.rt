@@ -1,5 +1,5 @@
 //! Buffered writers, their waits and faults: the examples of docs/FAULTS.md.
-use crate::memory::{three_lines, writer_to};
+use py_example_streams::{three_lines, writer_to};
 use py_raw::{IoFault, Life, RawStream};
 use py_raw_memory::Cut;
 use std::test::Fail;

@@ -1,6 +1,6 @@
 //! Buffered streams over a real file.
-use crate::memory::shown;
 use py_buffered::{BufferedReader, BufferedWriter};
+use py_example_streams::shown;
 use py_raw::Opener;
 use py_raw_files::FileOpener;
 use std::path::PathBuf;

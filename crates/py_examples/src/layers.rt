@@ -1,5 +1,5 @@
 //! A layer above buffered streams, which knows of them what `BufferedStream` says, and no more: the example of docs/BUFFERED.md.
-use crate::memory::{random_over, reader_of, writer_to};
+use py_example_streams::{random_over, reader_of, writer_to};
 use py_memio::BytesIO;
 use py_raw::IoFault;
 use py_raw_memory::MemRaw;

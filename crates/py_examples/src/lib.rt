@@ -1,7 +1,8 @@
 //! The examples of README and of docs/, each a test: what a page shows is a part of one of these, and `.ci/docs_examples`
 //! compares them.
 //!
-//! A file has the examples of one subject. `memory` makes the raw streams and the streams over them that they begin from.
+//! A file has the examples of one subject. `py_example_streams` makes the streams that they begin from; those of streams that are read
+//! and written are `py_random_examples`.
 #![tactic(auto)]
 
 #[cfg(test)]
@@ -19,15 +20,7 @@ mod files;
 #[cfg(test)]
 mod layers;
 #[cfg(test)]
-mod memory;
-#[cfg(test)]
 mod queue;
-#[cfg(test)]
-mod random;
-#[cfg(test)]
-mod random_faults;
-#[cfg(test)]
-mod records;
 #[cfg(test)]
 mod refusals;
 #[cfg(test)]

@@ -1,6 +1,6 @@
 //! Lines from a raw stream of one's own: the example of docs/OWN_RAW.md.
-use crate::memory::shown;
 use py_buffered::BufferedReader;
+use py_example_streams::shown;
 use py_queue_raw::{Queue, QueueRaw};
 use std::test::Fail;
 

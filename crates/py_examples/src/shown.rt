@@ -1,5 +1,5 @@
 //! What `{:?}` shows of streams and sessions: what is under them, the place and the life, and how much is in hand.
-use crate::memory::{reader_of, writer_to};
+use py_example_streams::{reader_of, writer_to};
 use py_open::{OpenArgs, run_session};
 use py_raw::RawFlags;
 use py_raw_memory::MemRaw;

@@ -1,6 +1,6 @@
 //! A store of records that are changed in place, over a raw that fails in the middle: the example of docs/FAULTS.md.
-use crate::memory::{random_over, shown};
 use py_buffered_random::{BufferedRandom, Whence};
+use py_example_streams::{random_over, shown, written_back};
 use py_raw::{IoFault, RawStream};
 use py_raw_memory::MemRaw;
 use std::alloc::Global;
@@ -47,13 +47,7 @@ fn mended(
     alloc: Global,
     mut failed: BufferedRandom<MemRaw>,
 ) -> Result<BufferedRandom<MemRaw>, Fail> {
-    let detached = failed.detach()?;
-    let mut stream = random_over(alloc, detached.raw.bytes_of(), &[], &[], 16)?;
-    if let Some(place) = detached.place {
-        stream.seek(i64::try_from(place)?, Whence::Start.into())?;
-        stream.write(&detached.unwritten)?;
-    }
-    Ok(stream)
+    written_back(alloc, failed.detach()?, 16)
 }
 
 /// All records.
