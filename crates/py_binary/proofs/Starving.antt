@@ -70,7 +70,7 @@ starved_into stream size is live reads = record {
   single = λ one none tells. omega arith;
   passes_first = λ buffered single some given. absurd (cc);
   in_hand = λ has. record { raw = refl; fault = refl };
-  owing = λ has. refl;
+  owing = λ has. record { owed = refl; held = refl };
   brings = λ reading none. came_still stream (record stream { short = false }) 1 refl refl;
   unread = λ reads. absurd (cc);
   needs = λ reading none. record {

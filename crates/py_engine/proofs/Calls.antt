@@ -1,5 +1,5 @@
 -- The calls that give nothing, or bytes, by what the stream is opened for: what holds when a call begins, and what its steps come to.
-use Rattle.std.proofs.Common.{◌≡◌, ℕ, [], length, Bool, true, false, Result, Ok, Err, IfOk, refl, sym, ap, subst, arith}
+use Rattle.std.proofs.Common.{◌≡◌, ℕ, [], length, Bool, true, false, Result, Ok, Err, IfOk, refl, sym, ap, ◌∙◌, subst, arith}
 use Rattle.py_flat.specs.declared.fault.IoFault.{IoFault}
 use Rattle.py_flat.specs.declared.life.Life.TheVariants as life
 use Rattle.py_flat.specs.Calls.{Flush, Close, Refused}
@@ -8,6 +8,7 @@ use Rattle.py_stream.specs.declared.access.Access.TheVariants as access
 use Rattle.py_stream.specs.Access.{can_of, is_written}
 use Rattle.py_stream.specs.Stream.{Span, nothing_owed, nothing_held}
 use Rattle.py_stream.specs.Settling.{SettleOutcome}
+use Rattle.py_stream.specs.Writing.{StandsBare}
 use Rattle.py_stream.specs.Replies.{done_reply}
 use Rattle.py_stream.specs.Answers.{Answers}
 use Rattle.py_stream.specs.Moving.{Begins, keeps_pending, OwesBy, SettlesBy}
@@ -99,6 +100,12 @@ owes_by engine is = owes_in engine.access engine refl is
 -- passing all on, by what the stream is opened for, is what a call that needs it goes by
 pub settles_by : (opened : Access) (old new : EngineView) (result : Result (Unit {0}) IoFault) → old.access ≡ opened → PassesAll opened (stream_of old) result (stream_of new) → SettlesBy (keeps_pending (stream_of old)) (stream_of old) result (stream_of new)
 settles_by opened old new result is passed = grind arith
+
+-- what is written then holds nothing, and its raw stands at the place
+pub settles_bare : (opened : Access) (old new : EngineView) (result : Result (Unit {0}) IoFault) → old.access ≡ opened → PassesAll opened (stream_of old) result (stream_of new) → IfOk result (λ done. is_written opened ≡ true → new.raw_place ≡ place_of new.window) → IfOk result (λ done. is_written opened ≡ true → IsBehind new) → IfOk result (λ done. is_written opened ≡ true → new.window.held ≡ []) → IfOk result (λ done. (stream_of old).can.writable ≡ true → StandsBare (stream_of new))
+settles_bare opened old new (Err why) is passed stands behind rests = tt
+settles_bare access.Read old new (Ok done) is passed stands behind rests = λ writes. absurd (let reads : false ≡ true = sym (ap (λ (opened : Access). (can_of opened old.raw.seekable).writable) is) ∙ writes in cc)
+settles_bare other old new (Ok done) is passed stands behind rests = λ writes. let here : RestsHere (stream_of new) = rests_here new (stands refl) (behind refl) (rests refl) in record { none = passed.2; held = here.held; stands = here.stands }
 
 -- a stream that is written passes all on
 pub settles_writing : (old new : EngineView) (result : Result (Unit {0}) IoFault) → is_written old.access ≡ true → SettleOutcome (stream_of old) result (stream_of new) → SettlesBy (keeps_pending (stream_of old)) (stream_of old) result (stream_of new)

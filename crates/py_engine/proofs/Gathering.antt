@@ -141,7 +141,8 @@ module _ (old now : EngineView) (part : List ℕ) (moved : Bool) (gathered : Gat
           held = λ _ within. raw ∙ needed_enough moved refl wanted first used after same some enough (omega (arith, within, ap (λ (engine : EngineView). place_of engine.window) is));
           last = subst (λ (engine : EngineView). LastIsNeeded (reading_of old) (reading_of engine)) is (last_needed moved refl wanted first used after same some enough);
         },
-      ) (gathers_enough wanted first used after same enough) (λ held. raw ∙ ap (λ (engine : EngineView). engine.raw) (unmoved_for_held old now part moved first gathered some held))
+      ) (gathers_enough wanted first used after same enough) (λ held. let same : now ≡ old = unmoved_for_held old now part moved first gathered some held in
+      record { raw = raw ∙ ap (λ (engine : EngineView). engine.raw) same; held = ap (λ (engine : EngineView). (reading_of engine).held) (sym is) ∙ ap (λ (engine : EngineView). (reading_of engine).held) same })
 
   -- the collector took all that is held
   takes_all : (after : List ℕ) → after ≡ part ++ ahead_of now.window → Took old after moved now

@@ -1,5 +1,5 @@
 -- Readings of an engine that the bytes held answer, whatever it owes; and others where it doesn't read on from these as it stands.
-use Rattle.std.proofs.Common.{[], ◌∷◌, ◌≡◌, ◌≢◌, ℕ, zero, suc, ◌+◌, ◌<◌, ◌≤◌, ◌⊎◌, inl, inr, ⊎_elim, nat_lt, if◌then◌else◌, unwrap_or, length-append, Bool, true, false, IsTrue, List, length, ◌++◌, take, drop, ◌-◌, min, Option, Some, None, Ok, Err, refl, sym, ap, ◌∙◌, subst, arith}
+use Rattle.std.proofs.Common.{[], ◌∷◌, ◌≡◌, ◌≢◌, ℕ, zero, suc, ◌+◌, ◌<◌, ◌≤◌, ◌⊎◌, inl, inr, ⊎_elim, nat_lt, if◌then◌else◌, unwrap_or, length-append, Bool, true, false, IsTrue, List, length, ◌++◌, take, drop, ◌-◌, min, Option, Some, None, Result, Ok, Err, refl, sym, ap, ◌∙◌, subst, arith}
 use Rattle.py_flat.specs.declared.fault.IoFault.{IoFault}
 use Rattle.py_flat.specs.declared.fault.IoFault.TheVariants as fault
 use Rattle.py_flat.specs.declared.life.Life.{Life}
@@ -11,25 +11,27 @@ use Rattle.py_lines.proofs.Lines.{within_some}
 use Rattle.std.proofs.lemmas.List.{length-drop, length-take, take-take, take_min, take_all, take-append-drop}
 use Rattle.py_flat.specs.Bytes.{left_at}
 use Rattle.py_flat.specs.Owed.{Owed}
-use Rattle.py_flat.specs.Calls.{FileCall, FileReply, NotReady, Bytes, Lines, Refused, Read, ReadInto, ReadInto1, ReadLine, ReadLines, Peek}
+use Rattle.py_flat.specs.Calls.{FileCall, FileReply, NotReady, Bytes, Lines, Refused, Read, Read1, ReadInto, ReadInto1, ReadLine, ReadLines, Peek}
 use Rattle.py_raw.specs.RawStream.{Raw, WhereTold, WhereTransfers}
 use Rattle.py_stream.specs.declared.access.Access.{Access}
 use Rattle.py_stream.specs.declared.access.Access.TheVariants as access
 use Rattle.py_stream.specs.Access.{is_read}
 use Rattle.py_stream.specs.Stream.{Stream, file_of}
-use Rattle.py_stream.specs.Kinds.{is_reading, is_single, asks_none, has_room, reads_on, is_zero, asks_zero, takes_space_first, says_no_memory}
+use Rattle.py_stream.specs.Kinds.{is_reading, is_single, asks_none, asks_nothing, has_room, reads_on, is_zero, asks_zero, takes_space_first, says_no_memory}
 use Rattle.py_stream.specs.Held.{GivesHeld}
 use Rattle.py_stream.specs.Keeping.{IsSound}
 use Rattle.py_stream.specs.Moving.{owed_at}
 use Rattle.py_stream.specs.Answers.{Answers, IsAhead, InHandOf}
 use Rattle.py_stream.specs.Settling.{SettleOutcome}
-use Rattle.py_stream.specs.Reading.{wanted_by, reply_by}
+use Rattle.py_stream.specs.Reading.{wanted_by, reply_by, has_answer, is_wait}
+use Rattle.py_stream.specs.Replies.{look_reply}
+use Rattle.py_stream.specs.declared.stop.Stop.{Stop}
 use Rattle.py_flat.specs.ExactStep.{rest}
 use Rattle.py_lines.specs.Collecting.{HasEnough, WantsMore, EndsIn, LinesView, IsNewLines, lines_wanted, lines_collected}
 use Rattle.py_flat.specs.Lines.{joined, lines_of, until_above}
 use Rattle.py_stream.proofs.ReadingOn.{wants_past}
 use Rattle.py_stream.proofs.SingleReading.{asks_for, moves_by}
-use Rattle.py_engine.proofs.SingleReading.{asks_some, copied}
+use Rattle.py_engine.proofs.SingleReading.{asks_some, moved_to_ready, answered_reads, advanced_reads, once_failed, once_unready, once_held, once_looked, once_starved}
 use Rattle.py_stream.proofs.Begun.{answers_whole}
 use Rattle.py_stream.proofs.Refusing.{refused_alone}
 use Rattle.py_stream.proofs.ReadingCalls.{reading_call, in_hand_held}
@@ -38,8 +40,8 @@ use Rattle.py_stream.proofs.Holding.{asks_nothing_answers, single_reads, held_an
 use Rattle.py_stream.proofs.Settled.{settled_reads}
 use Rattle.py_window.specs.Window.{WindowView, IsWindow, place_of, end_of, ahead_of, advanced, flat_over, HoldsBytes}
 use Rattle.py_engine.specs.Engine.{EngineView, stream_of, Stands, IsEngine, HasShape, HoldsRead, BeginOutcome}
-use Rattle.py_engine.specs.Reading.{reading_of, IsReading}
-use Rattle.py_engine.specs.Random.{GoesToRaw, AnswersFrom, GoesAhead, WantsPast}
+use Rattle.py_engine.specs.Reading.{reading_of, AnswersSized, IsReading, ReadyOutcome}
+use Rattle.py_engine.specs.Random.{GoesToRaw, AnswersFrom, WentAhead, GoesAhead, WantsPast, gave, AnswersOnce, OnceOutcome}
 use Rattle.py_engine.proofs.Transfers.{bytes_ahead}
 use Rattle.py_engine.proofs.Standing.{is_placed, is_sound, owes_nothing, none_over, reads_alone, reads_both}
 use Rattle.py_engine.proofs.Seen.{readable, same_stream}
@@ -157,12 +159,12 @@ module _ (old begun : EngineView) (call : FileCall) (began : BeginOutcome old (O
 
   -- all was passed on
   pub went_reads : (mid : EngineView) (done : Bool) → done ≡ true → GoesAhead begun (Ok done) mid → IsReading mid
-  went_reads mid true all went = went.0
+  went_reads mid true all went = went.reads
   went_reads mid false all went = absurd (cc)
 
   -- what a reading from there answers
   pub went_on : (mid new : EngineView) (done : Bool) (reply : FileReply) → done ≡ true → GoesAhead begun (Ok done) mid → IsReading new → (IsTrue (says_no_memory reply) → IsTrue (takes_space_first call) → IsTrue mid.raw.takes_memory) → Answers (reading_of mid) call reply (reading_of new) → Answers (stream_of old) call reply (stream_of new)
-  went_on mid new true reply all went reads takes answers = answers_from_begun old begun call reply (stream_of new) began (went.1 call reply (stream_of new) goes takes (reads_seen mid new call reply went.0 reads answers))
+  went_on mid new true reply all went reads takes answers = answers_from_begun old begun call reply (stream_of new) began (went.answers call reply (stream_of new) goes takes (reads_seen mid new call reply went.reads reads answers))
   went_on mid new false reply all went reads takes answers = absurd (cc)
 
 -- a reading of all that is left has to go to the raw
@@ -303,8 +305,8 @@ module _ (old begun : EngineView) (is : Stands old) (reads : is_read old.access 
   begun_told tells = bytes_ahead (flat_over begun.raw.bytes begun.window) begun.window begun_is.window_is.cursor (holds_flat begun.access begun.raw.bytes begun.raw_place begun.window begun_reads begun_is.shape (begun_is.told tells begun_held.live))
 
   -- nothing is asked for
-  pub asks_nothing : (call : FileCall) → asks_none (Some begun.window.size) call ≡ true → Answers (stream_of old) call (Bytes []) (stream_of begun)
-  asks_nothing call asks = answers_from_begun old begun call (Bytes []) (stream_of begun) began (asks_nothing_answers (stream_of begun) call begun_held asks)
+  pub none_asked : (call : FileCall) → asks_none (Some begun.window.size) call ≡ true → Answers (stream_of old) call (Bytes []) (stream_of begun)
+  none_asked call asks = answers_from_begun old begun call (Bytes []) (stream_of begun) began (asks_nothing_answers (stream_of begun) call begun_held asks)
 
   -- there was no memory
   pub lacks : (call : FileCall) → is_reading call ≡ true → has_room call ≡ false → Answers (stream_of old) call (Refused fault.NoMemory) (stream_of begun)
@@ -376,20 +378,83 @@ module _ (old begun : EngineView) (is : Stands old) (reads : is_read old.access 
       answers_from_begun old begun call (Bytes part) (stream_of new) began
       (held_answers_once (stream_of begun) (stream_of new) call part begun_held ready.1 single moves (λ none. omega (arith, ap length none, least, asks, ready.0)) (omega (arith, least, asked)) (gives_front begun new part size begun_is begun_reads begun_held.live front same))
 
-  -- bytes are copied into a buffer
-  pub once_copied : (new : EngineView) (size count : ℕ) (buffer : List ℕ) → size ≢ 0 → (0 < length (ahead_of begun.window)) × ((stream_of begun).owed.bytes ≡ []) → count ≡ min (length (ahead_of begun.window)) size → length buffer ≡ size → take count buffer ≡ take count (ahead_of begun.window) → new ≡ record begun { window = advanced count begun.window } → Answers (stream_of old) (ReadInto1 size) (Bytes (take count buffer)) (stream_of new)
-  once_copied new size count buffer asks ready least long front same =
-      let fits : length (take count buffer) ≡ count = omega (arith, length-take count buffer, least, long) in
-      once_given new (ReadInto1 size) size (take count buffer) refl refl refl asks ready (copied count size (take count buffer) (ahead_of begun.window) least front) (same ∙ ap (λ (n : ℕ). record begun { window = advanced n begun.window }) (sym fits))
-
   -- the bytes held are shown
   pub held_shown : 0 < length (ahead_of begun.window) → (stream_of begun).owed.bytes ≡ [] → Answers (stream_of old) Peek (Bytes (ahead_of begun.window)) (stream_of begun)
   held_shown some passed = answers_from_begun old begun Peek (Bytes (ahead_of begun.window)) (stream_of begun) began (held_peek (stream_of begun) (ahead_of begun.window) begun_held passed (λ none. omega (arith, some, ap length none)) (omega (arith, length-drop begun.window.cursor begun.window.held)) begun_told)
 
--- a call by one transfer has to go to the raw that asks for some byte, where no byte is held or some is owed
-pub once_goes : (engine : EngineView) (call : FileCall) → is_single call ≡ true → asks_for engine.window.size call ≢ 0 → (0 < length (ahead_of engine.window) → (stream_of engine).owed.bytes ≡ [] → ⊥) → GoesToRaw (stream_of engine) call
-once_goes engine call single some apart = record { reads = single_reads call single; some = asks_some engine.window.size call single some; apart = λ has. once_apart engine call single has.of apart }
+-- what a reading of n bytes answers that goes on once all was passed on
+pub size_on : (old begun mid new : EngineView) (size many : ℕ) (done : Bool) (reply : FileReply) → Stands old → BeginOutcome old (Ok tt) begun → length (ahead_of begun.window) < size → done ≡ true → GoesAhead begun (Ok done) mid → IsReading new → many ≡ size → AnswersSized (reading_of mid) many reply (reading_of new) → Answers (stream_of old) (Read (Some size)) reply (stream_of new)
+size_on old begun mid new size many done reply is began more all went reads same answers =
+    went_on old begun (Read (Some size)) began (size_goes begun size (stands_begun old begun is began).window_is more) mid new done reply all went reads (λ wanting first. answers.readinto.wants wanting refl)
+    (subst (λ (n : ℕ). Answers (reading_of mid) (Read (Some n)) reply (reading_of new)) same answers.read)
 
--- so has a `peek`
-pub look_goes : (engine : EngineView) → (0 < length (ahead_of engine.window) → (stream_of engine).owed.bytes ≡ [] → ⊥) → GoesToRaw (stream_of engine) Peek
-look_goes engine apart = record { reads = refl; some = refl; apart = λ has. once_apart engine Peek refl has.of apart }
+-- Calls by one transfer.
+
+-- an engine begins as it is that lives, and whose last answer wasn't short
+pub begun_self : (engine : EngineView) → engine.life ≡ life.Live → engine.short ≡ false → BeginOutcome engine (Ok tt) engine
+begun_self engine live whole = (live, ap (λ (short : Bool). let same : EngineView = record engine { short = short } in same) whole)
+
+-- they take no space first
+single_space : (call : FileCall) → is_single call ≡ true → IsTrue (takes_space_first call) → ⊥
+single_space call single first = grind arith
+
+-- one has to go to the raw that asks for some byte, where no byte is held or some is owed
+pub once_goes : (engine : EngineView) (call : FileCall) → is_single call ≡ true → asks_nothing call ≡ false → (0 < length (ahead_of engine.window) → (stream_of engine).owed.bytes ≡ [] → ⊥) → GoesToRaw (stream_of engine) call
+once_goes engine call single some apart = record { reads = single_reads call single; some = some; apart = λ has. once_apart engine call single has.of apart }
+
+-- an engine reads on whose one transfer failed
+failed_reads : (old new : EngineView) (why : IoFault) → IsReading old → ReadyOutcome old (Err why) new → IsReading new
+failed_reads old new fault.RawFault is fails = fails.0.kept.is
+failed_reads old new fault.NoMemory is wants = subst IsReading (sym wants.1) is
+failed_reads old new why is never = absurd never
+
+-- the bytes held answer at once
+pub once_now : (engine : EngineView) (wanted : ℕ) → Stands engine → is_read engine.access ≡ true → BeginOutcome engine (Ok tt) engine → wanted ≢ 0 → (0 < length (ahead_of engine.window)) × ((stream_of engine).owed.bytes ≡ []) → AnswersOnce engine wanted engine
+once_now engine wanted is reads began asks ready = record {
+  live = began.0;
+  reads = reads;
+  read1 = λ size same. once_given engine engine is reads began (gave wanted engine) (Read1 size) wanted (take wanted (ahead_of engine.window)) refl refl same asks ready refl refl;
+  readinto1 = once_given engine engine is reads began (gave wanted engine) (ReadInto1 wanted) wanted (take wanted (ahead_of engine.window)) refl refl refl asks ready refl refl;
+  look = λ _. held_shown engine engine is reads began ready.0 ready.1;
+  lacks = λ size same. lacks engine engine is reads began (Read1 size) refl refl;
+}
+
+module _ (old ahead : EngineView) (began : BeginOutcome old (Ok tt) old) (apart : 0 < length (ahead_of old.window) → (stream_of old).owed.bytes ≡ [] → ⊥) (went : WentAhead old ahead) where
+  -- it begins again where all was passed on
+  begun_ahead : BeginOutcome ahead (Ok tt) ahead
+  begun_ahead = begun_self ahead went.live went.whole
+
+  -- what a call answers from there
+  once_on : (new : EngineView) (call : FileCall) (reply : FileReply) → is_single call ≡ true → asks_nothing call ≡ false → IsReading new → Answers (reading_of ahead) call reply (reading_of new) → Answers (stream_of old) call reply (stream_of new)
+  once_on new call reply single some reads answers = went_on old old call began (once_goes old call single some apart) ahead new true reply refl went reads (λ wanting takes. absurd (single_space call single takes)) answers
+
+  -- its one transfer failed
+  pub once_not : (new : EngineView) (wanted : ℕ) (why : IoFault) → ReadyOutcome ahead (Err why) new → OnceOutcome old wanted (Err why) new
+  once_not new wanted why fails call single some = once_on new call (Refused why) single some (failed_reads ahead new why went.reads fails) (once_failed ahead ahead new call why single some went.reads begun_ahead fails)
+
+  -- it has its answer, or the raw made it wait
+  pub once_ready : (mid new : EngineView) (wanted : ℕ) (stop : Stop) (shown : Bool) → wanted ≢ 0 → ReadyOutcome ahead (Ok stop) mid → shown ≡ has_answer stop true → new ≡ record mid { short = is_wait stop } → OnceOutcome old wanted (Ok shown) new
+  once_ready mid new wanted stop false asks ready shows new_is =
+      λ call single some. once_on new call NotReady single some (answered_reads ahead mid new stop ready new_is) (once_unready ahead ahead mid new call stop single some went.reads begun_ahead ready (sym shows) new_is)
+  once_ready mid new wanted stop true asks ready shows new_is =
+      let reads : IsReading new = answered_reads ahead mid new stop ready new_is in
+      let part : List ℕ = take wanted (ahead_of new.window) in
+      let gave_reads : IsReading (gave wanted new) = advanced_reads new (gave wanted new) (length part) reads (omega (arith, length-take wanted (ahead_of new.window))) refl in
+      record {
+        live = ap (λ (engine : EngineView). engine.life) new_is ∙ (moved_to_ready ahead mid stop ready).0.live;
+        reads = reads.reads;
+        read1 = λ size same. once_on (gave wanted new) (Read1 size) (Bytes part) refl (asks_some old.window.size (Read1 size) refl (λ none. asks (sym same ∙ none))) gave_reads
+            (once_held ahead ahead mid new (gave wanted new) (Read1 size) stop part refl (asks_some old.window.size (Read1 size) refl (λ none. asks (sym same ∙ none))) went.reads begun_ahead ready (sym shows) new_is
+            (ap (λ (n : ℕ). take n (ahead_of new.window)) (sym (ap (unwrap_or size) went.size ∙ same))) refl);
+        readinto1 = once_on (gave wanted new) (ReadInto1 wanted) (Bytes part) refl (asks_some old.window.size (ReadInto1 wanted) refl asks) gave_reads
+            (once_held ahead ahead mid new (gave wanted new) (ReadInto1 wanted) stop part refl (asks_some old.window.size (ReadInto1 wanted) refl asks) went.reads begun_ahead ready (sym shows) new_is refl refl);
+        look = λ _. once_on new Peek (Bytes (ahead_of new.window)) refl refl reads (once_looked ahead ahead mid new stop went.reads begun_ahead ready (sym shows) new_is);
+        lacks = λ size same. once_on new (Read1 size) (Refused fault.NoMemory) refl (asks_some old.window.size (Read1 size) refl (λ none. asks (sym same ∙ none))) reads
+            (once_starved ahead ahead mid new size stop (asks_some old.window.size (Read1 size) refl (λ none. asks (sym same ∙ none))) went.reads begun_ahead ready (sym shows) new_is);
+      }
+
+-- a `peek` that began
+pub look_once : (old begun new : EngineView) (result : Result Bool IoFault) → BeginOutcome old (Ok tt) begun → OnceOutcome begun begun.window.size result new → Answers (stream_of old) Peek (look_reply result (ahead_of new.window)) (stream_of new)
+look_once old begun new (Ok true) began once = answers_from_begun old begun Peek (Bytes (ahead_of new.window)) (stream_of new) began (once.look refl)
+look_once old begun new (Ok false) began once = answers_from_begun old begun Peek NotReady (stream_of new) began (once Peek refl refl)
+look_once old begun new (Err why) began once = answers_from_begun old begun Peek (Refused why) (stream_of new) began (once Peek refl refl)

@@ -1,5 +1,5 @@
 -- Writes of an engine that is opened to be read and written, wherever the bytes that it owes lie.
-use Rattle.std.proofs.Common.{[], ◌≡◌, ◌≢◌, ℕ, ◌+◌, ◌-◌, ◌<◌, ◌≤◌, ◌⊎◌, inr, ⊎_elim, Bool, true, false, List, ◌∷◌, length, take, Some, Result, Ok, Err, refl, sym, ap, ◌∙◌, subst, arith, add-zero}
+use Rattle.std.proofs.Common.{[], ◌≡◌, ◌≢◌, ℕ, ◌+◌, ◌-◌, ◌<◌, ◌≤◌, ◌⊎◌, inr, ⊎_elim, Bool, true, false, List, ◌∷◌, length, take, drop, Some, Result, Ok, Err, refl, sym, ap, ◌∙◌, subst, arith, add-zero}
 use Rattle.std.proofs.lemmas.Bool.{cases_lt}
 use Rattle.std.proofs.lemmas.List.{append-nil, length-drop, take_all}
 use Rattle.py_flat.specs.declared.fault.IoFault.{IoFault}
@@ -8,6 +8,7 @@ use Rattle.py_flat.specs.declared.life.Life.TheVariants as life
 use Rattle.py_flat.specs.Limits.{greatest_place}
 use Rattle.py_flat.specs.Calls.{FileCall, FileReply, Refused}
 use Rattle.py_flat.specs.BinaryStep.{payload}
+use Rattle.py_raw.specs.RawStream.{WhereTold}
 use Rattle.py_raw.proofs.Telling.{keeps_same}
 use Rattle.py_stream.specs.declared.access.Access.{Access}
 use Rattle.py_stream.specs.declared.access.Access.TheVariants as access
@@ -16,16 +17,17 @@ use Rattle.py_stream.specs.Stream.{Stream, nothing_owed}
 use Rattle.py_stream.specs.Kinds.{is_writing}
 use Rattle.py_stream.specs.Answers.{Answers}
 use Rattle.py_stream.specs.Writing.{OwesBehind, IsFull, first_of_both, owed_from, HasRoom}
-use Rattle.py_stream.specs.Held.{KeepsBoth}
+use Rattle.py_stream.specs.Held.{KeepsBoth, OwesHeld}
 use Rattle.py_stream.specs.Settling.{PassesSome, LivesOn, SettleOutcome}
 use Rattle.py_stream.proofs.Begun.{answers_whole}
 use Rattle.py_stream.proofs.Given.{writing_refused}
 use Rattle.py_stream.proofs.Giving.{writing_too_far, taken_reply}
-use Rattle.py_stream.proofs.Keeping.{MayKeep, accepts_kept, fits_answers, fits_after_wait, fills_after_wait, stops_failed, stops_starved}
+use Rattle.py_stream.proofs.Keeping.{MayKeep, accepts_kept, fits_answers, fits_after_wait, fills_after_wait, fills_with_none, stops_failed, stops_starved}
 use Rattle.py_stream.proofs.Owing.{owes_still}
 use Rattle.py_stream.proofs.Settled.{settled_writes}
-use Rattle.py_window.specs.Window.{WindowView, IsWindow, place_of, pending_of, owed_of, room_of, pushed}
+use Rattle.py_window.specs.Window.{WindowView, IsWindow, place_of, pending_of, owed_of, room_of, pushed, all_pending, flat_over, HoldsBytes}
 use Rattle.py_window.proofs.Overlaying.{first_is, none_rests, Overlays, FollowsOn, overlays, full}
+use Rattle.py_window.proofs.Owning.{from_first, to_cursor, holds_many, all_of_it, all_many, is_some, goes_up, all_was, flat_same, is_window}
 use Rattle.py_engine.specs.Engine.{EngineView, stream_of, Stands, StandsAmong, HasShape, HoldsRead, IsBehind, BeginOutcome}
 use Rattle.py_engine.specs.RandomWriting.{GivesPlaced, WaitsOwing, GoesBehind, GivesOutcome, call_of, taken_all}
 use Rattle.py_engine.specs.declared.data.given.Given.{Given}
@@ -102,21 +104,22 @@ module _ (old : EngineView) (bytes : List ℕ) (is : Stands old) (opened : old.a
 
   laid_keeps : old.life ≡ life.Live → KeepsBoth (stream_of old) bytes (stream_of new)
   laid_keeps live = record {
-    kept = record { raw = keeps_same old.raw; stays = refl; reads = λ tells. refl; buffer = ap Some over.size; can = refl; short = refl; sound = is_sound new laid_stands };
-    raw = refl;
-    life_is = refl;
-    place = over.place;
-    raw_place = refl;
-    none = λ nothing. absurd (omega (arith, some, ap length nothing));
+    over = record {
+      kept = record { raw = keeps_same old.raw; stays = refl; reads = λ tells. refl; buffer = ap Some over.size; can = refl; short = refl; sound = is_sound new laid_stands };
+      raw = refl;
+      life_is = refl;
+      place = over.place;
+      raw_place = refl;
+      behind = λ up_to. let follows : FollowsOn old.window bytes put = over.follows up_to in (follows.pending, follows.up_to);
+      at = λ _ none. absurd (owes_some none);
+      stands = goes_behind;
+      told = λ tells. (over.lays old.raw.bytes (subst (λ (opened : Access). HoldsRead opened old.raw.bytes old.window) opened (is.told tells live))).flat;
+    };
     owes = record {
       none = λ none. absurd (owes_some none);
       from = λ _. over.first ∙ sym (first_is (pending_of old.window) bytes (old.window.begin + old.window.from) (place_of old.window) (none_rests old.window is.window_is) some);
       covers = λ _. over.covers;
     };
-    behind = λ up_to. let follows : FollowsOn old.window bytes put = over.follows up_to in (follows.pending, follows.up_to);
-    at = λ _ none. absurd (owes_some none);
-    stands = goes_behind;
-    told = λ tells. (over.lays old.raw.bytes (subst (λ (opened : Access). HoldsRead opened old.raw.bytes old.window) opened (is.told tells live))).flat;
   }
 
   pub overlaid : old.life ≡ life.Live → Overlaid old bytes new
@@ -125,17 +128,18 @@ module _ (old : EngineView) (bytes : List ℕ) (is : Stands old) (opened : old.a
 -- none are put
 none_put : (old : EngineView) → Stands old → KeepsBoth (stream_of old) [] (stream_of old)
 none_put old is = record {
-  kept = record { raw = keeps_same old.raw; stays = refl; reads = λ tells. refl; buffer = refl; can = refl; short = refl; sound = is_sound old is };
-  raw = refl;
-  life_is = refl;
-  place = sym (add-zero (place_of old.window));
-  raw_place = refl;
-  none = λ nothing. refl;
+  over = record {
+    kept = record { raw = keeps_same old.raw; stays = refl; reads = λ tells. refl; buffer = refl; can = refl; short = refl; sound = is_sound old is };
+    raw = refl;
+    life_is = refl;
+    place = sym (add-zero (place_of old.window));
+    raw_place = refl;
+    behind = λ up_to. (sym (append-nil (pending_of old.window)), up_to);
+    at = λ at. at;
+    stands = λ was. was;
+    told = λ tells. refl;
+  };
   owes = owes_still (stream_of old).owed (place_of old.window);
-  behind = λ up_to. (sym (append-nil (pending_of old.window)), up_to);
-  at = λ at. at;
-  stands = λ was. was;
-  told = λ tells. refl;
 }
 
 -- some are owed where some are pending
@@ -157,11 +161,70 @@ pushes old (byte ∷ more) is opened room far there live = overlaid old (byte �
     live
 
 -- as many bytes as there is room for fill the buffer
-pub fills : (window : WindowView) (bytes : List ℕ) → IsWindow window → length bytes ≡ room_of window → place_of window + length bytes ≤ 9223372036854775807 → IsFull (owed_of (pushed bytes window)) (place_of (pushed bytes window)) (pushed bytes window).size (room_of window)
-fills window [] is room far = record { up_to = omega (arith, room, is.some, is.cursor, is.held); owes = λ taken. absurd (taken (sym room)) }
-fills window (byte ∷ more) is room far =
-    let over : Overlays window (byte ∷ more) (pushed (byte ∷ more) window) = overlays window (byte ∷ more) is (omega arith) (omega (arith, room)) far in
-    record { up_to = omega (arith, over.first, over.place, over.size, room, is.cursor, is.held); owes = λ _. full window (byte ∷ more) is (omega arith) room far ∙ sym over.size }
+pub fills : (window : WindowView) (bytes : List ℕ) → IsWindow window → 0 < length bytes → length bytes ≡ room_of window → place_of window + length bytes ≤ 9223372036854775807 → IsFull (owed_of (pushed bytes window)) (place_of (pushed bytes window)) (pushed bytes window).size
+fills window bytes is some room far =
+    let over : Overlays window bytes (pushed bytes window) = overlays window bytes is some (omega (arith, room)) far in
+    record { up_to = omega (arith, over.first, over.place, over.size, room, some, is.cursor, is.held); owes = full window bytes is some room far ∙ sym over.size }
+
+-- Where there is no room, all that is held becomes owed.
+
+-- what an engine is once it owes all that it holds, and its stream
+pub record AllOwed (old new : EngineView) : Type 0 where
+  pub is : Stands new
+  pub fills : OwesHeld (stream_of old) (stream_of new)
+  pub full : IsFull (owed_of new.window) (place_of new.window) new.window.size
+
+module _ (old : EngineView) (is : Stands old) (opened : old.access ≡ access.Update) (live : old.life ≡ life.Live) (none_fits : room_of old.window ≡ 0) where
+  abbrev owing : EngineView
+  owing = record old { window = all_pending old.window }
+
+  all_stands : Stands owing
+  all_stands = record {
+    window_is = is_window old.window is.window_is none_fits;
+    is_open = is.is_open;
+    attached = is.attached;
+    shape = subst (λ (opened : Access). HasShape opened old.raw_place (all_pending old.window)) (sym opened) (record {
+      after_begin = (among old is opened).after_begin;
+      before_end = (among old is opened).before_end;
+      owed = λ _. omega (arith, (among old is opened).after_begin);
+    });
+    stands = is.stands;
+    told = λ tells lives. subst (λ (opened : Access). HoldsRead opened old.raw.bytes (all_pending old.window)) (sym opened) (holds_all tells);
+  }
+    where
+      holds_was : WhereTold old.raw (HoldsBytes (flat_over old.raw.bytes old.window) old.window)
+      holds_was tells = subst (λ (opened : Access). HoldsRead opened old.raw.bytes old.window) opened (is.told tells live)
+
+      holds_all : WhereTold old.raw (HoldsBytes (flat_over old.raw.bytes (all_pending old.window)) (all_pending old.window))
+      holds_all tells = subst (λ (flat : List ℕ). HoldsBytes flat (all_pending old.window)) (sym (flat_same old.window is.window_is none_fits old.raw.bytes (holds_was tells))) (holds_was tells)
+
+  -- it lies right before the place
+  all_ends : old.window.begin + 0 + length (pending_of (all_pending old.window)) ≡ place_of old.window
+  all_ends = omega (arith, ap length (all_of_it old.window is.window_is none_fits), to_cursor old.window is.window_is none_fits)
+
+  pub owes_held : AllOwed old owing
+  owes_held = record {
+    is = all_stands;
+    fills = record {
+      over = record {
+        kept = record { raw = keeps_same old.raw; stays = refl; reads = λ tells. refl; buffer = refl; can = refl; short = refl; sound = is_sound owing all_stands };
+        raw = refl;
+        life_is = refl;
+        place = sym (add-zero (place_of old.window));
+        raw_place = refl;
+        behind = λ up_to. (all_was old.window is.window_is none_fits up_to, inr all_ends);
+        at = λ _ none. absurd (is_some old.window is.window_is none_fits none);
+        stands = λ was. record { ends = all_ends; stands = omega (arith, was.stands, from_first old.window is.window_is none_fits) };
+        told = λ tells. flat_same old.window is.window_is none_fits old.raw.bytes (subst (λ (opened : Access). HoldsRead opened old.raw.bytes old.window) opened (is.told tells live));
+      };
+      some = is_some old.window is.window_is none_fits;
+      leaves = goes_up old.window is.window_is none_fits;
+    };
+    full = record {
+      up_to = omega (arith, holds_many old.window is.window_is none_fits, to_cursor old.window is.window_is none_fits);
+      owes = all_many old.window is.window_is none_fits;
+    };
+  }
 
 -- How a call that gives bytes begins.
 
@@ -226,7 +289,12 @@ roomless_there engine bytes is opened no_room has =
     let first : owed_from (stream_of engine) ≡ engine.window.begin + engine.window.from = first_there engine is in
     ⊎_elim
     (λ (beyond : room_of engine.window < length bytes). absurd (omega (arith, beyond, has.room, first)))
-    (λ (behind : engine.raw_place < engine.window.begin + engine.window.from). absurd (omega (arith, behind, has.stands (ap is_read opened), first)))
+    (λ (behind : engine.raw_place < engine.window.begin + engine.window.from). ⊎_elim
+    (λ (pending : engine.window.from < engine.window.to). absurd (omega (arith, behind, owed_there engine is opened (λ none. omega (arith, pending, none)))))
+    (λ (none : engine.window.to ≤ engine.window.from).
+    let nothing : pending_of engine.window ≡ [] = ap (λ (n : ℕ). take n (drop engine.window.from engine.window.held)) (let zero_is : engine.window.to - engine.window.from ≡ 0 = omega (arith, none) in zero_is) in
+    absurd (omega (arith, behind, has.stands (ap is_read opened) nothing, is.window_is.rests (omega (arith, none, is.window_is.ordered)))))
+    (cases_lt engine.window.from engine.window.to))
     no_room
 
 -- bytes that had no room before the wait reach to what is owed after it
@@ -307,7 +375,11 @@ module _ (old : EngineView) (given : Given) (is : Stands old) (opened : old.acce
         (subst (λ (bytes : List ℕ). KeepsBoth (stream_of mid) bytes (stream_of new)) (take_all (room_of mid.window) own fits) keeps))
 
     -- or some of them did
-    pub given_some : NoRoom old (length own) → IsWindow mid.window → room_of mid.window < length own → IsFull (stream_of new).owed (stream_of new).place new.window.size (room_of mid.window) → GivesOutcome old given (Err (fault.WouldBlock (room_of mid.window))) (record new { short = true })
+    pub given_some : NoRoom old (length own) → IsWindow mid.window → room_of mid.window < length own → IsFull (stream_of new).owed (stream_of new).place new.window.size → GivesOutcome old given (Err (fault.WouldBlock (room_of mid.window))) (record new { short = true })
     given_some no_room window_is less full =
         fills_after_wait (stream_of old) (stream_of mid) (stream_of new) (call_of given) (room_of mid.window) may (roomless_there old own is opened no_room) waits.goes waits.waited waits.some
         (omega (arith, room_reaches mid.window window_is, waits.goes.passes.still)) less keeps full
+
+  -- after a wait none of them had room, and all that is held is owed
+  pub given_full : (mid new : EngineView) → WaitsOwing (stream_of old) (stream_of mid) → OwesHeld (stream_of mid) (stream_of new) → NoRoom old (length own) → 0 < length own → IsFull (stream_of new).owed (stream_of new).place new.window.size → GivesOutcome old given (Err (fault.WouldBlock 0)) (record new { short = true })
+  given_full mid new waits fills no_room gives full = fills_with_none (stream_of old) (stream_of mid) (stream_of new) (call_of given) may (roomless_there old own is opened no_room) waits.goes waits.waited waits.some gives fills full

@@ -19,7 +19,7 @@ within_window window is = omega (arith, is.cursor, is.far)
 
 -- where a live stream's raw stands
 pub near : (engine : EngineView) → IsReading engine → engine.life ≡ life.Live → IsNear (reading_of engine)
-near engine is live = record { after_first = omega arith; before_end = omega (arith, is.window_is.cursor); fits = omega (arith, is.window_is.held); owed_after_first = omega arith; owed_before_end = omega (arith, is.window_is.cursor); read_ahead = λ _. refl; ahead = omega (arith, is.window_is.held); behind = omega (arith, is.window_is.cursor); stands = λ tells. is.stands tells live }
+near engine is live = record { after_first = omega arith; before_end = omega (arith, is.window_is.cursor); fits = omega (arith, is.window_is.held); owed_after_first = omega arith; owed_before_end = omega (arith, is.window_is.cursor); owed_before_raw = λ some. absurd (some refl); read_ahead = λ _. refl; ahead = omega (arith, is.window_is.held); behind = omega (arith, is.window_is.cursor); stands = λ tells. is.stands tells live }
 
 -- where a stream is, and its raw
 pub placed : (engine : EngineView) → IsReading engine → IsPlaced (reading_of engine)

@@ -1,5 +1,5 @@
 -- The answers of readings by at most one transfer.
-use Rattle.std.proofs.Common.{[], ◌≡◌, ◌≢◌, ℕ, suc, zero, ◌<◌, ◌≤◌, Bool, true, false, List, ◌∷◌, ◌++◌, length, take, drop, min, Option, Some, Ok, Err, refl, sym, ap, ◌∙◌, subst, arith}
+use Rattle.std.proofs.Common.{[], ◌≡◌, ◌≢◌, ℕ, suc, zero, ◌<◌, ◌≤◌, true, false, List, ◌∷◌, ◌++◌, length, take, drop, min, Option, Some, Ok, Err, refl, sym, ap, ◌∙◌, subst, arith}
 use Rattle.std.proofs.lemmas.List.{length-take, length-drop, take_all, take_min, take-append-drop, drop_all}
 use Rattle.py_flat.specs.declared.fault.IoFault.{IoFault}
 use Rattle.py_flat.specs.declared.fault.IoFault.TheVariants as fault
@@ -13,15 +13,13 @@ use Rattle.py_stream.specs.declared.stop.Stop.TheVariants as stops
 use Rattle.py_stream.specs.Stream.{Stream, file_of}
 use Rattle.py_stream.specs.Kinds.{is_single, asks_nothing}
 use Rattle.py_stream.specs.Answers.{Answers}
-use Rattle.py_stream.specs.Replies.{look_reply}
-use Rattle.py_stream.specs.Reading.{has_answer, is_wait}
-use Rattle.py_stream.proofs.ReadingAnswers.{Reads, answers_begun, answers_coming, reading_refused}
+use Rattle.py_stream.specs.Reading.{LeavesHeld, has_answer, is_wait}
+use Rattle.py_stream.proofs.ReadingAnswers.{Reads, answers_begun, answers_coming}
 use Rattle.py_stream.proofs.SingleReading.{asks_for, moves_by, moves_within, single_call, GivesOnce, answers_once, unready_once, faulted_once, unmoved_once}
 use Rattle.py_window.specs.Window.{WindowView, IsWindow, place_of, end_of, ahead_of, advanced}
 use Rattle.py_engine.specs.Engine.{EngineView, BeginOutcome}
 use Rattle.py_engine.specs.Reading.{reading_of, IsReading, KeepsEngine, Transferred, ReadyOutcome}
-use Rattle.py_engine.proofs.Seen.{placed}
-use Rattle.py_engine.proofs.Transfers.{ahead_told, keeps_self, keeps_then, keeps_reading, still_tells, keeps_told, keeps_advanced, each_but_failed, advanced_none, reading_whole}
+use Rattle.py_engine.proofs.Transfers.{ahead_told, keeps_then, keeps_reading, still_tells, keeps_told, keeps_advanced, each_but_failed, advanced_none, reading_whole}
 use Rattle.py_engine.proofs.Reading.{reading_begins}
 
 -- How readings by one transfer begin.
@@ -29,10 +27,6 @@ use Rattle.py_engine.proofs.Reading.{reading_begins}
 -- a call that asks for some byte
 pub asks_some : (size : ℕ) (call : FileCall) → is_single call ≡ true → asks_for size call ≢ 0 → asks_nothing call ≡ false
 asks_some size call single some = (single_call (Some size) call single).some some
-
--- the life refuses a reading by one transfer
-pub once_refused : (first begun : EngineView) (call : FileCall) (why : IoFault) → is_single call ≡ true → IsReading first → BeginOutcome first (Err why) begun → Answers (reading_of first) call (Refused why) (reading_of begun)
-once_refused first begun call why single is began = reading_refused (reading_of first) (reading_of begun) call why (single_call (Some 0) call single).reads (placed first is) (began.0, ap reading_of began.1)
 
 -- an engine's invariant doesn't hang on whether its last answer was short
 begun_is : (first begun : EngineView) → IsReading first → BeginOutcome first (Ok tt) begun → IsReading begun
@@ -66,7 +60,7 @@ used_up_stands window is none = omega (arith, is.cursor, ap length none, length-
 
 -- By where the one transfer stopped.
 
-moved_to_ready : (old mid : EngineView) (stop : Stop) → ReadyOutcome old (Ok stop) mid → Transferred old mid × (place_of mid.window ≡ place_of old.window)
+pub moved_to_ready : (old mid : EngineView) (stop : Stop) → ReadyOutcome old (Ok stop) mid → Transferred old mid × (place_of mid.window ≡ place_of old.window)
 moved_to_ready old mid stops.Enough ready = (ready.0, ready.1)
 moved_to_ready old mid stops.End ready = (ready.0, ready.1)
 moved_to_ready old mid stops.Waits ready = (ready.0, ready.1)
@@ -77,11 +71,15 @@ ready_counts old mid stops.Enough ready answered = record { no_fault = ready.0.n
 ready_counts old mid stops.End ready answered = record { no_fault = ready.0.no_fault; no_wait = ready.4 }
 ready_counts old mid stops.Waits ready answered = absurd (cc)
 
--- where bytes were held, the raw wasn't called
-ready_still : (old mid : EngineView) (stop : Stop) → ReadyOutcome old (Ok stop) mid → place_of old.window < end_of old.window → mid.raw ≡ old.raw
+-- where bytes were held, all is as it was
+ready_still : (old mid : EngineView) (stop : Stop) → ReadyOutcome old (Ok stop) mid → place_of old.window < end_of old.window → mid ≡ old
 ready_still old mid stops.Enough ready some = ready.4 (λ same. absurd (omega (arith, some, same)))
 ready_still old mid stops.End ready some = absurd (omega (arith, some, ready.5))
 ready_still old mid stops.Waits ready some = absurd (omega (arith, some, ready.5))
+
+-- so the raw wasn't called for some of them, and the same are held
+leaves_held : (old mid : EngineView) (stop : Stop) (count : ℕ) → ReadyOutcome old (Ok stop) mid → place_of old.window < end_of old.window → LeavesHeld (reading_of old) (reading_of (record mid { window = advanced count mid.window }))
+leaves_held old mid stop count ready some = let same : mid ≡ old = ready_still old mid stop ready some in record { raw = ap (λ (engine : EngineView). engine.raw) same; held = ap (λ (engine : EngineView). (reading_of engine).held) same }
 
 -- nothing of the bytes held is given only where nothing is asked or left
 nothing_left : (old mid : EngineView) (asked : ℕ) (stop : Stop) → ReadyOutcome old (Ok stop) mid → has_answer stop true ≡ true → WhereTold old.raw (take asked (ahead_of mid.window) ≡ [] → take asked (left_at old.raw.bytes (place_of old.window)) ≡ [])
@@ -98,7 +96,7 @@ gives_held old mid call stop asks is ready answered =
     let size : length part ≡ min asked (length (ahead_of mid.window)) = length-take asked (ahead_of mid.window) in
     let new : EngineView = record mid { window = advanced (moves_by call (length part)) mid.window } in
     let moved : Transferred old mid × (place_of mid.window ≡ place_of old.window) = moved_to_ready old mid stop ready in
-    grind (arith, keeps_reading old new (keeps_then old mid new moved.0.kept (keeps_advanced mid (moves_by call (length part)) moved.0.kept.is (omega (arith, moves_within call (length part), size)))), ready_counts old mid stop ready answered, ready_still, moved.1, size, front_held, ahead_next, nothing_left)
+    grind (arith, keeps_reading old new (keeps_then old mid new moved.0.kept (keeps_advanced mid (moves_by call (length part)) moved.0.kept.is (omega (arith, moves_within call (length part), size)))), ready_counts old mid stop ready answered, leaves_held, moved.1, size, front_held, ahead_next, nothing_left)
 
 -- An engine that reads on from the bytes held goes on so.
 
@@ -111,10 +109,6 @@ pub advanced_reads : (engine new : EngineView) (count : ℕ) → IsReading engin
 advanced_reads engine new count reads fits is = subst IsReading (sym is) (keeps_advanced engine count reads fits).is
 
 -- The calls.
-
--- a call that asks for nothing
-pub once_nothing : (first begun : EngineView) (call : FileCall) → is_single call ≡ true → IsReading first → BeginOutcome first (Ok tt) begun → asks_for begun.window.size call ≡ 0 → Answers (reading_of first) call (Bytes []) (reading_of begun)
-once_nothing first begun call single is began none = grind (arith, reading_begins, answers_once, keeps_reading, keeps_self, asks_for, from_begun)
 
 -- a call that gives of the bytes held
 pub once_held : (first begun mid answered new : EngineView) (call : FileCall) (stop : Stop) (part : List ℕ) → is_single call ≡ true → asks_nothing call ≡ false → IsReading first → BeginOutcome first (Ok tt) begun → ReadyOutcome begun (Ok stop) mid → has_answer stop true ≡ true → answered ≡ record mid { short = is_wait stop } → part ≡ take (asks_for begun.window.size call) (ahead_of answered.window) → new ≡ record answered { window = advanced (moves_by call (length part)) answered.window } → Answers (reading_of first) call (Bytes part) (reading_of new)
@@ -160,11 +154,6 @@ once_starved first begun mid new size stop asks is began ready answers new_is =
     (subst (λ (engine : EngineView). Answers (reading_of begun) (Read1 size) (Refused fault.NoMemory) (reading_of engine)) (sym same)
     (answers_coming (reading_of begun) (reading_of mid) (Read1 size) (Refused fault.NoMemory) false refl ((single_call (reading_of begun).buffer (Read1 size) refl).suits (file_of (reading_of begun)) reads.readable) reads
     (grind (arith, keeps_reading, ready_still))))
-
--- the bytes held are shown, or the raw made the call wait
-pub once_look : (first begun mid new : EngineView) (stop : Stop) (shown : Bool) → IsReading first → BeginOutcome first (Ok tt) begun → ReadyOutcome begun (Ok stop) mid → shown ≡ has_answer stop true → new ≡ record mid { short = is_wait stop } → Answers (reading_of first) Peek (look_reply (Ok shown) (ahead_of new.window)) (reading_of new)
-once_look first begun mid new stop true is began ready shows new_is = once_looked first begun mid new stop is began ready (sym shows) new_is
-once_look first begun mid new stop false is began ready shows new_is = once_unready first begun mid new Peek stop refl refl is began ready (sym shows) new_is
 
 -- as many bytes as were copied of those held are what is asked of them
 pub copied : (count asked : ℕ) (part ahead : List ℕ) → count ≡ min (length ahead) asked → part ≡ take count ahead → part ≡ take asked ahead

@@ -1,11 +1,13 @@
 -- Where an engine and its raw stand, as a stream.
-use Rattle.std.proofs.Common.{◌≡◌, ℕ, ◌+◌, ◌-◌, ◌<◌, ◌≤◌, max, List, [], ◌∷◌, length, take, drop, false, Err, refl, sym, subst, ap, ◌∙◌, arith}
+use Rattle.std.proofs.Common.{◌≡◌, ◌≢◌, ℕ, ◌+◌, ◌-◌, ◌<◌, ◌≤◌, ⊎_elim, max, List, [], ◌∷◌, length, take, drop, false, Err, refl, sym, subst, ap, ◌∙◌, arith}
+use Rattle.std.proofs.lemmas.Bool.{cases_lt}
 use Rattle.std.proofs.lemmas.List.{length-take, length-drop}
 use Rattle.py_flat.specs.declared.fault.IoFault.{IoFault}
 use Rattle.py_flat.specs.declared.fault.IoFault.TheVariants as fault
 use Rattle.py_flat.specs.declared.life.Life.TheVariants as life
 use Rattle.py_flat.specs.Owed.{Owed}
 use Rattle.py_flat.specs.Limits.{greatest_place}
+use Rattle.py_stream.specs.declared.access.Access.{Access}
 use Rattle.py_stream.specs.declared.access.Access.TheVariants as access
 use Rattle.py_stream.specs.Access.{can_of, is_read}
 use Rattle.py_stream.specs.Stream.{nothing_owed}
@@ -15,7 +17,7 @@ use Rattle.py_stream.specs.Writing.{OwesWithin, OwesBehind}
 use Rattle.py_stream.specs.Moving.{end_with, StandsAsBefore, AsksEnd, EndOutcome}
 use Rattle.py_stream.proofs.Refusing.{IsPlaced}
 use Rattle.py_window.specs.Window.{WindowView, IsWindow, place_of, end_of, pending_of, owed_of, flat_over}
-use Rattle.py_engine.specs.Engine.{EngineView, stream_of, Stands, IsBehind, AsksRawEnd, RawEndOutcome}
+use Rattle.py_engine.specs.Engine.{EngineView, stream_of, HasShape, Stands, IsBehind, AsksRawEnd, RawEndOutcome}
 use Rattle.py_engine.specs.Reading.{IsReading}
 use Rattle.py_window.proofs.Collecting.{pending_ends}
 
@@ -34,6 +36,18 @@ record NearWindow (engine : EngineView) : Type 0 where
 near_window : (engine : EngineView) → Stands engine → NearWindow engine
 near_window engine is = grind arith
 
+-- where some is pending, the raw doesn't stand before the first of it
+before_raw : (opened : Access) (raw_place : ℕ) (window : WindowView) → HasShape opened raw_place window → window.from < window.to → window.begin + window.from ≤ raw_place
+before_raw access.Read raw_place window shape some = absurd (omega (arith, some, shape.settled))
+before_raw access.Update raw_place window shape some = shape.owed (λ none. omega (arith, some, none))
+before_raw other raw_place window shape some = omega (arith, shape.stands)
+
+owed_before_raw : (engine : EngineView) → Stands engine → pending_of engine.window ≢ [] → engine.window.begin + engine.window.from ≤ engine.raw_place
+owed_before_raw engine is some = ⊎_elim
+    (λ (pending : engine.window.from < engine.window.to). before_raw engine.access engine.raw_place engine.window is.shape pending)
+    (λ (none : engine.window.to ≤ engine.window.from). absurd (some (ap (λ (n : ℕ). take n (drop engine.window.from engine.window.held)) (let zero_is : engine.window.to - engine.window.from ≡ 0 = omega (arith, none) in zero_is))))
+    (cases_lt engine.window.from engine.window.to)
+
 -- a live stream's raw stands near its place
 pub is_near : (engine : EngineView) → Stands engine → engine.life ≡ life.Live → IsNear (stream_of engine)
 is_near engine is live =
@@ -45,6 +59,7 @@ is_near engine is live =
       fits = omega (arith, is.window_is.held);
       owed_after_first = omega arith;
       owed_before_end = pending_within window is.window_is;
+      owed_before_raw = owed_before_raw engine is;
       read_ahead = near.read_ahead;
       ahead = near.ahead;
       behind = near.behind;

@@ -5,11 +5,12 @@ use Rattle.py_flat.specs.declared.fault.IoFault.{IoFault}
 use Rattle.py_flat.specs.declared.fault.IoFault.TheVariants as fault
 use Rattle.py_flat.specs.declared.life.Life.TheVariants as life
 use Rattle.py_flat.specs.Bytes.{left_at}
+use Rattle.py_flat.specs.Calls.{FileReply, Read, ReadInto}
 use Rattle.py_flat.specs.Causes.{Rose}
 use Rattle.py_raw.specs.RawStream.{Keeps, StaysOpen, WhereTold, WherePlace, WhereTransfers, KeepsBytes, NoFault, NoWait, WaitsOnce, AnswersFor, KeepsReads}
 use Rattle.py_stream.specs.Access.{can_of, is_read}
 use Rattle.py_stream.specs.Stream.{Stream, nothing_owed}
-use Rattle.py_stream.specs.Answers.{CameByReads, EachBrings}
+use Rattle.py_stream.specs.Answers.{Answers, CameByReads, EachBrings}
 use Rattle.py_stream.specs.LiveRaw.{starved}
 use Rattle.py_stream.specs.declared.stop.Stop.{Stop}
 use Rattle.py_stream.specs.declared.stop.Stop.TheVariants as stop
@@ -142,6 +143,11 @@ PassesOutcome old moved (Err other) buffer new = ⊥
 
 -- Into a caller's buffer.
 
+-- what answers every call that wants n bytes
+pub record AnswersSized (before : Stream) (size : ℕ) (reply : FileReply) (after : Stream) : Type 0 where
+  pub read : Answers before (Read (Some size)) reply after
+  pub readinto : Answers before (ReadInto size) reply after
+
 -- the step that a transfer makes which brought n bytes of as many as were wanted
 abbrev pub stepped : Filled → ℕ → ℕ → Step
 stepped (filled.More any) count wanted = if nat_lt count wanted then step.On count else step.Stopped count stop.Enough
@@ -153,7 +159,7 @@ stepped filled.Waits count wanted = step.Stopped 0 stop.Waits
 -- the window has some bytes ahead, without a call of the raw where it held some; or it is used up, and nothing comes; or the raw
 -- waits
 abbrev pub ReadyOutcome : EngineView → Result Stop IoFault → EngineView → Type 0
-ReadyOutcome old (Ok stop.Enough) new = Transferred old new × (place_of new.window ≡ place_of old.window) × (0 < length (ahead_of new.window)) × NoWait old.raw new.raw × (end_of old.window ≢ place_of old.window → new.raw ≡ old.raw)
+ReadyOutcome old (Ok stop.Enough) new = Transferred old new × (place_of new.window ≡ place_of old.window) × (0 < length (ahead_of new.window)) × NoWait old.raw new.raw × (end_of old.window ≢ place_of old.window → new ≡ old)
 ReadyOutcome old (Ok stop.End) new = Transferred old new × (place_of new.window ≡ place_of old.window) × (ahead_of new.window ≡ []) × WhereTold old.raw (length old.raw.bytes ≤ place_of old.window) × NoWait old.raw new.raw × (end_of old.window ≡ place_of old.window)
 ReadyOutcome old (Ok stop.Waits) new = Transferred old new × (place_of new.window ≡ place_of old.window) × (ahead_of new.window ≡ []) × Rose old.raw.waits new.raw.waits × WaitsOnce old.raw new.raw × (end_of old.window ≡ place_of old.window)
 ReadyOutcome old (Err fault.RawFault) new = FailsByRaw old new × (place_of new.window ≡ place_of old.window) × (end_of old.window ≡ place_of old.window)

@@ -57,6 +57,7 @@ calmly_by : (lent closed ends : Bool) (items left : List ℕ) (place new was tak
     → Calmly (file_in_memory items place closed) lent was call reply (file_in_memory left new ends) taken
 calmly_by lent closed ends items left place new was taken call reply counts quiet accepts again shorts moves seeks answer told reach lays passes takes = record {
   can = refl;
+  writes = refl;
   buffering = refl;
   counts = counts;
   quiet = quiet;
@@ -117,9 +118,9 @@ own_by : (refused : Option IoFault) (why : IoFault) → may_blame refused ≡ fa
 own_by refused why own is = sym (ap may_blame is) ∙ own
 
 -- what a call is refused by, unless it is a seek from the end
-plainly : (file : FlatFile) (lent : Bool) (was : ℕ) (call : FileCall) (why : IoFault) (taken : ℕ) → blames why ≡ false → taken ≡ taken_by call file.place file.place was → file.place ≤ greatest_place → refused_here (buffer_with file lent was) call ≡ Some why → refusal_in_memory lent file call ≡ Some why → closes_twice (buffer_with file lent was) call ≡ false → BufferSeeksByEnd (buffer_with file lent was) call (Refused why) (buffer_with file lent taken) → Calmly file lent was call (Refused why) file taken
-plainly file lent was call why taken own counts far here refused once ends =
-    refusedly file lent was call why taken own counts far
+plainly : (file : FlatFile) (lent : Bool) (was : ℕ) (call : FileCall) (why : IoFault) (taken : ℕ) → file.can.writable ≡ true → blames why ≡ false → taken ≡ taken_by call file.place file.place was → file.place ≤ greatest_place → refused_here (buffer_with file lent was) call ≡ Some why → refusal_in_memory lent file call ≡ Some why → closes_twice (buffer_with file lent was) call ≡ false → BufferSeeksByEnd (buffer_with file lent was) call (Refused why) (buffer_with file lent taken) → Calmly file lent was call (Refused why) file taken
+plainly file lent was call why taken writes own counts far here refused once ends =
+    refusedly file lent was call why taken writes own counts far
     (λ other also. let same = sym here ∙ also in cc)
     once ends
     (λ accepts. let none = sym here ∙ accepts in absurd (cc))
@@ -148,7 +149,7 @@ end_answers offset (Some target) why is = too_far_answers offset (nat_lt greates
 end_refused : (lent : Bool) (items : List ℕ) (place was : ℕ) (offset : ℤ) (why : IoFault) → place ≤ greatest_place → length items ≤ greatest_place → target_refusal (moved_by (length items) offset) ≡ Some why → Calmly (file_in_memory items place false) lent was (Seek offset (pos 2)) (Refused why) (file_in_memory items place false) was
 end_refused lent items place was offset why far small is =
     let file : FlatFile = file_in_memory items place false in
-    refusedly file lent was (Seek offset (pos 2)) why was (own_by (refusal file (Seek offset (pos 2))) why (refusal_blames_nobody file (Seek offset (pos 2))) is) refl far
+    refusedly file lent was (Seek offset (pos 2)) why was refl (own_by (refusal file (Seek offset (pos 2))) why (refusal_blames_nobody file (Seek offset (pos 2))) is) refl far
     (λ other also. absurd (cc))
     refl
     (λ asks. end_goes (buffer_with file lent was) (buffer_with file lent was) offset why (record {
@@ -195,20 +196,20 @@ refused_call : (lent closed : Bool) (items : List ℕ) (place was : ℕ) (call :
 refused_call lent closed items place was (Read1 size) why taken near small shut made counts is =
     let file : FlatFile = file_in_memory items place closed in
     let by_file = sym (unlent lent (refusal_lent file (Read1 size)) (refusal file (Read1 size))) ∙ is in
-    plainly file lent was (Read1 size) why taken (own_by (refusal file (Read1 size)) why (refusal_blames_nobody file (Read1 size)) by_file) counts near is is refl tt
+    plainly file lent was (Read1 size) why taken refl (own_by (refusal file (Read1 size)) why (refusal_blames_nobody file (Read1 size)) by_file) counts near is is refl tt
 refused_call lent closed items place was Flush why taken near small shut made counts is =
     let file : FlatFile = file_in_memory items place closed in
     let by_file = sym (unlent lent (refusal_lent file Flush) (refusal file Flush)) ∙ is in
-    plainly file lent was Flush why taken (own_by (refusal file Flush) why (refusal_blames_nobody file Flush) by_file) counts near is is refl tt
+    plainly file lent was Flush why taken refl (own_by (refusal file Flush) why (refusal_blames_nobody file Flush) by_file) counts near is is refl tt
 refused_call true true items place was (Write bytes) why taken near small shut made counts is = let none = shut refl in absurd (cc)
 refused_call true false items place was (Write bytes) why taken near small shut made counts is =
-    plainly (file_in_memory items place false) true was (Write bytes) why taken (own_by (Some fault.BufferError) why refl is) counts near is is refl tt
+    plainly (file_in_memory items place false) true was (Write bytes) why taken refl (own_by (Some fault.BufferError) why refl is) counts near is is refl tt
 refused_call false closed items place was (Write bytes) why taken near small shut made counts is =
     let file : FlatFile = file_in_memory items place closed in
-    plainly file false was (Write bytes) why taken (own_by (refusal file (Write bytes)) why (refusal_blames_nobody file (Write bytes)) is) counts near is is refl tt
+    plainly file false was (Write bytes) why taken refl (own_by (refusal file (Write bytes)) why (refusal_blames_nobody file (Write bytes)) is) counts near is is refl tt
 refused_call true true items place was Close why taken near small shut made counts is = let none = shut refl in absurd (cc)
 refused_call true false items place was Close why taken near small shut made counts is =
-    plainly (file_in_memory items place false) true was Close why taken (own_by (Some fault.BufferError) why refl is) counts near is is refl tt
+    plainly (file_in_memory items place false) true was Close why taken refl (own_by (Some fault.BufferError) why refl is) counts near is is refl tt
 refused_call false true items place was Close why taken near small shut made counts is = absurd (cc)
 refused_call false false items place was Close why taken near small shut made counts is = absurd (cc)
 refused_call lent false items place was (Seek offset (pos (suc (suc zero)))) why taken near small shut made counts is =
@@ -217,11 +218,11 @@ refused_call lent false items place was (Seek offset (pos (suc (suc zero)))) why
 refused_call lent true items place was (Seek offset (pos (suc (suc zero)))) why taken near small shut made counts is =
     let file : FlatFile = file_in_memory items place true in
     let by_file = sym (unlent lent (refusal_lent file (Seek offset (pos 2))) (refusal file (Seek offset (pos 2)))) ∙ is in
-    plainly file lent was (Seek offset (pos 2)) why taken (own_by (refusal file (Seek offset (pos 2))) why (refusal_blames_nobody file (Seek offset (pos 2))) by_file) counts near is is refl (λ asks. absurd (cc))
+    plainly file lent was (Seek offset (pos 2)) why taken refl (own_by (refusal file (Seek offset (pos 2))) why (refusal_blames_nobody file (Seek offset (pos 2))) by_file) counts near is is refl (λ asks. absurd (cc))
 refused_call lent closed items place was (Seek offset whence) why taken near small shut made counts is =
     let file : FlatFile = file_in_memory items place closed in
     let by_file = sym (unlent lent (refusal_lent file (Seek offset whence)) (refusal file (Seek offset whence))) ∙ is in
-    plainly file lent was (Seek offset whence) why taken (own_by (refusal file (Seek offset whence)) why (refusal_blames_nobody file (Seek offset whence)) by_file) counts near is is refl tt
+    plainly file lent was (Seek offset whence) why taken refl (own_by (refusal file (Seek offset whence)) why (refusal_blames_nobody file (Seek offset whence)) by_file) counts near is is refl tt
 refused_call lent closed items place was call why taken near small shut made counts is = absurd (cc)
 
 -- how an accepted call came out: it lacks memory, or is carried out

@@ -5,18 +5,19 @@ use Rattle.py_flat.specs.declared.fault.IoFault.TheVariants as fault
 use Rattle.py_flat.specs.declared.life.Life.{Life}
 use Rattle.py_flat.specs.Limits.{greatest_place}
 use Rattle.py_flat.specs.Calls.{FileCall, Read1, Write, Flush, Close, FileReply, Done, Refused}
-use Rattle.py_flat.specs.FlatFile.{FlatFile, Buffering}
+use Rattle.py_flat.specs.FlatFile.{Abilities, FlatFile, Buffering}
 use Rattle.py_flat.specs.Refusals.{refusal}
 use Rattle.py_flat.specs.AllowedStep.{settled}
 use Rattle.py_flat.specs.BinaryStep.{payload, SettledBy, BinaryStep}
 use Rattle.py_flat.proofs.Settling.{blames}
 use Rattle.py_flat.specs.Owed.{Owed}
+use Rattle.py_raw.specs.RawStream.{Keeps}
 use Rattle.py_stream.specs.Writing.{LaysFrontOf}
 use Rattle.py_stream.specs.Kinds.{is_reading, says_fault}
 use Rattle.py_stream.specs.Answers.{IsAnswerTo, IsReplyTo, IsShort, LifeMoves, PlaceMoves}
 use Rattle.py_stream.specs.Buffer.{Buffer, size_shown, taken_by, refused_here, refused_lent, LeavesBuffer, closes_twice, GivesAsked, BufferMoves, BufferSeeksByEnd, BufferPasses, BufferLays, BufferBlocksFull, BufferTakes, AnswersAsBuffer}
 use Rattle.py_stream.proofs.Buffering.{owes_none_so}
-use Rattle.py_memio.specs.BytesIO.{buffer_with}
+use Rattle.py_memio.specs.BytesIO.{raw_in_memory, buffer_with}
 
 -- nothing was laid on
 pub lays_none : (bytes : List ℕ) (owed : Owed) (place : ℕ) (own : List ℕ) → LaysFrontOf bytes owed place own bytes
@@ -31,9 +32,25 @@ takes_none : (call : FileCall) (place : ℕ) → BufferTakes call place place
 takes_none (Write bytes) place = (omega arith, omega arith)
 takes_none call place = tt
 
+-- what a stream in memory can do stays, and so does what its raw can do
+keeps_raw : (file left : FlatFile) → left.can ≡ file.can → Keeps (raw_in_memory file) (raw_in_memory left)
+keeps_raw file left can = record {
+  tells_bytes = refl;
+  tells_place = refl;
+  tells_transfers = refl;
+  readable = ap (λ (can : Abilities). can.readable) can;
+  writable = ap (λ (can : Abilities). can.writable) can;
+  seekable = ap (λ (can : Abilities). can.seekable) can;
+  takes_memory = refl;
+  counts_exactly = refl;
+  faults = omega arith;
+  waits = omega arith;
+}
+
 -- what is to be shown of a call that neither waits nor fails
 pub record Calmly (file : FlatFile) (lent : Bool) (was : ℕ) (call : FileCall) (reply : FileReply) (left : FlatFile) (taken : ℕ) : Type 0 where
   pub can : left.can ≡ file.can
+  pub writes : file.can.writable ≡ true
   pub buffering : left.buffering ≡ file.buffering
   pub counts : taken ≡ taken_by call file.place left.place was
   pub quiet : says_fault reply ≡ false
@@ -53,9 +70,11 @@ pub calm : (file : FlatFile) (lent : Bool) (was : ℕ) (call : FileCall) (reply 
 calm file lent was call reply left taken calmly =
     let quiet = calmly.quiet in
     record {
-      keeps = record { tells = refl; can = calmly.can; buffering = calmly.buffering; counts_exactly = refl; takes_memory = refl; exported = refl; faults = omega arith; waits = omega arith };
+      keeps = record { raw = keeps_raw file left calmly.can; can = calmly.can; buffering = calmly.buffering; exported = refl };
       refused = calmly.refused;
       again = calmly.again;
+      shut = λ whole none closed. refl;
+      stands = λ live told. refl;
       causes = record { waits = λ short. absurd (cc); faults = λ fails. absurd (cc) };
       counted = λ exactly. record { faults = λ none. refl; waits = λ whole on. refl; once = λ short on. absurd (cc) };
       shorts = calmly.shorts;
@@ -69,6 +88,7 @@ calm file lent was call reply left taken calmly =
       hides = λ short. absurd (cc);
       owes = owes_none_so (buffer_with file lent was) (buffer_with left lent taken) call refl refl;
       lays = λ told. calmly.lays;
+      spares = λ can owes. absurd (cc (calmly.writes));
       full = full_of call reply (buffer_with left lent taken) calmly.shorts;
       takes = calmly.takes;
       taken = calmly.counts;
@@ -109,9 +129,10 @@ quiet_refused fault.RawFault own = absurd (cc)
 quiet_refused why own = refl
 
 -- a refused call leaves all as it was
-pub refusedly : (file : FlatFile) (lent : Bool) (was : ℕ) (call : FileCall) (why : IoFault) (taken : ℕ) → blames why ≡ false → taken ≡ taken_by call file.place file.place was → file.place ≤ greatest_place → ((other : IoFault) → refused_here (buffer_with file lent was) call ≡ Some other → why ≡ other) → closes_twice (buffer_with file lent was) call ≡ false → BufferSeeksByEnd (buffer_with file lent was) call (Refused why) (buffer_with file lent taken) → (refused_here (buffer_with file lent was) call ≡ None → IsReplyTo (size_shown file.buffering) file.can.writable call (Refused why) × IsAnswerTo call (Refused why)) → (refused_lent (buffer_with file lent was) call ≡ false → refusal file call ≡ Some why) → Calmly file lent was call (Refused why) file taken
-refusedly file lent was call why taken own counts far only once ends answer told = record {
+pub refusedly : (file : FlatFile) (lent : Bool) (was : ℕ) (call : FileCall) (why : IoFault) (taken : ℕ) → file.can.writable ≡ true → blames why ≡ false → taken ≡ taken_by call file.place file.place was → file.place ≤ greatest_place → ((other : IoFault) → refused_here (buffer_with file lent was) call ≡ Some other → why ≡ other) → closes_twice (buffer_with file lent was) call ≡ false → BufferSeeksByEnd (buffer_with file lent was) call (Refused why) (buffer_with file lent taken) → (refused_here (buffer_with file lent was) call ≡ None → IsReplyTo (size_shown file.buffering) file.can.writable call (Refused why) × IsAnswerTo call (Refused why)) → (refused_lent (buffer_with file lent was) call ≡ false → refusal file call ≡ Some why) → Calmly file lent was call (Refused why) file taken
+refusedly file lent was call why taken writes own counts far only once ends answer told = record {
   can = refl;
+  writes = writes;
   buffering = refl;
   counts = counts;
   quiet = quiet_refused why own;

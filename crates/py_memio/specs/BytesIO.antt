@@ -7,6 +7,9 @@ use Rattle.py_flat.specs.declared.fault.IoFault.{IoFault}
 use Rattle.py_flat.specs.declared.fault.IoFault.TheVariants as fault
 use Rattle.py_flat.specs.Limits.{greatest_count, greatest_place}
 use Rattle.py_flat.specs.FlatFile.{FlatFile}
+use Rattle.py_flat.specs.ExactStep.{is_closed}
+use Rattle.py_raw.specs.RawStream.{Raw}
+use Rattle.py_raw.specs.Reads.{no_reads}
 use Rattle.py_stream.specs.Stream.{nothing_owed}
 use Rattle.py_stream.specs.Buffer.{Buffer}
 use Rattle.py_memio.specs.declared.export.Export.{Export}
@@ -123,12 +126,31 @@ Releases None before number result after = (result ≡ Ok tt) × (after ≡ rele
 
 -- As a buffered stream.
 
--- a stream in memory shows its own bytes and place as a raw's: it owes nothing, never waits or fails, takes memory, and moves all that is
--- asked for at once, as it has no buffer
+-- what a stream in memory shows as its raw: its own bytes and place. It never waits or fails, takes memory, and is closed where the stream is
+abbrev pub raw_in_memory : FlatFile → Raw
+raw_in_memory file = record {
+  tells_bytes = true;
+  tells_place = true;
+  tells_transfers = false;
+  bytes = file.bytes;
+  place = file.place;
+  transfers = 0;
+  written = 0;
+  reads = no_reads;
+  faults = 0;
+  waits = 0;
+  closed = is_closed file.life;
+  readable = file.can.readable;
+  writable = file.can.writable;
+  seekable = file.can.seekable;
+  takes_memory = true;
+  counts_exactly = true;
+}
+
+-- a stream in memory as a buffered one: it owes nothing, and moves all that is asked for at once, as it has no buffer
 abbrev pub buffer_with : FlatFile → (lent : Bool) → (taken : ℕ) → Buffer
 buffer_with file lent taken = record {
-  tells = true;
-  raw_bytes = file.bytes;
+  raw = raw_in_memory file;
   raw_place = file.place;
   place = file.place;
   can = file.can;
@@ -136,10 +158,6 @@ buffer_with file lent taken = record {
   buffering = file.buffering;
   short = false;
   owed = nothing_owed file.place;
-  faults = 0;
-  waits = 0;
-  counts_exactly = true;
-  takes_memory = true;
   exported = lent;
   taken = taken;
 }

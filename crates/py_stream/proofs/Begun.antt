@@ -1,12 +1,12 @@
 -- What a call answers doesn't hang on whether the answer before was short.
-use Rattle.std.proofs.Common.{◌≡◌, ℕ, ℤ, pos, suc, zero, ◌⊎◌, inl, inr, Bool, true, false, IsTrue, List, take, refl, arith}
+use Rattle.std.proofs.Common.{◌≡◌, ℕ, ℤ, pos, suc, zero, inl, inr, Bool, true, false, IsTrue, List, take, refl, arith}
 use Rattle.py_flat.specs.declared.fault.IoFault.TheVariants as fault
 use Rattle.py_flat.specs.Calls.{FileCall, Seek, Tell, FileReply, Place, Done, Refused}
 use Rattle.py_flat.specs.BinaryStep.{payload}
 use Rattle.py_raw.specs.RawStream.{WhereTold}
 use Rattle.py_stream.specs.Stream.{Stream}
 use Rattle.py_stream.specs.Kinds.{is_writing, has_room}
-use Rattle.py_stream.specs.Writing.{OwesUpTo, OwesBehind, Takes, PassesFront, LaysInOrder, OwesTheRest, OwesNewAlone, OwesBoth, PassesOn, OwesNoneOfIts, Writes}
+use Rattle.py_stream.specs.Writing.{OwesUpTo, OwesBehind, Takes, PassesFront, LaysInOrder, OwesSome, OwesBoth, IsEndOf, SeekTargets, StopsAway, PassesOn, OwesNoneOfIts, Writes}
 use Rattle.py_stream.proofs.Coming.{came_seen, each_seen}
 use Rattle.py_stream.specs.Answers.{Answers, AnswersWith, Leaves, IsAhead, SeeksFromEnd, EndMoves, SeeksByEnd, StaysAmong, WentTo, SeekStands, closes_again}
 
@@ -22,8 +22,11 @@ module _ (short : Bool) where
   leaves : (before after : Stream) (expected reply : FileReply) → Leaves (seen short before) expected reply after → Leaves before expected reply after
   leaves before after expected reply left = record { says = left.says; same = left.same }
 
+  end_of : (before : Stream) (end : ℕ) → IsEndOf (seen short before) end → IsEndOf before end
+  end_of before end is = record { within = is.within; owed = is.owed; told = is.told }
+
   from_end : (before after : Stream) (offset : ℤ) (reply : FileReply) → SeeksFromEnd (seen short before) offset reply after → SeeksFromEnd before offset reply after
-  from_end before after offset reply sought = grind arith
+  from_end before after offset reply sought = grind (arith, end_of)
 
   end_moves : (before after : Stream) (offset : ℤ) (reply : FileReply) → EndMoves (seen short before) offset reply after → EndMoves before offset reply after
   end_moves before after offset (Refused fault.RawFault) moves = tt
@@ -59,12 +62,13 @@ module _ (short : Bool) where
   taken : (before after : Stream) (call : FileCall) → (IsTrue (is_writing call) → OwesUpTo before.owed before.place → Takes (seen short before) (payload call) after) → IsTrue (is_writing call) → OwesUpTo before.owed before.place → Takes before (payload call) after
   taken before after call takes writing up_to = let is = takes writing up_to in record { taken = is.taken; within = is.within; place = is.place; passed = is.passed; most = is.most; answered = is.answered; forth = λ behind. is.forth (owed_behind before behind); owed = is.owed; up_to = is.up_to; told = is.told }
 
-  owed_so : (before after : Stream) (new : List ℕ) → OwesTheRest (seen short before) new after ⊎ OwesNewAlone (seen short before) new after → OwesTheRest before new after ⊎ OwesNewAlone before new after
+  owed_so : (before after : Stream) (new : List ℕ) → OwesSome (seen short before) new after → OwesSome before new after
   owed_so before after new (inl rest) = inl (record { passed = rest.passed; answered = rest.answered; leaves = rest.leaves })
-  owed_so before after new (inr alone) = inr (record { passed = alone.passed; answered = alone.answered; leaves = alone.leaves })
+  owed_so before after new (inr (inl alone)) = inr (inl (record { passed = alone.passed; answered = alone.answered; leaves = alone.leaves }))
+  owed_so before after new (inr (inr fills)) = inr (inr (record { passed = fills.passed; answered = fills.answered; cut = fills.cut; leaves = fills.leaves }))
 
   owed_both : (before after : Stream) (bytes : List ℕ) → OwesBoth (seen short before) bytes after → OwesBoth before bytes after
-  owed_both before after bytes is = record { taken = is.taken; within = is.within; place = is.place; owes = λ some. owed_so before after (take is.taken bytes) (is.owes some) }
+  owed_both before after bytes is = record { taken = is.taken; within = is.within; place = is.place; owes = λ some. owed_so before after (take is.taken bytes) (is.owes some); none = is.none }
 
   front_passed : (before after : Stream) → PassesFront (seen short before) after → PassesFront before after
   front_passed before after is = record { passed = is.passed; most = is.most; answered = is.answered; bytes = is.bytes; place = is.place }
@@ -72,8 +76,15 @@ module _ (short : Bool) where
   laid : (before : Stream) (call : FileCall) (bytes : List ℕ) → WhereTold before.raw (LaysInOrder (seen short before) call bytes) → WhereTold before.raw (LaysInOrder before call bytes)
   laid before call bytes is tells = grind arith
 
+  targets : (before : Stream) (offset whence : ℤ) (target : ℕ) → SeekTargets (seen short before) offset whence target → SeekTargets before offset whence target
+  targets before offset (pos (suc (suc zero))) target goes = (goes.0, end_of before goes.0 goes.1, goes.2)
+  targets before offset whence target goes = goes
+
+  stops_away : (before : Stream) (offset whence : ℤ) → StopsAway (seen short before) offset whence → StopsAway before offset whence
+  stops_away before offset whence is = record { target = is.target; goes = targets before offset whence is.target is.goes; away = is.away }
+
   passed : (before after : Stream) (call : FileCall) (reply : FileReply) → PassesOn (seen short before) call reply after → PassesOn before call reply after
-  passed before after call reply is = grind arith
+  passed before after call reply is = grind (arith, stops_away)
 
   straight_whole : (before after : Stream) (call : FileCall) (reply : FileReply) → OwesNoneOfIts (seen short before) call reply after → OwesNoneOfIts before call reply after
   straight_whole before after call reply is = grind arith
@@ -118,7 +129,7 @@ module _ (short : Bool) where
     single = answers.single;
     passes_first = answers.passes_first;
     in_hand = λ has. let none = answers.in_hand (record { lives = has.lives; buffered = has.buffered; of = has.of }) in record { raw = none.raw; fault = none.fault };
-    owing = λ has. answers.owing (record { lives = has.lives; buffered = has.buffered; of = has.of });
+    owing = λ has. let stays = answers.owing (record { lives = has.lives; buffered = has.buffered; of = has.of }) in record { owed = stays.owed; held = stays.held };
     brings = λ reads ahead. came_seen (seen short before) before after after 1 refl refl refl refl (answers.brings reads (ahead_as before ahead));
     unread = answers.unread;
     needs = λ reads ahead. let asks = answers.needs reads (ahead_as before ahead) in record { enough = λ whole within buffered. let idle = asks.enough whole within buffered in record { raw = idle.raw; fault = idle.fault }; whole = λ whole. each_seen (seen short before) before after after 0 0 refl refl refl refl (asks.whole whole); needed = asks.needed; last = each_seen (seen short before) before after after 1 1 refl refl refl refl asks.last };

@@ -5,11 +5,11 @@ use Rattle.py_flat.specs.Bytes.{lay}
 use Rattle.py_flat.specs.Owed.{Owed}
 use Rattle.py_flat.specs.Calls.{FileCall, Write, Seek, Close, FileReply, Done}
 use Rattle.py_flat.specs.BinaryStep.{payload}
-use Rattle.py_raw.specs.RawStream.{WhereTold}
+use Rattle.py_raw.specs.RawStream.{tells, WhereTold}
 use Rattle.py_raw.proofs.Telling.{tells_still, tells_its_bytes}
 use Rattle.py_stream.specs.Stream.{Stream, buffering_of, nothing_owed}
 use Rattle.py_stream.specs.Kinds.{is_writing}
-use Rattle.py_stream.specs.Writing.{OwesRest, LeavesNew, LeavesBoth, OwesNewAlone, OwesTheRest, OwedAfter, PassesFront, PassedOn, OwesBoth, PassesOn, LaysInOrder, BlocksFull, Writes}
+use Rattle.py_stream.specs.Writing.{OwesRest, LeavesNew, LeavesBoth, LeavesUpTo, OwesSome, OwedAfter, PassesFront, PassedOn, OwesBoth, PassesOn, LaysInOrder, BlocksFull, Writes}
 use Rattle.py_stream.specs.Answers.{Answers, Leaves, GivesWithin, SeeksTo, SeeksFromEnd, UnlessStopped, EndMoves, SeeksByEnd, closes_again}
 use Rattle.py_stream.specs.Buffer.{Buffer, buffer_of, taken_by, size_shown, LeavesBuffer, closes_twice, GivesAsked, GoesFromEnd, BufferSeeksFromEnd, BufferSeeksByEnd, BufferOwes, BufferPassedOn, BufferPasses, BufferLays, BufferBlocksFull, BufferTakes, OwesAsItCan, is_made, AnswersAsBuffer}
 
@@ -52,14 +52,15 @@ by_end_so was taken before after call reply seeks = tt
 rest_so : (before after : Stream) → PassesFront before after → OwesRest before.owed after.owed
 rest_so before after passes = record { passed = passes.passed; bytes = passes.bytes; place = passes.place }
 
-either_so : (before after : Stream) (new : List ℕ) → OwesTheRest before new after ⊎ OwesNewAlone before new after → ((passed : ℕ) × LeavesBoth passed before.owed before.place new after.owed) ⊎ ((passed : ℕ) × LeavesNew passed before.place new after.owed)
+either_so : (before after : Stream) (new : List ℕ) → OwesSome before new after → ((passed : ℕ) × LeavesBoth passed before.owed before.place new after.owed) ⊎ (((passed : ℕ) × LeavesNew passed before.place new after.owed) ⊎ ((passed : ℕ) × LeavesUpTo passed before.owed before.place new after.owed))
 either_so before after new (inl rest) = inl (rest.passed, rest.leaves)
-either_so before after new (inr alone) = inr (alone.passed, alone.leaves)
+either_so before after new (inr (inl alone)) = inr (inl (alone.passed, alone.leaves))
+either_so before after new (inr (inr fills)) = inr (inr (fills.passed, fills.leaves))
 
 both_so : (before after : Stream) (bytes : List ℕ) → OwesBoth before bytes after → OwedAfter before.owed before.place (take (after.place - before.place) bytes) after.owed
 both_so before after bytes both =
     let count : after.place - before.place ≡ both.taken = omega (arith, both.place) in
-    λ some. either_so before after (take (after.place - before.place) bytes) (subst (λ (n : ℕ). OwesTheRest before (take n bytes) after ⊎ OwesNewAlone before (take n bytes) after) (sym count) (both.owes some))
+    λ some. either_so before after (take (after.place - before.place) bytes) (subst (λ (n : ℕ). OwesSome before (take n bytes) after) (sym count) (both.owes some))
 
 owes_so : (was taken : ℕ) (before after : Stream) (call : FileCall) (reply : FileReply) → IsTrue (is_made call) → Writes before call reply after → BufferOwes (buffer_of before was) call (buffer_of after taken)
 owes_so was taken before after (Write bytes) reply made writes = record { both = both_so before after bytes (writes.owes refl); up_to = λ up_to. (writes.takes refl up_to).up_to }
@@ -102,7 +103,7 @@ unwritten_takes before call reply after can made answers = grind arith
 -- what a call does with what is owed
 record Passing (before : Buffer) (call : FileCall) (reply : FileReply) (after : Buffer) : Type 0 where
   owes : BufferOwes before call after
-  lays : IsTrue before.tells → BufferLays before (payload call) after.raw_bytes
+  lays : IsTrue (tells before.raw) → BufferLays before (payload call) after.raw.bytes
   passes : BufferPasses before call reply after
   full : BufferBlocksFull call reply after
   takes : BufferTakes call before.place after.place

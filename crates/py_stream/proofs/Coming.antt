@@ -40,7 +40,7 @@ came_more before after less more within came = record { forth = came.forth; read
 
 -- where a stream's raw stands doesn't hang on whether its last answer was short
 pub near_seen : (stream : Stream) (short : Bool) → IsNear stream → IsNear (record stream { short = short })
-near_seen stream short near = record { after_first = near.after_first; before_end = near.before_end; fits = near.fits; owed_after_first = near.owed_after_first; owed_before_end = near.owed_before_end; read_ahead = near.read_ahead; ahead = near.ahead; behind = near.behind; stands = near.stands }
+near_seen stream short near = record { after_first = near.after_first; before_end = near.before_end; fits = near.fits; owed_after_first = near.owed_after_first; owed_before_end = near.owed_before_end; owed_before_raw = near.owed_before_raw; read_ahead = near.read_ahead; ahead = near.ahead; behind = near.behind; stands = near.stands }
 
 -- whether a reading goes on from the bytes held doesn't hang on whether the stream's last answer was short
 pub ahead_seen : (stream : Stream) (short : Bool) → IsAhead stream → IsAhead (record stream { short = short })

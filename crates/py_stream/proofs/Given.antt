@@ -67,7 +67,7 @@ part_answers old new call reply count short may fits is took filled waited calm 
     let counted : IsTrue old.raw.counts_exactly → IsCounted old.buffer old.raw call reply new.raw short = λ exact. record { faults = λ _. took.no_fault exact; waits = λ whole ends. calm_counts old.buffer call old.raw new.raw may.writing (calm whole) ends exact; once = λ cut ends. one_counts old.buffer call old.raw new.raw may.writing (once cut) ends exact } in
     let wants : IsTrue (says_no_memory reply) → IsTrue old.raw.takes_memory = λ wanting. absurd (cc (is.no_want)) in
     let starves : IsTrue (says_no_memory reply) → new.life ≡ life.Failed → TookOwn old (record new { short = short }) = λ wanting. absurd (cc (is.no_want)) in
-    let full : BlocksFull call reply (record new { short = short }) = is.full (record new { short = short }) (λ cut. record { up_to = omega (arith, filled cut, took.behind.ends); owes = λ _. filled cut }) in
+    let full : BlocksFull call reply (record new { short = short }) = is.full (record new { short = short }) (λ cut. record { up_to = omega (arith, filled cut, took.behind.ends); owes = filled cut }) in
     let straight = is.straight (record new { short = short }) in
     let told : WhereTold old.raw (BinaryStep (file_of old) call reply short (says_fault reply) (file_of new)) = λ tells. part_steps (file_of old) (file_of new) call reply short (says_fault reply) (works old call may) (accepted old call may) (is.steps (file_of new) (took_file old new (take count own) may.live took tells)) in
     answers_coming old new call reply short may (search (rules, takes_front, lays_taken))

@@ -208,7 +208,7 @@ pub record IsPart (old : Stream) (count : ℕ) (buffer : Option ℕ) (call : Fil
   pub shorts : IsShort call reply short
   pub life_is : (before after : Life) → after ≡ before → LifeMoves buffer call reply before after
   pub place : (current : Life) (before after : ℕ) → after ≡ before + count → PlaceMoves buffer call reply current before after
-  pub full : (after : Stream) → (IsTrue short → IsFull after.owed after.place (size_of after) count) → BlocksFull call reply after
+  pub full : (after : Stream) → (IsTrue short → IsFull after.owed after.place (size_of after)) → BlocksFull call reply after
   pub straight : (after : Stream) → OwesNoneOfIts old call reply after
   pub answers : IsReplyTo buffer true call reply
   pub steps : (after : FlatFile) → after ≡ after_write (file_of (record old { buffer = buffer })) (take count (payload call)) → StepsBy short (file_of (record old { buffer = buffer })) call reply after

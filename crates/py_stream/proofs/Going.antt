@@ -1,5 +1,6 @@
 -- The answers of `seek`, as its steps come: where it goes, what is passed on before, and the moving.
-use Rattle.std.proofs.Common.{◌≡◌, ◌≢◌, ⊎_elim, ℕ, ◌+◌, suc, zero, ℤ, pos, max, nat_eq, Bool, true, false, List, [], ◌∷◌, length, Option, Some, None, IsSome, Result, Ok, Err, ne_eqb, if◌then◌else◌, refl, sym, ap, ◌∙◌, subst, arith, zero-le, rules, IsTrue}
+use Rattle.std.proofs.Common.{◌≡◌, ◌≢◌, inl, inr, ⊎_elim, ℕ, ◌+◌, ◌≤◌, suc, zero, ℤ, pos, max, nat_eq, Bool, true, false, List, [], ◌∷◌, length, Option, Some, None, IsSome, Result, Ok, Err, ne_eqb, if◌then◌else◌, refl, sym, ap, ◌∙◌, subst, arith, zero-le, rules, IsTrue}
+use Rattle.std.proofs.lemmas.Bool.{cases_lt}
 use Rattle.std.proofs.lemmas.Bool.Decides.{eqb_tells}
 use Rattle.py_flat.specs.declared.fault.IoFault.{IoFault}
 use Rattle.py_flat.specs.declared.fault.IoFault.TheVariants as fault
@@ -18,8 +19,8 @@ use Rattle.py_raw.specs.RawStream.{WhereTold, KeepsBytes, LeavesCounts, AnswersF
 use Rattle.py_raw.proofs.Telling.{keeps_same, tells_its_bytes}
 use Rattle.py_raw.proofs.ReadingOn.{no_fault_then, no_wait_then}
 use Rattle.py_stream.specs.Stream.{Span, Stream, file_of, nothing_owed, nothing_held}
-use Rattle.py_stream.specs.Writing.{GoesAway, Writes}
-use Rattle.py_stream.specs.Answers.{Answers, Leaves, SeeksTo, SeeksFromEnd, InHandOf, InHand, IsAmong, StaysAmong, StandsBare, WentTo, SparesBytes, IsCounted}
+use Rattle.py_stream.specs.Writing.{GoesAway, IsEndOf, SeekTargets, StopsAway, StandsBare, Writes}
+use Rattle.py_stream.specs.Answers.{Answers, Leaves, SeeksTo, SeeksFromEnd, InHandOf, InHand, StaysHeld, IsAmong, StaysAmong, WentTo, SparesBytes, IsCounted}
 use Rattle.py_stream.specs.Keeping.{KeepsOn}
 use Rattle.py_stream.specs.Settling.{PassesSome, LivesOn, SettleOutcome}
 use Rattle.py_stream.specs.Moving.{StandsAsBefore, AsksEnd, TargetFromEnd, TargetOutcome, IsHeld, owed_at, StepsTo, GoesTo, GoOutcome, Begins}
@@ -29,14 +30,14 @@ use Rattle.py_stream.proofs.Taking.{keeps_then, faulted_then, answers_still}
 use Rattle.py_stream.proofs.Flat.{flat_of, file_now}
 use Rattle.py_stream.proofs.Showing.{PassesBytes, Asked, Accepts, Beside, beside_writing, shows_answers, passing_writes, seek_moves_none}
 use Rattle.py_stream.proofs.PassingOn.{begun, laid_there, passes_nothing, FaultLeaves, passed_all, passing_front, passing_keeps, passing_file, stays_open, lacking_answers, lacks_refuse, fault_fails, settling_refuses, LeavesOwed, settles_then}
-use Rattle.py_stream.proofs.Seeking.{MaySeek, seek_refusal_is, target_why, bad_place_is_own, RefusesPlace, refuses_place, ReachesRaw, end_reaches, AnswersEnd, TargetOf, Goes, goes, seeks_nowhere, argument_refuses}
+use Rattle.py_stream.proofs.Seeking.{MaySeek, seek_refusal_is, target_why, bad_place_is_own, RefusesPlace, refuses_place, ReachesRaw, end_reaches, TargetOf, Goes, goes, seeks_nowhere, argument_refuses}
 
 -- Where the stream ends.
 
 pub ends_at : (raw : List ℕ) (place : ℕ) (bytes : List ℕ) → length (lay raw place bytes) ≡ (if nat_eq (length bytes) 0 then length raw else max (length raw) (place + length bytes))
 ends_at raw place bytes = grind (arith, ne_eqb, length-lay)
 
-answers_end : (old new : Stream) (end : ℕ) → AsksEnd old end new → AnswersEnd old end
+answers_end : (old new : Stream) (end : ℕ) → AsksEnd old end new → IsEndOf old end
 answers_end old new end asks = record { within = asks.within; owed = asks.owed; told = λ tells. asks.told tells ∙ sym (ends_at old.raw.bytes old.owed.place old.owed.bytes) }
 
 -- Where the raw was asked, or failed.
@@ -75,16 +76,14 @@ fault_fails_seek offset whence = record { dead = refl; life_is = λ buffer curre
 end_refuses : (old new : Stream) (offset : ℤ) (why : IoFault) (end : ℕ) → MaySeek old → AsksEnd old end new → target_refusal (moved_by end offset) ≡ Some why → Answers old (Seek offset (pos 2)) (Refused why) new
 end_refuses old new offset why end may asks refuses =
     let call : FileCall = Seek offset (pos 2) in
-    let answered : AnswersEnd old end = answers_end old new end asks in
+    let answered : IsEndOf old end = answers_end old new end asks in
     let passes : PassesSome old new = passes_nothing old new asks.stands in
     let at : RefusesPlace offset why = refuses_place offset why (target_why (moved_by end offset) why refuses) in
     let short : new.short ≡ false = asks.stands.kept.short ∙ may.whole in
     let left : Leaves old (Refused why) (Refused why) (record new { raw = old.raw }) = grind arith in
     let seeks : SeeksFromEnd old offset (Refused why) new = record {
       end = end;
-      within = answered.within;
-      owed = answered.owed;
-      told = answered.told;
+      is = answered;
       target = subst (λ (refused : Option IoFault). SeeksTo old (moved_by end offset) refused (Refused why) new) (sym refuses) (seeks_nowhere old (moved_by end offset) why new left);
     } in
     shows_answers old call (Refused why) new (seek_moves_none offset (pos 2)) (grind (arith, passing_keeps, end_reaches, stays_open, spared, passing_writes, seek_moves_none, passing_front, seek_refusal_is, tells_its_bytes, passing_file))
@@ -118,11 +117,12 @@ pub record Finds (old : Stream) (offset whence : ℤ) (target : ℕ) (found : St
   pub out : FoundOut old found
   pub still : InHandOf old (Seek offset whence) → found.raw ≡ old.raw
   pub to : Goes old offset whence target
+  pub targets : SeekTargets old offset whence target
 
-finds_target : (old found : Stream) (offset whence : ℤ) (target : ℕ) → MaySeek old → TargetOutcome old offset whence (Ok target) found → FoundOut old found × (InHandOf old (Seek offset whence) → found.raw ≡ old.raw) × TargetOf old offset whence (Ok target)
-finds_target old found offset (pos zero) target may moved = (found_nothing old found may moved.1, λ _. ap (λ (stream : Stream). stream.raw) moved.1, moved.0)
-finds_target old found offset (pos (suc zero)) target may moved = (found_nothing old found may moved.1, λ _. ap (λ (stream : Stream). stream.raw) moved.1, moved.0)
-finds_target old found offset (pos (suc (suc zero))) target may asked = (found_end old found asked.0 asked.1, λ has. absurd has, (asked.0, answers_end old found asked.0 asked.1, asked.2))
+finds_target : (old found : Stream) (offset whence : ℤ) (target : ℕ) → MaySeek old → TargetOutcome old offset whence (Ok target) found → FoundOut old found × (InHandOf old (Seek offset whence) → found.raw ≡ old.raw) × TargetOf old offset whence (Ok target) × SeekTargets old offset whence target
+finds_target old found offset (pos zero) target may moved = (found_nothing old found may moved.1, λ _. ap (λ (stream : Stream). stream.raw) moved.1, moved.0, moved.0.0)
+finds_target old found offset (pos (suc zero)) target may moved = (found_nothing old found may moved.1, λ _. ap (λ (stream : Stream). stream.raw) moved.1, moved.0, moved.0.0)
+finds_target old found offset (pos (suc (suc zero))) target may asked = (found_end old found asked.0 asked.1, λ has. absurd has, (asked.0, answers_end old found asked.0 asked.1, asked.2), (asked.0, answers_end old found asked.0 asked.1, asked.2.0))
 finds_target old found offset whence target may wrong = let never : Ok target ≡ Err fault.BadWhence = wrong.0 in absurd (cc)
 
 -- a seek that found its target
@@ -156,6 +156,19 @@ beyond_before : (old found : Stream) (target : ℕ) → FoundOut old found → I
 beyond_before old found target out beyond among =
     beyond (ap (λ (can : Abilities). can.readable) out.stands.kept.can ∙ among.reads) (subst (λ (buffer : Option ℕ). IsSome buffer) (sym out.stands.kept.buffer) among.buffered)
     (subst (λ (held : Span). IsHeld held target) (sym out.stands.held) (among.after_first, among.before_end))
+
+-- such a target leaves the bytes held, of a stream with a buffer
+goes_away : (stream : Stream) (target : ℕ) (reads : Bool) → stream.can.readable ≡ reads → IsSome stream.buffer → (IsAmong stream target → ⊥) → GoesAway stream target
+goes_away stream target false is buffered beyond = inl is
+goes_away stream target true is buffered beyond = inr (⊎_elim inl
+    (λ (after : stream.held.from ≤ target). ⊎_elim inr
+    (λ (before : target ≤ stream.held.to). absurd (beyond (record { reads = is; buffered = buffered; after_first = after; before_end = before })))
+    (cases_lt stream.held.to target))
+    (cases_lt target stream.held.from))
+
+-- so a wait that stops the seek stops one that goes there
+stops_away : (old found : Stream) (offset whence : ℤ) (target : ℕ) → Finds old offset whence target found → IsSome old.buffer → IsBeyond found target → StopsAway old offset whence
+stops_away old found offset whence target finds buffered beyond = record { target = target; goes = finds.targets; away = goes_away old target old.can.readable refl buffered (beyond_before old found target finds.out beyond) }
 
 -- where the target lies, a seek goes there in the model
 sought_at : (file after : FlatFile) (sought target : ℕ) → sought ≡ target → after ≡ record file { place = target } → ◌≡◌ {A = FileReply × FlatFile} (Place target, after) (Place sought, record file { place = sought })
@@ -229,8 +242,9 @@ stepped old found new offset whence target may finds steps =
     subst (λ (said : Bool). BinaryStep (file_of old) call (Place target) said false (file_of new)) (sym short)
     (settled (subst (λ (refused : Option IoFault). SettledBy (file_of old) call refused (Place target) (file_of new)) (sym lies.1)
     (sought_at (file_of old) (file_of new) (seek_target (file_of old) offset whence) target lies.0 (stepped_file old found new target finds.out steps tells)))) in
-    let owing : new.owed.bytes ≡ old.owed.bytes = step_owes old found new target finds.out steps in
-    let seeks : WentTo old target new = record { among = λ _. step_among old found new target finds.out steps; away = λ away. absurd (step_stays old found new target may finds.out steps away) } in
+    let stays : StaysAmong old new = step_among old found new target finds.out steps in
+    let owing : StaysHeld old new = record { owed = stays.owed; held = stays.held } in
+    let seeks : WentTo old target new = record { among = λ _. stays; away = λ away. absurd (step_stays old found new target may finds.out steps away) } in
     shows_answers old call (Place target) new asked.none (grind (arith, stays_open))
 
 -- a seek to a target among the bytes held
@@ -331,8 +345,11 @@ moving_fails old mid new offset whence target why seeks to passed never = absurd
 -- As the steps come.
 
 -- a stop of the passing on answers the seek
-pub seek_stops : (old found new : Stream) (offset whence : ℤ) (target : ℕ) (why : IoFault) → SeeksWriting (begun old) offset whence → Finds (begun old) offset whence target found → SettleOutcome found (Err why) new → Answers old (Seek offset whence) (Refused why) new
-seek_stops old found new offset whence target why seeks finds stops = search (rules, answers_whole, settling_refuses, accepts_seek, seeks.apart, fault_fails_seek, found_settles)
+pub seek_stops : (old found new : Stream) (offset whence : ℤ) (target : ℕ) (why : IoFault) → SeeksWriting (begun old) offset whence → Finds (begun old) offset whence target found → IsBeyond found target → SettleOutcome found (Err why) new → Answers old (Seek offset whence) (Refused why) new
+seek_stops old found new offset whence target why seeks finds beyond stops =
+    answers_whole old new (Seek offset whence) (Refused why)
+    (settling_refuses (begun old) new (Seek offset whence) seeks.size why (accepts_seek (begun old) offset whence target seeks finds.to) seeks.buffered seeks.writes seeks.apart
+    (stops_away (begun old) found offset whence target finds (subst IsSome (sym seeks.buffered) refl) beyond) (fault_fails_seek offset whence) (found_settles (begun old) found new (Err why) finds.out stops))
 
 -- a failing of the moving answers the seek
 pub seek_fails : (old found mid new : Stream) (offset whence : ℤ) (target : ℕ) (why : IoFault) → SeeksWriting (begun old) offset whence → Finds (begun old) offset whence target found → SettleOutcome found (Ok tt) mid → GoOutcome mid target (Err why) new → Answers old (Seek offset whence) (Refused why) new

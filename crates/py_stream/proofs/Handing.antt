@@ -37,7 +37,7 @@ fault_fails_detach = record { dead = refl; life_is = λ buffer current. refl; st
 pub detach_refuses : (old new : Stream) (current : Life) (why : IoFault) → old.life ≡ current → (current ≡ life.Live → IsWriting (begun old)) → old.place ≤ greatest_place → BeginDetachIn current (begun old) (Err why) new → Answers old Detach (Refused why) new
 detach_refuses old new life.Live why is writing far stops =
     let may : IsWriting (begun old) = writing refl in
-    answers_whole old new Detach (Refused why) (settling_refuses (begun old) new Detach may.size why (detach_asked (begun old) may) may.buffered may.writes (λ has. has.of) fault_fails_detach stops)
+    answers_whole old new Detach (Refused why) (settling_refuses (begun old) new Detach may.size why (detach_asked (begun old) may) may.buffered may.writes (λ has. has.of) tt fault_fails_detach stops)
 detach_refuses old new life.Failed why is writing far stops = absurd (let wrong : Err why ≡ Ok tt = stops.0 in cc)
 detach_refuses old new life.Closed why is writing far stops = grind (arith, lays_nothing)
 detach_refuses old new life.Detached why is writing far never = absurd never

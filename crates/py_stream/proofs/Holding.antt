@@ -20,7 +20,7 @@ use Rattle.py_raw.proofs.Telling.{keeps_same}
 use Rattle.py_stream.specs.Stream.{Stream, size_of, file_of, nothing_owed}
 use Rattle.py_stream.specs.Kinds.{is_reading, is_single, asks_nothing, reads_on, by_several, makes_one, asks_none, has_room, says_fault, says_no_memory, says_given}
 use Rattle.py_stream.specs.Writing.{NoneAtPlace, LaysFront, LaysInOrder, BlocksFull, Writes}
-use Rattle.py_stream.specs.Answers.{Answers, KeepsStream, ClosedWith, HasCauses, IsCounted, IsShort, LifeMoves, PlaceMoves, GivesWithin, WantsMemory, Starves, StarvesFirst, AsksNothing, AtMostOne, PassesFirst, CameByReads, InHand, IsAhead, GoesPast, AsksNoMore, SparesBytes, IsReplyTo, IsNear, refused_by, ahead}
+use Rattle.py_stream.specs.Answers.{Answers, KeepsStream, ClosedWith, HasCauses, IsCounted, IsShort, LifeMoves, PlaceMoves, GivesWithin, WantsMemory, Starves, StarvesFirst, AsksNothing, AtMostOne, PassesFirst, CameByReads, InHand, StaysHeld, IsAhead, GoesPast, AsksNoMore, SparesBytes, IsReplyTo, IsNear, refused_by, ahead}
 use Rattle.py_stream.specs.Keeping.{IsSound}
 use Rattle.py_stream.specs.Settling.{PassesSome, LivesOn, SettleOutcome}
 use Rattle.py_stream.specs.Reading.{Reaches, ComesNext, wanted_by, reply_by}
@@ -75,7 +75,7 @@ pub record ShowsReading (before : Stream) (call : FileCall) (reply : FileReply) 
   pub passes_first : PassesFirst before call reply after
   pub brings : IsAhead before → CameByReads 1 before after
   pub in_hand : InHand before call → AsksNothing before reply after
-  pub owing : InHand before call → after.owed.bytes ≡ before.owed.bytes
+  pub owing : InHand before call → StaysHeld before after
   pub needs : IsTrue (by_several before.buffer call) → IsAhead before → AsksNoMore before call reply after
   pub spares : before.can.writable ≡ false → before.owed ≡ nothing_owed before.place → SparesBytes before call after
   pub writes : before.can.writable ≡ true → Writes before call reply after
@@ -323,7 +323,7 @@ held_reading before call reply place owed reads held moved is =
       passes_first = λ _ single some _. moved.bytes ∙ is.passed single some;
       brings = λ _. came_still before after 1 refl refl;
       in_hand = λ _. idle;
-      owing = λ _. moved.bytes;
+      owing = λ _. record { owed = moved.bytes; held = refl };
       needs = λ _ _. record { enough = λ _ _ _. idle; whole = λ _. each_still before after 0 0 refl refl; needed = λ _. inl refl; last = each_still before after 1 1 refl refl };
       spares = λ _ bare. record { bytes = λ tells. refl; written = λ tells. refl; owed = owes_none before place owed moved bare; still = λ _. refl };
       writes = λ _. held_writes before call reply place owed reads (reading_fills call reply after before.buffer before.can.writable reads is.said is.answers) moved;
@@ -492,7 +492,7 @@ reading_lacks before call reads room held =
       passes_first = λ _ _ _ given. absurd (cc);
       brings = λ _. came_still before before 1 refl refl;
       in_hand = λ _. idle;
-      owing = λ _. refl;
+      owing = λ _. record { owed = refl; held = refl };
       needs = λ _ _. record { enough = λ _ _ _. idle; whole = λ _. each_still before before 0 0 refl refl; needed = λ _. inl refl; last = each_still before before 1 1 refl refl };
       spares = λ _ bare. record { bytes = λ tells. refl; written = λ tells. refl; owed = bare; still = λ _. refl };
       writes = λ _. held_writes before call reply before.place before.owed reads (nothing_blocked before call fault.NoMemory refl) moved;

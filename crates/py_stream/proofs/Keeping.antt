@@ -1,6 +1,6 @@
 -- A call that gives bytes to a stream that may owe bytes anywhere among those that its buffer holds: the buffer takes them.
-use Rattle.std.proofs.Common.{◌≡◌, ◌≢◌, ℕ, ◌+◌, ◌<◌, ◌≤◌, ◌⊎◌, inl, inr, ⊎_elim, Bool, true, false, IsTrue, List, [], ◌++◌, length, take, drop, Some, None, Err, refl, sym, ap, ◌∙◌, subst, arith}
-use Rattle.std.proofs.lemmas.List.{take_all, drop-append-le, length-take-le}
+use Rattle.std.proofs.Common.{◌≡◌, ◌≢◌, ℕ, ◌+◌, ◌-◌, ◌<◌, ◌≤◌, ◌⊎◌, inl, inr, ⊎_elim, Bool, true, false, IsTrue, List, [], ◌++◌, length, take, drop, Some, None, Err, refl, sym, ap, ◌∙◌, subst, arith}
+use Rattle.std.proofs.lemmas.List.{take_all, drop-append-le, length-drop, length-take-le}
 use Rattle.py_flat.specs.declared.fault.IoFault.{IoFault}
 use Rattle.py_flat.specs.declared.fault.IoFault.TheVariants as fault
 use Rattle.py_flat.specs.declared.life.Life.TheVariants as life
@@ -17,10 +17,10 @@ use Rattle.py_raw.specs.RawStream.{Raw, WhereTold, AnswersFor}
 use Rattle.py_raw.proofs.Telling.{tells_still}
 use Rattle.py_stream.specs.Stream.{Stream, size_of, file_of}
 use Rattle.py_stream.specs.Kinds.{is_writing, outlasts, makes_one, says_fault, says_no_memory}
-use Rattle.py_stream.specs.Writing.{OwesUpTo, first_place, CoversBoth, OwesTheRest, OwesBoth, Takes, OwesOld, OwesNoneOfIts, LaysFront, IsFull, BlocksFull, HasRoom, TakesAlone, Writes}
+use Rattle.py_stream.specs.Writing.{OwesUpTo, first_place, CoversBoth, OwesAll, OwesTheRest, LeavesUpTo, OwesBoth, Takes, OwesOld, OwesNoneOfIts, LaysFront, IsFull, BlocksFull, HasRoom, TakesAlone, Writes}
 use Rattle.py_stream.specs.Answers.{Answers, HasCauses, IsCounted, IsShort, LifeMoves, PlaceMoves, IsReplyTo, refused_by}
 use Rattle.py_stream.specs.Keeping.{IsSound, KeepsOn}
-use Rattle.py_stream.specs.Held.{KeepsBoth}
+use Rattle.py_stream.specs.Held.{TakesOver, KeepsBoth, OwesHeld}
 use Rattle.py_stream.specs.Settling.{PassesSome, LivesOn, SettleOutcome}
 use Rattle.py_stream.proofs.Completing.{completes}
 use Rattle.py_stream.proofs.Refused.{nothing_blocked}
@@ -135,7 +135,7 @@ answers_unshort before new call reply may left = subst (λ (after : Stream). Ans
 abbrev ReachesRest : Stream → Stream → List ℕ → Type 0
 ReachesRest before mid front = (mid.owed ≡ before.owed) ⊎ ((mid.owed.bytes ≢ []) × (mid.owed.place ≤ before.place + length front))
 
-module _ (before mid after : Stream) (own : List ℕ) (count : ℕ) (fits : count ≤ length own) (goes : LivesOn before mid) (keeps : KeepsBoth mid (take count own) after) where
+module _ (before mid after : Stream) (own : List ℕ) (count : ℕ) (fits : count ≤ length own) (goes : LivesOn before mid) (over : TakesOver mid (take count own) after) where
   passes : PassesSome before mid
   passes = goes.passes
 
@@ -144,54 +144,90 @@ module _ (before mid after : Stream) (own : List ℕ) (count : ℕ) (fits : coun
 
   -- the place is behind what was taken
   kept_place : after.place ≡ before.place + count
-  kept_place = omega (arith, keeps.place, passes.still, long)
+  kept_place = omega (arith, over.place, passes.still, long)
 
   -- what is owed covers what was owed and what was taken
-  kept_covers : ReachesRest before mid (take count own) → after.owed.bytes ≢ [] → CoversBoth before.owed before.place (take count own) after.owed
-  kept_covers reach some =
-      let covers : CoversBoth mid.owed before.place (take count own) after.owed = subst (λ (place : ℕ). CoversBoth mid.owed place (take count own) after.owed) passes.still (keeps.owes.covers some) in
+  kept_covers : OwesAll mid.owed mid.place (take count own) after.owed → ReachesRest before mid (take count own) → after.owed.bytes ≢ [] → CoversBoth before.owed before.place (take count own) after.owed
+  kept_covers owes reach some =
+      let covers : CoversBoth mid.owed before.place (take count own) after.owed = subst (λ (place : ℕ). CoversBoth mid.owed place (take count own) after.owed) passes.still (owes.covers some) in
       ⊎_elim
       (λ (same : mid.owed ≡ before.owed). subst (λ (was : Owed). CoversBoth was before.place (take count own) after.owed) same covers)
       (λ (rest : (mid.owed.bytes ≢ []) × (mid.owed.place ≤ before.place + length (take count own))).
       covers_rest before.owed mid.owed passes.passed before.place passes.owed (passes.place rest.0) rest.0 (take count own) after.owed rest.1 covers)
       reach
 
+  -- the raw answered for what was passed on before
+  kept_answered : AnswersFor passes.passed before.raw after.raw
+  kept_answered = subst (λ (raw : Raw). AnswersFor passes.passed before.raw raw) (sym over.raw) passes.answered
+
+  -- so many bytes are left of what was owed
+  left_many : length mid.owed.bytes ≡ length before.owed.bytes - passes.passed
+  left_many = ap length passes.owed ∙ length-drop passes.passed before.owed.bytes
+
   -- it begins where the first begins of what is left of what was owed, and what was taken
-  kept_rest : (short : Bool) → ReachesRest before mid (take count own) → after.owed.bytes ≢ [] → OwesTheRest before (take count own) (record after { short = short })
-  kept_rest short reach some =
-      let from : after.owed.place ≡ first_place mid.owed (take count own) before.place = subst (λ (place : ℕ). after.owed.place ≡ first_place mid.owed (take count own) place) passes.still (keeps.owes.from some) in
+  kept_rest : OwesAll mid.owed mid.place (take count own) after.owed → (short : Bool) → ReachesRest before mid (take count own) → after.owed.bytes ≢ [] → OwesTheRest before (take count own) (record after { short = short })
+  kept_rest owes short reach some =
+      let from : after.owed.place ≡ first_place mid.owed (take count own) before.place = subst (λ (place : ℕ). after.owed.place ≡ first_place mid.owed (take count own) place) passes.still (owes.from some) in
       record {
         passed = passes.passed;
-        answered = subst (λ (raw : Raw). AnswersFor passes.passed before.raw raw) (sym keeps.raw) passes.answered;
+        answered = kept_answered;
         leaves = record {
           most = passes.within;
           from = first_left (drop passes.passed before.owed.bytes) mid.owed.bytes (before.owed.place + passes.passed) mid.owed.place (take count own) before.place after.owed.place passes.owed passes.place from;
-          covers = kept_covers reach some;
+          covers = kept_covers owes reach some;
         };
       }
 
-  kept_both : (short : Bool) → ReachesRest before mid (take count own) → OwesBoth before own (record after { short = short })
-  kept_both short reach = record { taken = count; within = fits; place = kept_place; owes = λ some. inl (kept_rest short reach some) }
+  -- all of both are owed
+  kept_both : OwesAll mid.owed mid.place (take count own) after.owed → (short : Bool) → ReachesRest before mid (take count own) → OwesBoth before own (record after { short = short })
+  kept_both owes short reach = record {
+    taken = count;
+    within = fits;
+    place = kept_place;
+    owes = λ some. inl (kept_rest owes short reach some);
+    none = λ none. let nothing = owes.none none in subst (λ (sent : ℕ). AnswersFor sent before.raw after.raw) (omega (arith, passes.within, left_many, ap length nothing.0, ap length nothing.1, long)) kept_answered;
+  }
+
+  -- where none are taken, what is left of what was owed goes on up to the place
+  filled_both : mid.owed.bytes ≢ [] → after.owed.bytes ≢ [] → LeavesUpTo 0 mid.owed mid.place (take count own) after.owed → OwesBoth before own (record after { short = true })
+  filled_both left some leaves = record {
+    taken = count;
+    within = fits;
+    place = kept_place;
+    owes = λ _. inr (inr (record {
+      passed = passes.passed;
+      answered = kept_answered;
+      cut = refl;
+      leaves = record {
+        nothing = leaves.nothing;
+        most = passes.within;
+        from = omega (arith, leaves.from, passes.place left);
+        front = ap (λ (n : ℕ). take n after.owed.bytes) (let many : length before.owed.bytes - passes.passed ≡ length mid.owed.bytes - 0 = omega (arith, left_many) in many) ∙ leaves.front ∙ passes.owed;
+        ends = leaves.ends ∙ passes.still;
+      };
+    }));
+    none = λ none. absurd (some none);
+  }
 
   -- told: the flat file has what was taken, at the place
   kept_bytes : WhereTold before.raw (flat_of after ≡ lay (flat_of before) before.place (take count own))
   kept_bytes tells =
-      keeps.told (tells_still before.raw mid.raw passes.kept.raw ∙ tells)
+      over.told (tells_still before.raw mid.raw passes.kept.raw ∙ tells)
       ∙ ap (λ (place : ℕ). lay (flat_of mid) place (take count own)) passes.still
       ∙ ap (λ (bytes : List ℕ). lay bytes before.place (take count own)) (passing_keeps_bytes before mid passes tells)
 
   -- where what was owed ended at the place, the first were taken after it
   kept_takes : (short : Bool) → OwesUpTo before.owed before.place → Takes before own (record after { short = short })
   kept_takes short up_to =
-      let behind = keeps.behind (left_up_to before mid passes up_to) in
+      let behind = over.behind (left_up_to before mid passes up_to) in
       record {
         taken = count;
         within = fits;
         place = kept_place;
         passed = passes.passed;
         most = omega (arith, passes.within);
-        answered = subst (λ (raw : Raw). AnswersFor passes.passed before.raw raw) (sym keeps.raw) passes.answered;
-        forth = λ stands. keeps.raw_place ∙ left_forth before mid passes stands;
+        answered = kept_answered;
+        forth = λ stands. over.raw_place ∙ left_forth before mid passes stands;
         owed = behind.0 ∙ ap (λ (bytes : List ℕ). bytes ++ take count own) passes.owed ∙ sym (drop-append-le passes.passed before.owed.bytes (take count own) passes.within);
         up_to = behind.1;
         told = λ tells. (count, omega arith, fits, kept_bytes tells);
@@ -199,38 +235,38 @@ module _ (before mid after : Stream) (own : List ℕ) (count : ℕ) (fits : coun
 
   -- the raw has a front of what was owed alone
   kept_lays : WhereTold before.raw (LaysFront before own after.raw.bytes)
-  kept_lays = subst (λ (raw : Raw). WhereTold before.raw (LaysFront before own raw.bytes)) (sym keeps.raw) (left_lays before mid passes own)
+  kept_lays = subst (λ (raw : Raw). WhereTold before.raw (LaysFront before own raw.bytes)) (sym over.raw) (left_lays before mid passes own)
 
   kept_all : KeepsOn before after
-  kept_all = keeps_then before mid after passes.kept keeps.kept
+  kept_all = keeps_then before mid after passes.kept over.kept
 
   -- told: the flat file is as after a write
   kept_file : before.life ≡ life.Live → WhereTold before.raw (file_of after ≡ after_write (file_of before) (take count own))
   kept_file live tells =
-      file_now before after kept_all (keeps.life_is ∙ goes.live ∙ sym live)
+      file_now before after kept_all (over.life_is ∙ goes.live ∙ sym live)
       ∙ ap (λ (bytes : List ℕ). record (file_of before) { bytes = bytes; place = after.place }) (kept_bytes tells)
       ∙ ap (λ (place : ℕ). record (after_write (file_of before) (take count own)) { place = place }) (omega (arith, kept_place, long))
 
 -- What answers a call of which the buffer took bytes.
 
-module _ (before mid after : Stream) (call : FileCall) (reply : FileReply) (count : ℕ) (short : Bool) (may : MayKeep before call) (fits : count ≤ length (payload call)) (is : IsPart before count before.buffer call reply short) (goes : LivesOn before mid) (reach : ReachesRest before mid (take count (payload call))) (keeps : KeepsBoth mid (take count (payload call)) after) (full : IsTrue short → IsFull after.owed after.place (size_of after) count) (waited : IsTrue short → Rose before.raw.waits mid.raw.waits) (room : HasRoom before (payload call) → TakesAlone before call reply (record after { short = short })) where
+module _ (before mid after : Stream) (call : FileCall) (reply : FileReply) (count : ℕ) (short : Bool) (may : MayKeep before call) (fits : count ≤ length (payload call)) (is : IsPart before count before.buffer call reply short) (goes : LivesOn before mid) (over : TakesOver mid (take count (payload call)) after) (both : OwesBoth before (payload call) (record after { short = short })) (full : IsTrue short → IsFull after.owed after.place (size_of after)) (waited : IsTrue short → Rose before.raw.waits mid.raw.waits) (room : HasRoom before (payload call) → TakesAlone before call reply (record after { short = short })) where
   kept_writes : Writes before call reply (record after { short = short })
   kept_writes =
       let left : Stream = record after { short = short } in
       let giving : IsGiving call = is_giving call may.writing in
-      let kept : KeepsOn before after = kept_all before mid after (payload call) count fits goes keeps in
+      let kept : KeepsOn before after = kept_all before mid after (payload call) count fits goes over in
       record {
-        owes = λ _. kept_both before mid after (payload call) count fits goes keeps short reach;
-        takes = λ _. kept_takes before mid after (payload call) count fits goes keeps short;
+        owes = λ _. both;
+        takes = λ _. kept_takes before mid after (payload call) count fits goes over short;
         room = λ _. room;
         leaves = λ spares. absurd (cc (may.writing));
-        stands = λ behind reads some. (keeps.stands (left_behind before mid goes.passes behind)).stands;
-        lays = λ tells. giving.lays before after.raw.bytes (kept_lays before mid after (payload call) count fits goes keeps tells);
+        stands = λ behind reads some. (over.stands (left_behind before mid goes.passes behind)).stands;
+        lays = λ tells. giving.lays before after.raw.bytes (kept_lays before mid after (payload call) count fits goes over tells);
         passes = giving.passes before reply left;
         full = is.full left full;
         starves = λ wanting. absurd (cc (is.no_want));
         straight = is.straight left;
-        settles = λ none. keeps.at (goes.passes.at none);
+        settles = λ none. over.at (goes.passes.at none);
         unclosed = λ some. kept.stays;
         rests = λ dead. absurd (dead may.live);
       }
@@ -239,24 +275,24 @@ module _ (before mid after : Stream) (call : FileCall) (reply : FileReply) (coun
   keeps_answers : Answers before call reply (record after { short = short })
   keeps_answers =
       let own : List ℕ = payload call in
-      let kept : KeepsOn before after = kept_all before mid after own count fits goes keeps in
-      let lives : after.life ≡ before.life = keeps.life_is ∙ goes.live ∙ sym may.live in
+      let kept : KeepsOn before after = kept_all before mid after own count fits goes over in
+      let lives : after.life ≡ before.life = over.life_is ∙ goes.live ∙ sym may.live in
       answers_left before after call reply short may (record {
         kept = kept;
         is_open = ap is_closed (lives ∙ may.live);
-        causes = record { waits = λ cut. subst (λ (raw : Raw). Rose before.raw.waits raw.waits) (sym keeps.raw) (waited cut); faults = λ faulted. absurd (cc (is.no_fault)) };
+        causes = record { waits = λ cut. subst (λ (raw : Raw). Rose before.raw.waits raw.waits) (sym over.raw) (waited cut); faults = λ faulted. absurd (cc (is.no_fault)) };
         counted = λ exact. record {
-          faults = λ _. ap (λ (raw : Raw). raw.faults) keeps.raw ∙ goes.no_fault exact;
+          faults = λ _. ap (λ (raw : Raw). raw.faults) over.raw ∙ goes.no_fault exact;
           waits = λ _ ends. absurd (cc (outlasting before call may));
           once = λ _ ends. absurd (cc (outlasting before call may));
         };
         shorts = is.shorts;
         life_is = is.life_is before.life after.life lives;
-        place = is.place after.life before.place after.place (kept_place before mid after own count fits goes keeps);
+        place = is.place after.life before.place after.place (kept_place before mid after own count fits goes over);
         wants = λ wanting. absurd (cc (is.no_want));
         writes = kept_writes;
         answers = is.answers;
-        told = λ tells. part_steps (file_of before) (file_of after) call reply short (says_fault reply) (reaches before call may) (unrefused before call may) (is.steps (file_of after) (kept_file before mid after own count fits goes keeps may.live tells));
+        told = λ tells. part_steps (file_of before) (file_of after) call reply short (says_fault reply) (reaches before call may) (unrefused before call may) (is.steps (file_of after) (kept_file before mid after own count fits goes over may.live tells));
       })
 
 -- nothing is passed on of a stream that lives
@@ -271,28 +307,41 @@ all_answers before mid after call may goes reach keeps room =
     let same : own ≡ take all own = sym (take_all all own (omega arith)) in
     let fits : all ≤ length (payload call) = omega arith in
     let is = is_taken before all before.buffer call may.writing fits (goes_over before call may).all in
-    subst (λ (left : Stream). Answers before call (taken_reply call all) left) (said_short after false (keeps.kept.short ∙ goes.passes.kept.short ∙ may.whole))
-    (keeps_answers before mid after call (taken_reply call all) all false may fits is goes (subst (ReachesRest before mid) same reach) (subst (λ (bytes : List ℕ). KeepsBoth mid bytes after) same keeps) (λ cut. absurd (cc)) (λ cut. absurd (cc)) room)
+    subst (λ (left : Stream). Answers before call (taken_reply call all) left) (said_short after false (keeps.over.kept.short ∙ goes.passes.kept.short ∙ may.whole))
+    (keeps_answers before mid after call (taken_reply call all) all false may fits is goes (subst (λ (bytes : List ℕ). TakesOver mid bytes after) same keeps.over)
+    (kept_both before mid after own all fits goes (subst (λ (bytes : List ℕ). TakesOver mid bytes after) same keeps.over) (subst (λ (bytes : List ℕ). OwesAll mid.owed mid.place bytes after.owed) same keeps.owes) false (subst (ReachesRest before mid) same reach))
+    (λ cut. absurd (cc)) (λ cut. absurd (cc)) room)
 
 -- bytes that fit the buffer with no call of the raw are all taken
 pub fits_answers : (before after : Stream) (call : FileCall) → MayKeep before call → KeepsBoth before (payload call) after → Answers before call (taken_reply call (length (payload call))) after
 fits_answers before after call may keeps =
     all_answers before before after call may (lives_itself before may.sound may.live) (inl refl) keeps
-    (λ _. record { says = says_all call may.writing; whole = refl; raw = keeps.raw; raw_place = keeps.raw_place; owes = keeps.owes })
+    (λ _. record { says = says_all call may.writing; whole = refl; raw = keeps.over.raw; raw_place = keeps.over.raw_place; owes = keeps.owes })
 
 -- bytes that fit the buffer once the raw took some of what was owed, and then would have blocked, are all taken
 pub fits_after_wait : (before mid after : Stream) (call : FileCall) → MayKeep before call → (HasRoom before (payload call) → ⊥) → LivesOn before mid → 0 < length mid.owed.bytes → mid.owed.place ≤ before.place + length (payload call) → KeepsBoth mid (payload call) after → Answers before call (taken_reply call (length (payload call))) after
 fits_after_wait before mid after call may roomless goes some reach keeps = all_answers before mid after call may goes (inr (λ none. omega (arith, some, ap length none), reach)) keeps (λ has. absurd (roomless has))
 
--- the buffer took the first of the bytes, and is full, as the raw would have blocked: the call is refused by how many were taken
-pub fills_after_wait : (before mid after : Stream) (call : FileCall) (taken : ℕ) → MayKeep before call → (HasRoom before (payload call) → ⊥) → LivesOn before mid → Rose before.raw.waits mid.raw.waits → 0 < length mid.owed.bytes → mid.owed.place ≤ before.place + taken → taken < length (payload call) → KeepsBoth mid (take taken (payload call)) after → IsFull after.owed after.place (size_of after) taken → Answers before call (Refused (fault.WouldBlock taken)) (record after { short = true })
-fills_after_wait before mid after call taken may roomless goes waited some reach less keeps full =
-    let own : List ℕ = payload call in
+-- the buffer is full, as the raw would have blocked: the call is refused by how many of its bytes the buffer took
+blocked_after_wait : (before mid after : Stream) (call : FileCall) (taken : ℕ) → MayKeep before call → (HasRoom before (payload call) → ⊥) → LivesOn before mid → Rose before.raw.waits mid.raw.waits → taken < length (payload call) → TakesOver mid (take taken (payload call)) after → OwesBoth before (payload call) (record after { short = true }) → IsFull after.owed after.place (size_of after) → Answers before call (Refused (fault.WouldBlock taken)) (record after { short = true })
+blocked_after_wait before mid after call taken may roomless goes waited less over both full =
     let fits : taken ≤ length (payload call) = omega (arith, less) in
     let on : GoesOn before.buffer call = goes_over before call may in
-    let reaches_rest : ReachesRest before mid (take taken own) = inr (λ none. omega (arith, some, ap length none), omega (arith, reach, length-take-le taken own fits)) in
     subst (λ (reply : FileReply). Answers before call reply (record after { short = true })) (on.says taken)
-    (keeps_answers before mid after call (waited_reply before.buffer call taken) taken true may fits (is_blocked before taken before.buffer call may.writing (on.waits taken less)) goes reaches_rest keeps (λ _. full) (λ _. waited) (λ has. absurd (roomless has)))
+    (keeps_answers before mid after call (waited_reply before.buffer call taken) taken true may fits (is_blocked before taken before.buffer call may.writing (on.waits taken less)) goes over both (λ _. full) (λ _. waited) (λ has. absurd (roomless has)))
+
+-- it took the first of them
+pub fills_after_wait : (before mid after : Stream) (call : FileCall) (taken : ℕ) → MayKeep before call → (HasRoom before (payload call) → ⊥) → LivesOn before mid → Rose before.raw.waits mid.raw.waits → 0 < length mid.owed.bytes → mid.owed.place ≤ before.place + taken → taken < length (payload call) → KeepsBoth mid (take taken (payload call)) after → IsFull after.owed after.place (size_of after) → Answers before call (Refused (fault.WouldBlock taken)) (record after { short = true })
+fills_after_wait before mid after call taken may roomless goes waited some reach less keeps full =
+    let own : List ℕ = payload call in
+    let fits : taken ≤ length own = omega (arith, less) in
+    let reaches_rest : ReachesRest before mid (take taken own) = inr (λ none. omega (arith, some, ap length none), omega (arith, reach, length-take-le taken own fits)) in
+    blocked_after_wait before mid after call taken may roomless goes waited less keeps.over (kept_both before mid after own taken fits goes keeps.over keeps.owes true reaches_rest) full
+
+-- it took none of them, and owes all that it holds up to the place
+pub fills_with_none : (before mid after : Stream) (call : FileCall) → MayKeep before call → (HasRoom before (payload call) → ⊥) → LivesOn before mid → Rose before.raw.waits mid.raw.waits → 0 < length mid.owed.bytes → 0 < length (payload call) → OwesHeld mid after → IsFull after.owed after.place (size_of after) → Answers before call (Refused (fault.WouldBlock 0)) (record after { short = true })
+fills_with_none before mid after call may roomless goes waited some gives fills full =
+    blocked_after_wait before mid after call 0 may roomless goes waited gives fills.over (filled_both before mid after (payload call) 0 (omega arith) goes fills.over (λ none. omega (arith, some, ap length none)) fills.some fills.leaves) full
 
 -- What stops the passing on before a call takes anything.
 

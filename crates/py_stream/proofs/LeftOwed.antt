@@ -5,7 +5,7 @@ use Rattle.std.proofs.lemmas.Bool.{cases_lt}
 use Rattle.std.proofs.lemmas.List.{append-nil, take_all, take_min, drop_all, drop-drop, drop-take}
 use Rattle.py_flat.specs.Bytes.{lay}
 use Rattle.py_flat.specs.Owed.{Owed}
-use Rattle.py_raw.specs.RawStream.{WhereTold}
+use Rattle.py_raw.specs.RawStream.{WhereTold, AnswersFor}
 use Rattle.py_stream.specs.Stream.{Stream}
 use Rattle.py_stream.specs.Writing.{OwesUpTo, OwesBehind, HasAt, first_of_both, end_of_both, CoversBoth, OwesTheRest, OwesBoth, Takes, OwesOld, LaysFront}
 use Rattle.py_stream.specs.Settling.{PassesSome}
@@ -194,7 +194,13 @@ module _ (old new : Stream) (passes : PassesSome old new) where
 
   -- a call that took nothing owes what is owed after a write of none
   pub left_both : (bytes : List ℕ) (short : Bool) → OwesBoth old bytes (record new { short = short })
-  left_both bytes short = record { taken = 0; within = omega arith; place = omega (arith, passes.still); owes = λ some. inl (left_rest short some) }
+  left_both bytes short = record {
+    taken = 0;
+    within = omega arith;
+    place = omega (arith, passes.still);
+    owes = λ some. inl (left_rest short some);
+    none = λ none. subst (λ (count : ℕ). AnswersFor count old.raw new.raw) (omega (arith, passes.within, ap length none, as_many)) passes.answered;
+  }
 
   -- a call that took nothing passed on a front of what was owed
   pub left_takes : (bytes : List ℕ) (short : Bool) → OwesUpTo old.owed old.place → Takes old bytes (record new { short = short })

@@ -134,12 +134,13 @@ owes_both before bytes after up_to takes =
           (λ (late : length old ≤ takes.passed).
           let here = in_taken old taken start before.place takes.passed after.owed.place after.owed.bytes up_to takes.owed (ends some) (counts_some after.owed.bytes some) late in
           let parts : takes.passed ≡ length old + (takes.passed - length old) = omega (arith, late) in
-          inr (record {
+          inr (inl (record {
             passed = takes.passed - length old;
             answered = subst (λ (count : ℕ). AnswersFor count before.raw after.raw) parts takes.answered;
             leaves = record { most = omega (arith, takes.most, as_many); bytes = here.0; at = here.1 };
-          }))
+          })))
           (cases_lt takes.passed (length old));
+      none = λ none. subst (λ (count : ℕ). AnswersFor count before.raw after.raw) (omega (arith, takes.most, ap length (sym none ∙ takes.owed), length-drop takes.passed (old ++ taken), length-append old taken, as_many)) takes.answered;
     }
 
 -- A write that passed on nothing.
@@ -208,4 +209,5 @@ owes_as_before before after bytes raw place same = record {
       covers = subst (CoversBoth before.owed before.place []) (sym same) (covers_old before.owed before.place was);
     };
   });
+  none = λ none. subst (λ (count : ℕ). AnswersFor count before.raw after.raw) (omega (arith, ap length (sym (ap (λ (owed : Owed). owed.bytes) same) ∙ none))) (subst (λ (now : Raw). AnswersFor 0 before.raw now) (sym raw) (λ _. refl));
 }

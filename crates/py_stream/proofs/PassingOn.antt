@@ -21,7 +21,7 @@ use Rattle.py_raw.proofs.ReadingOn.{no_fault_then, no_wait_then}
 use Rattle.py_raw.specs.RawStream.{WhereTold, KeepsBytes, LeavesCounts, AnswersFor, NoWait, WaitsOnce}
 use Rattle.py_stream.specs.Stream.{Stream, buffering_of, file_of}
 use Rattle.py_stream.specs.Keeping.{IsSound, KeepsOn}
-use Rattle.py_stream.specs.Writing.{OwesBehind, NoneAtPlace, PassesFront, LaysFront, Writes}
+use Rattle.py_stream.specs.Writing.{OwesBehind, NoneAtPlace, PassesFront, LaysFront, Writes, PassesOn}
 use Rattle.py_stream.specs.Answers.{moves_back, parts_at_close, Answers, KeepsStream, ClosedWith, InHand, IsShort, LifeMoves, PlaceMoves, IsReplyTo, IsCounted}
 use Rattle.py_stream.specs.Taking.{Took, FailsTaking}
 use Rattle.py_stream.specs.Settling.{PassesSome, PassesJust, LivesOn, FailsBack, SettleOutcome}
@@ -188,8 +188,8 @@ pub stays_open : (old : Stream) (left : Life) → old.life ≡ life.Live → is_
 stays_open old left live alive closed = closed ∙ ap is_closed live ∙ sym alive
 
 -- the raw would have blocked
-pub waiting_answers : (old new : Stream) (call : FileCall) (size : ℕ) → Accepts old call → old.buffer ≡ Some size → old.can.writable ≡ true → (InHand old call → ⊥) → LivesOn old (record new { short = old.short }) → new.short ≡ true → Rose old.raw.waits new.raw.waits → WaitsOnce old.raw new.raw → Answers old call (Refused (fault.WouldBlock 0)) new
-waiting_answers old new call size accepts buffered can apart goes short rose once =
+pub waiting_answers : (old new : Stream) (call : FileCall) (size : ℕ) → Accepts old call → old.buffer ≡ Some size → old.can.writable ≡ true → (InHand old call → ⊥) → PassesOn old call (Refused (fault.WouldBlock 0)) new → LivesOn old (record new { short = old.short }) → new.short ≡ true → Rose old.raw.waits new.raw.waits → WaitsOnce old.raw new.raw → Answers old call (Refused (fault.WouldBlock 0)) new
+waiting_answers old new call size accepts buffered can apart away goes short rose once =
     let asked : Asked old call = accepts.asked in
     let left : Stream = record new { short = old.short } in
     let passes : PassesSome old left = goes.passes in
@@ -199,7 +199,7 @@ waiting_answers old new call size accepts buffered can apart goes short rose onc
     let shorts : IsShort call reply new.short = subst (IsShort call reply) (sym short) (says_short call (fault.WouldBlock 0)) in
     let life_is : LifeMoves old.buffer call reply old.life new.life = subst (LifeMoves old.buffer call reply old.life) (sym same) (waits_alive old.buffer call old.life) in
     let place : PlaceMoves old.buffer call reply new.life old.place new.place = subst (PlaceMoves old.buffer call reply new.life old.place) (sym passes.still) (waits_there old.buffer call new.life old.place asked.none.writing) in
-    let writes : Writes old call reply new = passing_writes old call reply new asked.none (search (rules, passing_front, nothing_passed, waits_with_none)) in
+    let writes : Writes old call reply new = passing_writes old call reply new asked.none (search (rules, passing_front, waits_with_none)) in
     let answer : IsReplyTo old.buffer old.can.writable call reply = subst (λ (does : Bool). IsReplyTo old.buffer does call reply) (sym can) (subst (λ (buffer : Option ℕ). IsReplyTo buffer true call reply) (sym buffered) (waits_answer size call asked.none.reading asked.none.telling)) in
     let told : WhereTold old.raw (BinaryStep (file_of old) call reply new.short false (file_of new)) = λ tells. waited_for short (accepts.works tells, subst (λ (file : FlatFile). WaitedBy (file_of old) call reply file) (sym (passing_file old left passes same tells)) (asked.none.waits (file_of old))) in
     shows_answers old call reply new asked.none (search (rules, passing_keeps, stays_open, needs_no_end))
@@ -252,21 +252,21 @@ fault_fails old failed call asked beside leaves passes is cause no_wait =
     (failing_answers old failed call life.Failed asked beside leaves passes cause no_wait (λ _ _. refl))
 
 -- a wait refuses the call, of a stream with a buffer that writes
-pub waits_refuse : (old new : Stream) (call : FileCall) (size taken : ℕ) → Accepts old call → old.buffer ≡ Some size → old.can.writable ≡ true → (InHand old call → ⊥) → SettleOutcome old (Err (fault.WouldBlock taken)) new → Answers old call (Refused (fault.WouldBlock taken)) new
-waits_refuse old new call size taken accepts buffered can apart waits =
+pub waits_refuse : (old new : Stream) (call : FileCall) (size taken : ℕ) → Accepts old call → old.buffer ≡ Some size → old.can.writable ≡ true → (InHand old call → ⊥) → PassesOn old call (Refused (fault.WouldBlock 0)) new → SettleOutcome old (Err (fault.WouldBlock taken)) new → Answers old call (Refused (fault.WouldBlock taken)) new
+waits_refuse old new call size taken accepts buffered can apart away waits =
     subst (λ (count : ℕ). Answers old call (Refused (fault.WouldBlock count)) new) (sym waits.0)
-    (waiting_answers old new call size accepts buffered can apart waits.1 waits.2 waits.3 waits.4)
+    (waiting_answers old new call size accepts buffered can apart away waits.1 waits.2 waits.3 waits.4)
 
 -- running out of memory refuses a call that passes on, after a step of its stream
 pub lacks_refuse : (old new : Stream) (call : FileCall) → Asked old call → old.can.writable ≡ true → (InHand old call → ⊥) → SettleOutcome old (Err fault.NoMemory) new → Answers old call (Refused fault.NoMemory) new
 lacks_refuse old new call asked can apart lacks = lacking_answers old new call asked (beside_writing old call (Refused fault.NoMemory) new can apart) lacks.0 lacks.1 lacks.2
 
 -- whatever stops the passing on refuses the call
-pub settling_refuses : (old new : Stream) (call : FileCall) (size : ℕ) (why : IoFault) → Accepts old call → old.buffer ≡ Some size → old.can.writable ≡ true → (InHand old call → ⊥) → FaultLeaves call life.Failed → SettleOutcome old (Err why) new → Answers old call (Refused why) new
-settling_refuses old new call size (fault.WouldBlock taken) accepts buffered can apart leaves waits = waits_refuse old new call size taken accepts buffered can apart waits
-settling_refuses old new call size fault.RawFault accepts buffered can apart leaves fails = search (rules, fault_fails, beside_writing)
-settling_refuses old new call size fault.NoMemory accepts buffered can apart leaves lacks = lacks_refuse old new call accepts.asked can apart lacks
-settling_refuses old new call size why accepts buffered can apart leaves never = absurd never
+pub settling_refuses : (old new : Stream) (call : FileCall) (size : ℕ) (why : IoFault) → Accepts old call → old.buffer ≡ Some size → old.can.writable ≡ true → (InHand old call → ⊥) → PassesOn old call (Refused (fault.WouldBlock 0)) new → FaultLeaves call life.Failed → SettleOutcome old (Err why) new → Answers old call (Refused why) new
+settling_refuses old new call size (fault.WouldBlock taken) accepts buffered can apart away leaves waits = waits_refuse old new call size taken accepts buffered can apart away waits
+settling_refuses old new call size fault.RawFault accepts buffered can apart away leaves fails = search (rules, fault_fails, beside_writing)
+settling_refuses old new call size fault.NoMemory accepts buffered can apart away leaves lacks = lacks_refuse old new call accepts.asked can apart lacks
+settling_refuses old new call size why accepts buffered can apart away leaves never = absurd never
 
 -- What came before a passing on.
 

@@ -11,7 +11,7 @@ use Rattle.py_raw.specs.RawStream.{WhereTold}
 use Rattle.py_stream.specs.Stream.{Stream, size_of, buffering_of, file_of, nothing_owed}
 use Rattle.py_stream.specs.Kinds.{is_reading, reads_on, makes_one, has_room, asks_none, says_fault, says_no_memory, by_several}
 use Rattle.py_stream.specs.Writing.{Writes}
-use Rattle.py_stream.specs.Answers.{Answers, CameByReads, IsReplyTo, IsShort, LifeMoves, PlaceMoves, GivesWithin, WantsMemory, Starves, HasCauses, IsCounted, StarvesFirst, IsAhead, InHandOf, AsksNoMore, PassesFirst, refused_by}
+use Rattle.py_stream.specs.Answers.{Answers, CameByReads, IsReplyTo, IsShort, LifeMoves, PlaceMoves, GivesWithin, WantsMemory, Starves, HasCauses, IsCounted, StarvesFirst, IsAhead, InHandOf, InHand, StaysHeld, AsksNoMore, PassesFirst, refused_by}
 use Rattle.py_stream.specs.Reading.{KeepsReading, OneTransfer, Reaches}
 use Rattle.py_stream.proofs.Begun.{answers_whole}
 use Rattle.py_stream.proofs.Completing.{completes}
@@ -79,6 +79,7 @@ pub record Comes (before : Stream) (call : FileCall) (reply : FileReply) (short 
   pub one : IsTrue (makes_one before.buffer call) → OneTransfer before mid
   pub ready : IsSome before.buffer → InHandOf before call → says_fault reply ≡ false
   pub in_hand : IsSome before.buffer → InHandOf before call → mid.raw ≡ before.raw
+  pub holds : IsSome before.buffer → InHandOf before call → mid.held ≡ before.held
   pub brings : CameByReads 1 before mid
   pub needs : IsTrue (by_several before.buffer call) → AsksNoMore before call reply (record mid { short = short })
   pub answers : IsReplyTo before.buffer before.can.writable call reply
@@ -94,6 +95,7 @@ answers_coming before mid call reply short reads has begun comes =
     let after : Stream = record mid { short = short } in
     let kept : KeepsReading before mid = comes.kept in
     let goes_on : IsAhead after = record { none = ap (λ (owed : Owed). owed.bytes) kept.owed; stands = λ _. kept.ahead } in
-    let owing : mid.owed.bytes ≡ before.owed.bytes = ap (λ (owed : Owed). owed.bytes) kept.owed ∙ sym (ap (λ (owed : Owed). owed.bytes) begun.bare) in
+    let none : mid.owed.bytes ≡ before.owed.bytes = ap (λ (owed : Owed). owed.bytes) kept.owed ∙ sym (ap (λ (owed : Owed). owed.bytes) begun.bare) in
+    let owing : InHand before call → StaysHeld before after = λ has. record { owed = none; held = comes.holds has.buffered has.of } in
     let passes_first : PassesFirst before call reply after = λ _ _ _ _. goes_on.none in
     search (rules, passes_nothing, completes, near_seen, came_seen)

@@ -19,7 +19,7 @@ use Rattle.py_flat.specs.Calls.{FileCall, NotReady, Refused}
 use Rattle.py_stream.specs.Kinds.{by_several}
 use Rattle.py_stream.specs.Stream.{Stream, file_of}
 use Rattle.py_stream.specs.Answers.{Answers, EachBrings, ahead}
-use Rattle.py_stream.specs.Reading.{KeepsReading, Reaches, Gives, FailsReading, FailsMoved, StarvesReading, StopOutcome, RestOutcome, wanted_by, reply_by, has_answer, answered_at, GatherOutcome}
+use Rattle.py_stream.specs.Reading.{KeepsReading, Reaches, IsNeeded, Gives, FailsReading, FailsMoved, StarvesReading, StopOutcome, RestOutcome, wanted_by, reply_by, has_answer, answered_at, GatherOutcome}
 use Rattle.py_stream.specs.ReadingOn.{MayRead, StepsOn, StepsNone, StepFails, StarvesWith, StepOutcome, ReadsInto, FailsStarved, StarvesIn, ReadIntoOutcome, ReadsMore, ReadMoreOutcome}
 use Rattle.py_stream.proofs.Coming.{each_seen, each_then}
 use Rattle.py_stream.proofs.ReadingSteps.{more_taken, next_behind, within_end, next_reaches, same_bytes, gives_then, waits_once_then, still_tells, keeps_then, keeps_failed}
@@ -110,7 +110,17 @@ module _ (old : Stream) (was : Bool) (count : ℕ) (buffer : List ℕ) (moved : 
   reads_enough more left new steps all place last =
       let long : length (take count buffer ++ left) ≡ count + more = length-append (take count buffer) left ∙ omega (arith, came_length) in
       let whole : take (count + more) (take count buffer ++ left) ≡ take count buffer ++ left = take_all (count + more) (take count buffer ++ left) (omega (arith, long)) in
-      grind (arith, keeps_then, no_fault_then, behind_told, no_wait_then, each_then)
+      let part : List ℕ = take (count + more) (take count buffer ++ left) in
+      let gives : Gives old part new = grind (arith, keeps_then, no_fault_then, behind_told) in
+      let needed : IsNeeded old new = grind arith in
+      record {
+        fits = omega (arith, long);
+        full = λ _. sym long;
+        less = λ other. absurd (other refl);
+        idle = λ within. absurd (omega (arith, within, long, reads.all, steps.some));
+        to = steps.to;
+        stops = (gives, no_wait_then old.raw now.raw new.raw reads.kept.raw reads.counts.no_wait steps.counts.no_wait, each_then old now new 0 0 reads.kept.raw reads.each steps.each, needed);
+      }
 
   -- no more came: what came is given
   reads_given : (left : List ℕ) (new : Stream) (empties : ℕ) → StepsNone empties now new → Gives old (take count (take count buffer ++ left)) new

@@ -20,7 +20,7 @@ use Rattle.py_stream.specs.Stream.{Stream, file_of}
 use Rattle.py_stream.specs.Kinds.{has_room, takes_space_first, asks_none, by_several}
 use Rattle.py_stream.proofs.Coming.{each_more}
 use Rattle.py_stream.specs.Answers.{Answers, ahead}
-use Rattle.py_stream.specs.Reading.{ComesNext, Gives, StarvesReading, StopOutcome, RestOutcome, has_answer, answered_at, wanted_by, reply_by, GathersEnough, GathersFront, Gathers, IsOpen, ComesHeld, WantsHeld, StarvesWanting, GatherOutcome}
+use Rattle.py_stream.specs.Reading.{LeavesHeld, ComesNext, Gives, StarvesReading, StopOutcome, RestOutcome, has_answer, answered_at, wanted_by, reply_by, GathersEnough, GathersFront, Gathers, IsOpen, ComesHeld, WantsHeld, StarvesWanting, GatherOutcome}
 use Rattle.py_stream.proofs.ReadingCalls.{reading_on, on_suits, nothing_held, in_hand_held, wanted_within, is_several}
 use Rattle.py_stream.proofs.ReadingSteps.{next_parts}
 use Rattle.py_stream.proofs.ReadingAnswers.{Reads, ReadingBegins, answers_begun}
@@ -126,7 +126,7 @@ wants_past wanted before part asks long told held =
     omega (arith, asks (0 ∷ []) (λ none. cc), long, subst (λ (left : List ℕ). length (wanted left) ≤ count) whole (held (take count part) (drop count part ++ (0 ∷ [])) front))
 
 -- a reading that wasn't refused
-pub gathers_ok : (wanted : List ℕ → List ℕ) (before : Stream) (stop : Stop) (part : List ℕ) (after : Stream) → StopOutcome before part (Ok stop) after → Gathers wanted before part (Ok stop) → (WantsHeld wanted before → after.raw ≡ before.raw) → GatherOutcome wanted before (Ok stop) part after
+pub gathers_ok : (wanted : List ℕ → List ℕ) (before : Stream) (stop : Stop) (part : List ℕ) (after : Stream) → StopOutcome before part (Ok stop) after → Gathers wanted before part (Ok stop) → (WantsHeld wanted before → LeavesHeld before after) → GatherOutcome wanted before (Ok stop) part after
 gathers_ok wanted before stop part after stopped gathered idle = record { stops = stopped; gathers = gathered; starves = tt; idle = λ held. (idle held, λ fails. absurd (cc)); within = tt }
 
 -- Readings of all that is left.
@@ -195,11 +195,11 @@ past_held : (before : Stream) (call : FileCall) (size : ℕ) → WantsSize call 
 past_held before call size wants past held = omega (arith, past, size_held before call size wants held)
 
 -- no more is wanted than is held: the raw wasn't called
-idle_size : (before after : Stream) (call : FileCall) (size : ℕ) → WantsSize call size → (size ≤ ahead before → after.raw ≡ before.raw) → WantsHeld (wanted_by call) before → after.raw ≡ before.raw
+idle_size : (before after : Stream) (call : FileCall) (size : ℕ) → WantsSize call size → (size ≤ ahead before → LeavesHeld before after) → WantsHeld (wanted_by call) before → LeavesHeld before after
 idle_size before after call size wants idle held = idle (size_held before call size wants held)
 
 -- a reading of n bytes
-pub gathers_size : (before after : Stream) (call : FileCall) (size : ℕ) (part : List ℕ) (stop : Stop) → WantsSize call size → length part ≤ size → (stop ≡ stops.Enough → length part ≡ size) → (stop ≢ stops.Enough → length part < size) → StopOutcome before part (Ok stop) after → (size ≤ ahead before → after.raw ≡ before.raw) → GatherOutcome (wanted_by call) before (Ok stop) part after
+pub gathers_size : (before after : Stream) (call : FileCall) (size : ℕ) (part : List ℕ) (stop : Stop) → WantsSize call size → length part ≤ size → (stop ≡ stops.Enough → length part ≡ size) → (stop ≢ stops.Enough → length part < size) → StopOutcome before part (Ok stop) after → (size ≤ ahead before → LeavesHeld before after) → GatherOutcome (wanted_by call) before (Ok stop) part after
 gathers_size before after call size part stops.Enough wants fits full less outcome idle =
     gathers_ok (wanted_by call) before stops.Enough part after outcome (grind (arith, take_all)) (idle_size before after call size wants idle)
 gathers_size before after call size part stops.End wants fits full less outcome idle =

@@ -21,7 +21,7 @@ use Rattle.py_stream.specs.Stream.{Stream, buffering_of, file_of}
 use Rattle.py_stream.specs.Kinds.{is_reading, reads_on, goes_on, makes_one, has_room, takes_space_first, asks_none, by_several, says_fault, says_no_memory}
 use Rattle.py_stream.proofs.Coming.{came_more, each_seen, each_more}
 use Rattle.py_stream.specs.Answers.{Answers, CameByReads, EachBrings, IsShort, PlaceMoves, PlaceStarves, MovesForth, moves_most, GivesWithin, InHandOf, IsWhole, AsksNoMore, IsReplyTo, LifeMoves, HasCauses, IsCounted, WantsMemory, Starves, StarvesFirst}
-use Rattle.py_stream.specs.Reading.{KeepsReading, OneTransfer, IsNeeded, Gives, FailsReading, FailsMoved, wanted_by, reply_by, GathersEnough, GathersFront, IsOpen, WantsHeld, GatherOutcome, is_wait, answered_at}
+use Rattle.py_stream.specs.Reading.{KeepsReading, LeavesHeld, OneTransfer, IsNeeded, Gives, FailsReading, FailsMoved, wanted_by, reply_by, GathersEnough, GathersFront, IsOpen, WantsHeld, GatherOutcome, is_wait, answered_at}
 use Rattle.py_stream.proofs.ReadingCalls.{IsReadingCall, reading_call, starved_by_failing, reading_on, on_suits, nothing_held, in_hand_held, is_several}
 use Rattle.py_stream.proofs.ReadingSteps.{uncounted, file_after, file_fails, next_reaches}
 use Rattle.py_stream.proofs.ReadingAnswers.{accepted, works, Reads, answers_coming}
@@ -98,11 +98,12 @@ pub record AsksRaw (before : Stream) (call : FileCall) (mid : Stream) : Type 0 w
   pub nothing : IsTrue (asks_none before.buffer call) → mid.raw ≡ before.raw
   pub one : IsTrue (makes_one before.buffer call) → OneTransfer before mid
   pub in_hand : IsSome before.buffer → InHandOf before call → mid.raw ≡ before.raw
+  pub holds : IsSome before.buffer → InHandOf before call → mid.held ≡ before.held
   pub each : IsTrue (by_several before.buffer call) → EachBrings 1 1 before mid
   pub brings : CameByReads 1 before mid
 
 -- what a reading that goes on asked of its raw, which isn't called where no more is wanted than is held
-pub several_asks : (before mid : Stream) (call : FileCall) → by_several before.buffer call ≡ true → (WantsHeld (wanted_by call) before → mid.raw ≡ before.raw) → EachBrings 1 1 before mid → AsksRaw before call mid
+pub several_asks : (before mid : Stream) (call : FileCall) → by_several before.buffer call ≡ true → (WantsHeld (wanted_by call) before → LeavesHeld before mid) → EachBrings 1 1 before mid → AsksRaw before call mid
 several_asks before mid call several idle each = grind (arith, nothing_held, is_several, in_hand_held)
 
 -- Answers.
@@ -114,7 +115,7 @@ record Given (before : Stream) (call : FileCall) (part : List ℕ) (short : Bool
   no_wait : short ≡ false → NoWait before.raw mid.raw
   once : IsTrue short → WaitsOnce before.raw mid.raw
   some : IsTrue short → part ≢ []
-  idle : WantsHeld (wanted_by call) before → mid.raw ≡ before.raw
+  idle : WantsHeld (wanted_by call) before → LeavesHeld before mid
   needs : Needs (wanted_by call) before part mid
   alone : wanted_by call part ≡ part
   told : WhereTold before.raw (BinaryStep (file_of before) call (reply_by call part) short false (file_of mid))
@@ -191,7 +192,7 @@ pub unmoved : (before : Stream) (call : FileCall) → is_reading call ≡ true �
 unmoved before call reads has begun room = grind (arith, uncounted, keeps_same)
 
 -- a reading that memory ran out for once bytes had left the raw, some of them wanted
-pub answers_failing : (before after : Stream) (call : FileCall) → by_several before.buffer call ≡ true → Reads before → FailsMoved before after → ((bound : ℕ) → moves_most call ≡ Some bound → after.place ≤ before.place + bound) → (IsTrue (has_room call) → IsTrue before.raw.takes_memory) → (IsTrue (takes_space_first call) → IsTrue before.raw.takes_memory) → (WantsHeld (wanted_by call) before → after.raw ≡ before.raw) → WhereTold before.raw (wanted_by call (rest (file_of before)) ≢ []) → Answers before call (Refused fault.NoMemory) after
+pub answers_failing : (before after : Stream) (call : FileCall) → by_several before.buffer call ≡ true → Reads before → FailsMoved before after → ((bound : ℕ) → moves_most call ≡ Some bound → after.place ≤ before.place + bound) → (IsTrue (has_room call) → IsTrue before.raw.takes_memory) → (IsTrue (takes_space_first call) → IsTrue before.raw.takes_memory) → (WantsHeld (wanted_by call) before → LeavesHeld before after) → WhereTold before.raw (wanted_by call (rest (file_of before)) ≢ []) → Answers before call (Refused fault.NoMemory) after
 answers_failing before after call several begun fails within room space idle some =
     let on : reads_on call ≡ true = (is_several before.buffer call several).on in
     let reads : is_reading call ≡ true = reading_on call on in

@@ -30,9 +30,9 @@ nothing_laid : (before : Stream) (call : FileCall) → LaysInOrder before call b
 nothing_laid before (Truncate size) = record { between = before.raw.bytes; lays = record { passed = 0; more = 0; order = λ some. absurd (some refl); laid = refl }; cuts = inl refl }
 nothing_laid before call = record { passed = 0; more = 0; order = λ some. absurd (some refl); laid = refl }
 
--- a refused call need not have passed anything on
-pub nothing_passed : (before after : Stream) (call : FileCall) (why : IoFault) → PassesOn before call (Refused why) after
-nothing_passed before after call why = grind arith
+-- a call that was refused need not have passed anything on, unless a wait stopped it
+pub nothing_passed : (before after : Stream) (call : FileCall) (why : IoFault) → says_would_block (Refused why) ≡ false → PassesOn before call (Refused why) after
+nothing_passed before after call why other = grind arith
 
 -- no wait fills the buffer
 pub nothing_blocked : (after : Stream) (call : FileCall) (why : IoFault) → says_would_block (Refused why) ≡ false → BlocksFull call (Refused why) after

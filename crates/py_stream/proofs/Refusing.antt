@@ -96,7 +96,7 @@ refused_with before after call why is refuses alone own first same =
       single = λ _ _ tells. omega arith;
       passes_first = λ _ _ _ given. absurd (ungiven given);
       in_hand = λ _. record { raw = refl; fault = idle.fault };
-      owing = λ _. refl;
+      owing = λ _. record { owed = refl; held = refl };
       brings = λ _ _. came_still before left 1 refl refl;
       unread = λ _ tells. refl;
       needs = λ _ _. record { enough = λ _ _ _. record { raw = refl; fault = idle.fault }; whole = λ _. each_still before left 0 0 refl refl; needed = λ _. inl refl; last = each_still before left 1 1 refl refl };

@@ -1,10 +1,9 @@
 -- Moving a stream, whatever is below it: where a seek goes, what refuses it, and what an answer of it comes to.
-use Rattle.std.proofs.Common.{◌≡◌, ℕ, ◌≤◌, suc, zero, ◌⊎◌, inl, ℤ, pos, Bool, true, false, IsTrue, length, Option, Some, None, Result, Ok, Err, arith, rules}
+use Rattle.std.proofs.Common.{◌≡◌, ℕ, suc, zero, ◌⊎◌, inl, ℤ, pos, Bool, true, false, IsTrue, Option, Some, None, Result, Ok, Err, arith, rules}
 use Rattle.py_flat.specs.declared.fault.IoFault.{IoFault}
 use Rattle.py_flat.specs.declared.fault.IoFault.TheVariants as fault
 use Rattle.py_flat.specs.declared.life.Life.{Life}
 use Rattle.py_flat.specs.declared.life.Life.TheVariants as life
-use Rattle.py_flat.specs.Limits.{greatest_place}
 use Rattle.py_flat.specs.Calls.{Seek, Place, Refused}
 use Rattle.py_flat.specs.Refusals.{seek_base, seek_refusal, target_refusal, refusal}
 use Rattle.py_flat.specs.ExactStep.{seek_target}
@@ -14,7 +13,7 @@ use Rattle.py_stream.specs.Stream.{Stream, file_of}
 use Rattle.py_stream.specs.Keeping.{IsSound}
 use Rattle.py_stream.specs.Moving.{MovedBy}
 use Rattle.py_stream.specs.Kinds.{says_fault, says_no_memory}
-use Rattle.py_stream.specs.Writing.{OwesWithin, PassesOn, BlocksFull}
+use Rattle.py_stream.specs.Writing.{PassesOn, BlocksFull, IsEndOf}
 use Rattle.py_stream.specs.Answers.{Leaves, IsShort, LifeMoves, SeekGoes, PlaceMoves, refused_by, SeeksTo, SeeksFromEnd, SeeksByEnd, IsReplyTo, Answers}
 use Rattle.py_stream.proofs.Refused.{is_own}
 use Rattle.py_stream.proofs.Refusing.{refused_with}
@@ -75,17 +74,11 @@ end_reaches before offset may = grind arith
 
 -- Where a seek goes.
 
--- the raw was asked where it ends, and told its bytes this is the end of the flat file
-pub record AnswersEnd (before : Stream) (end : ℕ) : Type 0 where
-  pub within : end ≤ greatest_place
-  pub owed : OwesWithin before.owed end
-  pub told : WhereBytes before.raw (end ≡ length (file_of before).bytes)
-
 -- how the target is found, from the start, from the place or from the end; no other whence is known
 abbrev pub TargetOf : Stream → ℤ → ℤ → Result ℕ IoFault → Type 0
 TargetOf before offset (pos zero) result = MovedBy 0 offset result
 TargetOf before offset (pos (suc zero)) result = MovedBy before.place offset result
-TargetOf before offset (pos (suc (suc zero))) result = (end : ℕ) × AnswersEnd before end × MovedBy end offset result
+TargetOf before offset (pos (suc (suc zero))) result = (end : ℕ) × IsEndOf before end × MovedBy end offset result
 TargetOf before offset whence result = result ≡ Err fault.BadWhence
 
 -- an accepted seek, and where it goes

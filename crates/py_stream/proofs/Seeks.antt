@@ -57,7 +57,7 @@ owing_none old found offset whence target seek keeps = subst (λ (kept : Bool). 
 
 -- a seek that passing all on refused answers that refusal
 pub seeking_stops : (keeps : Bool) (old found new : Stream) (offset whence : ℤ) (target : ℕ) (why : IoFault) → keeps_pending found ≡ keeps → SeekGoesOn old offset whence target found → SettlesBy keeps found (Err why) new → Answers old (Seek offset whence) (Refused why) new
-seeking_stops true old found new offset whence target why keeps goes stops = seek_stops old found new offset whence target why (writing old found offset whence target goes.seek goes.beyond keeps) goes.seek.finds stops
+seeking_stops true old found new offset whence target why keeps goes stops = seek_stops old found new offset whence target why (writing old found offset whence target goes.seek goes.beyond keeps) goes.seek.finds goes.beyond stops
 seeking_stops false old found new offset whence target why keeps goes stops = let never : Err why ≡ Ok tt = stops.0 in absurd (cc)
 
 -- a seek whose moving failed answers that failure

@@ -1,5 +1,5 @@
 -- A call that gives or takes bytes, before which all that was owed was passed on: its answer is one of the stream as it was before.
-use Rattle.std.proofs.Common.{◌≡◌, ◌≢◌, ℕ, ◌+◌, ◌≤◌, inl, inr, max, Bool, true, false, ◌||◌, IsTrue, List, [], ◌++◌, length, take, drop, Option, Some, None, IsSome, Ok, sym, ap, ◌∙◌, subst, arith, length-drop, rules}
+use Rattle.std.proofs.Common.{◌≡◌, ◌≢◌, ℕ, ◌+◌, ◌-◌, ◌≤◌, inl, inr, max, Bool, true, false, ◌||◌, IsTrue, List, [], ◌++◌, length, take, drop, Option, Some, None, IsSome, Ok, sym, ap, ◌∙◌, subst, arith, length-drop, rules}
 use Rattle.std.proofs.Math.Seq.{take-nil, drop-nil, drop-append-add}
 use Rattle.std.proofs.lemmas.List.{take_all, drop_all, length-take-le}
 use Rattle.py_flat.specs.declared.fault.IoFault.{IoFault}
@@ -271,7 +271,24 @@ begins_before owed place some (inr ends) = ends
 
 -- what is owed after it is what it took and didn't pass on
 writing_owes : (before mid after : Stream) (bytes : List ℕ) → PassesSome before mid → mid.owed.bytes ≡ [] → Takes (settled_as before mid) bytes after → OwesBoth before bytes after
-writing_owes before mid after bytes passes none takes = grind (arith, writing_answers, length-take-le, length-drop, begins_before)
+writing_owes before mid after bytes passes none takes =
+    let new : List ℕ = take takes.taken bytes in
+    let as_many : length new ≡ takes.taken = length-take-le takes.taken bytes takes.within in
+    let owed : after.owed.bytes ≡ drop takes.passed new = takes.owed ∙ ap (λ (owed : List ℕ). drop takes.passed (owed ++ new)) none in
+    let many : length after.owed.bytes ≡ takes.taken - takes.passed = ap length owed ∙ length-drop takes.passed new ∙ ap (λ (n : ℕ). n - takes.passed) as_many in
+    let most : takes.passed ≤ takes.taken = omega (arith, takes.most, ap length none) in
+    let answered = writing_answers before mid after takes.passed passes none takes.answered in
+    record {
+      taken = takes.taken;
+      within = takes.within;
+      place = takes.place;
+      owes = λ some. inr (inl (record {
+        passed = takes.passed;
+        answered = answered;
+        leaves = record { most = omega (arith, most, as_many); bytes = owed; at = omega (arith, begins_before after.owed after.place some takes.up_to, takes.place, many, most) };
+      }));
+      none = λ nothing. subst (λ (count : ℕ). AnswersFor (length before.owed.bytes + count) before.raw after.raw) (omega (arith, most, many, ap length nothing)) answered;
+    }
 
 -- the raw has all that was owed, and then what it was given of a call's own bytes
 writing_lays : (before mid after : Stream) (own : List ℕ) → PassesSome before mid → mid.owed.bytes ≡ [] → WhereTold mid.raw (LaysFront (settled_as before mid) own after.raw.bytes) → WhereTold before.raw (LaysFront before own after.raw.bytes)

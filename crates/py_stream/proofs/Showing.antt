@@ -11,7 +11,7 @@ use Rattle.py_raw.specs.RawStream.{WhereTold, KeepsReads}
 use Rattle.py_stream.specs.Stream.{Stream, file_of, nothing_owed}
 use Rattle.py_stream.specs.Kinds.{is_reading, is_writing, calls_none, makes_one, says_fault, says_no_memory}
 use Rattle.py_stream.specs.Writing.{OwesBehind, NoneAtPlace, PassesFront, LaysFront, LaysInOrder, PassesOn, BlocksFull, Writes}
-use Rattle.py_stream.specs.Answers.{Answers, KeepsStream, Leaves, ClosedWith, parts_at_close, closes_again, IsReplyTo, HasCauses, IsCounted, InHand, AsksNothing, IsIdle, IsShort, LifeMoves, PlaceMoves, refused_by, SeeksByEnd, SeekStands, SparesBytes, IsNear}
+use Rattle.py_stream.specs.Answers.{Answers, KeepsStream, Leaves, ClosedWith, parts_at_close, closes_again, IsReplyTo, HasCauses, IsCounted, InHand, StaysHeld, AsksNothing, IsIdle, IsShort, LifeMoves, PlaceMoves, refused_by, SeeksByEnd, SeekStands, SparesBytes, IsNear}
 use Rattle.py_stream.specs.Keeping.{IsSound}
 use Rattle.py_stream.proofs.Completing.{completes}
 use Rattle.py_stream.proofs.Stopping.{gives_none}
@@ -56,7 +56,7 @@ pub record Shows (before : Stream) (call : FileCall) (reply : FileReply) (after 
   pub idle : IsTrue (calls_none before.buffer before.can.writable call) → IsIdle before reply after
   pub reads : KeepsReads before.raw after.raw
   pub in_hand : InHand before call → AsksNothing before reply after
-  pub owing : InHand before call → after.owed.bytes ≡ before.owed.bytes
+  pub owing : InHand before call → StaysHeld before after
   pub spares : before.can.writable ≡ false → before.owed ≡ nothing_owed before.place → SparesBytes before call after
   pub writes : before.can.writable ≡ true → Writes before call reply after
   pub at_once : before.life ≡ life.Failed → call ≡ Detach → (bytes : List ℕ) × (place : Option ℕ) × (reply ≡ Unwritten bytes place)
@@ -110,7 +110,7 @@ pub record Accepts (old : Stream) (call : FileCall) : Type 0 where
 -- what an answer says of a stream that reads, or that doesn't write
 pub record Beside (old : Stream) (call : FileCall) (reply : FileReply) (new : Stream) : Type 0 where
   pub in_hand : InHand old call → AsksNothing old reply new
-  pub owing : InHand old call → new.owed.bytes ≡ old.owed.bytes
+  pub owing : InHand old call → StaysHeld old new
   pub spares : old.can.writable ≡ false → old.owed ≡ nothing_owed old.place → SparesBytes old call new
 
 -- an answer has nothing more to say of a stream that writes, where the bytes held don't answer the call

@@ -67,7 +67,7 @@ flushed old new is passed rests =
 
 flush_ends : (old new : Stream) (result : Result (Unit {0}) IoFault) → IsWriting old → SettleOutcome old result new → IfOk result (λ done. RestsHere new) → Answers old Flush (done_reply result) new
 flush_ends old new (Ok done) is passed rests = flushed old new is passed rests
-flush_ends old new (Err why) is stops none = settling_refuses old new Flush is.size why (flush_asked old is) is.buffered is.writes (λ has. has.of) fault_fails_flush stops
+flush_ends old new (Err why) is stops none = settling_refuses old new Flush is.size why (flush_asked old is) is.buffered is.writes (λ has. has.of) tt fault_fails_flush stops
 
 -- a `flush` is answered by the passing on of all, after which the raw stands at the place, and nothing is held
 pub flush_passes_on : (old started new : Stream) (result : Result (Unit {0}) IoFault) → IsWriting (begun old) → Begins old (Ok tt) started → SettleOutcome started result new → IfOk result (λ done. RestsHere new) → Answers old Flush (done_reply result) new
@@ -86,7 +86,7 @@ parts_there old failed passes back none = grind (arith, eqb_tells, ne_eqb, none_
 
 -- what stops the passing on refuses a `close`
 closing_refuses : (old new : Stream) (why : IoFault) → IsWriting old → ClosingOutcome old (Err why) new → Answers old Close (Refused why) new
-closing_refuses old new (fault.WouldBlock taken) is waits = waits_refuse old new Close is.size taken (close_asked old is.sound is.live is.whole) is.buffered is.writes (λ has. has.of) waits
+closing_refuses old new (fault.WouldBlock taken) is waits = waits_refuse old new Close is.size taken (close_asked old is.sound is.live is.whole) is.buffered is.writes (λ has. has.of) tt waits
 closing_refuses old new fault.RawFault is fails =
     subst (λ (after : Stream). Answers old Close (Refused fault.RawFault) after) (sym fails.2)
     (failing_answers old fails.0 Close life.Closed (close_asked old is.sound is.live is.whole).asked (beside_writing old Close (Refused fault.RawFault) (record fails.0 { life = life.Closed }) is.writes (λ has. has.of)) fault_closes fails.1.0 fails.1.2 fails.1.3 (λ parts none. absurd (cc (parts, parts_there old fails.0 fails.1.0 (fails.1.4 none) none))))

@@ -17,7 +17,7 @@ use Rattle.py_raw.specs.RawStream.{WhereTold, WaitsOnce, LeavesCounts}
 use Rattle.py_stream.specs.Stream.{Stream, size_of, buffering_of, file_of}
 use Rattle.py_stream.specs.Kinds.{is_reading, is_single, goes_on, asks_none, by_several}
 use Rattle.py_stream.specs.Answers.{Answers, IsReplyTo, IsShort, LifeMoves, PlaceMoves, GivesWithin, InHandOf, ahead, IsCounted, AsksNoMore}
-use Rattle.py_stream.specs.Reading.{KeepsReading, OneTransfer, Gives, FailsReading, Reaches}
+use Rattle.py_stream.specs.Reading.{KeepsReading, LeavesHeld, OneTransfer, Gives, FailsReading, Reaches}
 use Rattle.py_stream.proofs.ReadingSteps.{file_after}
 use Rattle.py_stream.proofs.ReadingAnswers.{accepted, Reads, answers_coming}
 use Rattle.py_stream.proofs.ReadingStops.{answers_faulted}
@@ -87,7 +87,7 @@ pub record GivesOnce (before : Stream) (call : FileCall) (part : List ℕ) (afte
   pub counts : LeavesCounts before.raw after.raw
   pub sized : (size : ℕ) → before.buffer ≡ Some size → 0 < size
   pub idle : IsTrue (asks_none before.buffer call) → after.raw ≡ before.raw
-  pub still : IsSome before.buffer → 0 < ahead before → after.raw ≡ before.raw
+  pub still : IsSome before.buffer → 0 < ahead before → LeavesHeld before after
   pub live : after.life ≡ life.Live
   pub place : after.place ≡ before.place + moves_by call (length part)
   pub most : length part ≤ asks_for (size_of before) call
@@ -109,7 +109,8 @@ answers_once before mid call part once begun gives =
     let counted : IsTrue before.raw.counts_exactly → IsCounted before.buffer before.raw call (Bytes part) mid.raw false = λ exact. record { faults = λ sound. gives.counts.no_fault exact; waits = λ whole writes. gives.counts.no_wait exact; once = λ short. absurd (cc) } in
     let life_is = is.lives part before.life mid.life same in
     let place = is.moves part mid.life before.place mid.place gives.place in
-    let in_hand : IsSome before.buffer → InHandOf before call → mid.raw ≡ before.raw = λ buffered in_hand. gives.still buffered (is.ahead_is before buffered in_hand) in
+    let in_hand : IsSome before.buffer → InHandOf before call → mid.raw ≡ before.raw = λ buffered in_hand. (gives.still buffered (is.ahead_is before buffered in_hand)).raw in
+    let holds : IsSome before.buffer → InHandOf before call → mid.held ≡ before.held = λ buffered in_hand. (gives.still buffered (is.ahead_is before buffered in_hand)).held in
     let brings = gives.one.came in
     let needs : IsTrue (by_several before.buffer call) → AsksNoMore before call (Bytes part) (record mid { short = false }) = λ several. absurd (let never = is.stops in cc) in
     let told : WhereTold before.raw (BinaryStep file call (Bytes part) false false (file_of mid)) = λ tells. settled (subst (λ (refused : Option IoFault). SettledBy file call refused (Bytes part) (file_of mid)) (sym (accepted before call is.reads has begun.live))

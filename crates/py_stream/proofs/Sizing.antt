@@ -7,7 +7,7 @@ use Rattle.py_flat.specs.Bytes.{lay, resized}
 use Rattle.py_flat.specs.Limits.{greatest_place}
 use Rattle.py_flat.specs.Owed.{Owed}
 use Rattle.py_flat.specs.Calls.{FileCall, Truncate, Place, Refused}
-use Rattle.py_flat.specs.FlatFile.{FlatFile}
+use Rattle.py_flat.specs.FlatFile.{Abilities, FlatFile}
 use Rattle.py_flat.specs.Refusals.{refusal, lacks}
 use Rattle.py_flat.specs.ExactStep.{is_closed, truncated}
 use Rattle.py_flat.specs.AllowedStep.{raw_faulted}
@@ -15,9 +15,9 @@ use Rattle.py_flat.specs.BinaryStep.{SettledBy, Fails, FaultedBy}
 use Rattle.py_raw.specs.RawStream.{WhereTold, NoWait}
 use Rattle.py_raw.proofs.Telling.{keeps_same, tells_its_bytes}
 use Rattle.py_raw.proofs.ReadingOn.{no_fault_then, no_wait_then}
-use Rattle.py_stream.specs.Stream.{Stream, buffering_of, file_of, nothing_owed}
+use Rattle.py_stream.specs.Stream.{Stream, buffering_of, file_of, nothing_owed, nothing_held}
 use Rattle.py_stream.specs.LiveRaw.{is_truncatable}
-use Rattle.py_stream.specs.Writing.{size_asked, NoneAtPlace, PassesFront, LaysThenCuts, Writes}
+use Rattle.py_stream.specs.Writing.{size_asked, NoneAtPlace, PassesFront, LaysThenCuts, StandsBare, Writes}
 use Rattle.py_stream.specs.Answers.{Answers}
 use Rattle.py_stream.specs.Keeping.{IsSound, KeepsOn}
 use Rattle.py_stream.specs.Settling.{LivesOn, SettleOutcome}
@@ -80,6 +80,10 @@ pub record Started (old started : Stream) (size : Option ℕ) (count : ℕ) : Ty
   pub can : is_truncatable started.can ≡ true
   pub asks : count ≡ size_asked started size
 
+-- what may be truncated writes
+truncatable_writes : (can : Abilities) → is_truncatable can ≡ true → can.writable ≡ true
+truncatable_writes can may = grind arith
+
 may_truncate : (old started : Stream) (size : Option ℕ) (count : ℕ) → Started old started size count → MayTruncate (begun old)
 may_truncate old started size count is = grind arith
 
@@ -102,7 +106,7 @@ fault_fails_truncate (Some size) = record { dead = refl; life_is = λ buffer cur
 
 settling_stops : (old new : Stream) (size : Option ℕ) (buffer : Option ℕ) (why : IoFault) → MayTruncate old → IsWithin old size → old.buffer ≡ buffer → IsSome buffer → SettleOutcome old (Err why) new → Answers old (Truncate size) (Refused why) new
 settling_stops old new size None why may within is buffered stops = absurd (let wrong : false ≡ true = buffered in cc)
-settling_stops old new size (Some room) why may within is buffered stops = settling_refuses old new (Truncate size) room why (truncating old size may within) is may.writes (λ has. has.of) (fault_fails_truncate size) stops
+settling_stops old new size (Some room) why may within is buffered stops = settling_refuses old new (Truncate size) room why (truncating old size may within) is may.writes (λ has. has.of) tt (fault_fails_truncate size) stops
 
 -- a stream that may keep bytes has a buffer, and another owes nothing
 has_buffer : (old started : Stream) (size : Option ℕ) (count : ℕ) → keeps_pending started ≡ true → Started old started size count → IsSome old.buffer
@@ -157,16 +161,24 @@ module _ (old mid new : Stream) (asks : Asks old mid new) where
   flat_now : flat_of new ≡ new.raw.bytes
   flat_now = ap (lay new.raw.bytes new.owed.place) none
 
+-- a stream that holds nothing, with its raw at the place, stands so once the bytes have the size
+still_bare : (mid new : Stream) → KeepsPlace mid new → StandsBare mid → StandsBare new
+still_bare mid new keeps bare = record {
+  none = ap (λ (owed : Owed). owed.bytes) keeps.owed ∙ bare.none;
+  held = keeps.held ∙ bare.held ∙ ap nothing_held (sym keeps.place);
+  stands = keeps.raw_place ∙ bare.stands ∙ sym keeps.place;
+}
+
 -- what a truncation does with what is owed
-truncation_writes : (old mid new : Stream) (size : Option ℕ) → Asks old mid new → new.life ≡ life.Live → WhereTold old.raw (new.raw.bytes ≡ resized (flat_of old) (size_asked old size)) → Writes old (Truncate size) (Place (size_asked old size)) new
-truncation_writes old mid new size asks lives bytes = record {
+truncation_writes : (old mid new : Stream) (size : Option ℕ) → Asks old mid new → StandsBare mid → new.life ≡ life.Live → WhereTold old.raw (new.raw.bytes ≡ resized (flat_of old) (size_asked old size)) → Writes old (Truncate size) (Place (size_asked old size)) new
+truncation_writes old mid new size asks bare lives bytes = record {
   owes = λ writing. absurd (cc);
   takes = λ writing. absurd (cc);
   room = λ writing. absurd (cc);
   leaves = λ _. leaves_front old mid new asks;
   stands = λ _ _ some. absurd (some (none old mid new asks));
   lays = λ tells. record { between = mid.raw.bytes; lays = asks.settled_by.0.passes.lays tells; cuts = inr (bytes tells ∙ sym (ap (λ (all : List ℕ). resized all (size_asked old size)) (passed_all old mid asks.settled_by.0.passes asks.settled_by.2 tells))) };
-  passes = record { none = none old mid new asks; holds = bytes };
+  passes = record { bare = still_bare mid new asks.keeps bare; holds = bytes };
   full = tt;
   starves = λ wanting. absurd (cc);
   straight = tt;
@@ -189,8 +201,8 @@ carries_out : (old new : Stream) (size : Option ℕ) → file_of new ≡ record 
 carries_out old new size file = ap (λ (after : FlatFile). (Place (size_asked old size), after)) (file ∙ ap (λ (bytes : List ℕ). record (file_of old) { bytes = bytes }) (truncated_is_resized old.buffer (flat_of old) (size_asked old size)))
 
 -- a stream whose bytes were given the size
-gives_size : (old mid new : Stream) (size : Option ℕ) → IsWithin old size → Asks old mid new → Resizes mid (size_asked old size) new → Answers old (Truncate size) (Place (size_asked old size)) new
-gives_size old mid new size within asks resizes =
+gives_size : (old mid new : Stream) (size : Option ℕ) → IsWithin old size → Asks old mid new → StandsBare mid → Resizes mid (size_asked old size) new → Answers old (Truncate size) (Place (size_asked old size)) new
+gives_size old mid new size within asks bare resizes =
     let call : FileCall = Truncate size in
     let may : MayTruncate old = asks.may in
     let asked : Asked old call = (truncating old size may within).asked in
@@ -287,11 +299,11 @@ truncation_fails old started mid new size count why is within settles fails =
     (settled_first (keeps_pending started) old started mid size count refl is settles) (subst (λ (n : ℕ). ResizeOutcome mid n (Err why) new) asked fails))
 
 -- a truncation that came about
-pub truncation_answers : (old started mid new : Stream) (size : Option ℕ) (count : ℕ) → Started old started size count → count ≤ greatest_place → SettlesBy (keeps_pending started) started (Ok tt) mid → Resizes mid count new → Answers old (Truncate size) (Place count) new
-truncation_answers old started mid new size count is within settles resizes =
+pub truncation_answers : (old started mid new : Stream) (size : Option ℕ) (count : ℕ) → Started old started size count → count ≤ greatest_place → SettlesBy (keeps_pending started) started (Ok tt) mid → (started.can.writable ≡ true → StandsBare mid) → Resizes mid count new → Answers old (Truncate size) (Place count) new
+truncation_answers old started mid new size count is within settles bare resizes =
     let asked : count ≡ size_asked old size = asked_size old started size count is in
     let given : Resizes mid (size_asked old size) new = subst (λ (n : ℕ). Resizes mid n new) asked resizes in
     subst (λ (n : ℕ). Answers old (Truncate size) (Place n) new) (sym asked)
     (answers_whole old new (Truncate size) (Place (size_asked old size))
     (gives_size (begun old) mid new size (subst (λ (n : ℕ). n ≤ greatest_place) asked within)
-    (record { may = may_truncate old started size count is; settled_by = settled_first (keeps_pending started) old started mid size count refl is settles; keeps = given.keeps }) given))
+    (record { may = may_truncate old started size count is; settled_by = settled_first (keeps_pending started) old started mid size count refl is settles; keeps = given.keeps }) (bare (truncatable_writes started.can is.can)) given))

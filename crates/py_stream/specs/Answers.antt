@@ -12,10 +12,10 @@ use Rattle.py_flat.specs.Calls.{FileCall, Read, Read1, ReadLine, ReadLines, Peek
 use Rattle.py_flat.specs.Refusals.{is_getter, is_other_getter, lets_through, lacks, refusal, moved_by, target_refusal}
 use Rattle.py_flat.specs.ExactStep.{rest, is_closed}
 use Rattle.py_flat.specs.BinaryStep.{asks_end, BinaryStep}
-use Rattle.py_raw.specs.RawStream.{Raw, tells, Keeps, WhereTold, WhereBytes, WherePlace, WhereTransfers, KeepsBytes, AnswersFor, KeepsReads, ReadsInAll}
-use Rattle.py_stream.specs.Stream.{Span, Stream, size_of, buffering_of, file_of, nothing_owed, nothing_held}
+use Rattle.py_raw.specs.RawStream.{Raw, tells, Keeps, WhereTold, WherePlace, WhereTransfers, KeepsBytes, AnswersFor, KeepsReads, ReadsInAll}
+use Rattle.py_stream.specs.Stream.{Span, Stream, size_of, buffering_of, file_of, nothing_owed}
 use Rattle.py_stream.specs.Kinds.{profile, is_reading, is_single, asks_nothing, moves_raw, reads_on, by_several, has_room, takes_space_first, calls_none, says_wait, says_fault, says_no_memory, says_given}
-use Rattle.py_stream.specs.Writing.{OwesWithin, GoesAway, Writes}
+use Rattle.py_stream.specs.Writing.{IsEndOf, GoesAway, StandsBare, Writes}
 
 -- What every call keeps.
 
@@ -219,13 +219,10 @@ SeeksTo before (Some target) None reply after = reply ≡ Place target
 SeeksTo before target (Some why) reply after = Leaves before (Refused why) reply (record after { raw = before.raw })
 SeeksTo before None None reply after = ⊥
 
--- a seek from the end goes from some end that the raw answered, or that of what is owed, where this is later; told its bytes, from the end
--- of the flat file
+-- a seek from the end goes from some end
 pub record SeeksFromEnd (before : Stream) (offset : ℤ) (reply : FileReply) (after : Stream) : Type 0 where
   pub end : ℕ
-  pub within : end ≤ greatest_place
-  pub owed : OwesWithin before.owed end
-  pub told : WhereBytes before.raw (end ≡ length (file_of before).bytes)
+  pub is : IsEndOf before end
   pub target : SeeksTo before (moved_by end offset) (target_refusal (moved_by end offset)) reply after
 
 -- a fact, of every reply but those that say that asking the raw failed
@@ -262,12 +259,6 @@ pub record StaysAmong (before after : Stream) : Type 0 where
   pub raw_place : after.raw_place ≡ before.raw_place
   pub raw_bytes : KeepsBytes before.raw after.raw
   pub answered : AnswersFor 0 before.raw after.raw
-
--- nothing is owed, and nothing is held; the raw stands at the place, so that a reading goes on from there
-pub record StandsBare (stream : Stream) : Type 0 where
-  pub none : stream.owed.bytes ≡ []
-  pub held : stream.held ≡ nothing_held stream.place
-  pub stands : stream.raw_place ≡ stream.place
 
 -- a seek went to a place, wherever it counted from: among the bytes held it passes nothing on; one that leaves them leaves nothing owed or
 -- held
@@ -365,6 +356,11 @@ pub record InHand (stream : Stream) (call : FileCall) : Type 0 where
   pub buffered : IsSome stream.buffer
   pub of : InHandOf stream call
 
+-- nothing was passed on, and the same bytes are held
+pub record StaysHeld (before after : Stream) : Type 0 where
+  pub owed : after.owed.bytes ≡ before.owed.bytes
+  pub held : after.held ≡ before.held
+
 -- an answer is all that is asked for, whatever comes after it: as many bytes, a line with its end or of the greatest length, lines
 -- that are above the hint
 abbrev pub IsWhole : FileCall → FileReply → Type 0
@@ -405,14 +401,15 @@ pub record AsksNoMore (before : Stream) (call : FileCall) (reply : FileReply) (a
 -- The raw's place and bytes, where the raw tells them.
 
 -- a live stream's place and its raw's differ by at most the size of the buffer, which the bytes held fit; the place is among these, or
--- right after them, and so is all that is owed; of a stream that doesn't write they end where its raw stands; the raw stands where the
--- stream counts
+-- right after them, and so is all that is owed, before which the raw doesn't stand; of a stream that doesn't write they end where its raw
+-- stands; the raw stands where the stream counts
 pub record IsNear (stream : Stream) : Type 0 where
   pub after_first : stream.held.from ≤ stream.place
   pub before_end : stream.place ≤ stream.held.to
   pub fits : stream.held.to ≤ stream.held.from + size_of stream
   pub owed_after_first : stream.held.from ≤ stream.owed.place
   pub owed_before_end : stream.owed.place + length stream.owed.bytes ≤ stream.held.to
+  pub owed_before_raw : stream.owed.bytes ≢ [] → stream.owed.place ≤ stream.raw_place
   pub read_ahead : stream.can.writable ≡ false → stream.held.to ≡ stream.raw_place
   pub ahead : stream.raw_place ≤ stream.place + size_of stream
   pub behind : stream.place ≤ stream.raw_place + size_of stream
@@ -473,8 +470,8 @@ pub record AnswersWith (room : FileCall → Bool) (before : Stream) (call : File
   pub unread : is_reading call ≡ false → KeepsReads before.raw after.raw
   -- what the bytes held answer by themselves asks the raw for nothing
   pub in_hand : InHand before call → AsksNothing before reply after
-  -- and passes nothing on
-  pub owing : InHand before call → after.owed.bytes ≡ before.owed.bytes
+  -- and passes nothing on, nor lets go of a byte that is held
+  pub owing : InHand before call → StaysHeld before after
   -- a reading that goes on from the bytes held asks for no more than it answers with
   pub needs : IsTrue (by_several before.buffer call) → IsAhead before → AsksNoMore before call reply after
   -- a stream that doesn't write leaves the raw's bytes, and owes nothing; only its readings and seeks move the raw

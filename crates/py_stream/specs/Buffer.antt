@@ -14,19 +14,18 @@ use Rattle.py_flat.specs.Calls.{FileCall, Read1, Write, WriteLines, Seek, Tell, 
 use Rattle.py_flat.specs.Refusals.{refusal, life_refusal, lacks, or_else, refused_if, moved_by, target_refusal}
 use Rattle.py_flat.specs.ExactStep.{is_closed}
 use Rattle.py_flat.specs.BinaryStep.{asks_end, payload, BinaryStep}
-use Rattle.py_raw.specs.RawStream.{tells}
-use Rattle.py_stream.specs.Stream.{Stream, buffering_of, nothing_owed}
-use Rattle.py_stream.specs.Kinds.{is_reading, has_room, outlasts, says_fault, says_no_memory}
+use Rattle.py_raw.specs.RawStream.{Raw, tells, Keeps, StaysOpen, WherePlace, KeepsBytes, AnswersFor, NoFault, NoWait}
+use Rattle.py_stream.specs.Stream.{Stream, buffering_of, nothing_owed, nothing_held}
+use Rattle.py_stream.specs.Kinds.{is_reading, moves_raw, has_room, outlasts, says_fault, says_no_memory}
 use Rattle.py_stream.specs.Writing.{OwesUpTo, OwesWithin, OwesRest, OwedAfter, LaysFrontOf, IsFull}
-use Rattle.py_stream.specs.Answers.{IsAnswerTo, IsReplyTo, IsShort, LifeMoves, PlaceMoves, Within, UnlessStopped}
+use Rattle.py_stream.specs.Answers.{ClosedWith, parts_at_close, IsAnswerTo, IsReplyTo, IsShort, LifeMoves, PlaceMoves, Within, UnlessStopped}
 
--- What a buffered stream shows: whether it tells its content; told, the raw's bytes; where the raw stands, as the stream counts; its
--- own place; what it can do; its life; how large its buffer is, of 0 bytes in memory; whether a wait cut the last answer short; what
--- it owes its raw; its raw's counts of faults and of waits, and whether these are exact; whether it takes memory; whether bytes of it
--- are lent out, so that its length has to stay; and how many bytes of the last write were taken. In memory its raw's bytes and place are its own, and it owes nothing
+-- What a buffered stream shows: what its raw shows; where the raw stands, as the stream counts; its own place; what it can do; its life;
+-- how large its buffer is, of 0 bytes in memory; whether a wait cut the last answer short; what it owes its raw; whether bytes of it are
+-- lent out, so that its length has to stay; and how many bytes of the last write were taken. In memory its raw shows its own bytes and
+-- place, and it owes nothing
 pub record Buffer : Type 0 where
-  pub tells : Bool
-  pub raw_bytes : List ℕ
+  pub raw : Raw
   pub raw_place : ℕ
   pub place : ℕ
   pub can : Abilities
@@ -34,18 +33,13 @@ pub record Buffer : Type 0 where
   pub buffering : Buffering
   pub short : Bool
   pub owed : Owed
-  pub faults : ℕ
-  pub waits : ℕ
-  pub counts_exactly : Bool
-  pub takes_memory : Bool
   pub exported : Bool
   pub taken : ℕ
 
 -- what a stream over a raw one shows as a buffered stream, by how many bytes of its last write were taken
 abbrev pub buffer_of : Stream → ℕ → Buffer
 buffer_of stream taken = record {
-  tells = tells stream.raw;
-  raw_bytes = stream.raw.bytes;
+  raw = stream.raw;
   raw_place = stream.raw_place;
   place = stream.place;
   can = stream.can;
@@ -53,22 +47,18 @@ buffer_of stream taken = record {
   buffering = buffering_of stream.buffer;
   short = stream.short;
   owed = stream.owed;
-  faults = stream.raw.faults;
-  waits = stream.raw.waits;
-  counts_exactly = stream.raw.counts_exactly;
-  takes_memory = stream.raw.takes_memory;
   exported = false;
   taken = taken;
 }
 
 -- where a buffered stream tells its content
 abbrev pub WhereShown : Buffer → Type 0 → Type 0
-WhereShown buffer Fact = IsTrue buffer.tells → Fact
+WhereShown buffer Fact = IsTrue (tells buffer.raw) → Fact
 
 -- the flat file that a buffered stream stands for: the raw's bytes, with the owed ones laid at their place
 abbrev pub flat_of : Buffer → FlatFile
 flat_of buffer = record {
-  bytes = lay buffer.raw_bytes buffer.owed.place buffer.owed.bytes;
+  bytes = lay buffer.raw.bytes buffer.owed.place buffer.owed.bytes;
   place = buffer.place;
   can = buffer.can;
   buffering = buffer.buffering;
@@ -104,16 +94,13 @@ refused_here buffer call = if asks_end (flat_of buffer) call then None else (if 
 
 -- What every call keeps.
 
--- what every call keeps of a buffered stream: what it tells, can do and lends out, and how it is buffered; its counts never fall
+-- what every call keeps of a buffered stream: what it and its raw can do, what the raw tells, what is lent out, and how the stream is
+-- buffered; the raw's counts never fall
 pub record KeepsBuffer (before after : Buffer) : Type 0 where
-  pub tells : after.tells ≡ before.tells
+  pub raw : Keeps before.raw after.raw
   pub can : after.can ≡ before.can
   pub buffering : after.buffering ≡ before.buffering
-  pub counts_exactly : after.counts_exactly ≡ before.counts_exactly
-  pub takes_memory : after.takes_memory ≡ before.takes_memory
   pub exported : after.exported ≡ before.exported
-  pub faults : before.faults ≤ after.faults
-  pub waits : before.waits ≤ after.waits
 
 -- how many bytes of the last write were taken, after a call that moved the place from one to another: of a write as many as the place
 -- moved by, so all of an answered one, those that a wait says, and none of a refused one; other calls leave it
@@ -131,18 +118,54 @@ abbrev pub closes_twice : Buffer → FileCall → Bool
 closes_twice buffer Close = is_closed buffer.life
 closes_twice buffer call = false
 
+-- What becomes of the raw.
+
+-- a buffered stream as one over its raw, by what it shows of itself: nothing of what it holds
+abbrev pub stream_shown : Buffer → Stream
+stream_shown buffer = record {
+  raw = buffer.raw;
+  place = buffer.place;
+  raw_place = buffer.raw_place;
+  can = buffer.can;
+  life = buffer.life;
+  buffer = size_shown buffer.buffering;
+  short = buffer.short;
+  owed = buffer.owed;
+  held = nothing_held buffer.place;
+}
+
+-- whether a close failed to move the raw back to the place, so that the stream is closed and its raw wasn't asked to close
+abbrev pub parts_when_closed : Buffer → FileCall → FileReply → Buffer → Bool
+parts_when_closed before call reply after = parts_at_close (stream_shown before) call reply (stream_shown after)
+
+-- the raw is closed exactly where the stream is
+abbrev pub IsClosedWithRaw : Buffer → Type 0
+IsClosedWithRaw buffer = ClosedWith buffer.life buffer.raw
+
+-- the raw stands where the stream counts, where it tells its place
+abbrev pub StandsAsCounted : Buffer → Type 0
+StandsAsCounted buffer = WherePlace buffer.raw (buffer.raw.place ≡ buffer.raw_place)
+
+-- the raw's bytes are as they were, its writes answered for none, and nothing is owed, at the place; the raw stands where it stood, as the
+-- stream counts, but after a reading or a seek
+pub record SparesRaw (before : Buffer) (call : FileCall) (after : Buffer) : Type 0 where
+  pub bytes : KeepsBytes before.raw after.raw
+  pub written : AnswersFor 0 before.raw after.raw
+  pub owed : after.owed ≡ nothing_owed after.place
+  pub still : moves_raw call ≡ false → after.raw_place ≡ before.raw_place
+
 -- Causes.
 
 -- a short answer comes only where the waits rose in this call, RawFault only where the faults did
 pub record BufferHasCauses (before : Buffer) (reply : FileReply) (after : Buffer) : Type 0 where
-  pub waits : IsTrue after.short → Rose before.waits after.waits
-  pub faults : IsTrue (says_fault reply) → Rose before.faults after.faults
+  pub waits : IsTrue after.short → Rose before.raw.waits after.raw.waits
+  pub faults : IsTrue (says_fault reply) → Rose before.raw.faults after.raw.faults
 
 -- where the counts are exact: each fault is answered, and each wait ends the call, but of a write, which may have room for what is left
 pub record BufferIsCounted (before : Buffer) (call : FileCall) (reply : FileReply) (after : Buffer) : Type 0 where
-  pub faults : says_fault reply ≡ false → after.faults ≡ before.faults
-  pub waits : after.short ≡ false → outlasts (size_shown before.buffering) call ≡ false → after.waits ≡ before.waits
-  pub once : IsTrue after.short → outlasts (size_shown before.buffering) call ≡ false → after.waits ≡ counted before.waits 1
+  pub faults : says_fault reply ≡ false → after.raw.faults ≡ before.raw.faults
+  pub waits : after.short ≡ false → outlasts (size_shown before.buffering) call ≡ false → after.raw.waits ≡ before.raw.waits
+  pub once : IsTrue after.short → outlasts (size_shown before.buffering) call ≡ false → after.raw.waits ≡ counted before.raw.waits 1
 
 -- Life and place.
 
@@ -208,7 +231,7 @@ BufferOwes before call after = OwesRest before.owed after.owed
 -- a done flush or close of a live stream leaves nothing owed, and told, the raw with the flat bytes
 pub record BufferPassedOn (before after : Buffer) : Type 0 where
   pub none : after.owed.bytes ≡ []
-  pub holds : WhereShown before (after.raw_bytes ≡ (flat_of before).bytes)
+  pub holds : WhereShown before (after.raw.bytes ≡ (flat_of before).bytes)
 
 -- a flush that was done, and a close of a live stream, passed all on that was owed
 abbrev pub BufferPasses : Buffer → FileCall → FileReply → Buffer → Type 0
@@ -218,11 +241,11 @@ BufferPasses before call reply after = Unit {0}
 
 -- the raw's bytes after a call: those before it, with a front laid on of what was owed and what the call gives
 abbrev pub BufferLays : (before : Buffer) → (own after : List ℕ) → Type 0
-BufferLays before own after = LaysFrontOf before.raw_bytes before.owed before.place own after
+BufferLays before own after = LaysFrontOf before.raw.bytes before.owed before.place own after
 
 -- a write that the raw's waiting cut short has filled the buffer
 abbrev pub BufferBlocksFull : FileCall → FileReply → Buffer → Type 0
-BufferBlocksFull (Write bytes) (Refused (fault.WouldBlock taken)) after = (size : ℕ) × (size_shown after.buffering ≡ Some size) × IsFull after.owed after.place size taken
+BufferBlocksFull (Write bytes) (Refused (fault.WouldBlock taken)) after = (size : ℕ) × (size_shown after.buffering ≡ Some size) × IsFull after.owed after.place size
 BufferBlocksFull call reply after = Unit {0}
 
 -- a write takes a front of its bytes, whatever it answers
@@ -251,10 +274,14 @@ pub record AnswersAsBuffer (before : Buffer) (call : FileCall) (reply : FileRepl
   pub refused : (why : IoFault) → refused_here before call ≡ Some why → LeavesBuffer before call (Refused why) reply after
   -- a close of a closed stream is done, and leaves all as it was
   pub again : closes_twice before call ≡ true → LeavesBuffer before call Done reply after
+  -- the raw is closed exactly where the stream is, once nothing is owed, but where a close failed to move it back
+  pub shut : parts_when_closed before call reply after ≡ false → after.owed.bytes ≡ [] → IsClosedWithRaw before → IsClosedWithRaw after
+  -- the raw of a live stream stands where the stream counts
+  pub stands : after.life ≡ life.Live → StandsAsCounted after
   -- the causes of short answers and of RawFault
   pub causes : BufferHasCauses before reply after
   -- no fault and no wait goes unanswered where the counts are exact
-  pub counted : IsTrue before.counts_exactly → BufferIsCounted before call reply after
+  pub counted : IsTrue before.raw.counts_exactly → BufferIsCounted before call reply after
   -- which answers are short: those that say so
   pub shorts : IsShort call reply after.short
   -- life and place after the call
@@ -262,11 +289,11 @@ pub record AnswersAsBuffer (before : Buffer) (call : FileCall) (reply : FileRepl
   -- a seek from the end goes by some end that was answered
   pub ends : BufferSeeksByEnd before call reply after
   -- a call that has its room runs out of memory only where the stream takes some
-  pub wants : IsTrue (says_no_memory reply) → IsTrue (has_room call) → IsTrue before.takes_memory
+  pub wants : IsTrue (says_no_memory reply) → IsTrue (has_room call) → IsTrue before.raw.takes_memory
   -- which replies an accepted call may have
   pub answer : refused_here before call ≡ None → IsReplyTo (size_shown before.buffering) before.can.writable call reply
   -- where no count rose, an accepted call is answered in full, or runs out of memory
-  pub complete : refused_here before call ≡ None → rose before.waits after.waits ≡ false → rose before.faults after.faults ≡ false → IsAnswerTo call reply × (after.short ≡ false)
+  pub complete : refused_here before call ≡ None → rose before.raw.waits after.raw.waits ≡ false → rose before.raw.faults after.raw.faults ≡ false → IsAnswerTo call reply × (after.short ≡ false)
   -- told, the call is the step of the model from flat file to flat file, but for one that is refused as bytes are lent out
   pub told : refused_lent before call ≡ false → WhereShown before (BinaryStep (flat_of before) call reply after.short (says_fault reply) (flat_of after))
   -- no reading moves the place past the end of the flat bytes
@@ -276,7 +303,9 @@ pub record AnswersAsBuffer (before : Buffer) (call : FileCall) (reply : FileRepl
   -- what is owed after a call
   pub owes : BufferOwes before call after
   -- what the raw's bytes are after a call
-  pub lays : WhereShown before (BufferLays before (payload call) after.raw_bytes)
+  pub lays : WhereShown before (BufferLays before (payload call) after.raw.bytes)
+  -- a stream that doesn't write leaves the raw's bytes, and owes nothing; only its readings and seeks move the raw
+  pub spares : before.can.writable ≡ false → before.owed ≡ nothing_owed before.place → SparesRaw before call after
   -- a write that would have blocked leaves as many bytes owed as the buffer holds
   pub full : BufferBlocksFull call reply after
   -- a write takes a front of its bytes
@@ -293,19 +322,22 @@ abbrev pub SaysPlace : Option IoFault → ℕ → Result ℕ IoFault → Type 0
 SaysPlace (Some why) place result = result ≡ Err why
 SaysPlace None place result = result ≡ Ok place
 
--- `tell` answers the place, where the stream can be moved, or is refused, and asks no raw: all is as it was
+-- `tell` answers the place, which is one that a stream can have, where the stream can be moved, or is refused, and asks no raw: all is
+-- as it was
 pub record TellsPlace (before : Buffer) (result : Result ℕ IoFault) (after : Buffer) : Type 0 where
   pub says : SaysPlace (refusal (flat_of before) Tell) before.place result
+  pub far : before.place ≤ greatest_place
   pub same : after ≡ record before { short = false }
 
--- the end was asked: all is as it was, the raw's bytes where they are told, but for the counts of the raw, which rise by no wait or
--- fault that isn't answered
+-- the end was asked: all is as it was but for the raw, which keeps its bytes, where they are told, answered for no write, and wasn't closed;
+-- its counts rise by no wait or fault that isn't answered
 pub record AsksForEnd (before after : Buffer) : Type 0 where
-  pub same : after ≡ record before { raw_bytes = after.raw_bytes; short = false; faults = after.faults; waits = after.waits; life = after.life }
-  pub bytes : WhereShown before (after.raw_bytes ≡ before.raw_bytes)
-  pub faults : before.faults ≤ after.faults
-  pub waits : before.waits ≤ after.waits
-  pub no_wait : IsTrue before.counts_exactly → after.waits ≡ before.waits
+  pub same : after ≡ record before { raw = after.raw; short = false; life = after.life }
+  pub raw : Keeps before.raw after.raw
+  pub stays : StaysOpen before.raw after.raw
+  pub bytes : KeepsBytes before.raw after.raw
+  pub written : AnswersFor 0 before.raw after.raw
+  pub no_wait : NoWait before.raw after.raw
 
 -- the end is that of the flat bytes, where the stream tells them, and one that a stream can have; it isn't before that of what is owed
 pub record SaysEnd (before : Buffer) (end : ℕ) (after : Buffer) : Type 0 where
@@ -314,19 +346,19 @@ pub record SaysEnd (before : Buffer) (end : ℕ) (after : Buffer) : Type 0 where
   pub within : end ≤ greatest_place
   pub owed : OwesWithin before.owed end
   pub told : WhereShown before (end ≡ length (flat_of before).bytes)
-  pub no_fault : IsTrue before.counts_exactly → after.faults ≡ before.faults
+  pub no_fault : NoFault before.raw after.raw
 
 -- asking for the end failed, which fails the stream
 pub record FailsAtEnd (before after : Buffer) : Type 0 where
   pub asks : AsksForEnd before after
   pub life_is : after.life ≡ life.Failed
-  pub cause : Rose before.faults after.faults
+  pub cause : Rose before.raw.faults after.raw.faults
 
 -- an accepted `end`: the end, a fault of the raw, or out of memory, of a stream that takes some
 abbrev pub EndsAt : Buffer → Result ℕ IoFault → Buffer → Type 0
 EndsAt before (Ok end) after = SaysEnd before end after
 EndsAt before (Err fault.RawFault) after = FailsAtEnd before after
-EndsAt before (Err fault.NoMemory) after = IsTrue before.takes_memory × AsksForEnd before after × (after.life ≡ before.life)
+EndsAt before (Err fault.NoMemory) after = IsTrue before.raw.takes_memory × AsksForEnd before after × (after.life ≡ before.life)
 EndsAt before (Err why) after = ⊥
 
 abbrev pub EndsBy : Option IoFault → Buffer → Result ℕ IoFault → Buffer → Type 0

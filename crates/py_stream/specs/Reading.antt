@@ -35,6 +35,11 @@ pub record KeepsReading (before after : Stream) : Type 0 where
 
 -- What a reading asks of its raw.
 
+-- the raw isn't called, and the same bytes are held
+pub record LeavesHeld (before after : Stream) : Type 0 where
+  pub raw : after.raw ≡ before.raw
+  pub held : after.held ≡ before.held
+
 -- at most one transfer was made
 pub record OneTransfer (before after : Stream) : Type 0 where
   pub transfers : WhereTransfers before.raw (after.raw.transfers ≤ before.raw.transfers + 1)
@@ -169,9 +174,9 @@ ComesHeld before front = WhereTold before.raw (take (ahead before) (rest (file_o
 abbrev pub WantsHeld : (List ℕ → List ℕ) → Stream → Type 0
 WantsHeld wanted before = (front more : List ℕ) → ComesHeld before front → length (wanted (front ++ more)) ≤ ahead before
 
--- the raw isn't called where no more is wanted than is held
+-- the raw isn't called where no more is wanted than is held, and the same bytes are held then
 abbrev pub IdleWanting : (List ℕ → List ℕ) → Stream → Result Stop IoFault → Stream → Type 0
-IdleWanting wanted before result after = WantsHeld wanted before → (after.raw ≡ before.raw) × (result ≢ Err fault.RawFault)
+IdleWanting wanted before result after = WantsHeld wanted before → LeavesHeld before after × (result ≢ Err fault.RawFault)
 
 -- a refusal moves the place no further than bytes reach that may be wanted
 abbrev pub MovesWithin : (List ℕ → List ℕ) → Stream → Result Stop IoFault → Stream → Type 0

@@ -18,7 +18,7 @@ use Rattle.py_stream.specs.Stream.{Stream, file_of, nothing_owed}
 use Rattle.py_stream.specs.Kinds.{is_reading}
 use Rattle.py_stream.specs.LiveRaw.{starved}
 use Rattle.py_stream.specs.Answers.{Answers, IsNear, EachBrings, ahead}
-use Rattle.py_stream.specs.Reading.{KeepsReading, Reaches, FailsReading, StopOutcome}
+use Rattle.py_stream.specs.Reading.{KeepsReading, LeavesHeld, Reaches, FailsReading, StopOutcome}
 
 -- a stream that may be read: it lives, reads and owes nothing, and its raw stands after the bytes held, at its place or near after it
 pub record MayRead (stream : Stream) : Type 0 where
@@ -85,12 +85,12 @@ StepOutcome old moved (Err other) left new = ⊥
 -- Into a caller's buffer.
 
 -- n bytes came into the front of the buffer: all of it where there are enough, and else less; for one that the bytes held fill the
--- raw isn't called
+-- raw isn't called, and the same bytes are held
 pub record ReadsInto (old : Stream) (progress : Progress) (buffer : List ℕ) (new : Stream) : Type 0 where
   pub fits : progress.count ≤ length buffer
   pub full : progress.stop ≡ stop.Enough → progress.count ≡ length buffer
   pub less : progress.stop ≢ stop.Enough → progress.count < length buffer
-  pub idle : length buffer ≤ ahead old → new.raw ≡ old.raw
+  pub idle : length buffer ≤ ahead old → LeavesHeld old new
   pub to : new.place ≤ new.raw_place
   pub stops : StopOutcome old (take progress.count buffer) (Ok progress.stop) new
 

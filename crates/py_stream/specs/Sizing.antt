@@ -9,13 +9,15 @@ use Rattle.py_raw.specs.RawStream.{WhereBytes, NoWait, LeavesCounts, AnswersFor}
 use Rattle.py_stream.specs.Stream.{Stream}
 use Rattle.py_stream.specs.Keeping.{KeepsOn}
 
--- what giving the raw's bytes a size leaves of the stream: its place, and what it owes
+-- what giving the raw's bytes a size leaves of the stream: its place, where it counts its raw, and what it owes and holds
 pub record KeepsPlace (old new : Stream) : Type 0 where
   pub kept : KeepsOn old new
   pub no_wait : NoWait old.raw new.raw
   pub answered : AnswersFor 0 old.raw new.raw
   pub place : new.place ≡ old.place
+  pub raw_place : new.raw_place ≡ old.raw_place
   pub owed : new.owed ≡ old.owed
+  pub held : new.held ≡ old.held
 
 -- the raw's bytes have the size
 pub record Resizes (old : Stream) (size : ℕ) (new : Stream) : Type 0 where

@@ -1,5 +1,5 @@
 -- What a stream that writes does with the bytes that it took from its callers, over any raw.
-use Rattle.std.specs.Prelude.{◌≡◌, ◌≢◌, ℕ, ◌+◌, ◌-◌, ◌<◌, ◌≤◌, ◌⊎◌, min, max, true, false, IsTrue, List, [], ◌++◌, length, take, drop, Option, IsSome, unwrap_or}
+use Rattle.std.specs.Prelude.{◌≡◌, ◌≢◌, ℕ, ◌+◌, ◌-◌, ◌<◌, ◌≤◌, ◌⊎◌, ℤ, pos, suc, zero, min, max, true, false, IsTrue, List, [], ◌++◌, length, take, drop, Option, Some, IsSome, unwrap_or}
 use Rattle.py_flat.specs.declared.fault.IoFault.TheVariants as fault
 use Rattle.py_flat.specs.declared.life.Life.TheVariants as life
 use Rattle.py_flat.specs.Bytes.{lay, resized}
@@ -8,7 +8,8 @@ use Rattle.py_flat.specs.Limits.{greatest_place}
 use Rattle.py_flat.specs.Owed.{Owed}
 use Rattle.py_flat.specs.Calls.{FileCall, Write, WriteLines, Seek, Truncate, Flush, Close, Detach, FileReply, Count, Place, Done, Unwritten, Refused}
 use Rattle.py_flat.specs.BinaryStep.{payload}
-use Rattle.py_raw.specs.RawStream.{WhereTold, WherePlace, WhereTransfers, AnswersFor}
+use Rattle.py_flat.specs.Refusals.{moved_by}
+use Rattle.py_raw.specs.RawStream.{WhereTold, WhereBytes, WherePlace, WhereTransfers, AnswersFor}
 use Rattle.py_stream.specs.Stream.{Stream, size_of, file_of, nothing_held}
 use Rattle.py_stream.specs.Kinds.{is_reading, is_writing, says_no_memory}
 
@@ -126,18 +127,41 @@ pub record OwesTheRest (before : Stream) (new : List ℕ) (after : Stream) : Typ
   pub answered : AnswersFor passed before.raw after.raw
   pub leaves : LeavesBoth passed before.owed before.place new after.owed
 
--- what is owed after a write that took n bytes, wherever its place lay: it covers what was owed and what is new, or all that was owed
--- was passed on
+-- a write took nothing: what is left of what was owed, without the first n, is owed, and after it what the buffer holds there up to the
+-- place; so it ends there
+pub record LeavesUpTo (passed : ℕ) (was : Owed) (place : ℕ) (new : List ℕ) (owed : Owed) : Type 0 where
+  pub nothing : new ≡ []
+  pub most : passed ≤ length was.bytes
+  pub from : owed.place ≡ was.place + passed
+  pub front : take (length was.bytes - passed) owed.bytes ≡ drop passed was.bytes
+  pub ends : owed.place + length owed.bytes ≡ place
+
+-- of what was owed a front is passed on, exactly as many bytes as the raw answered for, before a wait cut the write short, which took
+-- nothing: what is left of that is owed, and after it what the buffer holds up to the place
+pub record OwesUpToPlace (before : Stream) (new : List ℕ) (after : Stream) : Type 0 where
+  pub passed : ℕ
+  pub answered : AnswersFor passed before.raw after.raw
+  pub cut : after.short ≡ true
+  pub leaves : LeavesUpTo passed before.owed before.place new after.owed
+
+-- what is owed after a write: it covers what was owed and what is new; or all that was owed was passed on; or the write took nothing, and
+-- what was owed goes on up to the place
+abbrev pub OwesSome : (before : Stream) (new : List ℕ) (after : Stream) → Type 0
+OwesSome before new after = OwesTheRest before new after ⊎ (OwesNewAlone before new after ⊎ OwesUpToPlace before new after)
+
+-- what is owed after a write that took n bytes, wherever its place lay. Where nothing is, all that was owed and all that was taken is
+-- passed on: the raw answered for exactly so many bytes
 pub record OwesBoth (before : Stream) (bytes : List ℕ) (after : Stream) : Type 0 where
   pub taken : ℕ
   pub within : taken ≤ length bytes
   pub place : after.place ≡ before.place + taken
-  pub owes : after.owed.bytes ≢ [] → OwesTheRest before (take taken bytes) after ⊎ OwesNewAlone before (take taken bytes) after
+  pub owes : after.owed.bytes ≢ [] → OwesSome before (take taken bytes) after
+  pub none : after.owed.bytes ≡ [] → AnswersFor (length before.owed.bytes + taken) before.raw after.raw
 
--- the same of what is owed alone, whatever the raw answered for: it covers what was owed and the new bytes that a write took at a place, or
--- nothing is left of the former
+-- the same of what is owed alone, whatever the raw answered for: it covers what was owed and the new bytes that a write took at a place; or
+-- nothing is left of the former; or the write took nothing, and what was owed goes on up to the place
 abbrev pub OwedAfter : (was : Owed) (place : ℕ) (new : List ℕ) (owed : Owed) → Type 0
-OwedAfter was place new owed = owed.bytes ≢ [] → ((passed : ℕ) × LeavesBoth passed was place new owed) ⊎ ((passed : ℕ) × LeavesNew passed place new owed)
+OwedAfter was place new owed = owed.bytes ≢ [] → ((passed : ℕ) × LeavesBoth passed was place new owed) ⊎ (((passed : ℕ) × LeavesNew passed place new owed) ⊎ ((passed : ℕ) × LeavesUpTo passed was place new owed))
 
 -- what a call may lay on the raw's bytes: a front of what was owed at its place, and then a front of what it gives at the stream's; none of
 -- the latter before all that was owed
@@ -171,35 +195,61 @@ pub record PassedOn (before after : Stream) : Type 0 where
   pub none : after.owed.bytes ≡ []
   pub holds : WhereTold before.raw (after.raw.bytes ≡ (file_of before).bytes)
 
--- nothing is owed any more; told, the raw holds the flat bytes, cut or lengthened to a size
+-- nothing is owed, and nothing is held; the raw stands at the place, so that a reading goes on from there
+pub record StandsBare (stream : Stream) : Type 0 where
+  pub none : stream.owed.bytes ≡ []
+  pub held : stream.held ≡ nothing_held stream.place
+  pub stands : stream.raw_place ≡ stream.place
+
+-- nothing is owed or held any more; told, the raw holds the flat bytes, cut or lengthened to a size
 pub record CutTo (before : Stream) (size : ℕ) (after : Stream) : Type 0 where
-  pub none : after.owed.bytes ≡ []
+  pub bare : StandsBare after
   pub holds : WhereTold before.raw (after.raw.bytes ≡ resized (file_of before).bytes size)
+
+-- some end that the raw answered, or that of what is owed, where this is later; told its bytes, the end of the flat file
+pub record IsEndOf (before : Stream) (end : ℕ) : Type 0 where
+  pub within : end ≤ greatest_place
+  pub owed : OwesWithin before.owed end
+  pub told : WhereBytes before.raw (end ≡ length (file_of before).bytes)
+
+-- where a seek goes, by where it counts from: the start, the place, or some end
+abbrev pub SeekTargets : Stream → ℤ → ℤ → ℕ → Type 0
+SeekTargets before offset (pos zero) target = moved_by 0 offset ≡ Some target
+SeekTargets before offset (pos (suc zero)) target = moved_by before.place offset ≡ Some target
+SeekTargets before offset (pos (suc (suc zero))) target = (end : ℕ) × IsEndOf before end × (moved_by end offset ≡ Some target)
+SeekTargets before offset whence target = ⊥
 
 -- a stream that is moved to a place leaves the bytes held: it doesn't read, or the place isn't among them, nor right after them
 abbrev pub GoesAway : Stream → ℕ → Type 0
 GoesAway stream place = (stream.can.readable ≡ false) ⊎ ((place < stream.held.from) ⊎ (stream.held.to < place))
 
+-- a seek that a wait stopped goes to a place where the stream leaves the bytes held
+pub record StopsAway (before : Stream) (offset whence : ℤ) : Type 0 where
+  pub target : ℕ
+  pub goes : SeekTargets before offset whence target
+  pub away : GoesAway before target
+
 -- what is done of a live stream leaves nothing owed; after a `flush` the raw stands at the place, and nothing is held; after a `detach`,
--- which has nothing unwritten, the raw stands there too. A `seek` that leaves the bytes held leaves nothing owed either
+-- which has nothing unwritten, the raw stands there too. A `seek` that leaves the bytes held leaves nothing owed either; only such a one is
+-- stopped by a wait
 abbrev pub PassesOn : Stream → FileCall → FileReply → Stream → Type 0
 PassesOn before Flush Done after = PassedOn before after × (after.raw_place ≡ after.place) × (after.held ≡ nothing_held after.place)
 PassesOn before Close Done after = before.life ≡ life.Live → PassedOn before after
 PassesOn before Detach (Unwritten bytes place) after = before.life ≡ life.Live → PassedOn before after × (bytes ≡ []) × WherePlace before.raw (after.raw.place ≡ after.place)
 PassesOn before (Truncate size) (Place place) after = CutTo before (size_asked before size) after
 PassesOn before (Seek offset whence) (Place place) after = GoesAway before place → after.owed.bytes ≡ []
+PassesOn before (Seek offset whence) (Refused (fault.WouldBlock taken)) after = StopsAway before offset whence
 PassesOn before call reply after = Unit {0}
 
--- a buffer of a size is full for a write that took n bytes: it has room for no more after the first byte that is owed, up to the place;
--- where the write took some, all of these are owed
-pub record IsFull (owed : Owed) (place size taken : ℕ) : Type 0 where
+-- a buffer of a size is full of owed bytes, which end at the place
+pub record IsFull (owed : Owed) (place size : ℕ) : Type 0 where
   pub up_to : owed.place + size ≡ place
-  pub owes : taken ≢ 0 → length owed.bytes ≡ size
+  pub owes : length owed.bytes ≡ size
 
 -- a write that couldn't take all has filled the buffer; another call that would have blocked took nothing
 abbrev pub BlocksFull : FileCall → FileReply → Stream → Type 0
-BlocksFull (Write bytes) (Refused (fault.WouldBlock taken)) after = IsFull after.owed after.place (size_of after) taken
-BlocksFull (WriteLines lines) (Refused (fault.WouldBlock taken)) after = IsFull after.owed after.place (size_of after) taken
+BlocksFull (Write bytes) (Refused (fault.WouldBlock taken)) after = IsFull after.owed after.place (size_of after)
+BlocksFull (WriteLines lines) (Refused (fault.WouldBlock taken)) after = IsFull after.owed after.place (size_of after)
 BlocksFull call (Refused (fault.WouldBlock taken)) after = taken ≡ 0
 BlocksFull call reply after = Unit {0}
 
@@ -234,14 +284,14 @@ owed_from stream = first_place stream.owed [] stream.place
 abbrev pub room_at : Stream → ℕ
 room_at stream = size_of stream - (stream.place - owed_from stream)
 
--- a live stream has room in its buffer for bytes at its place, which they may have. Of one that reads too the raw doesn't stand before the
--- first owed byte, nor before the place where none is owed: it does only once running out of memory kept it from being moved
+-- a live stream has room in its buffer for bytes at its place, which they may have. Of one that reads too, and owes nothing, the raw
+-- doesn't stand before the place: it does only once running out of memory kept it from being moved
 pub record HasRoom (stream : Stream) (bytes : List ℕ) : Type 0 where
   pub lives : stream.life ≡ life.Live
   pub buffered : IsSome stream.buffer
   pub within : stream.place + length bytes ≤ greatest_place
   pub room : length bytes ≤ room_at stream
-  pub stands : stream.can.readable ≡ true → owed_from stream ≤ stream.raw_place
+  pub stands : stream.can.readable ≡ true → stream.owed.bytes ≡ [] → stream.place ≤ stream.raw_place
 
 -- what a write answers that took all of its bytes
 abbrev pub answer_of_all : FileCall → FileReply

@@ -3,7 +3,7 @@
 //! then.
 //!
 //! No function here does anything; what each ensures is the law.
-ghost use Rattle.std.specs.Prelude.{◌≡◌, ◌+◌, ◌≤◌, ℕ, pos, true, false, IsTrue, List, length, Option, Some, None, IsSome};
+ghost use Rattle.std.specs.Prelude.{◌≡◌, ◌+◌, ◌≤◌, ℕ, pos, Bool, true, false, IsTrue, List, length, Option, Some, None, IsSome};
 ghost use Rattle.py_flat.specs.Limits.{greatest_place};
 ghost use Rattle.py_flat.specs.Bytes.{first_of};
 ghost use Rattle.py_flat.specs.Lines.{Lf, first_line, lines_within, joined};
@@ -11,16 +11,17 @@ ghost use Rattle.py_flat.specs.Calls.{FileCall, Read, Read1, ReadLine, ReadLines
 ghost use Rattle.py_flat.specs.ExactStep.{rest, one_transfer, buffer_full};
 ghost use Rattle.py_flat.specs.BinaryStep.{Transfers};
 ghost use Rattle.py_stream.specs.Stream.{Stream, file_of, nothing_owed};
-ghost use Rattle.py_stream.specs.Answers.{Answers, CameByReads};
+ghost use Rattle.py_stream.specs.Answers.{Answers, AnswersWith, CameByReads};
 ghost use Rattle.py_stream.specs.Buffer.{buffer_of, taken_by, OwesAsItCan, is_made, AnswersAsBuffer};
 ghost use Rattle.py_stream.specs.Laws.{ComesBack, GoesSmoothly, GivesJust, GivesJustLines, TakesJust, AnswersEach, none_seeks};
 
 /// A stream that told its place, and was then moved there from its start, stands where it stood. Over a raw that tells, its
 /// flat file is what it was, and so is what is left to read of it.
 ///
-/// This says nothing where the stream refused a call, or answered otherwise: the raw may fail to move.
+/// This says nothing where the stream refused a call, or answered otherwise: the raw may fail to move. It holds of a session's stream too,
+/// whichever calls have their room.
 pub fn a_seek_to_the_told_place_keeps_all()
-    ensures { (before mid : Stream) (told back : ℕ) (after : Stream) → Answers before Tell (Place told) mid → Answers mid (Seek (pos told) (pos 0)) (Place back) after → ComesBack before told back after }
+    ensures { (room : FileCall → Bool) (before mid : Stream) (told back : ℕ) (after : Stream) → AnswersWith room before Tell (Place told) mid → AnswersWith room mid (Seek (pos told) (pos 0)) (Place back) after → ComesBack before told back after }
 {}
 
 /// `read` and `readinto` of a stream with a buffer give the next bytes, as many as were asked for or all that are left, and the place

@@ -10,6 +10,7 @@ ghost use Rattle.py_stream.specs.Answers.{Answers, KeepsStream, RefusesAlone};
 ghost use Rattle.py_stream.specs.Replies.{place_reply};
 ghost use Rattle.py_stream.specs.Moving.{Begins, keeps_pending, OwesBy, SettlesBy, TargetOutcome, EndOutcome, StepsTo, GoOutcome};
 ghost use Rattle.py_stream.specs.Sizing.{ResizeOutcome};
+ghost use Rattle.py_stream.specs.Writing.{StandsBare};
 ghost use Rattle.py_stream.specs.Buffer.{buffer_of, TellsPlace, AnswersEnd};
 
 use crate::{LiveRaw, moved_by};
@@ -54,12 +55,13 @@ pub trait Moves {
         requires whole { (shows self.old).short ≡ false }
         ensures { SettlesBy (keeps_pending (shows self.old)) (shows self.old) result (shows self.new) };
 
-    /// Passes on all that is owed, and keeps the place, as `pass_on` does; of a stream that reads too, the raw then stands at the place,
-    /// and nothing is held.
+    /// Passes on all that is owed, and keeps the place, as `pass_on` does; of a stream that writes the raw then stands at the place, and
+    /// nothing is held.
     fn settle(&mut self) -> Result<(), IoFault>
         requires live { (shows self.old).life ≡ Live }
         requires whole { (shows self.old).short ≡ false }
         ensures settles { SettlesBy (keeps_pending (shows self.old)) (shows self.old) result (shows self.new) }
+        ensures bare { IfOk result (λ done. (shows self.old).can.writable ≡ true → StandsBare (shows self.new)) }
         ensures rests { IfOk result (λ done. rests self.new) };
 
     /// Moves to a place, in bytes from the start of the file, without a call of the raw, where the stream is read and holds bytes so far;

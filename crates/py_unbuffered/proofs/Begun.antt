@@ -27,7 +27,7 @@ Stands engine = IsEngine engine.raw engine.place engine.access engine.life
 
 -- a live stream's raw stands at its place
 pub is_near : (engine : EngineView) → Stands engine → engine.life ≡ life.Live → IsNear (stream_of engine)
-is_near engine stands live = record { after_first = omega arith; before_end = omega arith; fits = omega arith; owed_after_first = omega arith; owed_before_end = omega arith; read_ahead = λ _. refl; ahead = omega arith; behind = omega arith; stands = λ tells. stands.stands tells live }
+is_near engine stands live = record { after_first = omega arith; before_end = omega arith; fits = omega arith; owed_after_first = omega arith; owed_before_end = omega arith; owed_before_raw = λ some. absurd (some refl); read_ahead = λ _. refl; ahead = omega arith; behind = omega arith; stands = λ tells. stands.stands tells live }
 
 -- where a stream is, and its raw
 pub is_placed : (engine : EngineView) → Stands engine → IsPlaced (stream_of engine)

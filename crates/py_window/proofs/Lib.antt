@@ -1,3 +1,4 @@
 mod Held
 pub mod Collecting
 pub mod Overlaying
+pub mod Owning

@@ -143,6 +143,10 @@ abbrev pub pushed : List ℕ → WindowView → WindowView
 pushed [] window = window
 pushed bytes window = if nat_le (window.cursor + length bytes) window.size then laid_at_cursor bytes window else laid_at_cursor bytes (without_front (window.cursor - kept_before window) window)
 
+-- all that is held is pending
+abbrev pub all_pending : WindowView → WindowView
+all_pending window = record window { from = 0; to = length window.held }
+
 -- Passing pending bytes on.
 
 -- a window of whose pending bytes the first n were passed on

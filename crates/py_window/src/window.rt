@@ -1,7 +1,7 @@
 //! The bytes of a stream that its buffer holds, with a cursor among them, and those among them that its raw is owed.
 ghost use Rattle.std.specs.Prelude.{◌≡◌, ◌<◌, ◌≤◌, ◌+◌, ◌-◌, true, false, [], length, vec_len};
 ghost use Rattle.py_flat.specs.Limits.{greatest_place};
-ghost use Rattle.py_window.specs.Window.{place_of, end_of, ahead_of, pending_of, is_settled as settled, kept_before, room_of, at_cursor, advanced, emptied_at, covers as covers_place, moved_to, pasted, covered, laid_at_cursor, without_front, pushed, passed_on, cut_at, ended_at, IsWindow};
+ghost use Rattle.py_window.specs.Window.{place_of, end_of, ahead_of, pending_of, is_settled as settled, kept_before, room_of, at_cursor, advanced, emptied_at, covers as covers_place, moved_to, pasted, covered, laid_at_cursor, without_front, pushed, all_pending, passed_on, cut_at, ended_at, IsWindow};
 
 mod filling;
 
@@ -286,6 +286,15 @@ impl Window {
             self.to = self.to.max(after);
         }
         self.cursor = after;
+    }
+
+    /// Makes all that is held pending.
+    pub fn own_all(&mut self)
+        requires some { 0 < length self.old.held }
+        ensures { self.new ≡ all_pending self.old }
+    {
+        self.from = 0;
+        self.to = self.end;
     }
 
     /// The first n pending bytes aren't pending any more.

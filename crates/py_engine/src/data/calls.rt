@@ -8,9 +8,10 @@ ghost use Rattle.py_window.specs.Window.{ahead_of};
 ghost use Rattle.py_engine.specs.Engine.{stream_of};
 
 use super::BufferedData;
+use super::random::lines_in;
 use py_lines::line_end;
 use py_raw::{IoFault, Lines, RawStream};
-use py_stream::{read_line, read_lines};
+use py_stream::{read_line, read_lines, read_rest};
 use std::alloc::Global;
 
 impl<R: RawStream> BufferedData<R> {
@@ -19,13 +20,30 @@ impl<R: RawStream> BufferedData<R> {
         requires reads { is_read self.old.access ≡ true }
         ensures { Answers (stream_of self.old) (Read size) (bytes_reply result) (stream_of self.new) }
     {
-        if self.is_ahead() {
-            return self.read_ahead(alloc, size);
+        let _ = &self.live;
+        self.begin()?;
+        let Some(size) = size else {
+            if !self.go_ahead()? {
+                return Ok(None);
+            }
+            return read_rest(self, alloc);
+        };
+        if size <= self.window.ahead().len() {
+            let bytes = self.give(alloc, size)?;
+            return Ok(Some(bytes));
         }
-        match size {
-            Some(size) => self.read_size_among(alloc, size),
-            None => self.read_rest_among(alloc),
+        let Ok(space) = vec![in alloc; 0u8; size] else {
+            return Err(IoFault::NoMemory);
+        };
+        if !self.go_ahead()? {
+            return Ok(None);
         }
+        let mut bytes = space;
+        let Some(count) = self.fill_up(&mut bytes)? else {
+            return Ok(None);
+        };
+        bytes.truncate(count);
+        Ok(Some(bytes))
     }
 
     /// Reads into a buffer until it is full.
@@ -36,10 +54,17 @@ impl<R: RawStream> BufferedData<R> {
         ensures fits { CountFits result buffer.new }
         ensures refused { KeepsBuffer result buffer.old buffer.new }
     {
-        if self.is_ahead() {
-            return self.readinto_ahead(buffer);
+        let _ = &self.live;
+        self.begin()?;
+        if buffer.len() <= self.window.ahead().len() {
+            let count = self.copy_ahead(buffer);
+            self.step_on(count);
+            return Ok(Some(count));
         }
-        self.readinto_among(buffer)
+        if !self.go_ahead()? {
+            return Ok(None);
+        }
+        self.fill_up(buffer)
     }
 
     /// Reads at most n bytes, or a buffer's size.
@@ -47,10 +72,17 @@ impl<R: RawStream> BufferedData<R> {
         requires reads { is_read self.old.access ≡ true }
         ensures { Answers (stream_of self.old) (Read1 size) (bytes_reply result) (stream_of self.new) }
     {
-        if self.is_ahead() {
-            return self.read1_ahead(alloc, size);
+        let _ = &self.live;
+        self.begin()?;
+        let most = size.unwrap_or(self.window.size());
+        if most == 0 {
+            return Ok(Some(Vec::new(alloc)));
         }
-        self.read1_among(alloc, size)
+        if !self.has_once(most)? {
+            return Ok(None);
+        }
+        let bytes = self.give(alloc, most)?;
+        Ok(Some(bytes))
     }
 
     /// Reads at most as many bytes as a buffer is long.
@@ -61,10 +93,17 @@ impl<R: RawStream> BufferedData<R> {
         ensures fits { CountFits result buffer.new }
         ensures unread { KeepsUnread result buffer.old buffer.new }
     {
-        if self.is_ahead() {
-            return self.readinto1_ahead(buffer);
+        let _ = &self.live;
+        self.begin()?;
+        if buffer.is_empty() {
+            return Ok(Some(0));
         }
-        self.readinto1_among(buffer)
+        if !self.has_once(buffer.len())? {
+            return Ok(None);
+        }
+        let count = self.copy_ahead(buffer);
+        self.step_on(count);
+        Ok(Some(count))
     }
 
     /// Whether the bytes held show some of what comes next, or that nothing does; else the raw would have blocked.
@@ -72,10 +111,10 @@ impl<R: RawStream> BufferedData<R> {
         requires reads { is_read self.old.access ≡ true }
         ensures { Answers (stream_of self.old) Peek (look_reply result (ahead_of self.new.window)) (stream_of self.new) }
     {
-        if self.is_ahead() {
-            return self.look_ahead();
-        }
-        self.look_among()
+        let _ = &self.live;
+        self.begin()?;
+        let size = self.window.size();
+        self.has_once(size)
     }
 
     /// Reads a line, of at most so many bytes.
@@ -94,9 +133,6 @@ impl<R: RawStream> BufferedData<R> {
             let line = self.give(alloc, used)?;
             return Ok(Some(line));
         }
-        if self.is_ahead() {
-            return read_line(self, alloc, limit);
-        }
         if !self.go_ahead()? {
             return Ok(None);
         }
@@ -112,9 +148,22 @@ impl<R: RawStream> BufferedData<R> {
         requires reads { is_read self.old.access ≡ true }
         ensures { Answers (stream_of self.old) (ReadLines hint) (lines_reply result) (stream_of self.new) }
     {
+        let _ = &self.live;
+        // A reading that goes on from the bytes held gathers its lines there, so that they aren't looked for twice.
         if self.is_ahead() {
             return read_lines(self, alloc, hint);
         }
-        self.readlines_among(alloc, hint)
+        self.begin()?;
+        let Ok(held) = lines_in(alloc, self.window.ahead(), hint) else {
+            return Err(IoFault::NoMemory);
+        };
+        if let Some((lines, used)) = held {
+            self.step_on(used);
+            return Ok(Some(lines));
+        }
+        if !self.go_ahead()? {
+            return Ok(None);
+        }
+        read_lines(self, alloc, hint)
     }
 }

@@ -5,7 +5,7 @@ ghost use Rattle.py_flat.specs.BinaryStep.{payload};
 ghost use Rattle.py_flat.specs.Calls.{Write, WriteLines};
 ghost use Rattle.py_stream.specs.Access.{is_written};
 ghost use Rattle.py_stream.specs.Answers.{Answers};
-ghost use Rattle.py_stream.specs.Held.{KeepsBoth};
+ghost use Rattle.py_stream.specs.Held.{KeepsBoth, OwesHeld};
 ghost use Rattle.py_stream.specs.Replies.{count_reply, done_reply};
 ghost use Rattle.py_stream.specs.Writing.{IsFull};
 ghost use Rattle.py_window.specs.Window.{place_of, room_of};
@@ -97,6 +97,11 @@ impl<R: RawStream> BufferedData<R> {
             return Ok(false);
         }
         let _ = &self.window; // what holds of every engine is known from here on
+        if self.window.room() == 0 {
+            self.owe_all();
+            self.live.note_wait(true);
+            return Err(IoFault::WouldBlock { taken: 0 });
+        }
         let room = self.keep_over(given);
         if count <= room {
             return Ok(true);
@@ -123,12 +128,24 @@ impl<R: RawStream> BufferedData<R> {
         requires there { self.old.window.from ≡ self.old.window.to → self.old.window.begin + self.old.window.from ≤ self.old.raw_place }
         ensures room { result ≡ room_of self.old.window }
         ensures keeps { KeepsBoth (stream_of self.old) (take result (payload (call_of given.entry))) (stream_of self.new) }
-        ensures full { result ≤ length (payload (call_of given.entry)) → IsFull (stream_of self.new).owed (stream_of self.new).place self.new.window.size result }
+        ensures full { result ≤ length (payload (call_of given.entry)) → 0 < result → IsFull (stream_of self.new).owed (stream_of self.new).place self.new.window.size }
     {
         let _ = &self.live;
         let room = self.window.room();
         given.push(&mut self.window, room);
         room as u64
+    }
+
+    /// Owes all that is held, where there is no room at the place: what was only held up to there is passed on with the rest.
+    fn owe_all(&mut self)
+        requires live { self.old.life ≡ Life.Live }
+        requires update { self.old.access ≡ Access.Update }
+        requires full { room_of self.old.window ≡ 0 }
+        ensures fills { OwesHeld (stream_of self.old) (stream_of self.new) }
+        ensures full { IsFull (stream_of self.new).owed (stream_of self.new).place self.new.window.size }
+    {
+        let _ = &self.live;
+        self.window.own_all();
     }
 
     /// Passes on all that is owed, for a call that gives bytes. False where the raw would have blocked.

@@ -1,20 +1,16 @@
 //! Readings that go on until they have all that is asked for, or all that is left.
-ghost use Rattle.std.specs.Prelude.{◌≡◌, ◌<◌, IfOk, IsTrue, length, take, drop, min, vec_len};
+ghost use Rattle.std.specs.Prelude.{◌≡◌, ◌<◌, length, take, drop, min};
 ghost use Rattle.py_flat.specs.declared.life.Life.TheVariants.{Live};
-ghost use Rattle.py_flat.specs.Calls.{Read, ReadInto};
-ghost use Rattle.py_stream.specs.Answers.{Answers};
-ghost use Rattle.py_stream.specs.Kinds.{says_no_memory};
 ghost use Rattle.py_window.specs.Window.{ahead_of};
 ghost use Rattle.py_engine.specs.Engine.{Stands};
-ghost use Rattle.py_engine.specs.Reading.{reading_of, IsReading, stepped};
+ghost use Rattle.py_engine.specs.Reading.{reading_of, AnswersSized, IsReading, stepped};
 ghost use Rattle.py_stream.specs.ReadingOn.{StepOutcome};
-ghost use Rattle.py_stream.specs.Replies.{bytes_reply, into_reply, CountFits, KeepsBuffer};
+ghost use Rattle.py_stream.specs.Replies.{into_reply, CountFits, KeepsBuffer};
 
 use super::BufferedData;
 use py_raw::{IoFault, RawStream};
-use py_stream::{ReadsOn, Step, Stop, read_into, read_rest};
+use py_stream::{ReadsOn, Step, Stop, read_into};
 use py_window::Filled;
-use std::alloc::Global;
 
 /// The step that a transfer makes which brought n bytes of as many as were wanted.
 pub(super) fn step_by(filled: Filled, count: usize, wanted: usize) -> Step
@@ -38,26 +34,10 @@ pub(super) fn step_by(filled: Filled, count: usize, wanted: usize) -> Step
 }
 
 impl<R: RawStream> BufferedData<R> {
-    /// Reads n bytes, or all that are left.
-    pub(super) fn read_ahead(
-        &mut self,
-        alloc: Global,
-        size: Option<usize>,
-    ) -> Result<Option<Vec<u8>>, IoFault>
+    /// Reads into a buffer until it is full, from the bytes held on: what a call that wants as many bytes answers.
+    pub(super) fn fill_up(&mut self, buffer: &mut [u8]) -> Result<Option<usize>, IoFault>
         requires reads { IsReading self.old }
-        ensures answers { Answers (reading_of self.old) (Read size) (bytes_reply result) (reading_of self.new) }
-        ensures reads { IsReading self.new }
-    {
-        match size {
-            Some(size) => self.read_size(alloc, size),
-            None => read_rest(self, alloc),
-        }
-    }
-
-    /// Reads into a buffer until it is full.
-    pub(super) fn readinto_ahead(&mut self, buffer: &mut [u8]) -> Result<Option<usize>, IoFault>
-        requires reads { IsReading self.old }
-        ensures answers { Answers (reading_of self.old) (ReadInto (length buffer.old)) (into_reply result buffer.new) (reading_of self.new) }
+        ensures answers { AnswersSized (reading_of self.old) (length buffer.old) (into_reply result buffer.new) (reading_of self.new) }
         ensures reads { IsReading self.new }
         ensures length { length buffer.new ≡ length buffer.old }
         ensures fits { CountFits result buffer.new }
@@ -68,44 +48,6 @@ impl<R: RawStream> BufferedData<R> {
         let progress = read_into(self, buffer, false)?;
         if self.answers(progress.stop, progress.count == 0) {
             Ok(Some(progress.count))
-        } else {
-            Ok(None)
-        }
-    }
-
-    /// Reads n bytes into a vector, whose space is taken first.
-    fn read_size(&mut self, alloc: Global, size: usize) -> Result<Option<Vec<u8>>, IoFault>
-        requires reads { IsReading self.old }
-        ensures answers { Answers (reading_of self.old) (Read (Some size)) (bytes_reply result) (reading_of self.new) }
-        ensures reads { IsReading self.new }
-    {
-        let _ = &self.live;
-        self.begin_reading()?;
-        let Ok(space) = vec![in alloc; 0u8; size] else {
-            return Err(IoFault::NoMemory);
-        };
-        self.read_space(space, size)
-    }
-
-    /// Reads n bytes into a vector that has as many.
-    pub(super) fn read_space(
-        &mut self,
-        space: Vec<u8>,
-        size: usize,
-    ) -> Result<Option<Vec<u8>>, IoFault>
-        requires reads { IsReading self.old }
-        requires many { vec_len space ≡ size }
-        ensures answers { Answers (reading_of self.old) (Read (Some size)) (bytes_reply result) (reading_of self.new) }
-        ensures reads { IsReading self.new }
-        ensures memory { IsTrue (says_no_memory (bytes_reply result)) → IsTrue self.old.raw.takes_memory }
-    {
-        let _ = &self.live;
-        self.begin_reading()?;
-        let mut bytes = space;
-        let progress = read_into(self, &mut bytes, false)?;
-        bytes.truncate(progress.count);
-        if self.answers(progress.stop, progress.count == 0) {
-            Ok(Some(bytes))
         } else {
             Ok(None)
         }

@@ -1,13 +1,11 @@
 //! Readings by at most one transfer.
-ghost use Rattle.std.specs.Prelude.{◌≡◌, ◌<◌, false, length, true};
+ghost use Rattle.std.specs.Prelude.{◌≡◌, ◌<◌, false, true, [], length};
 ghost use Rattle.py_flat.specs.declared.life.Life.TheVariants.{Live};
-ghost use Rattle.py_flat.specs.Calls.{Read1, ReadInto1, Peek};
 ghost use Rattle.py_stream.specs.Access.{is_read};
-ghost use Rattle.py_stream.specs.Answers.{Answers};
-ghost use Rattle.py_engine.specs.Reading.{reading_of};
-ghost use Rattle.py_engine.specs.Reading.{IsReading, ReadyOutcome, GivesHeld};
 ghost use Rattle.py_window.specs.Window.{ahead_of};
-ghost use Rattle.py_stream.specs.Replies.{bytes_reply, into_reply, CountFits, KeepsUnread, look_reply};
+ghost use Rattle.py_engine.specs.Engine.{stream_of};
+ghost use Rattle.py_engine.specs.Random.{OnceOutcome};
+ghost use Rattle.py_engine.specs.Reading.{IsReading, ReadyOutcome, GivesHeld};
 
 use super::BufferedData;
 use py_raw::{IoFault, RawStream};
@@ -16,64 +14,32 @@ use py_window::Filled;
 use std::alloc::Global;
 
 impl<R: RawStream> BufferedData<R> {
-    /// Reads at most n bytes, or a buffer's size.
-    pub(super) fn read1_ahead(
-        &mut self,
-        alloc: Global,
-        size: Option<usize>,
-    ) -> Result<Option<Vec<u8>>, IoFault>
-        requires reads { IsReading self.old }
-        ensures answers { Answers (reading_of self.old) (Read1 size) (bytes_reply result) (reading_of self.new) }
-        ensures reads { IsReading self.new }
+    /// Sees to it that the bytes held answer a call by one transfer that wants n: some are held and none owed, or nothing comes. False
+    /// where the raw would have blocked, which is remembered.
+    pub(super) fn has_once(&mut self, wanted: usize) -> Result<bool, IoFault>
+        requires live { self.old.life ≡ Live }
+        requires whole { self.old.short ≡ false }
+        requires reads { is_read self.old.access ≡ true }
+        requires wants { 0 < wanted }
+        ensures { OnceOutcome self.old wanted result self.new }
     {
         let _ = &self.live;
-        self.begin()?;
-        let size = size.unwrap_or(self.window.size());
-        if size == 0 {
-            return Ok(Some(Vec::new(alloc)));
+        if self.gives_at_once() {
+            return Ok(true);
         }
-        let stop = self.ready(size)?;
-        if !self.answers(stop, true) {
-            return Ok(None);
+        if !self.go_ahead()? {
+            return Ok(false);
         }
-        let bytes = self.give(alloc, size)?;
-        Ok(Some(bytes))
-    }
-
-    /// Reads at most as many bytes as a buffer is long.
-    pub(super) fn readinto1_ahead(&mut self, buffer: &mut [u8]) -> Result<Option<usize>, IoFault>
-        requires reads { IsReading self.old }
-        ensures answers { Answers (reading_of self.old) (ReadInto1 (length buffer.old)) (into_reply result buffer.new) (reading_of self.new) }
-        ensures reads { IsReading self.new }
-        ensures length { length buffer.new ≡ length buffer.old }
-        ensures fits { CountFits result buffer.new }
-        ensures unread { KeepsUnread result buffer.old buffer.new }
-    {
-        let _ = &self.live;
-        self.begin()?;
-        if buffer.is_empty() {
-            return Ok(Some(0));
-        }
-        let stop = self.ready(buffer.len())?;
-        if !self.answers(stop, true) {
-            return Ok(None);
-        }
-        let count = self.copy_ahead(buffer);
-        self.window.advance(count);
-        Ok(Some(count))
-    }
-
-    /// Whether the bytes held show some of what comes next, or that nothing does; else the raw would have blocked.
-    pub(super) fn look_ahead(&mut self) -> Result<bool, IoFault>
-        requires reads { IsReading self.old }
-        ensures answers { Answers (reading_of self.old) Peek (look_reply result (ahead_of self.new.window)) (reading_of self.new) }
-        ensures reads { IsReading self.new }
-    {
-        let _ = &self.live;
-        self.begin()?;
-        let size = self.window.size();
-        let stop = self.ready(size)?;
+        let stop = self.ready(wanted)?;
         Ok(self.answers(stop, true))
+    }
+
+    /// Whether bytes are held from the place on, and nothing is owed.
+    fn gives_at_once(&self) -> bool
+        ensures yes { result ≡ true → (0 < length (ahead_of self.now.window)) × ((stream_of self.now).owed.bytes ≡ []) }
+        ensures no { result ≡ false → 0 < length (ahead_of self.now.window) → (stream_of self.now).owed.bytes ≡ [] → ⊥ }
+    {
+        self.window.is_settled() && !self.window.is_used_up()
     }
 
     /// Sees to it that some bytes are held, by one transfer where none are, for a call that wants n.

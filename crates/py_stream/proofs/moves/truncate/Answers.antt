@@ -33,4 +33,4 @@ returns-in_err-resize g c =
 
 pub returns : goal.returns
 returns g c = truncation_answers _ (g.S.Moves.shows c.begin_call.new.self) _ _ c.args.size c.unwrap_or-size.result
-    (record { sound = c.in_ok-begin_call.ensures.sound; owes = c.in_ok-begin_call.ensures.owes; begins = c.in_ok-begin_call.ensures.begins; can = sym (c.is_truncatable.ensures ∙ ap is_truncatable c.live.ensures) ∙ c.if-not-is_truncatable.false; asks = c.unwrap_or-size.ensures ∙ ap (unwrap_or c.args.size) c.stands_at.ensures }) c.if-size-gt-GREATEST_PLACE.false c.in_ok-settle.ensures.settles c.in_ok-resize.ensures
+    (record { sound = c.in_ok-begin_call.ensures.sound; owes = c.in_ok-begin_call.ensures.owes; begins = c.in_ok-begin_call.ensures.begins; can = sym (c.is_truncatable.ensures ∙ ap is_truncatable c.live.ensures) ∙ c.if-not-is_truncatable.false; asks = c.unwrap_or-size.ensures ∙ ap (unwrap_or c.args.size) c.stands_at.ensures }) c.if-size-gt-GREATEST_PLACE.false c.in_ok-settle.ensures.settles c.in_ok-settle.ensures.bare c.in_ok-resize.ensures

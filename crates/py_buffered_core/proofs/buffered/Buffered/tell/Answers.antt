@@ -1,4 +1,4 @@
-use Rattle.std.proofs.Common.{Some, refl}
+use Rattle.std.proofs.Common.{Some, refl, arith}
 use Rattle.py_flat.specs.Calls.{Tell}
 use Rattle.py_stream.specs.Access.{can_of}
 use Rattle.py_stream.proofs.Refused.{detached_answers}
@@ -14,5 +14,5 @@ returns-clause-answers g c = elim c.match-self.branch [
 pub returns-clause-tells : goal.returns-clause-tells
 returns-clause-tells g c = elim c.match-self.branch [
   | in-Some w ↦ rw (← c.self.view_is, w.in-Some.is, w.result-is, w.self-inside-is) (w.tell.ensures.tells c.self.inside.taken)
-  | in-None w ↦ rw (← c.self.view_is, w.result-is, w.self-inside-is, w.in-None.is) (record { says = refl; same = refl })
+  | in-None w ↦ rw (← c.self.view_is, w.result-is, w.self-inside-is, w.in-None.is) (record { says = refl; far = omega arith; same = refl })
 ]

@@ -1,4 +1,4 @@
-use Rattle.std.proofs.Common.{◌≡◌, ◌<◌, Bool, ℕ, List, length, take, true, false, Ok, Err, sym, subst, arith}
+use Rattle.std.proofs.Common.{◌≡◌, ◌<◌, Bool, ℕ, List, length, take, true, false, Ok, Err, sym, ap, subst, arith}
 use Rattle.std.proofs.lemmas.Result.{err_from_is_err_and}
 use Rattle.py_flat.specs.declared.fault.IoFault.TheVariants as fault
 use Rattle.py_flat.specs.BinaryStep.{payload}
@@ -7,7 +7,7 @@ use Rattle.py_stream.specs.Writing.{IsFull}
 use Rattle.py_window.specs.Window.{room_of}
 use Rattle.py_engine.specs.Engine.{EngineView, stream_of, Stands}
 use Rattle.py_engine.specs.RandomWriting.{GoesBehind, GivesOutcome, call_of}
-use Rattle.py_engine.proofs.RandomWriting.{NoRoom, given_none, given_fit, given_behind, given_stopped, given_late, given_some}
+use Rattle.py_engine.proofs.RandomWriting.{NoRoom, given_none, given_fit, given_behind, given_stopped, given_late, given_some, given_full}
 use Rattle.py_engine.proofs.data.BufferedData.give_placed.Goals as goal
 
 pub returns-then-count-eq0-clause-outcome : goal.returns-then-count-eq0-clause-outcome
@@ -30,6 +30,16 @@ returns-in_err-go_behind-clause-outcome g c =
     let left = err_from_is_err_and c.from_residual.result c.from_residual.ensures.1 in
     rw (left.1, left.2) (given_stopped c.args.self.now c.args.given (subst Stands c.self.view_is c.self.invariant) c.requires.update c.requires.live c.requires.whole (omega (arith, c.requires.within, c.requires.count)) c.go_behind.new.self c.in_err-go_behind.field-0.0 (subst (NoRoom c.args.self.now) c.requires.count (c.has_room.ensures.none c.if-has_room.false)) c.in_err-go_behind.ensures.outcome)
 
+pub returns-then-room-eq0-clause-outcome : goal.returns-then-room-eq0-clause-outcome
+returns-then-room-eq0-clause-outcome g c =
+    let old : EngineView = c.args.self.now in
+    let mid : EngineView = c.go_behind.new.self in
+    let waits : GoesBehind old (Ok false) mid = subst (λ (done : Bool). GoesBehind old (Ok done) mid) c.if-branch.false c.in_ok-go_behind.ensures.outcome in
+    rw c.note_wait.ensures
+    (subst (λ (engine : EngineView). GivesOutcome old c.args.given (Err (fault.WouldBlock 0)) (record engine { short = true })) (sym c.self-then-room-eq0.view_is)
+    (given_full old c.args.given (subst Stands c.self.view_is c.self.invariant) c.requires.update c.requires.live c.requires.whole (omega (arith, c.requires.within, c.requires.count)) mid c.owe_all.new.self waits c.owe_all.ensures.fills
+    (subst (NoRoom old) c.requires.count (c.has_room.ensures.none c.if-has_room.false)) (omega (arith, c.requires.count, c.if-count-eq0.false)) c.owe_all.ensures.full))
+
 pub returns-then-count-room-clause-outcome : goal.returns-then-count-room-clause-outcome
 returns-then-count-room-clause-outcome g c =
     let old : EngineView = c.args.self.now in
@@ -51,8 +61,8 @@ returns-clause-outcome g c =
     let less : room_of mid.window < length own = omega (arith, c.if-count-room.false, room, c.requires.count) in
     let waits : GoesBehind old (Ok false) mid = subst (λ (done : Bool). GoesBehind old (Ok done) mid) c.if-branch.false c.in_ok-go_behind.ensures.outcome in
     let keeps : KeepsBoth (stream_of mid) (take (room_of mid.window) own) (stream_of new) = subst (λ (room : ℕ). KeepsBoth (stream_of mid) (take room own) (stream_of new)) room c.keep_over-room.ensures.keeps in
-    let full : IsFull (stream_of new).owed (stream_of new).place new.window.size (room_of mid.window) = subst (IsFull (stream_of new).owed (stream_of new).place new.window.size) room (c.keep_over-room.ensures.full (omega (arith, room, less))) in
-    rw c.note_wait.ensures
+    let full : IsFull (stream_of new).owed (stream_of new).place new.window.size = c.keep_over-room.ensures.full (omega (arith, room, less)) (omega (arith, room, c.room.ensures.room, ap (λ (engine : EngineView). room_of engine.window) c.self-2.view_is, c.if-room-eq0.false)) in
+    rw c.note_wait-2.ensures
     (subst (λ (engine : EngineView). GivesOutcome old c.args.given (Err (fault.WouldBlock c.keep_over-room.result)) (record engine { short = true })) (sym c.self-3.view_is)
     (subst (λ (taken : ℕ). GivesOutcome old c.args.given (Err (fault.WouldBlock taken)) (record new { short = true })) (sym room)
     (given_some old c.args.given (subst Stands c.self.view_is c.self.invariant) c.requires.update c.requires.live c.requires.whole (omega (arith, c.requires.within, c.requires.count)) mid new waits keeps (subst (NoRoom old) c.requires.count (c.has_room.ensures.none c.if-has_room.false))

@@ -1,8 +1,7 @@
-use Rattle.std.proofs.Common.{ℕ, ◌+◌, ◌≤◌, List, length, take, sym, ◌∙◌, subst, arith}
+use Rattle.std.proofs.Common.{ℕ, ◌+◌, ◌≤◌, List, length, take, ◌∙◌, arith}
 use Rattle.std.proofs.lemmas.List.{length-take, length-take-le}
 use Rattle.py_flat.specs.BinaryStep.{payload}
-use Rattle.py_stream.specs.Writing.{IsFull}
-use Rattle.py_window.specs.Window.{WindowView, place_of, owed_of, room_of, pushed}
+use Rattle.py_window.specs.Window.{place_of, room_of}
 use Rattle.py_engine.specs.Engine.{EngineView}
 use Rattle.py_engine.specs.RandomWriting.{call_of}
 use Rattle.py_engine.proofs.Stepping.{engine_of}
@@ -33,7 +32,5 @@ returns-clause-full g c =
     let needs = rw (← c.self.view_is) at c.requires in
     let own : List ℕ = payload (call_of c.args.given) in
     let far : place_of old.window + length (take c.room-room.result own) ≤ 9223372036854775807 = omega (arith, length-take c.room-room.result own, needs.within) in
-    let new : WindowView = pushed (take c.room-room.result own) old.window in
-    λ many. rw c.push.ensures
-    (subst (IsFull (owed_of new) (place_of new) new.size) (sym c.room-room.ensures.room)
-    (fills old.window (take c.room-room.result own) c.self.invariant.window_is (length-take-le c.room-room.result own many ∙ c.room-room.ensures.room) far))
+    λ many some. rw c.push.ensures
+    (fills old.window (take c.room-room.result own) c.self.invariant.window_is (omega (arith, length-take-le c.room-room.result own many, some)) (length-take-le c.room-room.result own many ∙ c.room-room.ensures.room) far)

@@ -1,8 +1,14 @@
+use Rattle.std.proofs.Common.{refl, ap, ◌∙◌, subst}
+use Rattle.std.proofs.lemmas.Result.{err_from_is_err_and}
 use Rattle.py_flat.specs.Calls.{Peek}
-use Rattle.py_stream.specs.Replies.{look_reply}
-use Rattle.py_window.specs.Window.{ahead_of}
-use Rattle.py_engine.proofs.Random.{reads_seen}
+use Rattle.py_engine.specs.Engine.{EngineView, Stands}
+use Rattle.py_engine.proofs.Random.{begins_not, look_once}
 use Rattle.py_engine.proofs.data.BufferedData.look.Goals as goal
 
-pub returns-then-is_ahead : goal.returns-then-is_ahead
-returns-then-is_ahead g c = reads_seen c.args.self.now c.look_ahead.new.self Peek (look_reply c.look_ahead.result (ahead_of c.look_ahead.new.self.window)) (c.is_ahead.ensures.yes c.if-is_ahead.true) c.look_ahead.ensures.reads c.look_ahead.ensures.answers
+pub returns-in_err-begin : goal.returns-in_err-begin
+returns-in_err-begin g c =
+    let left = err_from_is_err_and c.from_residual.result c.from_residual.ensures.1 in
+    rw (left.1, left.2) (begins_not c.args.self.now c.begin.new.self Peek c.in_err-begin.field-0.0 refl (subst Stands c.self.view_is c.self.invariant) c.in_err-begin.ensures)
+
+pub returns : goal.returns
+returns g c = look_once c.args.self.now c.begin.new.self c.has_once.new.self c.has_once.result c.in_ok-begin.ensures (rw (c.size-size.ensures.size ∙ ap (λ (engine : EngineView). engine.window.size) c.self-2.view_is) at c.has_once.ensures)

@@ -1,8 +1,40 @@
-use Rattle.std.proofs.Common.{length}
-use Rattle.py_flat.specs.Calls.{ReadInto1}
-use Rattle.py_stream.specs.Replies.{into_reply}
-use Rattle.py_engine.proofs.Random.{reads_seen}
+use Rattle.std.proofs.Common.{◌≡◌, false, rules, ℕ, length, take, refl, ap, subst, arith}
+use Rattle.std.proofs.lemmas.List.{length-take}
+use Rattle.std.proofs.lemmas.Result.{err_from_is_err_and}
+use Rattle.py_flat.specs.Calls.{ReadInto1, NotReady, Refused}
+use Rattle.py_stream.specs.Kinds.{is_zero, asks_nothing}
+use Rattle.py_window.specs.Window.{ahead_of}
+use Rattle.py_engine.specs.Engine.{Stands, stream_of}
+use Rattle.py_engine.specs.Random.{AnswersOnce, gave}
+use Rattle.py_engine.proofs.SingleReading.{asks_some, copied}
+use Rattle.py_engine.proofs.Random.{answers_from_begun, begins_not, none_asked}
 use Rattle.py_engine.proofs.data.BufferedData.readinto1.Goals as goal
 
-pub returns-then-is_ahead-clause-answers : goal.returns-then-is_ahead-clause-answers
-returns-then-is_ahead-clause-answers g c = reads_seen c.args.self.now c.readinto1_ahead.new.self (ReadInto1 (length c.args.buffer.now)) (into_reply c.readinto1_ahead.result c.readinto1_ahead.new.buffer) (c.is_ahead.ensures.yes c.if-is_ahead.true) c.readinto1_ahead.ensures.reads c.readinto1_ahead.ensures.answers
+pub returns-in_err-begin-clause-answers : goal.returns-in_err-begin-clause-answers
+returns-in_err-begin-clause-answers g c =
+    let left = err_from_is_err_and c.from_residual.result c.from_residual.ensures.1 in
+    rw (left.1, left.2) (begins_not c.args.self.now c.begin.new.self (ReadInto1 (length c.args.buffer.now)) c.in_err-begin.field-0.0 refl (subst Stands c.self.view_is c.self.invariant) c.in_err-begin.ensures)
+
+pub returns-then-is_empty-clause-answers : goal.returns-then-is_empty-clause-answers
+returns-then-is_empty-clause-answers g c =
+    let none : length c.args.buffer.now ≡ 0 = search rules in
+    none_asked c.args.self.now c.begin.new.self (subst Stands c.self.view_is c.self.invariant) c.requires.reads c.in_ok-begin.ensures (ReadInto1 (length c.args.buffer.now)) (ap is_zero none)
+
+pub returns-in_err-has_once-clause-answers : goal.returns-in_err-has_once-clause-answers
+returns-in_err-has_once-clause-answers g c =
+    let some : asks_nothing (ReadInto1 (length c.args.buffer.now)) ≡ false = asks_some c.begin.new.self.window.size (ReadInto1 (length c.args.buffer.now)) refl (search rules) in
+    let left = err_from_is_err_and c.from_residual-in_err-has_once.result c.from_residual-in_err-has_once.ensures.1 in
+    rw (left.1, left.2) (answers_from_begun c.args.self.now c.begin.new.self (ReadInto1 (length c.args.buffer.now)) (Refused c.in_err-has_once.field-0.0) (stream_of c.has_once.new.self) c.in_ok-begin.ensures (c.in_err-has_once.ensures (ReadInto1 (length c.args.buffer.now)) refl some))
+
+pub returns-then-not-branch-clause-answers : goal.returns-then-not-branch-clause-answers
+returns-then-not-branch-clause-answers g c =
+    let some : asks_nothing (ReadInto1 (length c.args.buffer.now)) ≡ false = asks_some c.begin.new.self.window.size (ReadInto1 (length c.args.buffer.now)) refl (search rules) in
+    answers_from_begun c.args.self.now c.begin.new.self (ReadInto1 (length c.args.buffer.now)) NotReady (stream_of c.has_once.new.self) c.in_ok-begin.ensures ((rw c.if-not-branch.true at c.in_ok-has_once.ensures) (ReadInto1 (length c.args.buffer.now)) refl some)
+
+pub returns-clause-answers : goal.returns-clause-answers
+returns-clause-answers g c =
+    let size : ℕ = length c.args.buffer.now in
+    let once : AnswersOnce c.begin.new.self size c.has_once.new.self = rw c.if-not-branch.false at c.in_ok-has_once.ensures in
+    let part : take c.copy_ahead-count.result c.copy_ahead-count.new.buffer ≡ take size (ahead_of c.has_once.new.self.window) = copied c.copy_ahead-count.result size (take c.copy_ahead-count.result c.copy_ahead-count.new.buffer) (ahead_of c.has_once.new.self.window) c.copy_ahead-count.ensures.count c.copy_ahead-count.ensures.front in
+    let count : c.copy_ahead-count.result ≡ length (take size (ahead_of c.has_once.new.self.window)) = omega (arith, c.copy_ahead-count.ensures.count, length-take size (ahead_of c.has_once.new.self.window)) in
+    rw (c.step_on.ensures, part, count) (answers_from_begun c.args.self.now c.begin.new.self (ReadInto1 size) _ (stream_of (gave size c.has_once.new.self)) c.in_ok-begin.ensures once.readinto1)

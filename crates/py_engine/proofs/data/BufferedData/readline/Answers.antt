@@ -5,7 +5,7 @@ use Rattle.py_stream.specs.Replies.{bytes_reply}
 use Rattle.py_window.specs.Window.{ahead_of}
 use Rattle.py_engine.specs.Engine.{EngineView, Stands, stream_of}
 use Rattle.py_engine.specs.Random.{GoesToRaw}
-use Rattle.py_engine.proofs.Random.{answers_from_begun, begins_not, reads_seen, went_not, went_unready, went_reads, went_on, line_goes, line_held, lacks}
+use Rattle.py_engine.proofs.Random.{begins_not, went_not, went_unready, went_reads, went_on, line_goes, line_held, lacks}
 use Rattle.py_engine.proofs.data.BufferedData.readline.Goals as goal
 
 pub returns-in_err-begin : goal.returns-in_err-begin
@@ -22,11 +22,6 @@ pub returns-in-Some : goal.returns-in-Some
 returns-in-Some g c =
     line_held c.args.self.now c.begin.new.self (subst Stands c.self.view_is c.self.invariant) c.requires.reads c.in_ok-begin.ensures c.give.new.self c.args.limit c.in-Some.used c.ahead.result.now c.in_ok-line.line.items (c.ahead.ensures ∙ ap (λ (engine : EngineView). ahead_of engine.window) c.self-2.view_is) c.in-Some.ensures c.in_ok-line.ensures.0 c.in_ok-line.ensures.1
 
-pub returns-then-is_ahead : goal.returns-then-is_ahead
-returns-then-is_ahead g c =
-    answers_from_begun c.args.self.now c.begin.new.self (ReadLine c.args.limit) (bytes_reply c.read_line.result) (stream_of c.read_line.new.stream) c.in_ok-begin.ensures
-    (reads_seen c.begin.new.self c.read_line.new.stream (ReadLine c.args.limit) (bytes_reply c.read_line.result) (c.is_ahead.ensures.yes c.if-is_ahead.true) (c.read_line.ensures.reads (c.is_ahead.ensures.yes c.if-is_ahead.true)) c.read_line.ensures.answers)
-
 pub returns-in_err-go_ahead : goal.returns-in_err-go_ahead
 returns-in_err-go_ahead g c =
     let goes : GoesToRaw (stream_of c.begin.new.self) (ReadLine c.args.limit) = line_goes c.args.self.now c.begin.new.self (subst Stands c.self.view_is c.self.invariant) c.requires.reads c.in_ok-begin.ensures c.args.limit c.ahead.result.now (c.ahead.ensures ∙ ap (λ (engine : EngineView). ahead_of engine.window) c.self-2.view_is) c.in_default.ensures in
@@ -41,4 +36,4 @@ returns-then-not-branch g c =
 pub returns : goal.returns
 returns g c =
     let goes : GoesToRaw (stream_of c.begin.new.self) (ReadLine c.args.limit) = line_goes c.args.self.now c.begin.new.self (subst Stands c.self.view_is c.self.invariant) c.requires.reads c.in_ok-begin.ensures c.args.limit c.ahead.result.now (c.ahead.ensures ∙ ap (λ (engine : EngineView). ahead_of engine.window) c.self-2.view_is) c.in_default.ensures in
-    went_on c.args.self.now c.begin.new.self (ReadLine c.args.limit) c.in_ok-begin.ensures goes c.go_ahead.new.self c.read_line-2.new.stream c.in_ok-go_ahead.field-0 (bytes_reply c.read_line-2.result) c.if-not-branch.false c.in_ok-go_ahead.ensures (c.read_line-2.ensures.reads (went_reads c.args.self.now c.begin.new.self (ReadLine c.args.limit) c.in_ok-begin.ensures goes c.go_ahead.new.self c.in_ok-go_ahead.field-0 c.if-not-branch.false c.in_ok-go_ahead.ensures)) (λ wanting takes. absurd (cc)) c.read_line-2.ensures.answers
+    went_on c.args.self.now c.begin.new.self (ReadLine c.args.limit) c.in_ok-begin.ensures goes c.go_ahead.new.self c.read_line.new.stream c.in_ok-go_ahead.field-0 (bytes_reply c.read_line.result) c.if-not-branch.false c.in_ok-go_ahead.ensures (c.read_line.ensures.reads (went_reads c.args.self.now c.begin.new.self (ReadLine c.args.limit) c.in_ok-begin.ensures goes c.go_ahead.new.self c.in_ok-go_ahead.field-0 c.if-not-branch.false c.in_ok-go_ahead.ensures)) (λ wanting takes. absurd (cc)) c.read_line.ensures.answers

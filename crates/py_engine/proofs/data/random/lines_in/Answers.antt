@@ -1,5 +1,5 @@
 use Rattle.std.proofs.Common.{inl, inr, arith}
-use Rattle.py_engine.proofs.Random.{lines_are_in, lines_past, short_past}
+use Rattle.py_engine.proofs.Random.{lines_are_in, short_past}
 use Rattle.py_engine.proofs.data.random.lines_in.Goals.{then-most-eq0-via-then-most-eq0, then-most-eq0-via-else-most-eq0+then-bytes-most}
 use Rattle.py_engine.proofs.data.random.lines_in.Goals as goal
 
