@@ -17,5 +17,7 @@ pub mod Fronts
 pub mod Translating
 pub mod Strings
 pub mod Joining
+pub mod LineEnds
+pub mod CharacterEnds
 pub mod Looking
 pub mod Items

@@ -15,3 +15,5 @@ pub mod Decoding
 pub mod Pieces
 pub mod Alone
 pub mod NewlineRule
+pub mod NewlineArgument
+pub mod FindNewline

@@ -1,6 +1,7 @@
-ghost use Rattle.std.specs.Prelude.{◌≡◌, ◌++◌, ◌==◌, false, IfOk, OnOk};
+ghost use Rattle.std.specs.Prelude.{◌≡◌, ◌++◌, ◌==◌, false, option_map, IfOk, OnOk};
 ghost use Rattle.py_flat.specs.Lines.{cr};
 ghost use Rattle.py_plain.specs.NewlineRule.{released, passes, universal, ends_held, translated};
+ghost use Rattle.py_plain.specs.NewlineArgument.{rule_of};
 
 use std::alloc::{AllocError, Global};
 
@@ -18,6 +19,25 @@ pub enum Newlines {
     Cr,
     /// CR LF: nothing is changed, and lines end at CR LF.
     Crlf,
+}
+
+impl Newlines {
+    /// The rule that the `newline` argument of Python's `open` stands for: universal where there is none. `None` where it is a text
+    /// other than the empty one, LF, CR and CR LF.
+    pub fn from_text(argument: Option<&str>) -> Option<Newlines>
+        ensures rule { result ≡ rule_of (option_map (λ text. text.now) argument.entry) }
+    {
+        let Some(text) = argument else {
+            return Some(Newlines::Universal);
+        };
+        match text {
+            "" => Some(Newlines::Passthrough),
+            "\n" => Some(Newlines::Lf),
+            "\r" => Some(Newlines::Cr),
+            "\r\n" => Some(Newlines::Crlf),
+            _ => None,
+        }
+    }
 }
 
 /// Gives an LF for a CR that was held.

@@ -28,7 +28,7 @@ find-passes test (y ∷ ys) x is =
     ]
 
 -- the order that flags say is the one that they were made of
-flags-order : (order : Order) → order_of (pos (flags_of order)) ≡ order
+pub flags-order : (order : Order) → order_of (pos (flags_of order)) ≡ order
 flags-order Unknown = refl
 flags-order Little = refl
 flags-order Big = refl

@@ -1,3 +1,14 @@
 pub mod Places
 pub mod TextSteps
 pub mod Cookies
+pub mod Building
+pub mod Unbroken
+pub mod Translated
+pub mod Inside
+pub mod Told
+pub mod Standing
+pub mod StandingSteps
+pub mod Fitting
+pub mod Sought
+pub mod Orders
+pub mod Least

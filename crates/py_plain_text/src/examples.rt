@@ -8,6 +8,7 @@ ghost use Rattle.py_plain.specs.declared.newlines.Newlines.TheVariants as newlin
 ghost use Rattle.py_plain_text.specs.TextCalls.{Read, ReadLine, WriteText, SeekText, Tell, Reconfigure, SetChunkSize, Flush, Close, Detach, ChunkSize, Readable, Writable, Seekable, Closed, Encoding, Errors, OtherKind};
 ghost use Rattle.py_plain.specs.Units.{Unknown};
 ghost use Rattle.py_plain_text.specs.TextFile.{clean_at};
+ghost use Rattle.py_plain_text.specs.Cookie.{boundary_cookie, built};
 ghost use Rattle.py_plain_text.specs.Telling.{placed};
 ghost use Rattle.py_plain_text.specs.TextRefusals.{refusal};
 ghost use Rattle.py_plain_text.specs.TextExact.{in_life};
@@ -46,6 +47,16 @@ pub fn refused_ranges_take_nothing()
 #[tactic(auto, unfolding(py_plain::specs::Utf8::is_within, py_plain::specs::Utf16::is_high, py_plain::specs::Utf16::is_low, py_plain::specs::OneByte::is_ascii))]
 pub fn a_range_is_refused_from_its_first_ascii_byte()
     ensures escaped { replies_of (text_reader Utf16Be SurrogateEscape newline.Universal (0xD8 ∷ 0x00 ∷ 0x00 ∷ 0x41 ∷ [])) (Read (Some 7) ∷ Read (Some 1) ∷ []) ≡ Text (codes "#56536" ++ 0 ∷ []) ∷ Refused (fault.UnicodeDecodeError 3 4) ∷ [] }
+{}
+
+/// A cookie is built as 25 bytes, each number with its least byte first: the start in eight, its order, the bytes to feed and the characters to
+/// skip in four each, a flag, and the bytes to skip in four. One with a negative field isn't built.
+pub fn cookies_are_built_as_their_bytes()
+    ensures at_a_byte { built (boundary_cookie 4 0) ≡ Some (cookie_at 4) }
+    ensures inside { built (record { start_pos = pos 1; dec_flags = pos 0; bytes_to_feed = pos 1; chars_to_skip = pos 2; need_eof = true; bytes_to_skip = pos 3 }) ≡ Some (cookie_inside 1 1 2 1 3) }
+    ensures far { built (boundary_cookie 0x0102030405060708 0) ≡ Some (8 ∷ 7 ∷ 6 ∷ 5 ∷ 4 ∷ 3 ∷ 2 ∷ 1 ∷ replicate 17 0) }
+    ensures negative_start { built (record (boundary_cookie 0 0) { start_pos = negsuc 0 }) ≡ None }
+    ensures negative_skip { built (record (boundary_cookie 0 0) { bytes_to_skip = negsuc 0 }) ≡ None }
 {}
 
 /// A cookie that nobody told is taken where the bytes are one item, by themselves, that has the characters that it skips.

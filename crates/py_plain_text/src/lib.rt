@@ -13,14 +13,18 @@ mod plain_write;
 mod text_cookie;
 
 pub use examples::{
-    a_range_is_refused_from_its_first_ascii_byte, cookies_tell_where_a_text_stands,
-    forged_cookies_are_tried_against_the_bytes, hostile_cookies_are_refused,
-    refused_ranges_take_nothing, runs_are_refused_by_their_places_in_the_text,
-    settings_are_changed_where_a_text_is_clean, text_seeks_are_tried_in_order,
-    texts_are_read_by_their_lines, texts_are_written_where_they_stand,
-    texts_refuse_by_life_and_ability,
+    a_range_is_refused_from_its_first_ascii_byte, cookies_are_built_as_their_bytes,
+    cookies_tell_where_a_text_stands, forged_cookies_are_tried_against_the_bytes,
+    hostile_cookies_are_refused, refused_ranges_take_nothing,
+    runs_are_refused_by_their_places_in_the_text, settings_are_changed_where_a_text_is_clean,
+    text_seeks_are_tried_in_order, texts_are_read_by_their_lines,
+    texts_are_written_where_they_stand, texts_refuse_by_life_and_ability,
 };
-pub use laws::{plain_steps, steps_so_far, told_boundaries_give_the_rest};
+pub use laws::{
+    a_text_is_sought_back_to_where_it_told, built_cookies_are_parsed,
+    calls_leave_texts_where_cookies_tell, plain_steps, steps_so_far, told_boundaries_give_the_rest,
+    told_places_give_the_rest,
+};
 pub use plain_place::PlainSettings;
 pub use plain_text::PlainText;
 pub use plain_write::{laid, written};

@@ -1,6 +1,6 @@
 ghost use Rattle.std.specs.Prelude.{◌≡◌, ◌<◌, ◌^◌, option_map, slice_index};
 ghost use Rattle.std.specs.Int.{w32, w64};
-ghost use Rattle.py_plain_text.specs.Cookie.{parsed, cookie_of, number_at};
+ghost use Rattle.py_plain_text.specs.Cookie.{parsed, built, is_buildable, cookie_of, number_at};
 ghost use Rattle.py_plain_text.specs.CookieView.{cookie_shown};
 
 /// The cookie of a place in a text, by the names of Python's own: where the text begins, in bytes; and, of a place inside
@@ -71,6 +71,17 @@ fn cookie_of(bytes: &[u8]) -> TextIOCookie
     }
 }
 
+/// Whether no field of a cookie is negative.
+fn is_buildable(cookie: &TextIOCookie) -> bool
+    ensures { result ≡ is_buildable (cookie_shown cookie.now) }
+{
+    cookie.start_pos >= 0
+        && cookie.dec_flags >= 0
+        && cookie.bytes_to_feed >= 0
+        && cookie.chars_to_skip >= 0
+        && cookie.bytes_to_skip >= 0
+}
+
 impl TextIOCookie {
     /// The cookie that some bytes are, zeros after them; `None` for more than 25 bytes.
     pub fn parse(bytes: &[u8]) -> Option<Self>
@@ -80,5 +91,22 @@ impl TextIOCookie {
             return None;
         }
         Some(cookie_of(bytes))
+    }
+
+    /// The 25 bytes that the cookie goes as, each number with its least byte first; `None` where a field is negative.
+    pub fn build(&self) -> Option<[u8; 25]>
+        ensures bytes { result ≡ built (cookie_shown self.now) }
+    {
+        if !is_buildable(self) {
+            return None;
+        }
+        let mut bytes = [0; 25];
+        bytes[..8].copy_from_slice(&self.start_pos.to_le_bytes());
+        bytes[8..12].copy_from_slice(&self.dec_flags.to_le_bytes());
+        bytes[12..16].copy_from_slice(&self.bytes_to_feed.to_le_bytes());
+        bytes[16..20].copy_from_slice(&self.chars_to_skip.to_le_bytes());
+        bytes[20] = u8::from(self.need_eof);
+        bytes[21..].copy_from_slice(&self.bytes_to_skip.to_le_bytes());
+        Some(bytes)
     }
 }
