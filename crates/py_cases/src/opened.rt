@@ -12,7 +12,7 @@ use py_raw::{GREATEST_PLACE, RawFlags, RawStream};
 use py_raw_memory::MemRaw;
 use py_script::{Command, parse_words};
 use py_stream::NewRefused;
-use py_textio::TextReader;
+use py_text_reader::TextReader;
 use std::alloc::Global;
 
 /// A session: as a plan opens it, or with a buffer of any size.

@@ -2,7 +2,7 @@
 use py_flat::IoFault;
 use py_raw::RawFlags;
 use py_raw_memory::MemRaw;
-use py_textio::TextReader;
+use py_text_reader::TextReader;
 use std::alloc::Global;
 use std::test::Fail;
 

@@ -18,7 +18,7 @@ use Rattle.py_calls.specs.Calls.{file_call, said}
 use Rattle.py_mode.specs.declared.mode.EncodeMode.{EncodeMode}
 use Rattle.py_mode.specs.declared.mode.EncodeMode.TheVariants.{Text, Bytes}
 use Rattle.py_mode.specs.declared.plan.OpenPlan.{OpenPlan}
-use Rattle.py_textio.specs.TextState.{TextState}
+use Rattle.py_text_reader.specs.TextState.{TextState}
 use Rattle.py_binary.specs.Binary.{has_reply_room, AnswersBy}
 use Rattle.py_open.specs.Session.{SessionView, TextSession, BinarySession, raw_of, life_of, owed_of, IsInStep, HasOpenRaw, IsKept, IsShut, ClosesRaw, AnswersTextBy, Answers}
 use Rattle.py_open.specs.Opening.{OpensBy, OpensSession}

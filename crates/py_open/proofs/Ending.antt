@@ -19,8 +19,8 @@ use Rattle.py_stream.specs.Answers.{AnswersWith, Leaves, refused_by}
 use Rattle.py_calls.specs.declared.call.Call.{Call}
 use Rattle.py_calls.specs.declared.reply.Reply.{Reply}
 use Rattle.py_calls.specs.Calls.{text_call, file_call, said}
-use Rattle.py_textio.specs.TextState.{TextState}
-use Rattle.py_textio.specs.Answers as text
+use Rattle.py_text_reader.specs.TextState.{TextState}
+use Rattle.py_text_reader.specs.Answers as text
 use Rattle.py_binary.specs.Binary.{has_reply_room, left_by, left_of, AnswersBy}
 use Rattle.py_open.specs.Session.{OfText, OfBinary, SessionView, TextSession, BinarySession, file_seen, raw_of, life_of, AnswersTextBy, Answers, IsInStep}
 use Rattle.py_open.specs.Laws.{PassesAll, HoldsFlat, closed_text_reply, closed_file_reply, closed_by, closed_reply, WhereShown}

@@ -15,7 +15,7 @@ use Rattle.py_stream.specs.Answers.{AnswersWith, Leaves}
 use Rattle.py_calls.specs.declared.call.Call.{Call}
 use Rattle.py_calls.specs.declared.reply.Reply.{Reply}
 use Rattle.py_calls.specs.Calls.{text_call, file_call, said}
-use Rattle.py_textio.specs.TextState.{TextState}
+use Rattle.py_text_reader.specs.TextState.{TextState}
 use Rattle.py_binary.specs.Binary.{has_reply_room, left_by, detached_fault, AnswersBy}
 use Rattle.py_open.specs.Session.{SessionFile, OfText, OfBinary, SessionView, TextSession, BinarySession, FileLeftBy, StepBy, file_seen, raw_of, life_of, life_in, AnswersTextBy, Answers}
 use Rattle.py_open.specs.Run.{Entry, IsRun, IsHistory, calls_of}

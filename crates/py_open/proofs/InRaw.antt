@@ -18,8 +18,8 @@ use Rattle.py_calls.specs.declared.call.Call.{Call}
 use Rattle.py_calls.specs.declared.call.Call.TheVariants as call
 use Rattle.py_calls.specs.declared.reply.Reply.{Reply}
 use Rattle.py_calls.specs.Calls.{text_call, file_call, said}
-use Rattle.py_textio.specs.TextState.{TextState}
-use Rattle.py_textio.specs.Answers as text
+use Rattle.py_text_reader.specs.TextState.{TextState}
+use Rattle.py_text_reader.specs.Answers as text
 use Rattle.py_binary.specs.Binary.{AnswersBy}
 use Rattle.py_open.specs.Session.{SessionView, TextSession, BinarySession, file_seen, raw_of, life_of, owed_of, bytes_in, IsInStep, AnswersTextBy, Answers}
 use Rattle.py_open.specs.Run.{IsRun, IsSmooth, NoneLacksMemory, all_said}

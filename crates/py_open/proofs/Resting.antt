@@ -13,8 +13,8 @@ use Rattle.py_stream.specs.Answers.{AnswersWith, Leaves, refused_by}
 use Rattle.py_calls.specs.declared.call.Call.{Call}
 use Rattle.py_calls.specs.declared.reply.Reply.{Reply}
 use Rattle.py_calls.specs.Calls.{text_call, file_call, said}
-use Rattle.py_textio.specs.TextState.{TextState}
-use Rattle.py_textio.specs.Answers as text
+use Rattle.py_text_reader.specs.TextState.{TextState}
+use Rattle.py_text_reader.specs.Answers as text
 use Rattle.py_binary.specs.Binary.{has_reply_room, AnswersBy}
 use Rattle.py_open.specs.Session.{SessionView, TextSession, BinarySession, raw_of, life_of, AnswersTextBy, Answers}
 use Rattle.py_open.specs.Laws.{closed_file_reply}

@@ -12,7 +12,7 @@ use Rattle.py_stream.specs.Answers as stream
 use Rattle.py_calls.specs.declared.call.Call.{Call}
 use Rattle.py_calls.specs.declared.reply.Reply.{Reply}
 use Rattle.py_calls.specs.Calls.{text_call, file_call, said}
-use Rattle.py_textio.specs.Answers as text
+use Rattle.py_text_reader.specs.Answers as text
 use Rattle.py_binary.specs.Binary.{detached_fault}
 use Rattle.py_open.specs.Session.{SessionFile, OfText, OfBinary, SessionView, TextSession, BinarySession, raw_of, file_seen, owed_of, flat_bytes, flag_seen, Answers}
 use Rattle.py_open.specs.Run.{Entry, IsRun, IsMarkedRun, IsHistory, calls_of, replies_of, all_said}

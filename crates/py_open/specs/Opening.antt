@@ -13,7 +13,7 @@ use Rattle.py_mode.specs.declared.mode.Mode.{Mode}
 use Rattle.py_mode.specs.declared.mode.EncodeMode.{EncodeMode}
 use Rattle.py_mode.specs.declared.mode.EncodeMode.TheVariants.{Text, Bytes}
 use Rattle.py_mode.specs.declared.plan.OpenPlan.{OpenPlan}
-use Rattle.py_textio.specs.Opening.{OpensText, handed_at}
+use Rattle.py_text_reader.specs.Opening.{OpensText, handed_at}
 use Rattle.py_binary.specs.Binary.{place_left}
 use Rattle.py_open.specs.Session.{SessionView, TextSession, BinarySession}
 

@@ -16,8 +16,8 @@ use Rattle.py_calls.specs.declared.call.Call.TheVariants as call
 use Rattle.py_calls.specs.declared.reply.Reply.{Reply}
 use Rattle.py_calls.specs.declared.reply.Reply.TheVariants as reply
 use Rattle.py_calls.specs.Calls.{text_call, file_call, said}
-use Rattle.py_textio.specs.TextState.{TextState}
-use Rattle.py_textio.specs.Answers as text
+use Rattle.py_text_reader.specs.TextState.{TextState}
+use Rattle.py_text_reader.specs.Answers as text
 use Rattle.py_binary.specs.Binary.{flag_of, AnswersBinary}
 
 -- a session, by its kind

@@ -12,7 +12,7 @@ use py_binary::{Access, BinarySession};
 use py_flat::{IoFault, Life};
 use py_raw::RawStream;
 use py_stream::{Detached, NewRefused, refused_at_first};
-use py_textio::TextReader;
+use py_text_reader::TextReader;
 use std::alloc::Global;
 use std::marker::Model;
 

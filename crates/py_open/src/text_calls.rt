@@ -1,14 +1,14 @@
 //! Calls on a text.
 ghost use Rattle.std.specs.Prelude.{◌≡◌, false};
 ghost use Rattle.py_calls.specs.Calls.{said};
-ghost use Rattle.py_textio.specs.Answers as seen;
+ghost use Rattle.py_text_reader.specs.Answers as seen;
 ghost use Rattle.py_stream.specs.Replies.{done_reply};
 ghost use Rattle.py_open.specs.Session.{AnswersText};
 
 use py_calls::{Call, Reply};
 use py_flat::{Chars, IoFault};
 use py_raw::RawStream;
-use py_textio::TextReader;
+use py_text_reader::TextReader;
 use std::alloc::Global;
 
 /// Makes a call on a text; what a text doesn't have so far, it refuses.

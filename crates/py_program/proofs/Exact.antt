@@ -10,7 +10,7 @@ use Rattle.py_flat.specs.FlatFile.{Abilities, FlatFile}
 use Rattle.py_flat.specs.declared.life.Life.{Life}
 use Rattle.py_flat.specs.Calls.{FileReply}
 use Rattle.py_plain_text.specs.TextFile.{TextFile}
-use Rattle.py_textio.specs.TextState.{TextState}
+use Rattle.py_text_reader.specs.TextState.{TextState}
 use Rattle.py_raw.specs.RawStream.{Raw, tells}
 use Rattle.py_raw.proofs.Telling.{tells_its_bytes, tells_its_place, tells_still}
 use Rattle.py_raw.specs.RawMode.{raw_mode_text}
@@ -31,7 +31,7 @@ use Rattle.py_mode.specs.declared.plan.OpenPlan.{OpenPlan}
 use Rattle.py_mode.specs.Mode.{letter_of}
 use Rattle.py_mode.specs.Plan.{plan_of}
 use Rattle.py_mode.proofs.Planning.{planned_text_is_read}
-use Rattle.py_textio.specs.Opening.{text_opened, OpensText}
+use Rattle.py_text_reader.specs.Opening.{text_opened, OpensText}
 use Rattle.py_open.specs.Session.{SessionFile, OfText, OfBinary, SessionView, TextSession, BinarySession, file_seen, raw_of, life_of, bytes_in}
 use Rattle.py_open.specs.Opening.{access_of, OpensBy}
 use Rattle.py_open.specs.Run.{IsRun, IsSmooth, NoneLacksMemory, RunsCalls, AllSettle, all_said}

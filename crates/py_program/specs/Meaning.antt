@@ -16,7 +16,7 @@ use Rattle.py_mode.specs.declared.mode.EncodeMode.TheVariants.{Text, Bytes}
 use Rattle.py_mode.specs.declared.open_args.OpenArgs.{OpenArgs}
 use Rattle.py_mode.specs.declared.plan.OpenPlan.{OpenPlan}
 use Rattle.py_mode.specs.Plan.{plan_of}
-use Rattle.py_textio.specs.Opening.{text_opened}
+use Rattle.py_text_reader.specs.Opening.{text_opened}
 use Rattle.py_open.specs.Session.{SessionFile, OfText, OfBinary, SessionView, raw_of, bytes_in}
 use Rattle.py_open.specs.Opening.{access_of}
 use Rattle.py_open.specs.Run.{NoneLacksMemory, RunsCalls, AllSettle, all_said}

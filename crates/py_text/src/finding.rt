@@ -21,7 +21,7 @@ fn writes_texts(handler: Handler) -> bool
 }
 
 /// Whether a handler is one of each direction in which a text goes.
-fn is_of_stream(readable: bool, writable: bool, handler: Handler) -> bool
+pub fn is_of_stream(readable: bool, writable: bool, handler: Handler) -> bool
     ensures { result ≡ is_of_stream readable writable handler }
 {
     (!readable || handler.reads_texts()) && (!writable || writes_texts(handler))

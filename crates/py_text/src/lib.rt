@@ -20,11 +20,12 @@ pub use examples::{
     a_coder_has_a_codec_that_is_built_in_and_a_handler_of_its_directions,
     a_cr_waits_for_what_follows,
 };
-pub use finding::find_coder;
+pub use finding::{find_coder, is_of_stream};
 pub use laws::newline_pieces_read_as_one;
 pub use newline_decoder::IncrementalNewlineDecoder;
 pub use py_codec::IoFault;
 pub use py_plain::{Encoding, Handler, Newlines};
 pub use py_registry::{CodecsRegistry, SearchFunction};
+pub use reading::read_so_far;
 pub use text_settings::TextSettings;
 pub use utf8_size::Utf8size;

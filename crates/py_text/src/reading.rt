@@ -24,8 +24,9 @@ fn read_universal(alloc: Global, held: bool, text: &str) -> Result<(String, bool
     Ok((out, held))
 }
 
-/// What a rule gives of a text while more may come, and whether a CR is held then.
-pub(crate) fn read_so_far(
+/// What a rule gives of a text while more may come, and whether a CR is held then; `held` says that one is held before
+/// the text. The `Err` means out of memory.
+pub fn read_so_far(
     alloc: Global,
     newline: Newlines,
     held: bool,

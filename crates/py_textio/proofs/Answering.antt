@@ -1,210 +1,251 @@
--- What a text answers is what the model allows.
-use Rattle.std.proofs.Common.{◌≡◌, ◌≢◌, ℕ, ◌+◌, ◌-◌, ◌≤◌, inr, Bool, true, false, ◌&&◌, max, IsTrue, List, [], ◌++◌, length, take, drop, Option, Some, None, IfSome, Ok, refl, sym, ap, ◌∙◌, subst, arith}
-use Rattle.std.proofs.lemmas.List.{append-nil, length-take-le, take_all, drop_all}
-use Rattle.py_flat.specs.declared.fault.IoFault.{IoFault}
+-- What a text answers of what was gathered.
+use Rattle.std.proofs.Common.{◌≡◌, ◌≢◌, ℕ, ◌+◌, ◌≤◌, max, Bool, true, false, ◌||◌, List, [], ◌++◌, length, take, Option, Some, None, IfSome, String, Ok, Err, refl, sym, ap, ◌∙◌, subst, arith}
+use Rattle.std.proofs.lemmas.List.{append-nil, length-take, length-take-le, length-drop, take_all, drop_all}
+use Rattle.std.specs.declared.alloc.Global.{Global}
 use Rattle.py_flat.specs.declared.fault.IoFault.TheVariants as fault
-use Rattle.py_flat.specs.declared.life.Life.{Life}
 use Rattle.py_flat.specs.declared.life.Life.TheVariants as life
-use Rattle.py_flat.specs.Bytes.{left_at, first_of}
-use Rattle.py_flat.specs.Lines.{Lf, first_line}
-use Rattle.py_flat.specs.Calls.{FileReply, Text, Refused}
-use Rattle.py_flat.specs.Refusals.{or_else}
-use Rattle.py_flat.specs.BinaryStep.{IsFrontOf, is_live}
-use Rattle.py_flat.specs.AllowedStep.{settled, waited_for}
-use Rattle.py_plain.specs.declared.encoding.Encoding.TheVariants.{Utf8}
-use Rattle.py_plain.specs.declared.handler.Handler.TheVariants.{Strict}
-use Rattle.py_plain.specs.Units.{Unknown}
+use Rattle.py_flat.specs.Bytes.{left_at}
+use Rattle.py_flat.specs.BinaryStep.{IsFrontOf}
+use Rattle.py_flat.specs.Calls.{Text, NotReady, Refused}
 use Rattle.py_plain.specs.Handlers.{treatment}
-use Rattle.py_plain.specs.Items.{Walk, AtEnd, ends, walk_from, characters_of, refusal_of}
-use Rattle.py_plain_text.specs.Rest.{Rest, text_rest}
-use Rattle.py_plain_text.specs.TextFile.{TextFile, clean_at}
-use Rattle.py_plain_text.specs.TextStep.{TextStep, asks_any, range_refusal, after_taking, at_the_end, answered_text, text_life_refusal, text_answered, text_carried_out, text_refusal, text_exact, text_read, text_line, text_reaches_raw, TextWaitedBy}
-use Rattle.py_textio.specs.declared.text.Wanted.{Wanted}
-use Rattle.py_textio.specs.declared.text.Wanted.TheVariants as wanted
-use Rattle.py_raw.specs.RawStream.{tells as raw_tells}
-use Rattle.py_textio.specs.Text.{TextView, decoded_from, ahead, IsText, ComesLast, call_of, enough, size_of, asks_all, file_of, GiveOutcome, GiveLastOutcome, Takes, TakesWhole}
-use Rattle.py_textio.proofs.Tying.{TiedTold, tied_by}
-use Rattle.py_textio.proofs.Enough.{answer_in, passes, IsEnough, IsShort, is_enough, is_short}
+use Rattle.py_plain.specs.Items.{Walk, AtEnd, ends, characters_of, refusal_of}
+use Rattle.py_plain.specs.Pieces.{walk_at}
+use Rattle.py_flat.specs.Lines.{line_after}
+use Rattle.py_plain.specs.NewlineRule.{line_end, read_all}
+use Rattle.py_codec.specs.Answers.{text_of}
+use Rattle.py_plain_text.specs.TextFile.{TextFile, TextPlace, clean_at}
+use Rattle.py_plain_text.specs.TextStep.{asks_any, place_taking, after_taking, at_the_end}
+use Rattle.py_plain_text.specs.TextAllowed.{TextFileStep}
+use Rattle.py_stream.specs.Buffer.{WhereShown, flat_of}
+use Rattle.py_held_text.specs.declared.wanted.Wanted.{Wanted}
+use Rattle.py_held_text.specs.declared.wanted.Wanted.TheVariants.{Characters, Line}
+use Rattle.py_held_text.specs.Held.{HeldView, ahead, left_so_far}
+use Rattle.py_held_text.specs.Decodes.{IsDrained}
+use Rattle.py_held_text.specs.Finding.{answer_of, enough, enough_before}
+use Rattle.py_textio.specs.declared.text.Answer.TheVariants as answer
+use Rattle.py_textio.specs.Waiting.{bytes_between, ShowsAll}
+use Rattle.py_textio.specs.Answers.{IsReplyTo, PlaceMoves}
+use Rattle.py_textio.specs.Knowing.{TextView, place_of, shown_file, from_place, KnowsTold, IsText}
+use Rattle.py_textio.specs.Reading.{call_of, size_of, asks_all, ComesLast, RefusesAt, IsAtEnd, HoldsNothing, GiveOutcome, GiveAllOutcome, Finishes}
+use Rattle.py_textio.proofs.Following.{all_none, so_far_empty}
+use Rattle.py_textio.proofs.Knowing.{knows_given, without_front}
+use Rattle.py_textio.proofs.Enough.{is_enough, is_short, is_before}
+use Rattle.py_textio.proofs.Steps.{Tied, step_enough, step_before, step_refuses, step_last, step_all, step_waits, step_unready, enough_sized, before_sized}
 
--- What is left of a text.
+-- what holds of every text, of one as it is seen
+abbrev pub Holds : TextView → Type 0
+Holds text = IsText text.buffer text.held text.at text.taken text.settings
 
--- the characters after those that are known, and the refused range that ends them
-abbrev pub behind : TextView → List ℕ
-behind text = characters_of (ahead text.held text.reader.place (left_at text.reader.raw.bytes text.reader.place)).items
+-- a text stands no further than its buffer
+pub behind_of : (text : TextView) → Holds text → text.at ≤ text.buffer.place
+behind_of text is = omega (arith, is.forth, is.stands)
 
-abbrev pub stop_of : TextView → Option (ℕ × ℕ)
-stop_of text = refusal_of (ahead text.held text.reader.place (left_at text.reader.raw.bytes text.reader.place)).ending
+-- a live text that reads is tied to the bytes below, where its buffer tells
+pub tied_of : (text : TextView) → text.buffer.life ≡ life.Live → text.buffer.can.readable ≡ true → IsText text.buffer text.held text.at text.taken text.settings → WhereShown text.buffer (Tied text)
+tied_of text live reads is = λ told. record { live = live; reads = reads; rule = (is.reads_by reads).newline; knows = is.told told live reads }
 
--- a live text, with what holds of it where its raw tells
-pub record Tied (text : TextView) : Type 0 where
-  pub live : text.reader.life ≡ life.Live
-  pub tied : TiedTold text.reader.raw.bytes text.reader.place text.at text.taken text.held text.pending
+-- The place.
 
--- what holds of every text
-abbrev pub Stands : TextView → Type 0
-Stands text = IsText text.reader.raw text.reader.place text.reader.life text.at text.taken text.chunk text.held text.pending
+gives_text : (asked : Wanted) (cs : List ℕ) (writes : Bool) → IsReplyTo writes (call_of asked) (Text cs)
+gives_text (Characters size) cs writes = tt
+gives_text (Line limit) cs writes = tt
 
-pub tied : (text : TextView) → text.reader.life ≡ life.Live → Stands text → IsTrue (raw_tells text.reader.raw) → Tied text
-tied text live is tells = record {
-  live = live;
-  tied = tied_by text.reader.raw.bytes text.reader.place text.at text.taken text.held text.pending (is.told tells live);
-}
+within_limit : (own : Option ℕ) (count : ℕ) → IfSome own (λ size. count ≤ size) → (limit : ℕ) → own ≡ Some limit → count ≤ limit
+within_limit None count fits limit is = absurd (cc)
+within_limit (Some size) count fits limit is = let same : size ≡ limit = cc in subst (λ (n : ℕ). count ≤ n) same fits
 
-rest_of : TextView → Rest
-rest_of text = record { characters = text.pending ++ behind text; refusal = stop_of text }
+moves_whole : (asked : Wanted) (old new : TextPlace) (end : ℕ) (cs : List ℕ) → asks_all asked ≡ false → IfSome (size_of asked) (λ size. length cs ≤ size) → new ≡ place_taking old (length cs) (asks_any (size_of asked)) → PlaceMoves (call_of asked) false (Text cs) old end new
+moves_whole (Characters None) old new end cs sized fits taken = absurd (cc)
+moves_whole (Characters (Some size)) old new end cs sized fits taken = record { taken = taken; within = within_limit (Some size) (length cs) fits }
+moves_whole (Line limit) old new end cs sized fits taken = record { taken = taken; within = within_limit limit (length cs) fits }
 
-rest_is : (text : TextView) → Tied text → text_rest (file_of text) ≡ rest_of text
-unfolding rest_of
-rest_is text told =
-    let all : List ℕ = characters_of (decoded_from text.reader.raw.bytes text.at).items in
-    let characters : (text_rest (file_of text)).characters ≡ text.pending ++ behind text = ap (drop text.taken) (append-nil all) ∙ told.tied.characters in
-    ap (λ (cs : List ℕ). let rest : Rest = record { characters = cs; refusal = refusal_of (decoded_from text.reader.raw.bytes text.at).ending } in rest) characters
-    ∙ ap (λ (stop : Option (ℕ × ℕ)). let rest : Rest = record { characters = text.pending ++ behind text; refusal = stop } in rest) told.tied.refusal
-
--- what a whole answer leaves
-abbrev pub after_whole : TextFile → Wanted → List ℕ → TextFile
-after_whole file (wanted.Characters None) characters = at_the_end file
-after_whole file (wanted.Characters (Some size)) characters = after_taking file (length characters) (asks_any (Some size))
-after_whole file (wanted.Line limit) characters = after_taking file (length characters) (asks_any limit)
-
--- the model's answer of what is left
-abbrev pub answered : TextFile → Wanted → Rest → FileReply × TextFile
-answered file asked rest = answered_text file (range_refusal (passes asked rest.characters) rest.refusal) (answer_in asked rest.characters) (after_whole file asked (answer_in asked rest.characters))
-
-lets_through : (text : TextView) (asked : Wanted) → text.reader.life ≡ life.Live → text_refusal (file_of text) (call_of asked) ≡ None
-lets_through text (wanted.Characters size) live = ap (λ (current : Life). or_else (text_life_refusal current (call_of (wanted.Characters size))) None) live
-lets_through text (wanted.Line limit) live = ap (λ (current : Life). or_else (text_life_refusal current (call_of (wanted.Line limit))) None) live
-
-carried : (text : TextView) (asked : Wanted) → Tied text → text_carried_out (file_of text) (call_of asked) ≡ answered (file_of text) asked (rest_of text)
-carried text (wanted.Characters None) told = ap (text_read (file_of text) None) (rest_is text told)
-carried text (wanted.Characters (Some size)) told = ap (text_read (file_of text) (Some size)) (rest_is text told)
-carried text (wanted.Line limit) told = ap (text_line (file_of text) limit) (rest_is text told)
-
--- the exact answer of a live text
-exact : (text : TextView) (asked : Wanted) → Tied text → text_exact (file_of text) (call_of asked) ≡ answered (file_of text) asked (rest_of text)
-exact text asked told = ap (text_answered (file_of text) (call_of asked)) (lets_through text asked told.live) ∙ carried text asked told
-
-no_refusal : (range : Option (ℕ × ℕ)) → range_refusal false range ≡ None
-no_refusal None = refl
-no_refusal (Some range) = refl
-
--- a whole answer of the first of the known characters
-exact_enough : (text : TextView) (asked : Wanted) (count : ℕ) → Tied text → IsEnough asked text.pending count → text_exact (file_of text) (call_of asked) ≡ (Text (take count text.pending), after_whole (file_of text) asked (take count text.pending))
-unfolding rest_of
-exact_enough text asked count told is =
-    exact text asked told
-    ∙ ap (λ (passing : Bool). answered_text (file_of text) (range_refusal passing (stop_of text)) (answer_in asked (text.pending ++ behind text)) (after_whole (file_of text) asked (answer_in asked (text.pending ++ behind text)))) (is.stops (behind text))
-    ∙ ap (λ (refused : Option IoFault). answered_text (file_of text) refused (answer_in asked (text.pending ++ behind text)) (after_whole (file_of text) asked (answer_in asked (text.pending ++ behind text)))) (no_refusal (stop_of text))
-    ∙ ap (λ (cs : List ℕ). answered_text (file_of text) None cs (after_whole (file_of text) asked cs)) (is.answer (behind text))
+moves_short : (asked : Wanted) (old new : TextPlace) (end : ℕ) (cs : List ℕ) → IfSome (size_of asked) (λ size. length cs ≤ size) → new ≡ place_taking old (length cs) true → PlaceMoves (call_of asked) true (Text cs) old end new
+moves_short (Characters None) old new end cs fits taken = record { taken = taken; within = within_limit None (length cs) fits }
+moves_short (Characters (Some size)) old new end cs fits taken = record { taken = taken; within = within_limit (Some size) (length cs) fits }
+moves_short (Line limit) old new end cs fits taken = record { taken = taken; within = within_limit limit (length cs) fits }
 
 -- what a giving does to the model's file
-gave_file : (old new : TextView) (count : ℕ) (asks : Bool) (characters : List ℕ) → GiveOutcome old count asks (Ok characters) new → file_of new ≡ after_taking (file_of old) count asks
-gave_file old new count asks characters gave = ap file_of gave.1
+gave_file : (old new : TextView) (count : ℕ) (asks : Bool) (text : String Global) → GiveOutcome old count asks (Ok text) new → shown_file new ≡ after_taking (shown_file old) count asks
+gave_file old new count asks text gave = ap shown_file gave.1
 
-taking_whole : (text : TextView) (asked : Wanted) (count : ℕ) (cs : List ℕ) → asks_all asked ≡ false → length cs ≡ count → after_whole (file_of text) asked cs ≡ after_taking (file_of text) count (asks_any (size_of asked))
-taking_whole text (wanted.Characters None) count cs sized size = absurd (cc)
-taking_whole text (wanted.Characters (Some most)) count cs sized size = ap (λ (n : ℕ). after_taking (file_of text) n (asks_any (Some most))) size
-taking_whole text (wanted.Line limit) count cs sized size = ap (λ (n : ℕ). after_taking (file_of text) n (asks_any limit)) size
+gave_place : (old new : TextView) (count : ℕ) (asks : Bool) (text : String Global) → count ≤ length old.held.known → GiveOutcome old count asks (Ok text) new → place_of new ≡ place_taking (place_of old) (length (text_of text)) asks
+gave_place old new count asks text within gave =
+    let size : length (text_of text) ≡ count = ap length gave.0 ∙ length-take-le count old.held.known within in
+    ap place_of gave.1 ∙ ap (λ (n : ℕ). place_taking (place_of old) n asks) (sym size)
 
--- a read of all is never enough
-enough_sized : (asked : Wanted) (pending : List ℕ) (count : ℕ) → enough asked pending ≡ Some count → asks_all asked ≡ false
-enough_sized (wanted.Characters None) pending count is = absurd (cc)
-enough_sized (wanted.Characters (Some size)) pending count is = refl
-enough_sized (wanted.Line limit) pending count is = refl
-
--- told: known characters that are enough
-pub step_enough : (old new : TextView) (asked : Wanted) (count : ℕ) (characters : List ℕ) → Tied old → enough asked old.pending ≡ Some count → GiveOutcome old count (asks_any (size_of asked)) (Ok characters) new → TextStep (file_of old) (call_of asked) (Text characters) false false (file_of new)
-step_enough old new asked count characters told is gave =
-    let ready = is_enough asked old.pending count is in
-    let size : length (take count old.pending) ≡ count = length-take-le count old.pending ready.within in
-    let after : file_of new ≡ after_whole (file_of old) asked (take count old.pending) = gave_file old new count (asks_any (size_of asked)) characters gave ∙ sym (taking_whole old asked count (take count old.pending) (enough_sized asked old.pending count is) size) in
-    settled (ap (λ (cs : List ℕ). (Text cs, file_of new)) gave.0 ∙ ap (λ (file : TextFile). (Text (take count old.pending), file)) after ∙ sym (exact_enough old asked count told ready))
-
--- What becomes of the place.
-
-takes : (old new : TextView) (count : ℕ) (asks : Bool) (characters : List ℕ) → old.reader.life ≡ life.Live → count ≤ length old.pending → GiveOutcome old count asks (Ok characters) new → Takes old (length characters) asks new
-takes old new count asks characters live within gave =
-    let size : length characters ≡ count = ap length gave.0 ∙ length-take-le count old.pending within in
+-- a whole answer of a front of the known characters
+whole_of : (old new : TextView) (asked : Wanted) (count : ℕ) (text : String Global) → asks_all asked ≡ false → count ≤ length old.held.known → IfSome (size_of asked) (λ size. count ≤ size) → GiveOutcome old count (asks_any (size_of asked)) (Ok text) new
+    → WhereShown old.buffer (TextFileStep (shown_file old) (call_of asked) (Text (take count old.held.known)) false false (after_taking (shown_file old) count (asks_any (size_of asked))))
+    → Finishes old asked (Ok (answer.Whole text)) new
+whole_of old new asked count text sized within fits gave step =
+    let size : length (text_of text) ≡ count = ap length gave.0 ∙ length-take-le count old.held.known within in
     record {
-      at = ap (λ (text : TextView). text.at) gave.1;
-      taken = ap (λ (text : TextView). text.taken) gave.1 ∙ ap (λ (n : ℕ). old.taken + n) (sym size);
-      dirty = ap (λ (text : TextView). text.dirty) gave.1;
-      chunk = ap (λ (text : TextView). text.chunk) gave.1;
-      live = ap (λ (text : TextView). text.reader.life) gave.1 ∙ live;
+      buffer = ap (λ (view : TextView). view.buffer) gave.1;
+      settings = ap (λ (view : TextView). view.settings) gave.1;
+      answer = gives_text asked (text_of text);
+      shorts = refl;
+      sound = refl;
+      place = moves_whole asked (place_of old) (place_of new) old.buffer.place (text_of text) sized (subst (λ (n : ℕ). IfSome (size_of asked) (λ most. n ≤ most)) (sym size) fits) (gave_place old new count (asks_any (size_of asked)) text within gave);
+      told = λ told. subst (λ (cs : List ℕ). TextFileStep (shown_file old) (call_of asked) (Text cs) false false (shown_file new)) (sym gave.0)
+          (subst (TextFileStep (shown_file old) (call_of asked) (Text (take count old.held.known)) false false) (sym (gave_file old new count (asks_any (size_of asked)) text gave)) (step told));
+      hides = λ waits. absurd (cc);
     }
 
-takes_whole : (old new : TextView) (asked : Wanted) (characters : List ℕ) → asks_all asked ≡ false → IfSome (size_of asked) (λ size. length characters ≤ size) → Takes old (length characters) (asks_any (size_of asked)) new → TakesWhole old asked characters new
-takes_whole old new (wanted.Characters None) characters sized within taking = absurd (cc)
-takes_whole old new (wanted.Characters (Some size)) characters sized within taking = (taking, within)
-takes_whole old new (wanted.Line None) characters sized within taking = taking
-takes_whole old new (wanted.Line (Some limit)) characters sized within taking = (taking, within)
+pub finishes_enough : (old new : TextView) (asked : Wanted) (count : ℕ) (text : String Global) → WhereShown old.buffer (Tied old) → enough asked old.held.newline old.held.known ≡ Some count → GiveOutcome old count (asks_any (size_of asked)) (Ok text) new → Finishes old asked (Ok (answer.Whole text)) new
+finishes_enough old new asked count text tied is gave =
+    let ready = is_enough asked old.held.newline old.held.known count is in
+    whole_of old new asked count text (enough_sized asked old.held.newline old.held.known count is) ready.within ready.size gave (λ told. step_enough old asked count (tied told) is)
 
-pub moves_enough : (old new : TextView) (asked : Wanted) (count : ℕ) (characters : List ℕ) → old.reader.life ≡ life.Live → enough asked old.pending ≡ Some count → GiveOutcome old count (asks_any (size_of asked)) (Ok characters) new → TakesWhole old asked characters new
-moves_enough old new asked count characters live is gave =
-    let ready = is_enough asked old.pending count is in
-    let size : length characters ≡ count = ap length gave.0 ∙ length-take-le count old.pending ready.within in
-    takes_whole old new asked characters (enough_sized asked old.pending count is) (subst (λ (n : ℕ). IfSome (size_of asked) (λ size. n ≤ size)) (sym size) ready.size) (takes old new count (asks_any (size_of asked)) characters live ready.within gave)
+pub finishes_before : (old new : TextView) (asked : Wanted) (count : ℕ) (text : String Global) → WhereShown old.buffer (Tied old) → enough_before asked old.held.newline old.held.known ≡ Some count → WhereShown old.buffer ((range : ℕ × ℕ) × ComesLast old (Some range)) → GiveOutcome old count (asks_any (size_of asked)) (Ok text) new → Finishes old asked (Ok (answer.Whole text)) new
+finishes_before old new asked count text tied is last gave =
+    let ready = is_before asked old.held.newline old.held.known count is in
+    whole_of old new asked count text (before_sized asked old.held.newline old.held.known count is) ready.within ready.size gave (λ told. step_before old asked count (Some (last told).0) (tied told) (last told).1 is)
 
--- Where the known characters are not enough.
+refuses_text : (asked : Wanted) (start end : ℕ) (writes : Bool) → IsReplyTo writes (call_of asked) (Refused (fault.UnicodeDecodeError start end))
+refuses_text (Characters size) start end writes = tt
+refuses_text (Line limit) start end writes = tt
 
--- told: nothing but a refusal comes after the known characters
-exact_last : (text : TextView) (asked : Wanted) (refusal : Option (ℕ × ℕ)) → Tied text → IsShort asked text.pending → ComesLast text refusal → text_exact (file_of text) (call_of asked) ≡ answered_text (file_of text) (range_refusal true refusal) text.pending (after_whole (file_of text) asked text.pending)
-unfolding rest_of
-exact_last text asked refusal told is last =
-    let all : text.pending ++ behind text ≡ text.pending = ap (λ (cs : List ℕ). text.pending ++ cs) last.characters ∙ append-nil text.pending in
-    exact text asked told
-    ∙ ap (λ (cs : List ℕ). answered (file_of text) asked (let rest : Rest = record { characters = cs; refusal = stop_of text } in rest)) all
-    ∙ ap (λ (range : Option (ℕ × ℕ)). answered (file_of text) asked (let rest : Rest = record { characters = text.pending; refusal = range } in rest)) last.refusal_is
-    ∙ ap (λ (passing : Bool). answered_text (file_of text) (range_refusal passing refusal) (answer_in asked text.pending) (after_whole (file_of text) asked (answer_in asked text.pending))) is.passes_all
-    ∙ ap (λ (cs : List ℕ). answered_text (file_of text) (range_refusal true refusal) cs (after_whole (file_of text) asked cs)) is.answer
+stays_refused : (asked : Wanted) (start end : ℕ) (place : TextPlace) (far : ℕ) → PlaceMoves (call_of asked) false (Refused (fault.UnicodeDecodeError start end)) place far place
+stays_refused (Characters None) start end place far = refl
+stays_refused (Characters (Some size)) start end place far = refl
+stays_refused (Line limit) start end place far = refl
+
+-- a refused range that the answer would pass
+pub finishes_refused : (text : TextView) (asked : Wanted) (start end : ℕ) → WhereShown text.buffer (Tied text) → enough_before asked text.held.newline text.held.known ≡ None → WhereShown text.buffer (ComesLast text (Some (start, end))) → Finishes text asked (Err (fault.UnicodeDecodeError start end)) text
+finishes_refused text asked start end tied is last = record {
+  buffer = refl;
+  settings = refl;
+  answer = refuses_text asked start end;
+  shorts = refl;
+  sound = refl;
+  place = stays_refused asked start end (place_of text) text.buffer.place;
+  told = λ told. step_refuses text asked start end (tied told) (last told) is;
+  hides = λ waits. absurd (cc);
+}
+
+-- Where nothing comes behind.
+
+pub last_at_end : (text : TextView) → text.held.bytes ≡ [] → text.held.cr ≡ false → left_at (flat_of text.buffer).bytes text.buffer.place ≡ [] → ComesLast text None
+last_at_end text none whole end =
+    let held : HeldView = text.held in
+    let left : List ℕ = left_at (flat_of text.buffer).bytes text.buffer.place in
+    let empty : Walk = ends held.order AtEnd in
+    let walk : ahead held true left ≡ empty = ap (λ (all : List ℕ). walk_at held.encoding (treatment held.handler held.encoding) true held.order held.place (all ++ left)) none ∙ ap (λ (all : List ℕ). walk_at held.encoding (treatment held.handler held.encoding) true held.order held.place all) end in
+    record {
+      characters = ap (λ (own : Walk). held.known ++ read_all held.newline held.cr (characters_of own.items)) walk ∙ (ap (λ (cr : Bool). held.known ++ read_all held.newline cr []) whole ∙ (ap (λ (cs : List ℕ). held.known ++ cs) (all_none held.newline) ∙ append-nil held.known));
+      refusal_is = ap (λ (own : Walk). refusal_of own.ending) walk;
+    }
 
 -- a refused range comes next
-pub step_refuses : (text : TextView) (asked : Wanted) (start end : ℕ) → Tied text → enough asked text.pending ≡ None → ComesLast text (Some (start, end)) → TextStep (file_of text) (call_of asked) (Refused (fault.UnicodeDecodeError start end)) false false (file_of text)
-step_refuses text asked start end told is last = settled (sym (exact_last text asked (Some (start, end)) told (is_short asked text.pending is) last))
-
--- nothing is left in hand or below
-pub ends_last : (text : TextView) → text.held ≡ [] → length text.reader.raw.bytes ≤ text.reader.place → ComesLast text None
-ends_last text none within =
-    let left : List ℕ = left_at text.reader.raw.bytes text.reader.place in
-    let all : text.held ++ left ≡ [] = ap (λ (held : List ℕ). held ++ left) none ∙ drop_all text.reader.place text.reader.raw.bytes within in
-    let empty : Walk = ends Unknown AtEnd in
-    let walk : ahead text.held text.reader.place left ≡ empty = ap (λ (bytes : List ℕ). walk_from Utf8 (treatment Strict Utf8) true Unknown (text.reader.place - length text.held) 0 bytes) all in
+pub last_at_range : (text : TextView) (Behind : List ℕ → Type 0) (range : ℕ × ℕ) → RefusesAt Behind text.held range → Behind (left_at (flat_of text.buffer).bytes text.buffer.place) → ComesLast text (Some range)
+last_at_range text Behind range refuses may =
+    let held : HeldView = text.held in
+    let left : List ℕ = left_at (flat_of text.buffer).bytes text.buffer.place in
+    let walk = refuses.next left may in
     record {
-      characters = ap (λ (w : Walk). characters_of w.items) walk;
-      refusal_is = ap (λ (w : Walk). refusal_of w.ending) walk;
+      characters = ap (λ (own : Walk). held.known ++ read_all held.newline held.cr (characters_of own.items)) walk ∙ (ap (λ (cr : Bool). held.known ++ read_all held.newline cr []) refuses.whole ∙ (ap (λ (cs : List ℕ). held.known ++ cs) (all_none held.newline) ∙ append-nil held.known));
+      refusal_is = ap (λ (own : Walk). refusal_of own.ending) walk;
     }
 
--- a read, or a line, that ends where the bytes do
-pub step_last : (old new : TextView) (asked : Wanted) (characters : List ℕ) → Tied old → asks_all asked ≡ false → enough asked old.pending ≡ None → old.held ≡ [] → length old.reader.raw.bytes ≤ old.reader.place → GiveOutcome old (length old.pending) (asks_any (size_of asked)) (Ok characters) new → TextStep (file_of old) (call_of asked) (Text characters) false false (file_of new)
-step_last old new asked characters told sized is none within gave =
-    let same : take (length old.pending) old.pending ≡ old.pending = take_all (length old.pending) old.pending (omega arith) in
-    let after : file_of new ≡ after_whole (file_of old) asked old.pending = gave_file old new (length old.pending) (asks_any (size_of asked)) characters gave ∙ sym (taking_whole old asked (length old.pending) old.pending sized refl) in
-    settled (ap (λ (cs : List ℕ). (Text cs, file_of new)) (gave.0 ∙ same) ∙ ap (λ (file : TextFile). (Text old.pending, file)) after ∙ sym (exact_last old asked None told (is_short asked old.pending is) (ends_last old none within)))
+fits_answer : (asked : Wanted) (rule : _) (known : List ℕ) (count : ℕ) → count ≤ length known → take count known ≡ answer_of asked rule known → IfSome (size_of asked) (λ size. count ≤ size)
+fits_answer (Characters None) rule known count within is = tt
+fits_answer (Characters (Some size)) rule known count within is = omega (arith, ap length is, length-take-le count known within, length-take size known)
+fits_answer (Line None) rule known count within is = tt
+fits_answer (Line (Some limit)) rule known count within is = omega (arith, ap length is, length-take-le count known within, length-take limit (line_after (line_end rule) false known))
+
+pub finishes_last : (old new : TextView) (asked : Wanted) (count : ℕ) (text : String Global) → WhereShown old.buffer (Tied old) → old.held.bytes ≡ [] → old.held.cr ≡ false → IsAtEnd old.buffer → asks_all asked ≡ false → count ≤ length old.held.known → take count old.held.known ≡ answer_of asked old.held.newline old.held.known → GiveOutcome old count (asks_any (size_of asked)) (Ok text) new → Finishes old asked (Ok (answer.Whole text)) new
+finishes_last old new asked count text tied none whole end sized within is gave =
+    whole_of old new asked count text sized within (fits_answer asked old.held.newline old.held.known count within is) gave
+    (λ told. step_last old asked count (tied told) (last_at_end old none whole (end told)) sized within is)
 
 -- a read of all goes to the end
-pub step_all : (old new : TextView) (asked : Wanted) (characters : List ℕ) → Tied old → asks_all asked ≡ true → old.at ≤ old.reader.place → old.held ≡ [] → length old.reader.raw.bytes ≤ old.reader.place → GiveLastOutcome old (Ok characters) new → TextStep (file_of old) (call_of asked) (Text characters) false false (file_of new)
-step_all old new (wanted.Characters None) characters told all forth none within gave =
-    let end : old.reader.place ≡ max old.at (length old.reader.raw.bytes) = omega (arith, told.tied.within) in
-    let after : file_of new ≡ at_the_end (file_of old) = ap file_of gave.1 ∙ ap (λ (at : ℕ). let file : TextFile = record (file_of old) { place = clean_at at Unknown } in file) end in
-    settled (ap (λ (cs : List ℕ). (Text cs, file_of new)) gave.0 ∙ ap (λ (file : TextFile). (Text old.pending, file)) after ∙ sym (exact_last old (wanted.Characters None) None told (is_short (wanted.Characters None) old.pending refl) (ends_last old none within)))
-step_all old new (wanted.Characters (Some size)) characters told all forth none within gave = absurd (cc)
-step_all old new (wanted.Line limit) characters told all forth none within gave = absurd (cc)
+pub finishes_all : (old new : TextView) (text : String Global) → WhereShown old.buffer (Tied old) → IsText old.buffer old.held old.at old.taken old.settings → old.held.bytes ≡ [] → old.held.cr ≡ false → IsAtEnd old.buffer → GiveAllOutcome old (Ok text) new → Finishes old (Characters None) (Ok (answer.Whole text)) new
+finishes_all old new text tied is none whole end gave =
+    let forth : old.at ≤ old.buffer.place = omega (arith, is.forth, is.stands) in
+    record {
+      buffer = ap (λ (view : TextView). view.buffer) gave.1;
+      settings = ap (λ (view : TextView). view.settings) gave.1;
+      answer = λ writes. tt;
+      shorts = refl;
+      sound = refl;
+      place = record { clean = ap place_of gave.1; forth = forth };
+      told = λ told.
+          let knows = (tied told).knows in
+          let bytes : List ℕ = (flat_of old.buffer).bytes in
+          let there : old.buffer.place ≡ max old.at (length bytes) = omega (arith, knows.within, forth, ap length (end told), length-drop old.buffer.place bytes) in
+          let after : shown_file new ≡ at_the_end (shown_file old) = ap shown_file gave.1 ∙ ap (λ (at : ℕ). let file : TextFile = record (shown_file old) { place = clean_at at (place_of old).order } in file) there in
+          subst (λ (cs : List ℕ). TextFileStep (shown_file old) (call_of (Characters None)) (Text cs) false false (shown_file new)) (sym gave.0)
+          (subst (TextFileStep (shown_file old) (call_of (Characters None)) (Text old.held.known) false false) (sym after) (step_all old (tied told) (last_at_end old none whole (end told))));
+      hides = λ waits. absurd (cc);
+    }
+
+pub finishes_all_of : (old new : TextView) (asked : Wanted) (text : String Global) → asks_all asked ≡ true → WhereShown old.buffer (Tied old) → Holds old → old.held.bytes ≡ [] → old.held.cr ≡ false → IsAtEnd old.buffer → GiveAllOutcome old (Ok text) new → Finishes old asked (Ok (answer.Whole text)) new
+finishes_all_of old new (Characters None) text all tied is none whole end gave = finishes_all old new text tied is none whole end gave
+finishes_all_of old new (Characters (Some size)) text all tied is none whole end gave = absurd (cc)
+finishes_all_of old new (Line limit) text all tied is none whole end gave = absurd (cc)
+
+-- a front that is all of a list
+pub all_of : (known : List ℕ) (count : ℕ) → count ≤ length known → take count known ≡ known → count ≡ length known
+all_of known count within is = omega (arith, ap length is, length-take-le count known within)
+
+pub some_of : (known : List ℕ) (count : ℕ) → count ≡ length known → count ≢ 0 → known ≢ []
+some_of known count size some = λ none. some (size ∙ ap length none)
 
 -- Where the raw would have blocked.
 
-reaches : (text : TextView) (asked : Wanted) → text.reader.life ≡ life.Live → IsTrue (text_reaches_raw (file_of text) (call_of asked))
-reaches text (wanted.Characters size) live = ap (λ (current : Life). is_live current && true) live
-reaches text (wanted.Line limit) live = ap (λ (current : Life). is_live current && true) live
+-- where all known characters were given, nothing that is sure is held back
+pub shows_all : (text : TextView) → text.at ≤ text.buffer.place → text.held.known ≡ [] → IsDrained false text.held → KnowsTold text.settings (flat_of text.buffer).bytes text.buffer.place text.at text.taken text.held → ShowsAll (shown_file text) text.buffer.place
+shows_all text forth none drained knows =
+    let bytes : List ℕ = (flat_of text.buffer).bytes in
+    let left : List ℕ = left_at bytes text.buffer.place in
+    let nothing : IsFrontOf [] left = (left, refl) in
+    let same : bytes_between bytes text.at text.buffer.place ++ [] ≡ bytes_between bytes text.at text.buffer.place = append-nil (bytes_between bytes text.at text.buffer.place) in
+    let sure : length (left_so_far text.held []).characters ≡ 0 = ap length (so_far_empty text.held drained.items ∙ none) in
+    record {
+      forth = forth;
+      characters = subst (λ (all : List ℕ). length (left_so_far (from_place text.settings text.at) all).characters ≤ text.taken) same (omega (arith, knows.shows [] nothing, sure));
+      refusal = subst (λ (all : List ℕ). (left_so_far (from_place text.settings text.at) all).refusal ≡ None) same (knows.sound [] nothing drained.refusal);
+    }
 
-waited_part : (text : TextView) (asked : Wanted) (part : List ℕ) (after : TextFile) → Tied text → IsFrontOf part (answer_in asked (text.pending ++ behind text)) → part ≢ [] → after ≡ after_taking (file_of text) (length part) true → TextWaitedBy (file_of text) (call_of asked) (Text part) after
-unfolding rest_of
-waited_part text (wanted.Characters size) part after told front some is = inr (part, subst (λ (rest : Rest). IsFrontOf part (first_of size rest.characters)) (sym (rest_is text told)) front, some, refl, is)
-waited_part text (wanted.Line limit) part after told front some is = inr (part, subst (λ (rest : Rest). IsFrontOf part (first_line Lf limit rest.characters)) (sym (rest_is text told)) front, some, refl, is)
+unready_text : (asked : Wanted) (writes : Bool) → IsReplyTo writes (call_of asked) NotReady
+unready_text (Characters size) writes = tt
+unready_text (Line limit) writes = tt
 
--- told: all known characters are given short
-pub step_waits : (old new : TextView) (asked : Wanted) (characters : List ℕ) → Tied old → enough asked old.pending ≡ None → old.pending ≢ [] → GiveOutcome old (length old.pending) true (Ok characters) new → TextStep (file_of old) (call_of asked) (Text characters) true false (file_of new)
-step_waits old new asked characters told is some gave =
-    let same : characters ≡ old.pending = gave.0 ∙ take_all (length old.pending) old.pending (omega arith) in
-    let short = is_short asked old.pending is in
-    subst (λ (cs : List ℕ). TextStep (file_of old) (call_of asked) (Text cs) true false (file_of new)) (sym same)
-    (waited_for refl (reaches old asked told.live, waited_part old asked old.pending (file_of new) told (short.front (behind old)) some (gave_file old new (length old.pending) true characters gave)))
+stays_unready : (asked : Wanted) (place : TextPlace) (far : ℕ) → PlaceMoves (call_of asked) true NotReady place far place
+stays_unready (Characters None) place far = refl
+stays_unready (Characters (Some size)) place far = refl
+stays_unready (Line limit) place far = refl
+
+pub finishes_unready : (text : TextView) (asked : Wanted) → text.buffer.life ≡ life.Live → text.buffer.can.readable ≡ true → IsText text.buffer text.held text.at text.taken text.settings → text.held.known ≡ [] → IsDrained false text.held → HoldsNothing text.buffer → Finishes text asked (Ok answer.NotReady) text
+finishes_unready text asked live reads is none drained holds =
+    let tied = tied_of text live reads is in
+    record {
+      buffer = refl;
+      settings = refl;
+      answer = unready_text asked;
+      shorts = refl;
+      sound = refl;
+      place = stays_unready asked (place_of text) text.buffer.place;
+      told = λ told. step_unready text asked (tied told);
+      hides = λ waits. (holds, λ told. shows_all text (omega (arith, is.forth, is.stands)) none drained (tied told).knows);
+    }
+
+pub finishes_short : (old new : TextView) (asked : Wanted) (count : ℕ) (text : String Global) → old.buffer.life ≡ life.Live → old.buffer.can.readable ≡ true → IsText old.buffer old.held old.at old.taken old.settings → enough asked old.held.newline old.held.known ≡ None → IsDrained false old.held → HoldsNothing old.buffer → count ≡ length old.held.known → old.held.known ≢ [] → GiveOutcome old count true (Ok text) new → Finishes old asked (Ok (answer.Short text)) new
+finishes_short old new asked count text live reads is short drained holds size some gave =
+    let known : List ℕ = old.held.known in
+    let tied = tied_of old live reads is in
+    let all : text_of text ≡ known = gave.0 ∙ take_all count known (omega (arith, size)) in
+    let left : TextView = record old { held = without_front old.held count; taken = old.taken + count; dirty = old.dirty || true } in
+    let none : left.held.known ≡ [] = drop_all count known (omega (arith, size)) in
+    record {
+      buffer = ap (λ (view : TextView). view.buffer) gave.1;
+      settings = ap (λ (view : TextView). view.settings) gave.1;
+      answer = gives_text asked (text_of text);
+      shorts = λ empty. some (sym all ∙ empty);
+      sound = refl;
+      place = moves_short asked (place_of old) (place_of new) old.buffer.place (text_of text) (subst (λ (cs : List ℕ). IfSome (size_of asked) (λ most. length cs ≤ most)) (sym all) (is_short asked old.held.newline known short).size) (gave_place old new count true text (omega (arith, size)) gave);
+      told = λ told. subst (λ (cs : List ℕ). TextFileStep (shown_file old) (call_of asked) (Text cs) true false (shown_file new)) (sym all)
+          (subst (TextFileStep (shown_file old) (call_of asked) (Text known) true false) (sym (gave_file old new count true text gave ∙ ap (λ (n : ℕ). after_taking (shown_file old) n true) size)) (step_waits old asked (tied told) short some));
+      hides = λ waits. subst (λ (view : TextView). HoldsNothing view.buffer × WhereShown old.buffer (ShowsAll (shown_file view) view.buffer.place)) (sym gave.1)
+          (holds, λ told. shows_all left (omega (arith, is.forth, is.stands)) none (record { items = drained.items; refusal = drained.refusal; none = drained.none }) (knows_given old.settings (flat_of old.buffer).bytes old.buffer.place old.at old.taken old.held count (omega (arith, size)) (tied told).knows));
+    }

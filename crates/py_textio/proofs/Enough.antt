@@ -1,55 +1,21 @@
--- When the known characters are the whole answer of a call, whatever comes after them.
-use Rattle.std.proofs.Common.{◌≡◌, ℕ, ◌+◌, ◌-◌, ◌≤◌, ◌<◌, Bool, true, false, ◌||◌, not, nat_eq, nat_le, if◌then◌else◌, List, [], ◌∷◌, ◌++◌, length, take, Option, Some, None, IfSome, refl, sym, ap, subst, ◌∙◌, arith}
-use Rattle.std.proofs.lemmas.List.{length-append, length-take, take-append-le, take_all}
+-- When the known characters are the whole answer of a call.
+use Rattle.std.proofs.Common.{◌≡◌, ℕ, ◌+◌, ◌-◌, ◌≤◌, ◌<◌, min, Bool, true, false, ◌||◌, not, nat_le, nat_lt, if◌then◌else◌, List, [], ◌∷◌, ◌++◌, length, take, Option, Some, None, IfSome, refl, sym, ap, subst, ◌∙◌, arith}
+use Rattle.std.proofs.lemmas.List.{append-nil, length-append, length-take, length-take-le, take-append-le, take_all, take-take}
 use Rattle.std.proofs.lemmas.Bool.{leb-true, leb-false, le-leb}
 use Rattle.std.proofs.lemmas.Bool.Decides.{nat_tests}
 use Rattle.std.proofs.Math.Bool.{or-true}
 use Rattle.std.proofs.Math.Seq.{take-append_seam, take-append-add}
 use Rattle.py_flat.specs.Bytes.{first_of}
-use Rattle.py_flat.specs.Lines.{Lf, lf, cr, line_after, has_end_after, first_line, reaches, is_ended}
+use Rattle.py_flat.specs.Lines.{LineEnd, lf, line_after, has_end_after, first_line, is_ended}
 use Rattle.py_flat.specs.BinaryStep.{IsFrontOf}
 use Rattle.py_flat.proofs.Cutting.{first_line_is_front}
-use Rattle.py_plain_text.specs.TextStep.{asks_past}
-use Rattle.py_textio.specs.declared.text.Wanted.{Wanted}
-use Rattle.py_textio.specs.declared.text.Wanted.TheVariants as wanted
-use Rattle.py_textio.specs.Text.{enough, size_of}
-
--- A line of a list, after which more may come.
-
-ended_at : (here behind : Bool) (c : ℕ) (long short : List ℕ) → ((here || false) || behind) ≡ true → (behind ≡ true → long ≡ short) → c ∷ (if here || false then [] else long) ≡ c ∷ (if here || false then [] else short)
-ended_at true behind c long short ended same = refl
-ended_at false behind c long short ended same = ap (λ (t : List ℕ). c ∷ t) (same ended)
-
--- a line that ends in a list is the same with more after it
-line_ended : (after_cr : Bool) (xs ys : List ℕ) → has_end_after Lf after_cr xs ≡ true → line_after Lf after_cr (xs ++ ys) ≡ line_after Lf after_cr xs
-line_ended after_cr [] ys ended = absurd (cc)
-line_ended after_cr (c ∷ cs) ys ended = ended_at (nat_eq c lf) (has_end_after Lf (nat_eq c cr) cs) c (line_after Lf (nat_eq c cr) (cs ++ ys)) (line_after Lf (nat_eq c cr) cs) ended (line_ended (nat_eq c cr) cs ys)
-
-stays_at : (here behind after : Bool) → ((here || false) || behind) ≡ true → (behind ≡ true → after ≡ true) → ((here || false) || after) ≡ true
-stays_at true behind after ended same = refl
-stays_at false behind after ended same = same ended
-
-end_stays : (after_cr : Bool) (xs ys : List ℕ) → has_end_after Lf after_cr xs ≡ true → has_end_after Lf after_cr (xs ++ ys) ≡ true
-end_stays after_cr [] ys ended = absurd (cc)
-end_stays after_cr (c ∷ cs) ys ended = stays_at (nat_eq c lf) (has_end_after Lf (nat_eq c cr) cs) (has_end_after Lf (nat_eq c cr) (cs ++ ys)) ended (end_stays (nat_eq c cr) cs ys)
-
-open_at : (here behind : Bool) (c : ℕ) (part long : List ℕ) → ((here || false) || behind) ≡ false → (behind ≡ false → IsFrontOf part long) → IsFrontOf (c ∷ part) (c ∷ (if here || false then [] else long))
-open_at true behind c part long none front = absurd (cc)
-open_at false behind c part long none front = let found = front none in (found.0, ap (λ (t : List ℕ). c ∷ t) found.1)
-
--- a list in which no line ends is a front of the line with more after it
-line_open : (after_cr : Bool) (xs ys : List ℕ) → has_end_after Lf after_cr xs ≡ false → IsFrontOf xs (line_after Lf after_cr (xs ++ ys))
-line_open after_cr [] ys none = (line_after Lf after_cr ys, refl)
-line_open after_cr (c ∷ cs) ys none = open_at (nat_eq c lf) (has_end_after Lf (nat_eq c cr) cs) c cs (line_after Lf (nat_eq c cr) (cs ++ ys)) none (line_open (nat_eq c cr) cs ys)
-
-whole_at : (here behind : Bool) (c : ℕ) (cs line : List ℕ) → ((here || false) || behind) ≡ false → (behind ≡ false → line ≡ cs) → c ∷ (if here || false then [] else line) ≡ c ∷ cs
-whole_at true behind c cs line none same = absurd (cc)
-whole_at false behind c cs line none same = ap (λ (t : List ℕ). c ∷ t) (same none)
-
--- a list in which no line ends is all of its own line
-line_whole : (after_cr : Bool) (xs : List ℕ) → has_end_after Lf after_cr xs ≡ false → line_after Lf after_cr xs ≡ xs
-line_whole after_cr [] none = refl
-line_whole after_cr (c ∷ cs) none = whole_at (nat_eq c lf) (has_end_after Lf (nat_eq c cr) cs) c cs (line_after Lf (nat_eq c cr) cs) none (line_whole (nat_eq c cr) cs)
+use Rattle.py_plain.specs.declared.newlines.Newlines.{Newlines}
+use Rattle.py_plain.specs.NewlineRule.{line_end}
+use Rattle.py_held_text.specs.declared.wanted.Wanted.{Wanted}
+use Rattle.py_held_text.specs.declared.wanted.Wanted.TheVariants.{Characters, Line}
+use Rattle.py_held_text.specs.Finding.{answer_of, enough, enough_before}
+use Rattle.py_textio.specs.Reading.{size_of, passes}
+use Rattle.py_textio.proofs.Lines.{with_lf, is_line, is_open}
 
 -- a front is the first of a list
 front_taken : (part whole : List ℕ) → IsFrontOf part whole → take (length part) whole ≡ part
@@ -62,119 +28,196 @@ front_within size part whole fits front =
     let parts : size ≡ length part + room = omega arith in
     (take room front.0, sym (ap (take size) (sym front.1) ∙ ap (λ (n : ℕ). take n (part ++ front.0)) parts ∙ take-append-add part front.0 room))
 
--- What a call answers of some characters.
-
--- the answer, where all that is wanted is there or nothing more comes
-abbrev pub answer_in : Wanted → List ℕ → List ℕ
-answer_in (wanted.Characters size) cs = first_of size cs
-answer_in (wanted.Line limit) cs = first_line Lf limit cs
-
--- whether the answer would have to pass a refused range that comes after them
-abbrev pub passes : Wanted → List ℕ → Bool
-passes (wanted.Characters size) cs = asks_past size cs
-passes (wanted.Line limit) cs = not (is_ended Lf limit cs)
-
 -- the first of the known characters are the answer, whatever comes after them
-pub record IsEnough (asked : Wanted) (pending : List ℕ) (count : ℕ) : Type 0 where
-  pub within : count ≤ length pending
+pub record IsEnough (asked : Wanted) (rule : Newlines) (known : List ℕ) (count : ℕ) : Type 0 where
+  pub within : count ≤ length known
   pub size : IfSome (size_of asked) (λ size. count ≤ size)
-  pub answer : (more : List ℕ) → answer_in asked (pending ++ more) ≡ take count pending
-  pub stops : (more : List ℕ) → passes asked (pending ++ more) ≡ false
+  pub answer : (more : List ℕ) → answer_of asked rule (known ++ more) ≡ take count known
+  pub stops : (more : List ℕ) → passes asked rule (known ++ more) ≡ false
 
 -- the known characters are only a front of the answer, unless nothing comes after them
-pub record IsShort (asked : Wanted) (pending : List ℕ) : Type 0 where
-  pub size : IfSome (size_of asked) (λ size. length pending ≤ size)
-  pub answer : answer_in asked pending ≡ pending
-  pub passes_all : passes asked pending ≡ true
-  pub front : (more : List ℕ) → IsFrontOf pending (answer_in asked (pending ++ more))
+pub record IsShort (asked : Wanted) (rule : Newlines) (known : List ℕ) : Type 0 where
+  pub size : IfSome (size_of asked) (λ size. length known ≤ size)
+  pub answer : answer_of asked rule known ≡ known
+  pub front : (more : List ℕ) → IsFrontOf known (answer_of asked rule (known ++ more))
 
--- Whether known characters are enough for a size.
+-- Sizes.
 
-size_enough : (fits : Bool) (size : ℕ) (pending : List ℕ) (count : ℕ) → nat_le size (length pending) ≡ fits → (if fits then Some size else None) ≡ Some count → IsEnough (wanted.Characters (Some size)) pending count
-size_enough false size pending count test is = absurd (cc)
-size_enough true size pending count test is =
+size_enough : (fits : Bool) (rule : Newlines) (size : ℕ) (known : List ℕ) (count : ℕ) → nat_le size (length known) ≡ fits → (if fits then Some size else None) ≡ Some count → IsEnough (Characters (Some size)) rule known count
+size_enough false rule size known count test is = absurd (cc)
+size_enough true rule size known count test is =
     let same : size ≡ count = cc in
-    let fits : size ≤ length pending = grind (arith, nat_tests) in
+    let fits : size ≤ length known = grind (arith, nat_tests) in
     record {
       within = omega arith;
       size = omega arith;
-      answer = λ more. take-append-le size pending more fits ∙ ap (λ (n : ℕ). take n pending) same;
-      stops = λ more. let long = length-append pending more in grind (arith, nat_tests);
+      answer = λ more. take-append-le size known more fits ∙ ap (λ (n : ℕ). take n known) same;
+      stops = λ more. let long = length-append known more in grind (arith, nat_tests);
     }
 
-size_short : (fits : Bool) (size : ℕ) (pending : List ℕ) → nat_le size (length pending) ≡ fits → (if fits then Some size else None) ≡ None → IsShort (wanted.Characters (Some size)) pending
-size_short true size pending test is = absurd (cc)
-size_short false size pending test is =
-    let less : length pending < size = grind (arith, nat_tests) in
+size_short : (fits : Bool) (rule : Newlines) (size : ℕ) (known : List ℕ) → nat_le size (length known) ≡ fits → (if fits then Some size else None) ≡ None → IsShort (Characters (Some size)) rule known
+size_short true rule size known test is = absurd (cc)
+size_short false rule size known test is =
+    let less : length known < size = grind (arith, nat_tests) in
     record {
       size = omega arith;
-      answer = take_all size pending (omega arith);
-      passes_all = grind (arith, nat_tests);
-      front = λ more. front_within size pending (pending ++ more) (omega arith) (more, refl);
+      answer = take_all size known (omega arith);
+      front = λ more. front_within size known (known ++ more) (omega arith) (more, refl);
     }
 
--- Whether known characters are enough for a line.
+-- Lines.
+
+-- the first of the first of a list
+take_least : (fits : Bool) (m n : ℕ) (xs : List ℕ) → nat_le m n ≡ fits → take m (take n xs) ≡ take (min m n) xs
+take_least true m n xs test =
+    let less : m ≤ n = leb-true m n test in
+    take-take m n xs less ∙ ap (λ (k : ℕ). take k xs) (omega (arith, less))
+take_least false m n xs test =
+    let less : n < m = leb-false m n test in
+    take_all m (take n xs) (omega (arith, less, length-take n xs)) ∙ ap (λ (k : ℕ). take k xs) (omega (arith, less))
+
+-- the line that lies among the known characters, without a limit, or one that the limit ends
+line_cut : (end : LineEnd) (limit : Option ℕ) (known : List ℕ) → length (with_lf end false known) ≤ length known → (more : List ℕ) → (first_line end limit (known ++ more) ≡ take (length (first_line end limit (known ++ lf ∷ []))) known) × (is_ended end limit (known ++ more) ≡ true)
+line_cut end None known fits more =
+    let line = is_line end false known more fits in
+    (line.line, ap (λ (ended : Bool). ended || false) line.ended)
+line_cut end (Some size) known fits more =
+    let line = is_line end false known more fits in
+    let whole : ℕ = length (with_lf end false known) in
+    let least : length (take size (with_lf end false known)) ≡ min size whole = length-take size (with_lf end false known) in
+    (ap (take size) line.line ∙ (take_least (nat_le size whole) size whole known refl ∙ ap (λ (n : ℕ). take n known) (sym least)), ap (λ (ended : Bool). ended || nat_le size (length (known ++ more))) line.ended)
+
+-- the limit ends the line among the known characters
+line_limited : (end : LineEnd) (size : ℕ) (known : List ℕ) → length known < length (with_lf end false known) → size ≤ length known → (more : List ℕ) → (first_line end (Some size) (known ++ more) ≡ take (length (first_line end (Some size) (known ++ lf ∷ []))) known) × (is_ended end (Some size) (known ++ more) ≡ true)
+line_limited end size known open_line fits more =
+    let front = is_open end false known more open_line in
+    let count : length (take size (with_lf end false known)) ≡ size = length-take-le size (with_lf end false known) (omega arith) in
+    let long : size ≤ length (known ++ more) = omega (arith, length-append known more) in (
+      ap (take size) (sym front.1) ∙ (take-append-le size known front.0 fits ∙ ap (λ (n : ℕ). take n known) (sym count)),
+      ap (λ (reached : Bool). has_end_after end false (known ++ more) || reached) (le-leb size (length (known ++ more)) long) ∙ or-true (has_end_after end false (known ++ more)),
+    )
+
+-- a limit that the line in hand doesn't reach leaves the line without it
+limit_short : (size : ℕ) (line known : List ℕ) → length known < length (take size line) → (length known < length line) × (length known ≤ size)
+limit_short size line known less = (omega (arith, less, length-take size line), omega (arith, less, length-take size line))
 
 first_size : (limit : Option ℕ) (cs : List ℕ) → IfSome limit (λ size. length (first_of limit cs) ≤ size)
 first_size None cs = tt
 first_size (Some size) cs = omega (arith, length-take size cs)
 
-line_same : (ends : Bool) (limit : Option ℕ) (pending more : List ℕ) → has_end_after Lf false pending ≡ ends → (ends || reaches limit pending) ≡ true → first_line Lf limit (pending ++ more) ≡ first_line Lf limit pending
-line_same true limit pending more test ended = ap (first_of limit) (line_ended false pending more test)
-line_same false None pending more test ended = absurd (cc)
-line_same false (Some size) pending more test ended =
-    let front = line_open false pending more test in
-    ap (take size) (sym front.1) ∙ take-append-le size pending front.0 (leb-true size (length pending) ended) ∙ ap (take size) (sym (line_whole false pending test))
+-- what a line in hand says, by whether the line alone is one
+line_says : (whole : Bool) (end : LineEnd) (limit : Option ℕ) (known : List ℕ) → nat_le (length (with_lf end false known)) (length known) ≡ whole → length (first_line end limit (known ++ lf ∷ [])) ≤ length known → (more : List ℕ) → (first_line end limit (known ++ more) ≡ take (length (first_line end limit (known ++ lf ∷ []))) known) × (is_ended end limit (known ++ more) ≡ true)
+line_says true end limit known test fits more = line_cut end limit known (leb-true (length (with_lf end false known)) (length known) test) more
+line_says false end None known test fits more = absurd (let less = leb-false (length (with_lf end false known)) (length known) test in omega (arith, less, fits))
+line_says false end (Some size) known test fits more =
+    let less = leb-false (length (with_lf end false known)) (length known) test in
+    line_limited end size known less (omega (arith, less, fits, length-take size (with_lf end false known))) more
 
-ended_stays : (ends : Bool) (limit : Option ℕ) (pending more : List ℕ) → has_end_after Lf false pending ≡ ends → (ends || reaches limit pending) ≡ true → is_ended Lf limit (pending ++ more) ≡ true
-ended_stays true limit pending more test ended = ap (λ (e : Bool). e || reaches limit (pending ++ more)) (end_stays false pending more test)
-ended_stays false None pending more test ended = absurd (cc)
-ended_stays false (Some size) pending more test ended =
-    let fits : size ≤ length (pending ++ more) = omega (arith, length-append pending more, leb-true size (length pending) ended) in
-    ap (λ (e : Bool). has_end_after Lf false (pending ++ more) || e) (le-leb size (length (pending ++ more)) fits) ∙ or-true (has_end_after Lf false (pending ++ more))
-
-line_enough : (ended : Bool) (limit : Option ℕ) (pending : List ℕ) (count : ℕ) → is_ended Lf limit pending ≡ ended → (if ended then Some (length (first_line Lf limit pending)) else None) ≡ Some count → IsEnough (wanted.Line limit) pending count
-line_enough false limit pending count test is = absurd (cc)
-line_enough true limit pending count test is =
-    let line : List ℕ = first_line Lf limit pending in
-    let same : length line ≡ count = cc in
-    let front = first_line_is_front Lf limit pending in
+line_enough : (fits : Bool) (rule : Newlines) (limit : Option ℕ) (known : List ℕ) (count : ℕ) → nat_le (length (first_line (line_end rule) limit (known ++ lf ∷ []))) (length known) ≡ fits → (if fits then Some (length (first_line (line_end rule) limit (known ++ lf ∷ []))) else None) ≡ Some count → IsEnough (Line limit) rule known count
+line_enough false rule limit known count test is = absurd (cc)
+line_enough true rule limit known count test is =
+    let end : LineEnd = line_end rule in
+    let size : ℕ = length (first_line end limit (known ++ lf ∷ [])) in
+    let same : size ≡ count = cc in
+    let within : size ≤ length known = leb-true size (length known) test in
+    let says = line_says (nat_le (length (with_lf end false known)) (length known)) end limit known refl within in
     record {
-      within = omega (arith, ap length front.1, length-append line front.0);
-      size = subst (λ (n : ℕ). IfSome limit (λ size. n ≤ size)) same (first_size limit (line_after Lf false pending));
-      answer = λ more. line_same (has_end_after Lf false pending) limit pending more refl test ∙ sym (front_taken line pending front) ∙ ap (λ (n : ℕ). take n pending) same;
-      stops = λ more. ap not (ended_stays (has_end_after Lf false pending) limit pending more refl test);
+      within = omega (arith, within, same);
+      size = subst (λ (n : ℕ). IfSome limit (λ most. n ≤ most)) same (first_size limit (with_lf end false known));
+      answer = λ more. (says more).0 ∙ ap (λ (n : ℕ). take n known) same;
+      stops = λ more. ap not (says more).1;
     }
 
-line_short_at : (ends : Bool) (limit : Option ℕ) (pending : List ℕ) → has_end_after Lf false pending ≡ ends → (ends || reaches limit pending) ≡ false → IsShort (wanted.Line limit) pending
-line_short_at true limit pending test none = absurd (cc)
-line_short_at false None pending test none = record {
-  size = tt;
-  answer = line_whole false pending test;
-  passes_all = ap (λ (e : Bool). not (e || false)) test;
-  front = λ more. line_open false pending more test;
-}
-line_short_at false (Some size) pending test none =
-    let less : length pending < size = leb-false size (length pending) none in
+-- a front of a list that is one of the list's is the list
+front_whole : (xs ys : List ℕ) → IsFrontOf xs ys → IsFrontOf ys xs → ys ≡ xs
+front_whole xs ys longer shorter =
+    let size : length xs ≡ length ys = omega (arith, ap length longer.1, length-append xs longer.0, ap length shorter.1, length-append ys shorter.0) in
+    sym (take_all (length xs) ys (omega (arith, size))) ∙ front_taken xs ys longer
+
+-- characters that the line may go past
+line_open : (end : LineEnd) (limit : Option ℕ) (known : List ℕ) → length known < length (first_line end limit (known ++ lf ∷ [])) → (more : List ℕ) → IsFrontOf known (first_line end limit (known ++ more))
+line_open end None known less more = is_open end false known more less
+line_open end (Some size) known less more =
+    let short = limit_short size (with_lf end false known) known less in
+    front_within size known (line_after end false (known ++ more)) short.1 (is_open end false known more short.0)
+
+line_sized : (end : LineEnd) (limit : Option ℕ) (known : List ℕ) → length known < length (first_line end limit (known ++ lf ∷ [])) → IfSome limit (λ size. length known ≤ size)
+line_sized end None known less = tt
+line_sized end (Some size) known less = (limit_short size (with_lf end false known) known less).1
+
+line_short : (fits : Bool) (rule : Newlines) (limit : Option ℕ) (known : List ℕ) → nat_le (length (first_line (line_end rule) limit (known ++ lf ∷ []))) (length known) ≡ fits → (if fits then Some (length (first_line (line_end rule) limit (known ++ lf ∷ []))) else None) ≡ None → IsShort (Line limit) rule known
+line_short true rule limit known test is = absurd (cc)
+line_short false rule limit known test is =
+    let end : LineEnd = line_end rule in
+    let less = leb-false (length (first_line end limit (known ++ lf ∷ []))) (length known) test in
+    let front = line_open end limit known less in
     record {
+      size = line_sized end limit known less;
+      answer = front_whole known (first_line end limit known) (subst (λ (cs : List ℕ). IsFrontOf known (first_line end limit cs)) (append-nil known) (front [])) (first_line_is_front end limit known);
+      front = front;
+    }
+
+-- Whatever is asked for.
+
+pub is_enough : (asked : Wanted) (rule : Newlines) (known : List ℕ) (count : ℕ) → enough asked rule known ≡ Some count → IsEnough asked rule known count
+is_enough (Characters None) rule known count is = absurd (cc)
+is_enough (Characters (Some size)) rule known count is = size_enough (nat_le size (length known)) rule size known count refl is
+is_enough (Line limit) rule known count is = line_enough (nat_le (length (first_line (line_end rule) limit (known ++ lf ∷ []))) (length known)) rule limit known count refl is
+
+pub is_short : (asked : Wanted) (rule : Newlines) (known : List ℕ) → enough asked rule known ≡ None → IsShort asked rule known
+is_short (Characters None) rule known is = record { size = tt; answer = refl; front = λ more. (more, refl) }
+is_short (Characters (Some size)) rule known is = size_short (nat_le size (length known)) rule size known refl is
+is_short (Line limit) rule known is = line_short (nat_le (length (first_line (line_end rule) limit (known ++ lf ∷ []))) (length known)) rule limit known refl is
+
+-- Before a refused range.
+
+-- the answer ends before a refused range that comes right behind the known characters
+pub record IsBefore (asked : Wanted) (rule : Newlines) (known : List ℕ) (count : ℕ) : Type 0 where
+  pub within : count ≤ length known
+  pub size : IfSome (size_of asked) (λ size. count ≤ size)
+  pub answer : answer_of asked rule known ≡ take count known
+  pub stops : passes asked rule known ≡ false
+
+size_before : (fits : Bool) (rule : Newlines) (size : ℕ) (known : List ℕ) (count : ℕ) → nat_le size (length known) ≡ fits → (if fits then Some size else None) ≡ Some count → IsBefore (Characters (Some size)) rule known count
+size_before false rule size known count test is = absurd (cc)
+size_before true rule size known count test is =
+    let same : size ≡ count = cc in
+    let fits : size ≤ length known = grind (arith, nat_tests) in
+    record {
+      within = omega arith;
       size = omega arith;
-      answer = ap (take size) (line_whole false pending test) ∙ take_all size pending (omega arith);
-      passes_all = ap (λ (e : Bool). not (e || nat_le size (length pending))) test ∙ ap not none;
-      front = λ more. front_within size pending (line_after Lf false (pending ++ more)) (omega arith) (line_open false pending more test);
+      answer = ap (λ (n : ℕ). take n known) same;
+      stops = grind (arith, nat_tests);
     }
 
-line_short : (ended : Bool) (limit : Option ℕ) (pending : List ℕ) → is_ended Lf limit pending ≡ ended → (if ended then Some (length (first_line Lf limit pending)) else None) ≡ None → IsShort (wanted.Line limit) pending
-line_short true limit pending test is = absurd (cc)
-line_short false limit pending test is = line_short_at (has_end_after Lf false pending) limit pending refl test
+line_before : (ended : Bool) (rule : Newlines) (limit : Option ℕ) (known : List ℕ) (count : ℕ) → is_ended (line_end rule) limit known ≡ ended → (if ended then Some (length (first_line (line_end rule) limit known)) else None) ≡ Some count → IsBefore (Line limit) rule known count
+line_before false rule limit known count test is = absurd (cc)
+line_before true rule limit known count test is =
+    let line : List ℕ = first_line (line_end rule) limit known in
+    let same : length line ≡ count = cc in
+    let front = first_line_is_front (line_end rule) limit known in
+    record {
+      within = omega (arith, same, ap length front.1, length-append line front.0);
+      size = subst (λ (n : ℕ). IfSome limit (λ most. n ≤ most)) same (first_size limit (line_after (line_end rule) false known));
+      answer = sym (front_taken line known front) ∙ ap (λ (n : ℕ). take n known) same;
+      stops = ap not test;
+    }
 
--- Whether known characters are enough for whatever is asked for.
+pub is_before : (asked : Wanted) (rule : Newlines) (known : List ℕ) (count : ℕ) → enough_before asked rule known ≡ Some count → IsBefore asked rule known count
+is_before (Characters None) rule known count is = absurd (cc)
+is_before (Characters (Some size)) rule known count is = size_before (nat_le size (length known)) rule size known count refl is
+is_before (Line limit) rule known count is = line_before (is_ended (line_end rule) limit known) rule limit known count refl is
 
-pub is_enough : (asked : Wanted) (pending : List ℕ) (count : ℕ) → enough asked pending ≡ Some count → IsEnough asked pending count
-is_enough (wanted.Characters None) pending count is = absurd (cc)
-is_enough (wanted.Characters (Some size)) pending count is = size_enough (nat_le size (length pending)) size pending count refl is
-is_enough (wanted.Line limit) pending count is = line_enough (is_ended Lf limit pending) limit pending count refl is
+passes_at : (ended : Bool) (size : ℕ) → (if ended then Some size else None) ≡ None → not ended ≡ true
+passes_at true size is = absurd (cc)
+passes_at false size is = refl
 
-pub is_short : (asked : Wanted) (pending : List ℕ) → enough asked pending ≡ None → IsShort asked pending
-is_short (wanted.Characters None) pending is = record { size = tt; answer = refl; passes_all = refl; front = λ more. (more, refl) }
-is_short (wanted.Characters (Some size)) pending is = size_short (nat_le size (length pending)) size pending refl is
-is_short (wanted.Line limit) pending is = line_short (is_ended Lf limit pending) limit pending refl is
+passes_size : (fits : Bool) (size : ℕ) (known : List ℕ) → nat_le size (length known) ≡ fits → (if fits then Some size else None) ≡ None → nat_lt (length known) size ≡ true
+passes_size true size known test is = absurd (cc)
+passes_size false size known test is = grind (arith, nat_tests)
+
+-- the answer would pass a refused range that comes right behind the known characters
+pub passes_range : (asked : Wanted) (rule : Newlines) (known : List ℕ) → enough_before asked rule known ≡ None → passes asked rule known ≡ true
+passes_range (Characters None) rule known is = refl
+passes_range (Characters (Some size)) rule known is = passes_size (nat_le size (length known)) size known refl is
+passes_range (Line limit) rule known is = passes_at (is_ended (line_end rule) limit known) (length (first_line (line_end rule) limit known)) is

@@ -1,102 +1,117 @@
--- What a call of the reader leaves of what is known of a text.
-use Rattle.std.proofs.Common.{◌≡◌, ◌≢◌, ℕ, ◌+◌, false, nat_eq, IsTrue, List, [], ◌++◌, length as len, drop, Result, Ok, Err, sym, ap, ◌∙◌, subst, refl, arith}
-use Rattle.std.proofs.Math.Seq.{drop-append_seam}
-use Rattle.std.proofs.lemmas.List.{append_assoc, length-append, drop-drop}
-use Rattle.std.specs.Str.{encode_utf8_all}
-use Rattle.py_flat.specs.declared.fault.IoFault.{IoFault}
-use Rattle.py_flat.specs.declared.fault.IoFault.TheVariants as fault
-use Rattle.py_flat.specs.declared.life.Life.{Life}
+-- What holds of every text stays so.
+use Rattle.std.proofs.Common.{◌≡◌, ℕ, ◌+◌, ◌-◌, ◌*◌, ◌≤◌, Bool, false, IsTrue, List, [], length, refl, sym, ap, subst, ◌∙◌, if◌then◌else◌, arith}
+use Rattle.std.proofs.lemmas.List.{length-append, length-drop}
 use Rattle.py_flat.specs.declared.life.Life.TheVariants as life
 use Rattle.py_flat.specs.Bytes.{left_at}
+use Rattle.py_flat.specs.FlatFile.{Abilities}
+use Rattle.py_flat.specs.Refusals.{is_unbuffered}
 use Rattle.py_flat.specs.BinaryStep.{IsFrontOf}
+use Rattle.py_plain_text.specs.TextFile.{TextSettings}
 use Rattle.py_raw.specs.RawStream.{tells}
-use Rattle.py_raw.proofs.Telling.{tells_its_bytes, tells_still}
-use Rattle.py_textio.specs.Reader.{ReaderView, KeepsReader, MovesForth, ClosesRaw, ClosesIn, CloseOutcome, Gives, ReadFails}
-use Rattle.py_textio.specs.Text.{KnowsTold, IsText}
-use Rattle.py_textio.proofs.Tying.{known_at}
+use Rattle.py_raw.proofs.Telling.{tells_still}
+use Rattle.py_stream.specs.Buffer.{Buffer, WhereShown, flat_of}
+use Rattle.py_held_text.specs.Held.{HeldView}
+use Rattle.py_textio.specs.Knowing.{KnowsTold, IsText}
+use Rattle.py_textio.specs.Reading.{Follows, Reads, GaveTold, IsAtEnd}
+use Rattle.py_textio.proofs.Knowing.{knows_follows, knows_part, knows_given, knows_end, with_part, without_front}
 
--- where the new raw tells, the old one did
-told_before : (old new : ReaderView) → KeepsReader old new → IsTrue (tells new.raw) → IsTrue (tells old.raw)
-told_before old new keeps told = sym (tells_still old.raw new.raw keeps.raw) ∙ told
-
--- a reader that brought nothing
-pub text_over : (old new : ReaderView) (at taken chunk : ℕ) (held pending : List ℕ) → KeepsReader old new → MovesForth old new → (new.life ≡ life.Live → (old.life ≡ life.Live) × (new.place ≡ old.place)) → IsText old.raw old.place old.life at taken chunk held pending → IsText new.raw new.place new.life at taken chunk held pending
-text_over old new at taken chunk held pending keeps forth still is = record {
+-- what is in hand was looked at
+pub text_follows : (buffer : Buffer) (old new : HeldView) (at taken : ℕ) (settings : TextSettings) (Behind : List ℕ → Type 0) → Follows Behind old new → WhereShown buffer ((more : List ℕ) → IsFrontOf more (left_at (flat_of buffer).bytes buffer.place) → Behind more) → IsText buffer old at taken settings → IsText buffer new at taken settings
+text_follows buffer old new at taken settings Behind follows may is = record {
+  reads_by = λ reads. record { encoding = follows.settings.encoding ∙ (is.reads_by reads).encoding; handler = follows.settings.handler ∙ (is.reads_by reads).handler; newline = follows.settings.newline ∙ (is.reads_by reads).newline };
   asks = is.asks;
-  counted = omega (arith, is.counted, forth.forth);
-  far = forth.far;
-  told = λ tells live. let before = told_before old new keeps tells in known_at old.raw.bytes new.raw.bytes old.place new.place at taken held pending (keeps.bytes (tells_its_bytes old.raw before)) (still live).1 (is.told before (still live).0);
+  buffered = is.buffered;
+  kept = is.kept;
+  stands = follows.stands ∙ is.stands;
+  far = is.far;
+  forth = omega (arith, is.forth, follows.forth);
+  few = omega (arith, is.forth, is.few, follows.forth, follows.few);
+  told = λ told live reads. knows_follows settings (flat_of buffer).bytes buffer.place at taken Behind old new follows (may told) (is.told told live reads);
 }
 
--- Closing.
+-- the room changes nothing
+in_room : (settings : TextSettings) (bytes : List ℕ) (far at taken : ℕ) (held : HeldView) (room : ℕ) → KnowsTold settings bytes far at taken held → KnowsTold settings bytes far at taken (record held { room = room })
+in_room settings bytes far at taken held room told = record { given = told.given; count = told.count; within = told.within; left = told.left; shows = told.shows; sound = told.sound }
 
--- a reader that lives after a close was left where it was
-closed_raw : (old new : ReaderView) (result : Result (Unit {0}) IoFault) → old.life ≡ life.Live → ClosesRaw old result new → new.life ≡ life.Live → (old.life ≡ life.Live) × (new.place ≡ old.place)
-closed_raw old new (Ok done) before outcome live = absurd (let closed = outcome.0 in cc)
-closed_raw old new (Err fault.RawFault) before outcome live = absurd (let closed = outcome.1 in cc)
-closed_raw old new (Err fault.NoMemory) before outcome live = (before, outcome.1.place)
-closed_raw old new (Err other) before outcome live = absurd outcome
+pub text_room : (buffer : Buffer) (held : HeldView) (at taken room : ℕ) (settings : TextSettings) → IsText buffer held at taken settings → IsText buffer (record held { room = room }) at taken settings
+text_room buffer held at taken room settings is = record {
+  reads_by = λ reads. let by = is.reads_by reads in record { encoding = by.encoding; handler = by.handler; newline = by.newline };
+  asks = is.asks;
+  buffered = is.buffered;
+  kept = is.kept;
+  stands = is.stands;
+  far = is.far;
+  forth = is.forth;
+  few = is.few;
+  told = λ told live reads. in_room settings (flat_of buffer).bytes buffer.place at taken held room (is.told told live reads);
+}
 
-same_reader : (old new : ReaderView) → new ≡ old → new.life ≡ life.Live → (old.life ≡ life.Live) × (new.place ≡ old.place)
-same_reader old new same live = (sym (ap (λ (reader : ReaderView). reader.life) same) ∙ live, ap (λ (reader : ReaderView). reader.place) same)
+-- the buffer was read from, and no byte came
+pub text_read_nothing : (before after : Buffer) (held : HeldView) (at taken : ℕ) (settings : TextSettings) (waited faulted : Bool) → before.life ≡ life.Live → Reads before waited faulted after → after.place ≡ before.place → IsText before held at taken settings → IsText after held at taken settings
+text_read_nothing before after held at taken settings waited faulted live reads place is = record {
+  reads_by = λ can. is.reads_by (sym (ap (λ (abilities : Abilities). abilities.readable) reads.keeps.can) ∙ can);
+  asks = is.asks;
+  buffered = ap is_unbuffered reads.keeps.buffering ∙ is.buffered;
+  kept = reads.keeps.exported ∙ is.kept;
+  stands = is.stands ∙ sym place;
+  far = reads.far;
+  forth = is.forth;
+  few = is.few;
+  told = λ told lives can.
+      let was : IsTrue (tells before.raw) = sym (tells_still before.raw after.raw reads.keeps.raw) ∙ told in
+      let knows = is.told was live (sym (ap (λ (abilities : Abilities). abilities.readable) reads.keeps.can) ∙ can) in
+      subst (λ (bytes : List ℕ). KnowsTold settings bytes after.place at taken held) (sym (reads.bytes was)) (subst (λ (far : ℕ). KnowsTold settings (flat_of before).bytes far at taken held) (sym place) knows);
+}
 
-closed_in : (current : Life) (old new : ReaderView) (result : Result (Unit {0}) IoFault) → old.life ≡ current → ClosesIn current old result new → new.life ≡ life.Live → (old.life ≡ life.Live) × (new.place ≡ old.place)
-closed_in life.Live old new result is outcome live = closed_raw old new result is outcome live
-closed_in life.Closed old new result is outcome live = same_reader old new outcome.1 live
-closed_in life.Failed old new result is outcome live = same_reader old new outcome.1 live
-closed_in life.Detached old new result is outcome live = same_reader old new outcome.1 live
+-- bytes came, and were put behind those in hand
+pub text_brought : (before after : Buffer) (held : HeldView) (part : List ℕ) (room at taken : ℕ) (settings : TextSettings) → before.life ≡ life.Live → Reads before false false after → after.place ≡ before.place + length part → WhereShown before (GaveTold before part) → IsText before held at taken settings → IsText after (with_part held part room) at taken settings
+text_brought before after held part room at taken settings live reads place gave is = record {
+  reads_by = λ can. let by = is.reads_by (sym (ap (λ (abilities : Abilities). abilities.readable) reads.keeps.can) ∙ can) in record { encoding = by.encoding; handler = by.handler; newline = by.newline };
+  asks = is.asks;
+  buffered = ap is_unbuffered reads.keeps.buffering ∙ is.buffered;
+  kept = reads.keeps.exported ∙ is.kept;
+  stands = omega (arith, is.stands, place, length-append held.bytes part);
+  far = reads.far;
+  forth = is.forth;
+  few = is.few;
+  told = λ told lives can.
+      let was : IsTrue (tells before.raw) = sym (tells_still before.raw after.raw reads.keeps.raw) ∙ told in
+      let knows = is.told was live (sym (ap (λ (abilities : Abilities). abilities.readable) reads.keeps.can) ∙ can) in
+      let forth : at ≤ before.place = omega (arith, is.forth, is.stands) in
+      subst (λ (bytes : List ℕ). KnowsTold settings bytes after.place at taken (with_part held part room)) (sym (reads.bytes was))
+      (subst (λ (far : ℕ). KnowsTold settings (flat_of before).bytes far at taken (with_part held part room)) (sym place) (knows_part settings (flat_of before).bytes before.place at taken held part room forth (gave was).front knows));
+}
 
-pub text_closed : (old new : ReaderView) (result : Result (Unit {0}) IoFault) (at taken chunk : ℕ) (held pending : List ℕ) → KeepsReader old new → MovesForth old new → CloseOutcome old result new → IsText old.raw old.place old.life at taken chunk held pending → IsText new.raw new.place new.life at taken chunk held pending
-text_closed old new result at taken chunk held pending keeps forth outcome is =
-    text_over old new at taken chunk held pending keeps forth (closed_in old.life old new result refl outcome) is
+-- characters were given
+pub text_given : (buffer : Buffer) (held : HeldView) (at taken count : ℕ) (settings : TextSettings) → count ≤ length held.known → IsText buffer held at taken settings → IsText buffer (without_front held count) at (taken + count) settings
+text_given buffer held at taken count settings within is = record {
+  reads_by = λ reads. let by = is.reads_by reads in record { encoding = by.encoding; handler = by.handler; newline = by.newline };
+  asks = is.asks;
+  buffered = is.buffered;
+  kept = is.kept;
+  stands = is.stands;
+  far = is.far;
+  forth = is.forth;
+  few = omega (arith, is.few, within, length-drop count held.known);
+  told = λ told live reads. knows_given settings (flat_of buffer).bytes buffer.place at taken held count within (is.told told live reads);
+}
 
--- Reading.
+pub given_so : (buffer : Buffer) (held new : HeldView) (at taken count : ℕ) (settings : TextSettings) → count ≤ length held.known → new ≡ without_front held count → IsText buffer held at taken settings → IsText buffer new at (taken + count) settings
+given_so buffer held new at taken count settings within given is = subst (λ (own : HeldView). IsText buffer own at (taken + count) settings) (sym given) (text_given buffer held at taken count settings within is)
 
--- a read of a live reader that failed when out of memory left it where it was
-failed_live : (old new : ReaderView) (why : IoFault) → old.life ≡ life.Live → ReadFails old why new → new.life ≡ life.Live → new.place ≡ old.place
-failed_live old new fault.RawFault before fails live = absurd (let failed = fails.1 in cc)
-failed_live old new fault.NoMemory before fails live = fails.place
-failed_live old new other before fails live = ap (λ (reader : ReaderView). reader.place) fails.1
-
-pub text_failed : (old new : ReaderView) (why : IoFault) (at taken chunk : ℕ) (held pending : List ℕ) → old.life ≡ life.Live → KeepsReader old new → MovesForth old new → ReadFails old why new → IsText old.raw old.place old.life at taken chunk held pending → IsText new.raw new.place new.life at taken chunk held pending
-text_failed old new why at taken chunk held pending before keeps forth fails is =
-    text_over old new at taken chunk held pending keeps forth (λ live. (before, failed_live old new why before fails live)) is
-
--- what is left after a part that was read
-left_behind : (bytes part : List ℕ) (place : ℕ) → IsFrontOf part (left_at bytes place) → left_at bytes place ≡ part ++ left_at bytes (place + len part)
-left_behind bytes part place front =
-    let more : List ℕ = front.0 in
-    let rest : left_at bytes (place + len part) ≡ more = sym (drop-drop (len part) place bytes) ∙ (ap (drop (len part)) (sym front.1) ∙ drop-append_seam part more) in
-    sym front.1 ∙ ap (λ (behind : List ℕ). part ++ behind) (sym rest)
-
--- a part come into hand
-known_read : (bytes part : List ℕ) (place at taken : ℕ) (held pending : List ℕ) → IsFrontOf part (left_at bytes place) → KnowsTold bytes place at taken held pending → KnowsTold bytes (place + len part) at taken (held ++ part) pending
-known_read bytes part place at taken held pending front told =
-    let behind : List ℕ = left_at bytes (place + len part) in
+-- all was given, at the end
+pub text_ended : (buffer : Buffer) (held : HeldView) (at taken : ℕ) (settings : TextSettings) → held.bytes ≡ [] → held.cr ≡ false → IsAtEnd buffer → IsText buffer held at taken settings → IsText buffer (record held { known = [] }) held.place 0 settings
+text_ended buffer held at taken settings none whole end is =
+    let there : buffer.place ≡ held.place = omega (arith, is.stands, ap length none) in
     record {
-      decoded = told.decoded;
-      scalars = told.scalars;
-      bytes_are = told.bytes_are ∙ ap (λ (xs : List ℕ). encode_utf8_all told.decoded ++ xs) (ap (λ (xs : List ℕ). held ++ xs) (left_behind bytes part place front) ∙ sym (append_assoc held part behind));
-      place_is = omega (arith, told.place_is, length-append held part);
-      within = told.within;
-      untaken = told.untaken;
+      reads_by = λ reads. let by = is.reads_by reads in record { encoding = by.encoding; handler = by.handler; newline = by.newline };
+      asks = is.asks;
+      buffered = is.buffered;
+      kept = is.kept;
+      stands = is.stands;
+      far = is.far;
+      forth = omega arith;
+      few = subst (λ (cr : Bool). 0 + (0 + (if cr then 1 else 0)) ≤ 6 * (held.place - held.place)) (sym whole) (omega arith);
+      told = λ told live reads. subst (λ (far : ℕ). KnowsTold settings (flat_of buffer).bytes far held.place 0 (record held { known = [] })) (sym there)
+          (knows_end settings (flat_of buffer).bytes held.place (record held { known = [] }) refl whole none (is.reads_by reads).newline (subst (λ (far : ℕ). left_at (flat_of buffer).bytes far ≡ []) there (end told)));
     }
-
--- a text that a part was given to
-pub text_read : (old new : ReaderView) (size : ℕ) (part : List ℕ) (at taken chunk : ℕ) (held pending : List ℕ) → old.life ≡ life.Live → part ≢ [] → KeepsReader old new → MovesForth old new → Gives old size part new → IsText old.raw old.place old.life at taken chunk held pending → IsText new.raw new.place new.life at taken chunk (held ++ part) pending
-text_read old new size part at taken chunk held pending before some keeps forth gives is = record {
-  asks = is.asks;
-  counted = omega (arith, is.counted, gives.place, length-append held part);
-  far = forth.far;
-  told = λ tells live.
-      let told = told_before old new keeps tells in
-      known_at old.raw.bytes new.raw.bytes (old.place + len part) new.place at taken (held ++ part) pending (keeps.bytes (tells_its_bytes old.raw told)) gives.place
-      (known_read old.raw.bytes part old.place at taken held pending (gives.told told).front (is.told told before));
-}
-
--- a part whose length isn't 0 is not empty
-pub not_empty : (size : ℕ) (part : List ℕ) → size ≡ len part → false ≡ nat_eq size 0 → part ≢ []
-not_empty size part is tested = λ none.
-    let zero_is : size ≡ 0 = is ∙ ap len none in
-    let never : false ≡ nat_eq 0 0 = subst (λ (n : ℕ). false ≡ nat_eq n 0) zero_is tested in
-    absurd (cc)

@@ -1,8 +1,6 @@
-pub mod Reader
-pub mod Waiting
-pub mod Text
 pub mod TextState
+pub mod Waiting
 pub mod Answers
+pub mod Knowing
+pub mod Reading
 pub mod Opening
-pub mod Laws
-pub mod Lines

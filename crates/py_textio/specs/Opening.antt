@@ -1,48 +1,37 @@
--- Opening a text over a raw stream, and handing the raw back.
-use Rattle.std.specs.Prelude.{◌≡◌, ℕ, true, false, Bool, IsFalse, List, Option, Some, None, Result, Ok, Err, if◌then◌else◌}
+-- Opening a text over a buffered stream.
+use Rattle.std.specs.Prelude.{◌≡◌, ℕ, ◌≤◌, false, not, nat_eq, [], Option, Some, None, Result, Ok, Err}
+use Rattle.py_flat.specs.declared.fault.IoFault.{IoFault}
+use Rattle.py_flat.specs.declared.fault.IoFault.TheVariants as fault
 use Rattle.py_flat.specs.declared.life.Life.TheVariants as life
-use Rattle.py_plain.specs.declared.encoding.Encoding.TheVariants.{Utf8}
-use Rattle.py_plain.specs.declared.handler.Handler.TheVariants.{Strict}
-use Rattle.py_plain.specs.declared.newlines.Newlines.TheVariants as newlines
+use Rattle.py_flat.specs.Limits.{greatest_place}
+use Rattle.py_flat.specs.Refusals.{or_else, refused_if, life_fault}
 use Rattle.py_plain.specs.Units.{Unknown}
-use Rattle.py_plain_text.specs.TextFile.{clean_at, TextFile}
-use Rattle.py_raw.specs.RawStream.{Raw, WherePlace, LeavesCounts}
+use Rattle.py_plain_text.specs.TextFile.{clean_at}
+use Rattle.py_plain_text.specs.TextRefusals.{fits_handler}
 use Rattle.py_stream.specs.declared.new_refused.NewRefused.{NewRefused}
-use Rattle.py_stream.specs.Opening.{Untouched, RefusesRaw}
-use Rattle.py_textio.specs.TextState.{TextState}
+use Rattle.py_stream.specs.Buffer.{Buffer}
+use Rattle.py_text.specs.declared.coder.Coder.{Coder}
+use Rattle.py_text.specs.declared.text_settings.TextSettings as declared
+use Rattle.py_textio.specs.TextState.{TextState, settings_of}
 
--- the flat file of a text that is opened to be read, in UTF-8, strict, with the newline rule Lf: these bytes, clean at a place
-abbrev pub text_opened : List ℕ → ℕ → Bool → ℕ → TextFile
-text_opened bytes place seekable chunk = record {
-  bytes = bytes;
-  place = clean_at place Unknown;
-  can = record { readable = true; writable = false; seekable = seekable; appending = false };
-  settings = record { encoding = Utf8; handler = Strict; newline = newlines.Lf; line_buffering = false; write_through = false; chunk_size = chunk };
-  life = life.Live;
-}
+-- what refuses a text over a buffer: by the buffer's life, a chunk of no bytes, bytes that are lent out, a handler that isn't one of the
+-- buffer's directions
+abbrev pub opening_refusal : Buffer → Coder → declared.TextSettings → Option IoFault
+opening_refusal buffer coder settings = or_else (life_fault buffer.life) (or_else (refused_if (nat_eq settings.chunk_size 0) fault.BadArgument) (or_else (refused_if buffer.exported fault.BufferError) (refused_if (not (fits_handler buffer.can coder.errors)) fault.UnknownHandler)))
 
--- told: the text begins where the raw stood, and still stands
-abbrev pub OpensTold : Raw → ℕ → TextState → Type 0
-OpensTold raw place text = (text.raw.place ≡ raw.place) × (place ≡ raw.place)
+-- the place of a buffer was asked for where it can seek, and nothing else changed
+pub record CountsPlace (old : Buffer) (place : ℕ) (new : Buffer) : Type 0 where
+  pub is : place ≡ old.place
+  pub far : old.place ≤ greatest_place
+  pub same : new ≡ record old { short = new.short }
 
--- an open text: the raw was open and can be read from; nothing was read; it begins where the raw stood, at 0 where that can't
--- seek, with a buffer and chunks of these sizes in bytes
-pub record OpensText (raw : Raw) (buffer chunk : ℕ) (text : TextState) : Type 0 where
-  pub was_open : raw.closed ≡ false
-  pub reads : raw.readable ≡ true
-  pub untouched : Untouched raw text.raw
-  pub counts : LeavesCounts raw text.raw
-  pub place : ℕ
-  pub file : text.file ≡ text_opened text.raw.bytes place raw.seekable chunk
-  pub start : IsFalse raw.seekable → place ≡ 0
-  pub buffer_is : text.buffer ≡ buffer
-  pub told : WherePlace raw (OpensTold raw place text)
-  pub whole : text.short ≡ false
+-- a text that was opened stands clean where its buffer stands, of which nothing was read
+pub record Wraps (buffer : Buffer) (coder : Coder) (settings : declared.TextSettings) (state : TextState) : Type 0 where
+  pub accepted : opening_refusal buffer coder settings ≡ None
+  pub same : state.text.buffer ≡ record buffer { short = state.text.buffer.short }
+  pub text : state.text ≡ record { buffer = state.text.buffer; owed = []; place = clean_at buffer.place Unknown; settings = settings_of coder settings; life = life.Live }
+  pub whole : state.short ≡ false
 
-abbrev pub TextOutcome : {R : Type 0} → (R → Raw) → R → ℕ → ℕ → Result TextState (NewRefused R) → Type 0
-TextOutcome shows raw buffer chunk (Ok text) = OpensText (shows raw) buffer chunk text
-TextOutcome shows raw buffer chunk (Err refused) = RefusesRaw (λ shown. shown.readable) false (shows raw) (Some buffer) refused.fault (shows refused.raw)
-
--- the place that is handed back with the raw: the byte of the text place, none where the raw can't seek
-abbrev pub handed_at : TextFile → Option ℕ
-handed_at file = if file.can.seekable then Some file.place.at else None
+abbrev pub WrapOutcome : {B : Type 0} → (B → Buffer) → B → Coder → declared.TextSettings → Result TextState (NewRefused B) → Type 0
+WrapOutcome shows buffer coder settings (Ok state) = Wraps (shows buffer) coder settings state
+WrapOutcome shows buffer coder settings (Err refused) = (opening_refusal (shows buffer) coder settings ≡ Some refused.fault) × (shows refused.raw ≡ shows buffer)

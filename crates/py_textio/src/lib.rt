@@ -1,17 +1,16 @@
-//! A text that is read over a raw stream: characters and lines, decoded as they are asked for from the bytes of a buffered
-//! reader.
+//! Text over any buffered stream: characters and lines, decoded as they are asked for.
 //!
-//! `TextReader` is seen as its flat file, and each of its calls has the one clause `Answers`. The decoder and the text under it
-//! are private parts.
+//! `TextIOWrapper` is seen as the text over what its buffer is seen as, and each of its calls has the one clause `Answers`. The text under
+//! it is a private part.
 #![tactic(auto)]
 
-mod chunk_reader;
 mod laws;
-mod lines;
+mod looking;
+mod opening;
 mod text;
-mod text_reader;
+mod text_detached;
+mod text_io_wrapper;
 
-pub use laws::{a_wait_loses_nothing, settled_only_blames_itself};
-pub use lines::TextLines;
-pub use py_stream::{Detached, NewRefused};
-pub use text_reader::TextReader;
+pub use laws::no_answer_hangs_on_the_chunk_size;
+pub use text_detached::TextDetached;
+pub use text_io_wrapper::TextIOWrapper;

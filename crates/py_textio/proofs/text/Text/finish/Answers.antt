@@ -1,29 +1,21 @@
-use Rattle.std.proofs.Common.{Bool, Ok, subst}
-use Rattle.py_textio.specs.Text.{GatheredAt, GiveOutcome}
-use Rattle.py_textio.proofs.Enough.{is_enough}
-use Rattle.py_textio.proofs.Answering.{Stands, tied, step_enough, moves_enough, step_refuses}
+use Rattle.std.proofs.Common.{subst}
+use Rattle.py_textio.proofs.Answering.{Holds, tied_of, finishes_enough, finishes_before, finishes_refused}
 use Rattle.py_textio.proofs.text.Text.finish.Goals as goal
 
-pub give-requires : goal.give-requires
-give-requires g c =
-    let stands = subst (GatheredAt c.args.self.now c.args.wanted) c.in-Enough.is c.requires.stands in
-    record { there = (is_enough c.args.wanted c.args.self.now.pending c.in-Enough.count stands).within }
+pub returns-in_ok-text-in-Enough-clause-finishes : goal.returns-in_ok-text-in-Enough-clause-finishes
+returns-in_ok-text-in-Enough-clause-finishes g c =
+    let holds = subst Holds c.self.view_is c.self.invariant in
+    let stands = rw c.in-Enough.is at c.requires.stands in
+    finishes_enough _ _ c.args.wanted c.in-Enough.front.chars c.in_ok-text-in-Enough.text (tied_of _ c.requires.live c.requires.reads holds) stands.0 (rw c.asks_any.ensures at c.in_ok-text-in-Enough.ensures)
 
-pub returns-in_ok-text-in-Enough-clause-moves : goal.returns-in_ok-text-in-Enough-clause-moves
-returns-in_ok-text-in-Enough-clause-moves g c =
-    let stands = subst (GatheredAt c.args.self.now c.args.wanted) c.in-Enough.is c.requires.stands in
-    let gave = subst (λ (asks : Bool). GiveOutcome c.args.self.now c.in-Enough.count asks (Ok c.in_ok-text-in-Enough.text) c.give.new.self) c.asks_any.ensures c.in_ok-text-in-Enough.ensures in
-    moves_enough c.args.self.now c.give.new.self c.args.wanted c.in-Enough.count c.in_ok-text-in-Enough.text c.requires.live stands gave
+pub returns-in_ok-text-in-Before-clause-finishes : goal.returns-in_ok-text-in-Before-clause-finishes
+returns-in_ok-text-in-Before-clause-finishes g c =
+    let holds = subst Holds c.self.view_is c.self.invariant in
+    let stands = rw c.in-Before.is at c.requires.stands in
+    finishes_before _ _ c.args.wanted c.in-Before.front.chars c.in_ok-text-in-Before.text (tied_of _ c.requires.live c.requires.reads holds) stands.0 stands.2 (rw c.asks_any-in-Before.ensures at c.in_ok-text-in-Before.ensures)
 
-pub returns-in_ok-text-in-Enough-clause-told : goal.returns-in_ok-text-in-Enough-clause-told
-returns-in_ok-text-in-Enough-clause-told g c = λ tells.
-    let stands = subst (GatheredAt c.args.self.now c.args.wanted) c.in-Enough.is c.requires.stands in
-    let gave = subst (λ (asks : Bool). GiveOutcome c.args.self.now c.in-Enough.count asks (Ok c.in_ok-text-in-Enough.text) c.give.new.self) c.asks_any.ensures c.in_ok-text-in-Enough.ensures in
-    let known = tied c.args.self.now c.requires.live (subst Stands c.self.view_is c.self.invariant.1) tells in
-    step_enough c.args.self.now c.give.new.self c.args.wanted c.in-Enough.count c.in_ok-text-in-Enough.text known stands gave
-
-pub returns-in-Refuses-clause-told : goal.returns-in-Refuses-clause-told
-returns-in-Refuses-clause-told g c = λ tells.
-    let stands = subst (GatheredAt c.args.self.now c.args.wanted) c.in-Refuses.is c.requires.stands in
-    let known = tied c.args.self.now c.requires.live (subst Stands c.self.view_is c.self.invariant.1) tells in
-    step_refuses c.args.self.now c.args.wanted c.in-Refuses.start c.in-Refuses.end known stands.0 (stands.1 tells)
+pub returns-in-Refuses-clause-finishes : goal.returns-in-Refuses-clause-finishes
+returns-in-Refuses-clause-finishes g c =
+    let holds = subst Holds c.self.view_is c.self.invariant in
+    let stands = rw c.in-Refuses.is at c.requires.stands in
+    finishes_refused _ c.args.wanted c.in-Refuses.start c.in-Refuses.end (tied_of _ c.requires.live c.requires.reads holds) stands.0 stands.1

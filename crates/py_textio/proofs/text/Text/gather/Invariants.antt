@@ -1,13 +1,12 @@
-use Rattle.std.proofs.Common.{◌≡◌, ◌-◌}
-use Rattle.py_flat.specs.declared.life.Life.TheVariants.{Live}
+use Rattle.std.proofs.Common.{◌-◌}
 use Rattle.py_flat.specs.Limits.{greatest_place}
-use Rattle.py_textio.specs.Text.{Gathers}
+use Rattle.py_textio.specs.Reading.{Gathers}
 use Rattle.py_textio.proofs.text.Text.gather.Given as goal
 
--- the text lives, and stands where it stood
+-- nothing but bytes came
 abbrev pub invariant-loop-stop : goal.invariant-loop-stop
-invariant-loop-stop g l = Gathers l.fn.self l.self × (l.self.reader.life ≡ Live)
+invariant-loop-stop g l = Gathers l.fn.self l.wanted l.self
 
--- each read brings the reader nearer to the greatest place
+-- each read brings the buffer nearer to the greatest place
 abbrev pub decreases-loop-stop : goal.decreases-loop-stop
-decreases-loop-stop g l = greatest_place - l.self.reader.place
+decreases-loop-stop g l = greatest_place - l.self.buffer.place

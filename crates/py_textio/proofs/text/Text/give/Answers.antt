@@ -1,16 +1,7 @@
-use Rattle.std.proofs.Common.{◌≤◌, ◌+◌, ℕ, List, length, drop, sym, subst, arith}
-use Rattle.std.proofs.lemmas.List.{length-drop, drop-drop}
-use Rattle.py_textio.specs.Text.{TextView, IsText}
-use Rattle.py_textio.proofs.Taking.{is_text_taking}
+use Rattle.std.proofs.Common.{length, ap, arith}
+use Rattle.py_textio.specs.Knowing.{TextView}
+use Rattle.py_textio.proofs.Holding.{given_so}
 use Rattle.py_textio.proofs.text.Text.give.Goals as goal
 
-pub invariant_of-self : goal.invariant_of-self
-invariant_of-self g c =
-    let inside = c.self.inside in
-    let reader = inside.reader in
-    let known : List ℕ = drop inside.given inside.pending.items in
-    let there : c.args.count ≤ length known = subst (λ (text : TextView). c.args.count ≤ length text.pending) (sym c.self.view_is) c.requires.there in (
-      omega (arith, length-drop inside.given inside.pending.items),
-      subst (IsText reader.raw reader.place reader.life inside.at (inside.taken + c.args.count) inside.chunk_size inside.held.items) (drop-drop c.args.count inside.given inside.pending.items)
-          (is_text_taking reader.raw reader.place reader.life inside.at inside.taken inside.chunk_size c.args.count inside.held.items known there c.self.invariant.1),
-    )
+pub invariant_of-self-2 : goal.invariant_of-self-2
+invariant_of-self-2 g c = given_so _ _ _ _ _ c.args.front.chars _ (omega (arith, c.requires.within, ap (λ (view : TextView). length view.held.known) c.self.view_is)) c.in_ok-text.ensures.1 c.self.invariant

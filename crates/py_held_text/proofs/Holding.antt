@@ -1,0 +1,246 @@
+-- What a text has in hand after a decoding.
+use Rattle.std.proofs.Common.{◌≡◌, ℕ, zero, suc, ◌+◌, ◌≤◌, Bool, true, false, nat_eq, List, [], ◌∷◌, ◌++◌, length as len, drop, Option, Some, None, IfSome, refl, sym, ap, subst, ◌∙◌, arith, append_assoc, append-nil, true≢false}
+use Rattle.std.proofs.lemmas.List.{length-append}
+use Rattle.py_plain.specs.declared.encoding.Encoding.{Encoding}
+use Rattle.py_plain.specs.declared.newlines.Newlines.{Newlines}
+use Rattle.py_plain.specs.declared.unit.Unit.{Unit as Read}
+use Rattle.py_plain.specs.declared.unit.Unit.TheVariants.{Character, Malformed, Cut}
+use Rattle.py_plain.specs.Units.{Order, Unknown, first_unit}
+use Rattle.py_plain.specs.UnitLaws.{IsWithin}
+use Rattle.py_plain.specs.Handlers.{Handled, Replaced, Refuses, Treatment, treatment, reads_texts}
+use Rattle.py_plain.specs.Items.{Item, Ending, AtEnd, AtRange, AtCut, Walk, FirstItem, Given, RefusedRange, Unfinished, item_handled, item_of, first_item, used_behind, ends, onto_walk, walk_from, characters_of, refusal_of}
+use Rattle.py_plain.specs.NewlineRule.{read_so_far, read_all, holds_after}
+use Rattle.py_plain.specs.Pieces.{LooksAtRange, walk_at, items_before}
+use Rattle.py_plain.proofs.AnyUnits.{unit_within_any}
+use Rattle.py_plain.proofs.Looking.{reading as looks_at}
+use Rattle.py_plain.proofs.Walks.{walk-order}
+use Rattle.py_plain_text.specs.Rest.{Rest}
+use Rattle.py_codec.specs.declared.front.FrontDecoded.{FrontDecoded}
+use Rattle.py_codec.specs.declared.front.FrontStop.TheVariants as front
+use Rattle.py_codec.specs.Decoding.{walk_here}
+use Rattle.py_codec.specs.Front.{front_stop}
+use Rattle.py_incremental.proofs.Cuts.{walk_cut}
+use Rattle.py_incremental.proofs.Feeding.{ignores}
+use Rattle.py_incremental.proofs.Moving.{IgnoresPlace, moved}
+use Rattle.py_text.specs.declared.coder.Coder.{Coder}
+use Rattle.py_text.proofs.Joining.{read-both}
+use Rattle.py_held_text.specs.Held.{HeldView}
+use Rattle.py_held_text.specs.Decodes.{Decodes, IsDrained, RefusesNext}
+use Rattle.py_held_text.specs.Known.{KnownView, reading, IsWhole}
+use Rattle.py_held_text.proofs.Reading.{all-both, read-few}
+use Rattle.py_held_text.proofs.Walking.{Leaves, rest-none, rest-ending, split, on-whole, on-so-far, still, precedes}
+
+-- Where a walk is refused.
+
+handled-range : (size n : ℕ) (handled : Handled) → item_handled size handled ≡ RefusedRange n → size ≡ n
+handled-range size n (Replaced characters used) is = absurd (cc)
+handled-range size n Refuses is = cc
+
+item-range : (treat : Treatment) (last : Bool) (place left n : ℕ) (bytes : List ℕ) (unit : Option Read) → IfSome unit (λ whole. IsWithin whole left) → item_of treat last place bytes unit ≡ RefusedRange n → n ≤ left
+item-range treat last place left n bytes None within is = absurd (cc)
+item-range treat last place left n bytes (Some (Character c m)) within is = absurd (cc)
+item-range treat last place left n bytes (Some (Malformed m)) within is = omega (arith, within.1, handled-range m n (treat place bytes m) is)
+item-range treat true place left n bytes (Some (Cut m)) within is = omega (arith, within.1, handled-range m n (treat place bytes m) is)
+item-range treat false place left n bytes (Some (Cut m)) within is = absurd (cc)
+
+-- a range stands within some bytes at a place
+abbrev RangeIn : (place total start end : ℕ) → Type 0
+RangeIn place total start end = (start ≤ end) × (end ≤ place + total)
+
+onto-range : (order : Order) (place total start end : ℕ) (first : FirstItem) (walk : Walk) → ((n : ℕ) → first ≡ RefusedRange n → n ≤ total) → (walk.ending ≡ AtRange start end → RangeIn place total start end) → (onto_walk order place first walk).ending ≡ AtRange start end → RangeIn place total start end
+onto-range order place total start end (Given characters used) walk here behind is = behind is
+onto-range order place total start end (RefusedRange n) walk here behind is =
+    let begins : place ≡ start = cc in
+    let stops : place + n ≡ end = cc in
+    (omega (arith, begins, stops), omega (arith, stops, here n refl))
+onto-range order place total start end Unfinished walk here behind is = absurd (cc)
+
+pub range-in : (encoding : Encoding) (treat : Treatment) (last : Bool) (order : Order) (place skip : ℕ) (bytes : List ℕ) (start end : ℕ) → (walk_from encoding treat last order place skip bytes).ending ≡ AtRange start end → RangeIn place (len bytes) start end
+range-in encoding treat last order place skip [] start end is = absurd (cc)
+range-in encoding treat last order place (suc skip) (byte ∷ rest) start end is =
+    let behind = range-in encoding treat last order (place + 1) skip rest start end is in
+    (behind.0, omega (arith, behind.1))
+range-in encoding treat last order place zero (byte ∷ rest) start end is =
+    let bytes : List ℕ = byte ∷ rest in
+    let unit : Option Read = first_unit encoding order (nat_eq place 0) bytes in
+    let first : FirstItem = first_item encoding treat last order place bytes in
+    onto-range order place (len bytes) start end first (walk_from encoding treat last order (place + 1) (used_behind first) rest)
+    (λ n refused. item-range treat last place (len bytes) n bytes unit (unit_within_any encoding order (nat_eq place 0) bytes) refused)
+    (λ ending. let behind = range-in encoding treat last order (place + 1) (used_behind first) rest start end ending in (behind.0, omega (arith, behind.1)))
+    is
+
+-- Why a front has no more.
+
+pub stop-range : (ending : Ending) (start end : ℕ) → front_stop 1 ending ≡ front.Refused start end → ending ≡ AtRange start end
+stop-range AtEnd start end is = absurd (cc)
+stop-range (AtCut at) start end is = absurd (cc)
+stop-range (AtRange from to) start end is =
+    let begins : from ≡ start = cc in
+    let stops : to ≡ end = cc in
+    ap (λ (s : ℕ). AtRange s to) begins ∙ ap (AtRange start) stops
+
+pub stop-drained : (ending : Ending) → front_stop 1 ending ≡ front.Drained → refusal_of ending ≡ None
+stop-drained AtEnd is = refl
+stop-drained (AtCut at) is = refl
+stop-drained (AtRange from to) is = absurd (cc)
+
+pub stop-wanted : (ending : Ending) → front_stop 1 ending ≡ front.Wanted → refusal_of ending ≡ None
+stop-wanted AtEnd is = absurd (cc)
+stop-wanted (AtCut at) is = absurd (cc)
+stop-wanted (AtRange from to) is = absurd (cc)
+
+moved-refusal : (by : ℕ) (ending : Ending) → refusal_of ending ≡ None → refusal_of (moved by ending) ≡ None
+moved-refusal by AtEnd is = refl
+moved-refusal by (AtCut at) is = refl
+moved-refusal by (AtRange start end) is = absurd (cc)
+
+-- What is left.
+
+rest-same : (one other : List ℕ) (a b : Option (ℕ × ℕ)) → one ≡ other → a ≡ b → ◌≡◌ {A = Rest} (record { characters = one; refusal = a }) (record { characters = other; refusal = b })
+rest-same one other a b characters refusal = ap (λ (cs : List ℕ). record { characters = cs; refusal = a }) characters ∙ ap (λ (r : Option (ℕ × ℕ)). record { characters = other; refusal = r }) refusal
+
+-- what a decoding moved to what is known, and what comes behind it
+moved-all : (newline : Newlines) (cr : Bool) (known cs whole behind : List ℕ) → whole ≡ cs ++ behind → (known ++ read_so_far newline cr cs) ++ read_all newline (holds_after newline cr cs) behind ≡ known ++ read_all newline cr whole
+moved-all newline cr known cs whole behind is =
+    append_assoc known (read_so_far newline cr cs) (read_all newline (holds_after newline cr cs) behind)
+    ∙ ap (λ (t : List ℕ). known ++ t) (sym (all-both newline cr cs behind) ∙ ap (read_all newline cr) (sym is))
+
+moved-so-far : (newline : Newlines) (cr : Bool) (known cs whole behind : List ℕ) → whole ≡ cs ++ behind → (known ++ read_so_far newline cr cs) ++ read_so_far newline (holds_after newline cr cs) behind ≡ known ++ read_so_far newline cr whole
+moved-so-far newline cr known cs whole behind is =
+    append_assoc known (read_so_far newline cr cs) (read_so_far newline (holds_after newline cr cs) behind)
+    ∙ ap (λ (t : List ℕ). known ++ t) (sym (read-both newline cr cs behind) ∙ ap (read_so_far newline cr) (sym is))
+
+-- what a text has in hand, by its parts
+abbrev pub held-by : Coder → KnownView → List ℕ → (place room : ℕ) → HeldView
+held-by coder known bytes place room = record { encoding = coder.encoding; handler = coder.errors; newline = known.newline; known = known.characters; cr = known.cr; bytes = bytes; place = place; order = Unknown; room = room }
+
+-- the decoding of some bytes alone
+abbrev pub whole-walk : Coder → Bool → List ℕ → Walk
+whole-walk coder last bytes = walk_at coder.encoding (treatment coder.errors coder.encoding) last Unknown 0 bytes
+
+-- all of them were decoded as far as they go
+abbrev pub AllDecoded : Coder → Bool → List ℕ → FrontDecoded → Type 0
+AllDecoded coder last bytes decoded = IsWhole (whole-walk coder last bytes) (walk_here coder.encoding (treatment coder.errors coder.encoding) last bytes) decoded
+
+leaves-by : (coder : Coder) (last : Bool) (bytes : List ℕ) (decoded : FrontDecoded) → AllDecoded coder last bytes decoded → decoded.used ≤ len bytes → Leaves coder.encoding (treatment coder.errors coder.encoding) last bytes decoded.used
+leaves-by coder last bytes decoded whole within = record { within = within; goes_on = whole.goes_on }
+
+decodes-here : (coder : Coder) (known : KnownView) (bytes : List ℕ) (place room more_room : ℕ) (last : Bool) (decoded : FrontDecoded) → reads_texts coder.errors ≡ true → AllDecoded coder last bytes decoded → decoded.used ≤ len bytes → room ≤ more_room → Decodes last (held-by coder known bytes place room) (held-by coder (reading known (characters_of (whole-walk coder last bytes).items)) (drop decoded.used bytes) (place + decoded.used) more_room)
+decodes-here coder known bytes place room more_room last decoded reads whole within more =
+    let encoding : Encoding = coder.encoding in
+    let treat : Treatment = treatment coder.errors encoding in
+    let items : List Item = (whole-walk coder last bytes).items in
+    let cs : List ℕ = characters_of items in
+    let used : ℕ = decoded.used in
+    let rest : List ℕ = drop used bytes in
+    let looks : LooksAtRange treat = looks_at coder.errors encoding reads in
+    let leaves = leaves-by coder last bytes decoded whole within in
+    record {
+      settings = record { encoding = refl; handler = refl; newline = refl };
+      used = used;
+      within = within;
+      bytes = refl;
+      place = refl;
+      room = more;
+      grows = (read_so_far known.newline known.cr cs, refl);
+      few = omega (arith, read-few known.newline known.cr cs, length-append known.characters (read_so_far known.newline known.cr cs), whole.few, whole.chars);
+      left = λ further none.
+          let walks = precedes encoding treat (ignores coder.errors encoding) true place used (bytes ++ further) (rest ++ further) items (on-whole encoding treat looks last bytes further used leaves none) in
+          rest-same _ _ _ _ (moved-all known.newline known.cr known.characters cs _ _ walks.characters) (sym walks.refusal);
+      so_far = λ is further.
+          let walks = precedes encoding treat (ignores coder.errors encoding) false place used (bytes ++ further) (rest ++ further) items (on-so-far encoding treat looks last bytes used leaves is further) in
+          rest-same _ _ _ _ (moved-so-far known.newline known.cr known.characters cs _ _ walks.characters) (sym walks.refusal);
+    }
+
+-- a decoding is what a text in hand does
+pub decodes-by : (coder : Coder) (known after : KnownView) (bytes rest : List ℕ) (place room more_room : ℕ) (last : Bool) (decoded : FrontDecoded) → reads_texts coder.errors ≡ true → AllDecoded coder last bytes decoded → after ≡ reading known (characters_of (whole-walk coder last bytes).items) → decoded.used ≤ len bytes → rest ≡ drop decoded.used bytes → room ≤ more_room → Decodes last (held-by coder known bytes place room) (held-by coder after rest (place + decoded.used) more_room)
+decodes-by coder known after bytes rest place room more_room last decoded reads whole after_is within rest_is more =
+    subst (λ (k : KnownView). Decodes last (held-by coder known bytes place room) (held-by coder k rest (place + decoded.used) more_room)) (sym after_is)
+    (subst (λ (r : List ℕ). Decodes last (held-by coder known bytes place room) (held-by coder (reading known (characters_of (whole-walk coder last bytes).items)) r (place + decoded.used) more_room)) (sym rest_is)
+    (decodes-here coder known bytes place room more_room last decoded reads whole within more))
+
+-- Nothing is left that is an item.
+
+empty-by : (encoding : Encoding) (treat : Treatment) (place byte : ℕ) (rest : List ℕ) (first : FirstItem) (walk : Walk) → (first ≡ Unfinished → ⊥) → (onto_walk Unknown place first walk).items ≡ [] → refusal_of (onto_walk Unknown place first walk).ending ≡ None → byte ∷ rest ≡ []
+empty-by encoding treat place byte rest (Given characters used) walk finished none ends = absurd (cc)
+empty-by encoding treat place byte rest (RefusedRange n) walk finished none ends = absurd (cc)
+empty-by encoding treat place byte rest Unfinished walk finished none ends = absurd (finished refl)
+
+last-empty : (encoding : Encoding) (treat : Treatment) (place : ℕ) (bytes : List ℕ) → (walk_at encoding treat true Unknown place bytes).items ≡ [] → refusal_of (walk_at encoding treat true Unknown place bytes).ending ≡ None → bytes ≡ []
+last-empty encoding treat place [] none ends = refl
+last-empty encoding treat place (byte ∷ rest) none ends =
+    let first : FirstItem = first_item encoding treat true Unknown place (byte ∷ rest) in
+    let behind : FirstItem → Walk = λ item. walk_from encoding treat true Unknown (place + 1) (used_behind item) rest in
+    empty-by encoding treat place byte rest first (behind first)
+    (λ unfinished. true≢false (walk_cut encoding treat true Unknown place 0 (byte ∷ rest) place (ap (λ (item : FirstItem). (onto_walk Unknown place item (behind item)).ending) unfinished)).more)
+    none ends
+
+empty-if : (encoding : Encoding) (treat : Treatment) (last : Bool) (place : ℕ) (bytes : List ℕ) → (walk_at encoding treat last Unknown place bytes).items ≡ [] → refusal_of (walk_at encoding treat last Unknown place bytes).ending ≡ None → last ≡ true → bytes ≡ []
+empty-if encoding treat true place bytes none ends is = last-empty encoding treat place bytes none ends
+empty-if encoding treat false place bytes none ends is = absurd (cc)
+
+pub drained-by : (coder : Coder) (after : KnownView) (bytes rest : List ℕ) (place room : ℕ) (last : Bool) (decoded : FrontDecoded) → AllDecoded coder last bytes decoded → decoded.used ≤ len bytes → rest ≡ drop decoded.used bytes → refusal_of (whole-walk coder last bytes).ending ≡ None → IsDrained last (held-by coder after rest (place + decoded.used) room)
+drained-by coder after bytes rest place room last decoded whole within rest_is ends_so =
+    let encoding : Encoding = coder.encoding in
+    let treat : Treatment = treatment coder.errors encoding in
+    let used : ℕ = decoded.used in
+    let left : List ℕ = drop used bytes in
+    let leaves = leaves-by coder last bytes decoded whole within in
+    let none = rest-none encoding treat last bytes used leaves in
+    let ending : Ending = (walk_at encoding treat last Unknown used left).ending in
+    let refusal : refusal_of ending ≡ None = ap refusal_of (rest-ending encoding treat last bytes used leaves) ∙ ends_so in
+    let here : walk_at encoding treat last Unknown (place + used) (rest ++ []) ≡ ends Unknown (moved place ending) =
+    ap (walk_at encoding treat last Unknown (place + used)) (append-nil rest ∙ rest_is) ∙ still encoding treat last place used left (ignores coder.errors encoding) none in
+    record {
+      items = ap (λ (w : Walk). w.items) here;
+      refusal = ap (λ (w : Walk). refusal_of w.ending) here ∙ moved-refusal place ending refusal;
+      none = λ is. rest_is ∙ empty-if encoding treat last used left none refusal is;
+    }
+
+-- A range comes next that is refused.
+
+-- a walk that has no items
+is-ends : (walk : Walk) (ending : Ending) → walk.items ≡ [] → walk.order ≡ Unknown → walk.ending ≡ ending → walk ≡ ends Unknown ending
+is-ends walk ending none unknown is =
+    ap (λ (items : List Item). record walk { items = items }) none
+    ∙ (ap (λ (order : Order). record { items = []; order = order; ending = walk.ending }) unknown
+    ∙ ap (ends Unknown) is)
+
+refuses-while : (encoding : Encoding) (treat : Treatment) → LooksAtRange treat → (final : Bool) (place : ℕ) (bytes more : List ℕ) (start end : ℕ) → (walk_at encoding treat false Unknown place bytes).items ≡ [] → (walk_at encoding treat false Unknown place bytes).ending ≡ AtRange start end → walk_at encoding treat final Unknown place (bytes ++ more) ≡ ends Unknown (AtRange start end)
+refuses-while encoding treat looks final place bytes more start end none is =
+    split encoding treat looks final place bytes more (AtRange start end) is ∙ ap (λ (items : List Item). items_before items (ends Unknown (AtRange start end))) none
+
+refuses-whole : (encoding : Encoding) (treat : Treatment) → LooksAtRange treat → (last : Bool) (place : ℕ) (bytes more : List ℕ) (start end : ℕ) → (walk_at encoding treat last Unknown place bytes).items ≡ [] → (walk_at encoding treat last Unknown place bytes).ending ≡ AtRange start end → (last ≡ true → more ≡ []) → walk_at encoding treat true Unknown place (bytes ++ more) ≡ ends Unknown (AtRange start end)
+refuses-whole encoding treat looks true place bytes more start end none is last =
+    ap (λ (m : List ℕ). walk_at encoding treat true Unknown place (bytes ++ m)) (last refl)
+    ∙ (ap (walk_at encoding treat true Unknown place) (append-nil bytes)
+    ∙ is-ends (walk_at encoding treat true Unknown place bytes) (AtRange start end) none (walk-order encoding treat true Unknown place 0 bytes) is)
+refuses-whole encoding treat looks false place bytes more start end none is last = refuses-while encoding treat looks true place bytes more start end none is
+
+refuses-so-far : (encoding : Encoding) (treat : Treatment) → LooksAtRange treat → (last : Bool) (place : ℕ) (bytes more : List ℕ) (start end : ℕ) → (walk_at encoding treat last Unknown place bytes).items ≡ [] → (walk_at encoding treat last Unknown place bytes).ending ≡ AtRange start end → last ≡ false → walk_at encoding treat false Unknown place (bytes ++ more) ≡ ends Unknown (AtRange start end)
+refuses-so-far encoding treat looks true place bytes more start end none is more_comes = absurd (true≢false more_comes)
+refuses-so-far encoding treat looks false place bytes more start end none is more_comes = refuses-while encoding treat looks false place bytes more start end none is
+
+-- a walk that has no items, at the place of the stream
+ends-there : (encoding : Encoding) (treat : Treatment) (final : Bool) (by place : ℕ) (bytes : List ℕ) (start end : ℕ) → IgnoresPlace treat → walk_at encoding treat final Unknown place bytes ≡ ends Unknown (AtRange start end) → walk_at encoding treat final Unknown (by + place) bytes ≡ ends Unknown (AtRange (by + start) (by + end))
+ends-there encoding treat final by place bytes start end anywhere is =
+    still encoding treat final by place bytes anywhere (ap (λ (w : Walk). w.items) is) ∙ ap (λ (w : Walk). ends Unknown (moved by w.ending)) is
+
+refuses-here : (coder : Coder) (after : KnownView) (bytes : List ℕ) (place room : ℕ) (last : Bool) (decoded : FrontDecoded) (start end : ℕ) → reads_texts coder.errors ≡ true → AllDecoded coder last bytes decoded → decoded.used ≤ len bytes → (whole-walk coder last bytes).ending ≡ AtRange start end → RefusesNext last (held-by coder after (drop decoded.used bytes) (place + decoded.used) room) (place + start) (place + end)
+refuses-here coder after bytes place room last decoded start end reads whole within is =
+    let encoding : Encoding = coder.encoding in
+    let treat : Treatment = treatment coder.errors encoding in
+    let used : ℕ = decoded.used in
+    let left : List ℕ = drop used bytes in
+    let looks : LooksAtRange treat = looks_at coder.errors encoding reads in
+    let leaves = leaves-by coder last bytes decoded whole within in
+    let none = rest-none encoding treat last bytes used leaves in
+    let ending = rest-ending encoding treat last bytes used leaves ∙ is in
+    record {
+      whole = λ more ends_so. ends-there encoding treat true place used (left ++ more) start end (ignores coder.errors encoding) (refuses-whole encoding treat looks last used left more start end none ending ends_so);
+      so_far = λ more_comes more. ends-there encoding treat false place used (left ++ more) start end (ignores coder.errors encoding) (refuses-so-far encoding treat looks last used left more start end none ending more_comes);
+    }
+
+pub refuses-by : (coder : Coder) (after : KnownView) (bytes rest : List ℕ) (place room : ℕ) (last : Bool) (decoded : FrontDecoded) (start end : ℕ) → reads_texts coder.errors ≡ true → AllDecoded coder last bytes decoded → decoded.used ≤ len bytes → rest ≡ drop decoded.used bytes → (whole-walk coder last bytes).ending ≡ AtRange start end → RefusesNext last (held-by coder after rest (place + decoded.used) room) (place + start) (place + end)
+refuses-by coder after bytes rest place room last decoded start end reads whole within rest_is is =
+    subst (λ (r : List ℕ). RefusesNext last (held-by coder after r (place + decoded.used) room) (place + start) (place + end)) (sym rest_is) (refuses-here coder after bytes place room last decoded start end reads whole within is)

@@ -1,0 +1,9 @@
+mod Answering
+mod Decoded
+mod Few
+mod Holding
+mod Knowing
+mod Lines
+mod Parts
+mod Reading
+mod Walking

@@ -1,0 +1,133 @@
+-- The decoding of bytes in hand, and of what comes behind them, after a front of them was decoded.
+use Rattle.std.proofs.Common.{◌≡◌, ℕ, ◌+◌, ◌-◌, ◌≤◌, Bool, true, false, nat_eq, List, [], ◌∷◌, ◌++◌, length as len, drop, Option, Some, None, refl, sym, ap, subst, ◌∙◌, arith, append-nil, true≢false}
+use Rattle.std.proofs.lemmas.List.{length-drop, drop-drop}
+use Rattle.py_plain.specs.declared.encoding.Encoding.{Encoding}
+use Rattle.py_plain.specs.declared.unit.Unit.{Unit as Read}
+use Rattle.py_plain.specs.declared.unit.Unit.TheVariants.{Character, Malformed, Cut}
+use Rattle.py_plain.specs.Units.{Order, Unknown, first_unit}
+use Rattle.py_plain.specs.Handlers.{Treatment}
+use Rattle.py_plain.specs.Items.{Item, Ending, AtEnd, AtRange, AtCut, Walk, FirstItem, Given, RefusedRange, Unfinished, item_handled, item_of, first_item, used_behind, ends, onto_walk, walk_from, characters_of, refusal_of}
+use Rattle.py_plain.specs.Pieces.{LooksAtRange, walk_at, items_before, place_behind, unused, unless_refused}
+use Rattle.py_plain.proofs.Joining.{two}
+use Rattle.py_plain.proofs.Walks.{walk-order, characters-append}
+use Rattle.py_incremental.proofs.Cuts.{walk_cut, unit_anywhere}
+use Rattle.py_incremental.proofs.Moving.{IgnoresPlace, moved, IsBehind, walk_moved}
+
+abbrev behind-first : List Item → List Item
+behind-first [] = []
+behind-first (item ∷ items) = items
+
+-- items that are all, and others behind them, which are none
+none-more : (items more : List Item) → items ≡ items ++ more → more ≡ []
+none-more [] more is = sym is
+none-more (item ∷ items) more is = none-more items more (ap behind-first is)
+
+-- a front of some bytes was decoded, all items of them: the decoding goes on behind it, with none
+pub record Leaves (encoding : Encoding) (treat : Treatment) (last : Bool) (bytes : List ℕ) (used : ℕ) : Type 0 where
+  pub within : used ≤ len bytes
+  pub goes_on : walk_at encoding treat last Unknown 0 bytes ≡ items_before (walk_at encoding treat last Unknown 0 bytes).items (walk_at encoding treat last Unknown used (drop used bytes))
+
+-- nothing of the rest is an item
+pub rest-none : (encoding : Encoding) (treat : Treatment) (last : Bool) (bytes : List ℕ) (used : ℕ) → Leaves encoding treat last bytes used → (walk_at encoding treat last Unknown used (drop used bytes)).items ≡ []
+rest-none encoding treat last bytes used leaves =
+    none-more (walk_at encoding treat last Unknown 0 bytes).items (walk_at encoding treat last Unknown used (drop used bytes)).items (ap (λ (w : Walk). w.items) leaves.goes_on)
+
+pub rest-ending : (encoding : Encoding) (treat : Treatment) (last : Bool) (bytes : List ℕ) (used : ℕ) → Leaves encoding treat last bytes used → (walk_at encoding treat last Unknown used (drop used bytes)).ending ≡ (walk_at encoding treat last Unknown 0 bytes).ending
+rest-ending encoding treat last bytes used leaves = ap (λ (w : Walk). w.ending) (sym leaves.goes_on)
+
+-- a front and what comes behind it, by how the front ends
+abbrev pub on-behind : Encoding → Treatment → Bool → List ℕ → List Item → Ending → (place : ℕ) → (left : List ℕ) → Walk
+on-behind encoding treat final more items ending place left = items_before items (unless_refused Unknown ending (walk_at encoding treat final Unknown place (left ++ more)))
+
+-- a walk over a front and more, by the walk over the front
+pub split : (encoding : Encoding) (treat : Treatment) → LooksAtRange treat → (final : Bool) (place : ℕ) (front more : List ℕ) (ending : Ending) → (walk_at encoding treat false Unknown place front).ending ≡ ending → walk_at encoding treat final Unknown place (front ++ more) ≡ on-behind encoding treat final more (walk_at encoding treat false Unknown place front).items ending (place_behind place front ending) (unused place front ending)
+split encoding treat looks final place front more ending is =
+    let first : Walk = walk_at encoding treat false Unknown place front in
+    sym (two encoding treat looks final Unknown place front more)
+    ∙ (ap (λ (order : Order). items_before first.items (unless_refused order first.ending (walk_at encoding treat final order (place_behind place front first.ending) (unused place front first.ending ++ more)))) (walk-order encoding treat false Unknown place 0 front)
+    ∙ ap (λ (e : Ending). on-behind encoding treat final more first.items e (place_behind place front e) (unused place front e)) is)
+
+-- the rest of a front goes on where the front does
+same-behind : (encoding : Encoding) (treat : Treatment) (final : Bool) (bytes more : List ℕ) (used : ℕ) (items : List Item) (ending : Ending) → used ≤ len bytes → (walk_at encoding treat false Unknown used (drop used bytes)).ending ≡ ending → on-behind encoding treat final more items ending (place_behind 0 bytes ending) (unused 0 bytes ending) ≡ on-behind encoding treat final more items ending (place_behind used (drop used bytes) ending) (unused used (drop used bytes) ending)
+same-behind encoding treat final bytes more used items AtEnd within is =
+    let same : 0 + len bytes ≡ used + len (drop used bytes) = omega (arith, length-drop used bytes) in
+    ap (λ (p : ℕ). on-behind encoding treat final more items AtEnd p []) same
+same-behind encoding treat final bytes more used items (AtRange start end) within is = refl
+same-behind encoding treat final bytes more used items (AtCut start) within is =
+    let cut = walk_cut encoding treat false Unknown used 0 (drop used bytes) start is in
+    let same : start - 0 ≡ used + (start - used) = omega (arith, cut.past) in
+    ap (λ (left : List ℕ). on-behind encoding treat final more items (AtCut start) start left) (ap (λ (k : ℕ). drop k bytes) same ∙ sym (drop-drop (start - used) used bytes))
+
+-- whatever comes behind, while more may come
+pub on-while : (encoding : Encoding) (treat : Treatment) → LooksAtRange treat → (bytes : List ℕ) (used : ℕ) → Leaves encoding treat false bytes used → (final : Bool) (more : List ℕ) → walk_at encoding treat final Unknown 0 (bytes ++ more) ≡ items_before (walk_at encoding treat false Unknown 0 bytes).items (walk_at encoding treat final Unknown used (drop used bytes ++ more))
+on-while encoding treat looks bytes used leaves final more =
+    let rest : List ℕ = drop used bytes in
+    let items : List Item = (walk_at encoding treat false Unknown 0 bytes).items in
+    let ending : Ending = (walk_at encoding treat false Unknown used rest).ending in
+    split encoding treat looks final 0 bytes more ending (sym (rest-ending encoding treat false bytes used leaves))
+    ∙ (same-behind encoding treat final bytes more used items ending leaves.within refl
+    ∙ ap (items_before items) (sym (split encoding treat looks final used rest more ending refl ∙ ap (λ (is : List Item). on-behind encoding treat final more is ending (place_behind used rest ending) (unused used rest ending)) (rest-none encoding treat false bytes used leaves))))
+
+-- nothing comes behind
+pub on-last : (encoding : Encoding) (treat : Treatment) (last : Bool) (bytes more : List ℕ) (used : ℕ) → Leaves encoding treat last bytes used → more ≡ [] → walk_at encoding treat last Unknown 0 (bytes ++ more) ≡ items_before (walk_at encoding treat last Unknown 0 bytes).items (walk_at encoding treat last Unknown used (drop used bytes ++ more))
+on-last encoding treat last bytes more used leaves none =
+    let items : List Item = (walk_at encoding treat last Unknown 0 bytes).items in
+    ap (λ (m : List ℕ). walk_at encoding treat last Unknown 0 (bytes ++ m)) none
+    ∙ (ap (walk_at encoding treat last Unknown 0) (append-nil bytes)
+    ∙ (leaves.goes_on
+    ∙ ap (λ (b : List ℕ). items_before items (walk_at encoding treat last Unknown used b)) (sym (append-nil (drop used bytes)) ∙ ap (λ (m : List ℕ). drop used bytes ++ m) (sym none))))
+
+-- either way
+pub on-whole : (encoding : Encoding) (treat : Treatment) → LooksAtRange treat → (last : Bool) (bytes more : List ℕ) (used : ℕ) → Leaves encoding treat last bytes used → (last ≡ true → more ≡ []) → walk_at encoding treat true Unknown 0 (bytes ++ more) ≡ items_before (walk_at encoding treat last Unknown 0 bytes).items (walk_at encoding treat true Unknown used (drop used bytes ++ more))
+on-whole encoding treat looks true bytes more used leaves none = on-last encoding treat true bytes more used leaves (none refl)
+on-whole encoding treat looks false bytes more used leaves none = on-while encoding treat looks bytes used leaves true more
+
+pub on-so-far : (encoding : Encoding) (treat : Treatment) → LooksAtRange treat → (last : Bool) (bytes : List ℕ) (used : ℕ) → Leaves encoding treat last bytes used → last ≡ false → (more : List ℕ) → walk_at encoding treat false Unknown 0 (bytes ++ more) ≡ items_before (walk_at encoding treat last Unknown 0 bytes).items (walk_at encoding treat false Unknown used (drop used bytes ++ more))
+on-so-far encoding treat looks true bytes used leaves is more = absurd (true≢false is)
+on-so-far encoding treat looks false bytes used leaves is more = on-while encoding treat looks bytes used leaves false more
+
+-- A walk without items, at another place.
+
+item-elsewhere : (treat : Treatment) (last : Bool) (here there : ℕ) (bytes : List ℕ) (unit : Option Read) → IgnoresPlace treat → item_of treat last here bytes unit ≡ item_of treat last there bytes unit
+item-elsewhere treat last here there bytes None ignores = refl
+item-elsewhere treat last here there bytes (Some (Character c n)) ignores = refl
+item-elsewhere treat last here there bytes (Some (Malformed n)) ignores = ap (item_handled n) (ignores here there bytes n)
+item-elsewhere treat true here there bytes (Some (Cut n)) ignores = ap (item_handled n) (ignores here there bytes n)
+item-elsewhere treat false here there bytes (Some (Cut n)) ignores = refl
+
+first-elsewhere : (encoding : Encoding) (treat : Treatment) (last : Bool) (order : Order) (here there : ℕ) (bytes : List ℕ) → IgnoresPlace treat → first_item encoding treat last order here bytes ≡ first_item encoding treat last order there bytes
+first-elsewhere encoding treat last order here there bytes ignores =
+    ap (λ (unit : Option Read). item_of treat last here bytes unit) (unit_anywhere encoding order (nat_eq here 0) (nat_eq there 0) bytes)
+    ∙ item-elsewhere treat last here there bytes (first_unit encoding order (nat_eq there 0) bytes) ignores
+
+still-by : (order : Order) (by place : ℕ) (first : FirstItem) (here there : Walk) → (onto_walk order place first here).items ≡ [] → onto_walk order (by + place) first there ≡ ends order (moved by (onto_walk order place first here).ending)
+still-by order by place (Given characters used) here there none = absurd (cc)
+still-by order by place (RefusedRange size) here there none =
+    let same : by + place + size ≡ by + (place + size) = omega arith in
+    ap (λ (end : ℕ). ends order (AtRange (by + place) end)) same
+still-by order by place Unfinished here there none = refl
+
+pub still : (encoding : Encoding) (treat : Treatment) (last : Bool) (by place : ℕ) (bytes : List ℕ) → IgnoresPlace treat → (walk_at encoding treat last Unknown place bytes).items ≡ [] → walk_at encoding treat last Unknown (by + place) bytes ≡ ends Unknown (moved by (walk_at encoding treat last Unknown place bytes).ending)
+still encoding treat last by place [] ignores none = refl
+still encoding treat last by place (byte ∷ rest) ignores none =
+    let first : FirstItem = first_item encoding treat last Unknown place (byte ∷ rest) in
+    ap (λ (item : FirstItem). onto_walk Unknown (by + place) item (walk_from encoding treat last Unknown (by + place + 1) (used_behind item) rest)) (first-elsewhere encoding treat last Unknown (by + place) place (byte ∷ rest) ignores)
+    ∙ still-by Unknown by place first (walk_from encoding treat last Unknown (place + 1) (used_behind first) rest) _ none
+
+-- What is left, at the place of the stream.
+
+-- a decoding has some characters before those of another, and the same refusal
+pub record Precedes (cs : List ℕ) (whole behind : Walk) : Type 0 where
+  pub characters : characters_of whole.items ≡ cs ++ characters_of behind.items
+  pub refusal : refusal_of whole.ending ≡ refusal_of behind.ending
+
+pub precedes : (encoding : Encoding) (treat : Treatment) → IgnoresPlace treat → (final : Bool) (place used : ℕ) (bytes rest : List ℕ) (items : List Item) → walk_at encoding treat final Unknown 0 bytes ≡ items_before items (walk_at encoding treat final Unknown used rest) → Precedes (characters_of items) (walk_at encoding treat final Unknown place bytes) (walk_at encoding treat final Unknown (place + used) rest)
+precedes encoding treat ignores final place used bytes rest items is =
+    let here : place + 0 ≡ place = omega arith in
+    let near : Walk = walk_at encoding treat final Unknown used rest in
+    let whole : IsBehind [] place (walk_at encoding treat final Unknown place bytes) (walk_at encoding treat final Unknown 0 bytes) = subst (λ (p : ℕ). IsBehind [] place (walk_at encoding treat final Unknown p bytes) (walk_at encoding treat final Unknown 0 bytes)) here (walk_moved encoding treat final Unknown place 0 0 bytes ignores) in
+    let behind = walk_moved encoding treat final Unknown place used 0 rest ignores in
+    record {
+      characters = whole.characters ∙ (ap (λ (w : Walk). characters_of w.items) is ∙ (characters-append items near.items ∙ ap (λ (cs : List ℕ). characters_of items ++ cs) (sym behind.characters)));
+      refusal = ap refusal_of (whole.ending ∙ (ap (λ (w : Walk). moved place w.ending) is ∙ sym behind.ending));
+    }

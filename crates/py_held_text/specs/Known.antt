@@ -1,0 +1,40 @@
+-- A text that is known, of which a front was given.
+use Rattle.std.specs.Prelude.{◌≡◌, ◌≤◌, ◌*◌, ℕ, Bool, List, [], ◌++◌, false, length, drop, chars, IsCharBoundary}
+use Rattle.py_plain.specs.declared.newlines.Newlines.{Newlines}
+use Rattle.py_plain.specs.Items.{Walk, characters_of}
+use Rattle.py_plain.specs.Pieces.{items_before}
+use Rattle.py_plain.specs.NewlineRule.{line_end, read_so_far, read_all, holds_after}
+use Rattle.py_codec.specs.declared.front.FrontDecoded.{FrontDecoded}
+use Rattle.py_codec.specs.Front.{bytes_in, front_stop}
+use Rattle.py_held_text.specs.LineSearch.{IsSearched}
+
+-- the rule that it was read by and its lines end by; the characters that aren't given; and whether a CR is held behind them
+pub record KnownView : Type 0 where
+  pub newline : Newlines
+  pub characters : List ℕ
+  pub cr : Bool
+
+-- the bytes that were given, of those in UTF-8, end between two characters; the others are counted in characters, and in the first of
+-- them, as many as were searched, no line ends; a CR is held only where the rule holds one
+pub record IsKnown (newline : Newlines) (bytes : List ℕ) (given count searched : ℕ) (cr : Bool) : Type 0 where
+  pub boundary : IsCharBoundary bytes given
+  pub counted : count ≡ length (chars (drop given bytes))
+  pub open_line : IsSearched (line_end newline) (chars (drop given bytes)) searched
+  pub holds : holds_after newline cr [] ≡ cr
+
+-- a text after some characters more, by its rule
+abbrev pub reading : KnownView → List ℕ → KnownView
+reading known cs = record known { characters = known.characters ++ read_so_far known.newline known.cr cs; cr = holds_after known.newline known.cr cs }
+
+-- a text after which nothing comes: a held CR is an LF
+abbrev pub ended : KnownView → KnownView
+ended known = record known { characters = known.characters ++ read_all known.newline known.cr []; cr = false }
+
+-- all items of a walk were decoded: an answer says how many bytes and characters they have, at most six characters for each byte, and
+-- why there are no more; the decoding goes on behind their bytes
+pub record IsWhole (walk : Walk) (behind : ℕ → Walk) (front : FrontDecoded) : Type 0 where
+  pub used : front.used ≡ bytes_in walk.items
+  pub chars : front.chars ≡ length (characters_of walk.items)
+  pub few : front.chars ≤ 6 * front.used
+  pub stop : front.stop ≡ front_stop 1 walk.ending
+  pub goes_on : walk ≡ items_before walk.items (behind front.used)

@@ -1,0 +1,236 @@
+ghost use Rattle.std.specs.Prelude.{◌≡◌, ◌++◌, ◌+◌, ◌-◌, ◌≤◌, true, false, [], length, take, drop, vec_len, vec_capacity, option_map, IfErr, IfSome, OnOk, OnErr};
+ghost use Rattle.py_flat.specs.Limits.{greatest_place};
+ghost use Rattle.py_plain.specs.Handlers.{reads_texts};
+ghost use Rattle.py_plain.specs.NewlineRule.{read_all};
+ghost use Rattle.py_held_text.specs.Held.{nothing_held};
+ghost use Rattle.py_held_text.specs.Decodes.{DecodeOutcome};
+ghost use Rattle.py_held_text.specs.Finding.{IsFrontOf, answer_of, enough, enough_before, GiveOutcome};
+
+use crate::known_text::KnownText;
+use crate::{HeldFront, HeldStop, Wanted};
+use py_codec::{FrontStop, IoFault};
+use py_plain::Newlines;
+use py_text::Coder;
+use std::alloc::Global;
+use std::fmt;
+use std::marker::Model;
+
+/// What a text stream has in hand: characters that it knows and hasn't given, and the bytes that it took behind them and
+/// hasn't decoded.
+///
+/// Contracts see the settings, the known characters, whether a CR is held behind them (under the universal rule, until
+/// the next character releases it), the bytes with their place in the stream and the order that they are read in, and
+/// the room for more. Whatever bytes come behind those in hand, the text that is left stays: decoding moves it from
+/// bytes to characters, and only `give` and `clear` take of it.
+#[derive(Drop)]
+pub struct HeldText {
+    coder: Coder,
+    known: KnownText,
+    bytes: Vec<u8>,
+    place: u64,
+}
+
+impl Model for HeldText {
+    ghost use Rattle.std.specs.Prelude.{◌≡◌, ◌+◌, ◌-◌, ◌≤◌, true, length, vec_len, vec_capacity};
+    ghost use Rattle.py_flat.specs.Limits.{greatest_place};
+    ghost use Rattle.py_plain.specs.Units.{Unknown};
+    ghost use Rattle.py_plain.specs.Handlers.{reads_texts};
+    ghost use Rattle.py_held_text.specs.Held.{HeldView};
+
+    ghost Value = { HeldView };
+
+    ghost view = { λ h. record {
+      encoding = h.coder.encoding;
+      handler = h.coder.errors;
+      newline = h.known.newline;
+      known = h.known.characters;
+      cr = h.known.cr;
+      bytes = h.bytes.items;
+      place = h.place;
+      order = Unknown;
+      room = vec_capacity h.bytes - vec_len h.bytes;
+    } };
+
+    ghost invariant = { λ h. (reads_texts h.coder.errors ≡ true) × (h.place + vec_len h.bytes ≤ greatest_place) };
+}
+
+// Only how much is in hand, and not what: thousands of characters would hide all else.
+impl fmt::Debug for HeldText {
+    fn fmt<W: fmt::Write>(&self, f: &mut fmt::Formatter<W>) -> fmt::Result {
+        f.debug_struct("HeldText")
+            .field("coder", &self.coder)
+            .field("known", &self.known.len())
+            .field("bytes", &self.bytes.len())
+            .field("place", &self.place)
+            .finish_non_exhaustive()
+    }
+}
+
+/// Removes the front of some bytes. The room that they had is left for others.
+fn drop_front(bytes: &mut Vec<u8>, count: usize)
+    requires { count ≤ vec_len bytes.old }
+    ensures items { bytes.new.items ≡ drop count bytes.old.items }
+    ensures len { vec_len bytes.new ≤ vec_len bytes.old }
+    ensures capacity { vec_capacity bytes.new ≡ vec_capacity bytes.old }
+{
+    let rest = bytes.len() - count;
+    bytes.copy_within(count.., 0);
+    bytes.truncate(rest);
+}
+
+impl HeldText {
+    /// Nothing in hand, at a byte place of the stream. The handler of the coder is one of those that texts are read with.
+    /// It takes no memory.
+    pub fn new(alloc: Global, coder: Coder, newline: Newlines, place: u64) -> Self
+        requires reads { reads_texts coder.errors ≡ true }
+        requires near { place ≤ greatest_place }
+        ensures { result ≡ nothing_held coder newline place 0 }
+    {
+        HeldText {
+            coder,
+            known: KnownText::new(alloc, newline),
+            bytes: Vec::new(alloc),
+            place,
+        }
+    }
+
+    /// What the bytes are decoded by.
+    pub fn coder(&self) -> Coder
+        ensures encoding { result.encoding ≡ self.now.encoding }
+        ensures handler { result.errors ≡ self.now.handler }
+        ensures reads { reads_texts result.errors ≡ true }
+    {
+        self.coder
+    }
+
+    /// The rule of the line ends.
+    pub fn newline(&self) -> Newlines
+        ensures { result ≡ self.now.newline }
+    {
+        self.known.newline()
+    }
+
+    /// How many characters are known.
+    pub fn known(&self) -> usize
+        ensures { result ≡ length self.now.known }
+    {
+        self.known.len()
+    }
+
+    /// How many bytes in hand aren't decoded.
+    pub fn undecoded(&self) -> usize
+        ensures { result ≡ length self.now.bytes }
+    {
+        self.bytes.len()
+    }
+
+    /// The byte place of the stream at which the bytes in hand begin.
+    pub fn place(&self) -> u64
+        ensures place { result ≡ self.now.place }
+        ensures near { result + length self.now.bytes ≤ greatest_place }
+    {
+        self.place
+    }
+
+    /// Takes room for n bytes more behind those in hand. `NoMemory` when out of memory, and all is as before.
+    pub fn reserve(&mut self, size: usize) -> Result<(), IoFault>
+        ensures room { OnOk result (size ≤ self.new.room) }
+        ensures rest { self.new ≡ record self.old { room = self.new.room } }
+        ensures memory { IfErr result (λ why. why ≡ IoFault.NoMemory) }
+        ensures same { OnErr result (self.new ≡ self.old) }
+    {
+        self.bytes.reserve(size)?;
+        Ok(())
+    }
+
+    /// Puts bytes behind those in hand, for which there is room; for others there is as much less. It takes no memory.
+    pub fn push(&mut self, part: &[u8])
+        requires fits { length part.now ≤ self.old.room }
+        requires near { self.old.place + length self.old.bytes + length part.now ≤ greatest_place }
+        ensures pushed { self.new ≡ record self.old { bytes = self.old.bytes ++ part.now; room = self.new.room } }
+        ensures room { self.old.room ≤ self.new.room + length part.now }
+    {
+        self.bytes.extend_from_slice(part).unwrap();
+    }
+
+    /// Decodes the bytes in hand as far as they go, and says why they go no further; `last` says that nothing comes behind
+    /// them. What they give is known then. A refused range stays in hand, and what was known before it is kept.
+    ///
+    /// `NoMemory` when out of memory, and all is as before.
+    pub fn decode(&mut self, alloc: Global, last: bool) -> Result<HeldStop, IoFault>
+        ensures { DecodeOutcome last self.old result self.new }
+    {
+        let front = self.known.decode(alloc, self.coder, &self.bytes, last)?;
+        drop_front(&mut self.bytes, front.used);
+        let from = self.place;
+        self.place += front.used as u64;
+        match front.stop {
+            FrontStop::Refused { start, end } => Ok(HeldStop::Refused {
+                start: from + start as u64,
+                end: from + end as u64,
+            }),
+            FrontStop::Wanted | FrontStop::Drained => Ok(HeldStop::Drained),
+        }
+    }
+
+    /// Gives an LF for a held CR: nothing comes behind what is known, or a refused range does.
+    ///
+    /// `NoMemory` when out of memory, and all is as before.
+    pub fn release(&mut self) -> Result<(), IoFault>
+        ensures released { OnOk result (self.new ≡ record self.old { known = self.old.known ++ read_all self.old.newline self.old.cr []; cr = false }) }
+        ensures memory { IfErr result (λ why. why ≡ IoFault.NoMemory) }
+        ensures same { OnErr result (self.new ≡ self.old) }
+    {
+        self.known.release()?;
+        Ok(())
+    }
+
+    /// The front of what is known that is the whole answer, whatever comes behind; `None` where what is known may be only a
+    /// front of the answer. A line that isn't whole yet is looked at from where the last search for its end came to.
+    pub fn find(&mut self, wanted: Wanted) -> Option<HeldFront>
+        ensures count { option_map (λ front. front.chars) result ≡ enough wanted self.old.newline self.old.known }
+        ensures front { IfSome result (IsFrontOf self.old.known) }
+        ensures same { self.new ≡ self.old }
+    {
+        self.known.find(wanted)
+    }
+
+    /// The front of what is known that is the whole answer where a refused range comes behind; `None` where the answer would
+    /// pass the range. A held CR is to be released before.
+    pub fn find_before(&self, wanted: Wanted) -> Option<HeldFront>
+        ensures count { option_map (λ front. front.chars) result ≡ enough_before wanted self.now.newline self.now.known }
+        ensures front { IfSome result (IsFrontOf self.now.known) }
+    {
+        self.known.find_before(wanted)
+    }
+
+    /// The front of what is known that is the answer where nothing comes behind.
+    pub fn find_last(&self, wanted: Wanted) -> HeldFront
+        ensures answer { take result.chars self.now.known ≡ answer_of wanted self.now.newline self.now.known }
+        ensures front { IsFrontOf self.now.known result }
+    {
+        self.known.find_last(wanted)
+    }
+
+    /// Gives a front of what is known, which isn't known any more.
+    ///
+    /// `NoMemory` when out of memory, and all is as before.
+    pub fn give(&mut self, alloc: Global, front: HeldFront) -> Result<String, IoFault>
+        requires front { IsFrontOf self.old.known front }
+        ensures { GiveOutcome front self.old result self.new }
+    {
+        let text = self.known.give(alloc, front)?;
+        Ok(text)
+    }
+
+    /// Lets go of all that is in hand, and stands at another byte place of the stream.
+    pub fn clear(&mut self, place: u64)
+        requires near { place ≤ greatest_place }
+        ensures cleared { self.new ≡ record self.old { known = []; cr = false; bytes = []; place = place; room = self.new.room } }
+        ensures room { self.old.room ≤ self.new.room }
+    {
+        self.known.clear();
+        self.bytes.clear();
+        self.place = place;
+    }
+}

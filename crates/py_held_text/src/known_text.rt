@@ -1,0 +1,236 @@
+ghost use Rattle.std.specs.Prelude.{◌≡◌, ◌++◌, ◌≤◌, true, false, [], length, take, drop, string_bytes, option_map, IfOk, IfErr, IfSome, OnOk, OnErr};
+ghost use Rattle.std.specs.String.{string_len};
+ghost use Rattle.py_plain.specs.Handlers.{treatment, reads_texts};
+ghost use Rattle.py_plain.specs.Items.{characters_of};
+ghost use Rattle.py_codec.specs.Answers.{text_of};
+ghost use Rattle.py_codec.specs.Decoding.{walk_here};
+ghost use Rattle.py_held_text.specs.Finding.{IsFrontOf, answer_of, enough, enough_before};
+ghost use Rattle.py_held_text.specs.Known.{KnownView, reading, ended, IsWhole};
+
+use crate::decoding::decode_by;
+use crate::fronts::front_of;
+use crate::line_search::{ended_line, last_line, limited_line, line_front};
+use crate::{HeldFront, Wanted};
+use py_codec::{FrontDecoded, IoFault};
+use py_plain::Newlines;
+use py_text::Coder;
+use std::alloc::{AllocError, Global};
+use std::marker::Model;
+use std::mem;
+
+/// Characters that are known, of which fronts are given, and whether a CR is held behind them.
+#[derive(Debug, Drop)]
+pub(crate) struct KnownText {
+    newline: Newlines,
+    text: String,
+    given: usize,
+    count: usize,
+    searched: usize,
+    cr: bool,
+}
+
+impl Model for KnownText {
+    ghost use Rattle.std.specs.Prelude.{drop, chars, string_bytes};
+    ghost use Rattle.py_held_text.specs.Known.{KnownView, IsKnown};
+
+    ghost Value = { KnownView };
+
+    ghost view = { λ t. record {
+      newline = t.newline;
+      characters = chars (drop t.given (string_bytes t.text));
+      cr = t.cr;
+    } };
+
+    ghost invariant = { λ t. IsKnown t.newline (string_bytes t.text) t.given t.count t.searched t.cr };
+}
+
+/// How many bytes of room a text may always keep.
+const KEPT: usize = 65536;
+
+/// Lets go of the room of a text that has room for far more than it has and is to have.
+fn trim(text: &mut String, more: usize)
+    ensures bytes { string_bytes text.new ≡ string_bytes text.old }
+    ensures len { string_len text.new ≡ string_len text.old }
+{
+    let room = text.capacity();
+    if room > KEPT && room / 16 > text.len().saturating_add(more) {
+        text.shrink_to(KEPT);
+    }
+}
+
+/// Whether the first n bytes of a text are so much of it, and of its room, that the rest had better be copied than they.
+fn is_most(text: &String, size: usize) -> bool
+    requires { size ≤ string_len text.now }
+{
+    text.len() - size <= size / 4 && text.capacity() / 4 <= size
+}
+
+impl KnownText {
+    /// Nothing is known. It takes no memory.
+    pub fn new(alloc: Global, newline: Newlines) -> Self
+        ensures { result ≡ record { newline = newline; characters = []; cr = false } }
+    {
+        KnownText {
+            newline,
+            text: String::new(alloc),
+            given: 0,
+            count: 0,
+            searched: 0,
+            cr: false,
+        }
+    }
+
+    /// The rule that it is read by.
+    pub fn newline(&self) -> Newlines
+        ensures { result ≡ self.now.newline }
+    {
+        self.newline
+    }
+
+    /// How many characters are known.
+    pub fn len(&self) -> usize
+        ensures { result ≡ length self.now.characters }
+    {
+        self.count
+    }
+
+    /// Lets go of all.
+    pub fn clear(&mut self)
+        ensures { self.new ≡ record self.old { characters = []; cr = false } }
+    {
+        self.text.clear();
+        self.given = 0;
+        self.count = 0;
+        self.searched = 0;
+        self.cr = false;
+    }
+
+    /// Lets go of the bytes that were given, and of most of the room of a text that was much longer; n bytes more are to be
+    /// read.
+    fn compact(&mut self, more: usize) -> Result<(), AllocError>
+        ensures { self.new ≡ self.old }
+    {
+        if self.given > 0 {
+            self.text.replace_range(..self.given, "")?;
+            self.given = 0;
+        }
+        trim(&mut self.text, more);
+        Ok(())
+    }
+
+    /// Reads the characters of all items that some bytes begin with.
+    pub fn decode(
+        &mut self,
+        alloc: Global,
+        coder: Coder,
+        bytes: &[u8],
+        last: bool,
+    ) -> Result<FrontDecoded, IoFault>
+        requires reads { reads_texts coder.errors ≡ true }
+        ensures whole { IfOk result (λ front.
+            let behind = walk_here coder.encoding (treatment coder.errors coder.encoding) last bytes.now in
+            IsWhole (behind 0) behind front) }
+        ensures reading { OnOk result (
+            let walk = walk_here coder.encoding (treatment coder.errors coder.encoding) last bytes.now 0 in
+            self.new ≡ reading self.old (characters_of walk.items)) }
+        ensures within { IfOk result (λ front. front.used ≤ length bytes.now) }
+        ensures memory { IfErr result (λ why. why ≡ IoFault.NoMemory) }
+        ensures same { OnErr result (self.new ≡ self.old) }
+    {
+        self.compact(bytes.len())?;
+        let decoded = decode_by(
+            alloc,
+            coder,
+            self.newline,
+            self.cr,
+            bytes,
+            last,
+            &mut self.text,
+        )?;
+        self.count += decoded.chars;
+        self.cr = decoded.cr;
+        Ok(decoded.front)
+    }
+
+    /// Gives an LF for a held CR.
+    pub fn release(&mut self) -> Result<(), AllocError>
+        ensures released { OnOk result (self.new ≡ ended self.old) }
+        ensures same { OnErr result (self.new ≡ self.old) }
+    {
+        if self.cr {
+            self.text.push('\n')?;
+            self.count += 1;
+            self.cr = false;
+        }
+        Ok(())
+    }
+
+    /// The front that is the whole answer, whatever comes behind it.
+    pub fn find(&mut self, wanted: Wanted) -> Option<HeldFront>
+        ensures count { option_map (λ front. front.chars) result ≡ enough wanted self.old.newline self.old.characters }
+        ensures front { IfSome result (IsFrontOf self.old.characters) }
+        ensures same { self.new ≡ self.old }
+    {
+        let text = &self.text[self.given..];
+        match wanted {
+            Wanted::Characters(Some(size)) if size <= self.count => Some(front_of(text, size)),
+            Wanted::Characters(_) => None,
+            Wanted::Line(Some(limit)) if limit <= self.count => {
+                Some(limited_line(self.newline, text, limit))
+            }
+            Wanted::Line(_) => line_front(self.newline, text, &mut self.searched),
+        }
+    }
+
+    /// The front that is the whole answer where a refused range comes behind.
+    pub fn find_before(&self, wanted: Wanted) -> Option<HeldFront>
+        ensures count { option_map (λ front. front.chars) result ≡ enough_before wanted self.now.newline self.now.characters }
+        ensures front { IfSome result (IsFrontOf self.now.characters) }
+    {
+        let text = &self.text[self.given..];
+        match wanted {
+            Wanted::Characters(Some(size)) if size <= self.count => Some(front_of(text, size)),
+            Wanted::Characters(_) => None,
+            Wanted::Line(limit) => {
+                ended_line(self.newline, text, self.searched, self.count, limit)
+            }
+        }
+    }
+
+    /// The front that is the answer where nothing comes behind.
+    pub fn find_last(&self, wanted: Wanted) -> HeldFront
+        ensures answer { take result.chars self.now.characters ≡ answer_of wanted self.now.newline self.now.characters }
+        ensures front { IsFrontOf self.now.characters result }
+    {
+        let text = &self.text[self.given..];
+        match wanted {
+            Wanted::Characters(None) => HeldFront {
+                chars: self.count,
+                bytes: text.len(),
+            },
+            Wanted::Characters(Some(size)) => front_of(text, size),
+            Wanted::Line(limit) => last_line(self.newline, text, self.searched, limit),
+        }
+    }
+
+    /// Gives a front, which isn't known any more.
+    pub fn give(&mut self, alloc: Global, front: HeldFront) -> Result<String, AllocError>
+        requires { IsFrontOf self.old.characters front }
+        ensures text { IfOk result (λ text. text_of text ≡ take front.chars self.old.characters) }
+        ensures left { OnOk result (self.new ≡ record self.old { characters = drop front.chars self.old.characters }) }
+        ensures same { OnErr result (self.new ≡ self.old) }
+    {
+        let end = self.given + front.bytes;
+        if self.given == 0 && is_most(&self.text, end) {
+            let rest = self.text.split_off(end)?;
+            self.count -= front.chars;
+            self.searched = 0;
+            return Ok(mem::replace(&mut self.text, rest));
+        }
+        let text = String::from_str(alloc, &self.text[self.given..end])?;
+        self.given = end;
+        self.count -= front.chars;
+        self.searched = 0;
+        Ok(text)
+    }
+}

@@ -1,0 +1,22 @@
+//! What a text stream has in hand: characters that it knows, and bytes that it took and hasn't decoded yet.
+//!
+//! `HeldText` knows no stream: bytes are put into it, and it says whether the characters that it knows are the whole
+//! answer of a call. Fronts of them are given.
+#![tactic(auto)]
+
+mod decoding;
+mod fronts;
+mod held_front;
+mod held_stop;
+mod held_text;
+mod known_text;
+mod line_search;
+mod wanted;
+
+pub use held_front::HeldFront;
+pub use held_stop::HeldStop;
+pub use held_text::HeldText;
+pub use py_codec::IoFault;
+pub use py_plain::Newlines;
+pub use py_text::Coder;
+pub use wanted::Wanted;

@@ -1,0 +1,13 @@
+//! What a text hands back with its buffer.
+
+/// A buffer that was under a text, with what the text had taken from its callers for it.
+#[derive(Debug, Drop)]
+pub struct TextDetached<B> {
+    /// The buffer.
+    pub buffer: B,
+    /// The bytes that were taken from callers and that the buffer hasn't.
+    pub unwritten: Vec<u8>,
+    /// The byte of the text place, from the start of the stream: where the text was made, or where a `read` of all came to the end;
+    /// characters that were taken since stand behind it. `None` where the buffer can't seek.
+    pub place: Option<u64>,
+}
