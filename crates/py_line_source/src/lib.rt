@@ -1,0 +1,11 @@
+//! Whatever is read line by line: streams of bytes, and texts.
+#![tactic(auto)]
+
+mod line_source;
+mod line_value;
+mod reading;
+
+pub use line_source::LineSource;
+pub use line_value::LineValue;
+pub use py_flat::{Chars, Data, IoFault};
+pub use reading::file_readline;
