@@ -1,0 +1,34 @@
+//! Lines of whatever is read line by line.
+use crate::making::{STRICT, text_of};
+use anyhow::{Result, anyhow};
+use py_buffered::BufferedReader;
+use py_line_source::{IoFault, LineSource, LineValue, file_readline};
+use py_raw::RawFlags;
+use py_raw_memory::MemRaw;
+use std::alloc::Global;
+
+/// Appends a line of a source, without its LF.
+fn push_line<S: LineSource>(alloc: Global, source: &mut S, out: &mut String) -> Result<()> {
+    let line = match file_readline(alloc, source, None) {
+        Ok(Some(LineValue::Text(line))) => format!(in alloc; " {}", line.as_str())?,
+        Ok(Some(LineValue::Bytes(line))) => format!(in alloc; " {} bytes", line.len())?,
+        Ok(None) => String::from_str(alloc, " not ready")?,
+        Err(IoFault::EndOfFile) => String::from_str(alloc, " end")?,
+        Err(fault) => return Err(anyhow!("{fault}")),
+    };
+    Ok(out.push_str(line.as_str())?)
+}
+
+/// Lines of a text and of a stream of bytes, by one function.
+pub(crate) fn of_both(alloc: Global) -> Result<String> {
+    let mut out = String::from_str(alloc, "lines:")?;
+    let mut text = text_of(alloc, b"ann\r\n", &[], STRICT)?;
+    push_line(alloc, &mut text, &mut out)?; // "ann"
+    push_line(alloc, &mut text, &mut out)?; // nothing is left
+    let flags = RawFlags::able(true, false, true);
+    let bytes = b"ann\r\n".to_vec(alloc)?;
+    let raw = MemRaw::new(bytes, flags, Vec::new(alloc), Vec::new(alloc));
+    let mut reader = BufferedReader::new(alloc, raw, 8192)?;
+    push_line(alloc, &mut reader, &mut out)?; // four bytes: the CR is none of its end
+    Ok(out)
+}

@@ -1,0 +1,33 @@
+//! The examples of docs/TEXTS.md: each answers a line, which is printed. `stdout` has what must come.
+#![tactic(auto)]
+
+mod line_ends;
+mod lines;
+mod making;
+mod reading;
+mod shown;
+mod stopping;
+
+use anyhow::Result;
+
+/// A line that an example answers.
+fn print(rt: &HostRuntime, line: Result<String>) -> Result<()> {
+    let line = line?;
+    Ok(rt.println(line.as_str())?)
+}
+
+fn main(rt: HostRuntime) -> Result<()> {
+    let alloc = rt.alloc();
+    print(&rt, making::read_by_hand(alloc))?;
+    print(&rt, making::read_by_names(alloc))?;
+    print(&rt, making::refused(alloc))?;
+    print(&rt, reading::characters_and_lines(alloc))?;
+    print(&rt, reading::counted(alloc))?;
+    print(&rt, stopping::bad_bytes(alloc))?;
+    print(&rt, stopping::waits(alloc))?;
+    print(&rt, stopping::fails(alloc))?;
+    print(&rt, stopping::closed(alloc))?;
+    print(&rt, line_ends::pieces(alloc))?;
+    print(&rt, line_ends::found(alloc))?;
+    print(&rt, lines::of_both(alloc))
+}
