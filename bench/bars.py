@@ -1,6 +1,6 @@
-"""Bars for the tables of bench/buffered, bench/codecs, bench/memory and bench/random: how long a task took here, and in Rust's std, beside CPython.
+"""Bars for the tables of bench/buffered, bench/codecs, bench/memory, bench/random and bench/text: how long a task took here, and in Rust's std, beside CPython.
 
-The four draw them of their own figures, and `.ci/docs_examples` those of the tables in docs/SPEED.md.
+The five draw them of their own figures, and `.ci/docs_examples` those of the tables in docs/SPEED.md.
 """
 import re
 

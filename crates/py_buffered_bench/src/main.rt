@@ -7,42 +7,17 @@ mod reading;
 mod task;
 mod writing;
 
+use py_bench::{Counts, FileTask, best_of};
 use py_buffered::{BufferedReader, BufferedWriter};
 use py_raw::Opener;
 use py_raw_files::FileOpener;
 use reading::Reading;
-use std::time::{Duration, Instant};
-use std::{env, io};
-use task::{Counts, Task};
+use std::io;
+use task::Task;
 use writing::write_short;
 
 /// What Python's `open` takes for its buffer.
 const BUFFER_SIZE: usize = 8192;
-
-/// What the words of the command line ask for.
-#[derive(Drop)]
-struct Asked {
-    task: Task,
-    path: String,
-    rounds: u32,
-}
-
-/// The words `<task> <path> <rounds>`.
-fn command_words(rt: &HostRuntime) -> io::Result<Option<Asked>> {
-    let mut words = env::args(rt)?.skip(1);
-    let (Some(task), Some(path), Some(rounds), None) = (
-        words.next(),
-        words.next(),
-        words.next(),
-        words.next(),
-    ) else {
-        return Ok(None);
-    };
-    match (Task::from_word(task.as_str()), rounds.parse()) {
-        (Some(task), Ok(rounds)) => Ok(Some(Asked { task, path, rounds })),
-        _ => Ok(None),
-    }
-}
 
 /// Reads a file; nothing where it can't be read.
 fn read_file(rt: &HostRuntime, reading: Reading, path: &str) -> Option<Counts> {
@@ -68,25 +43,18 @@ fn once(rt: &HostRuntime, task: Task, path: &str) -> Option<Counts> {
     }
 }
 
-/// Does a task over and over; answers what came at last, and the best time.
-fn timed(rt: &HostRuntime, asked: &Asked) -> io::Result<(Option<Counts>, Duration)> {
-    let mut counts = None;
-    let mut best = Duration::MAX;
-    for _ in 0..asked.rounds {
-        let start = Instant::now(rt)?;
-        counts = once(rt, asked.task, asked.path.as_str());
-        best = best.min(start.elapsed(rt)?);
-    }
-    Ok((counts, best))
-}
-
 fn main(rt: HostRuntime) -> io::Result<()> {
-    let Some(asked) = command_words(&rt)? else {
+    let Some(asked) = FileTask::from_command_line(&rt, Task::from_word)? else {
         return rt.println("usage: py_buffered_bench lines|pieces|whole|writes <path> <rounds>");
     };
-    let (counts, best) = timed(&rt, &asked)?;
-    match counts {
-        Some(counts) => println!(rt; "answers {} bytes {}", counts.answers, counts.bytes)?,
+    let (counts, best) = best_of(
+        &rt,
+        asked.rounds,
+        || (),
+        |_| once(&rt, asked.task, asked.path.as_str()),
+    )?;
+    match counts.flatten() {
+        Some(counts) => println!(rt; "answers {} bytes {}", counts.answers, counts.units)?,
         None => rt.println("the file was not read or written")?,
     }
     eprintln!(rt; "{}", best.as_micros())

@@ -1,4 +1,4 @@
-use crate::task::Counts;
+use py_bench::Counts;
 use py_buffered::BufferedReader;
 use py_raw::{IoFault, RawStream};
 use std::alloc::Global;

@@ -1,27 +1,5 @@
 use crate::reading::Reading;
 
-/// How many calls answered with bytes, and those bytes together.
-#[derive(Clone, Copy, Debug, PartialEq, Eq)]
-pub(crate) struct Counts {
-    pub answers: u64,
-    pub bytes: u64,
-}
-
-impl Counts {
-    pub(crate) fn new() -> Self {
-        Counts {
-            answers: 0,
-            bytes: 0,
-        }
-    }
-
-    /// Counts one more answer.
-    pub(crate) fn add(&mut self, bytes: usize) {
-        self.answers = self.answers.saturating_add(1);
-        self.bytes = self.bytes.saturating_add(bytes as u64);
-    }
-}
-
 /// What is timed.
 #[derive(Clone, Copy, Debug, PartialEq, Eq)]
 pub(crate) enum Task {

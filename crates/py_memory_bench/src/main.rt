@@ -3,12 +3,11 @@
 //! `bench/memory` runs this program, and does the same by CPython and by Rust's std.
 #![tactic(auto)]
 
-mod counts;
 mod filled;
 mod task;
 
-use counts::Counts;
-use std::time::{Duration, Instant};
+use filled::Stream;
+use py_bench::{Counts, best_of};
 use std::{env, io};
 use task::Task;
 
@@ -45,20 +44,10 @@ fn command_words(rt: &HostRuntime) -> io::Result<Option<Asked>> {
     }
 }
 
-/// Does a task over and over, each time over a stream that is made before the clock begins; answers what came at last, and the
-/// best time.
-fn timed(rt: &HostRuntime, asked: &Asked) -> io::Result<(Option<Counts>, Duration)> {
-    let mut counts = None;
-    let mut best = Duration::MAX;
-    for _ in 0..asked.rounds {
-        let Ok(mut stream) = asked.task.prepare(rt.alloc(), asked.count) else {
-            return Ok((None, best));
-        };
-        let start = Instant::now(rt)?;
-        counts = asked.task.run(rt.alloc(), asked.count, &mut stream).ok();
-        best = best.min(start.elapsed(rt)?);
-    }
-    Ok((counts, best))
+/// Does a task once over a stream that is made for it; nothing where memory ran out.
+fn once(rt: &HostRuntime, asked: &Asked, stream: Option<Stream>) -> Option<Counts> {
+    let mut stream = stream?;
+    asked.task.run(rt.alloc(), asked.count, &mut stream).ok()
 }
 
 fn main(rt: HostRuntime) -> io::Result<()> {
@@ -67,8 +56,13 @@ fn main(rt: HostRuntime) -> io::Result<()> {
             "usage: py_memory_bench writes|lines|pieces|appends|text-lines <count> <rounds>",
         );
     };
-    let (counts, best) = timed(&rt, &asked)?;
-    match counts {
+    let (counts, best) = best_of(
+        &rt,
+        asked.rounds,
+        || asked.task.prepare(rt.alloc(), asked.count).ok(),
+        |stream| once(&rt, &asked, stream),
+    )?;
+    match counts.flatten() {
         Some(counts) => println!(rt; "answers {} units {}", counts.answers, counts.units)?,
         None => rt.println("out of memory")?,
     }

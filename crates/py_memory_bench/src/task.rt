@@ -1,5 +1,5 @@
-use crate::counts::Counts;
 use crate::filled::{Stream, lines_of_bytes, lines_of_text};
+use py_bench::Counts;
 use py_memio::{BytesIO, IoFault, StringIO};
 use std::alloc::Global;
 

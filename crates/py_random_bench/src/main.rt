@@ -8,10 +8,11 @@ mod sum;
 mod task;
 
 use offsets::offsets_of;
+use py_bench::best_of;
 use py_buffered_random::{BufferedRandom, Whence};
 use py_raw::Opener;
 use py_raw_files::{FileOpener, FileRaw};
-use std::time::{Duration, Instant};
+use std::time::Duration;
 use std::{env, io};
 use sum::Sum;
 use task::Task;
@@ -74,19 +75,6 @@ fn once(rt: &HostRuntime, asked: &Asked, offsets: &[i64], sum: &mut Option<Sum>)
     asked.task.run(rt.alloc(), &mut stream, offsets, sum).ok()
 }
 
-/// Does a task over and over; answers the best time, or nothing where a round failed.
-fn timed(rt: &HostRuntime, asked: &Asked, offsets: &[i64]) -> io::Result<Option<Duration>> {
-    let mut best = Duration::MAX;
-    for _ in 0..asked.rounds {
-        let start = Instant::now(rt)?;
-        if once(rt, asked, offsets, &mut None).is_none() {
-            return Ok(None);
-        }
-        best = best.min(start.elapsed(rt)?);
-    }
-    Ok(Some(best))
-}
-
 /// What a task reads, as a checksum, and its best time; nothing where it failed. The checksum is made in a round of its own, before the
 /// clock begins.
 fn summed_and_timed(rt: &HostRuntime, asked: &Asked) -> io::Result<Option<(Sum, Duration)>> {
@@ -100,7 +88,13 @@ fn summed_and_timed(rt: &HostRuntime, asked: &Asked) -> io::Result<Option<(Sum, 
     if once(rt, asked, &offsets, &mut sum).is_none() {
         return Ok(None);
     }
-    Ok(sum.zip(timed(rt, asked, &offsets)?))
+    let (done, best) = best_of(
+        rt,
+        asked.rounds,
+        || (),
+        |_| once(rt, asked, &offsets, &mut None),
+    )?;
+    Ok(done.flatten().and(sum).map(|sum| (sum, best)))
 }
 
 fn main(rt: HostRuntime) -> io::Result<()> {

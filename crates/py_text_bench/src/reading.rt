@@ -1,0 +1,52 @@
+use py_bench::Counts;
+use py_flat::IoFault;
+use py_stream::BufferedStream;
+use py_textio::TextIOWrapper;
+use std::alloc::Global;
+
+/// How many characters are asked for at once by `Pieces`.
+const PIECE: usize = 4096;
+
+/// How a text is read.
+#[derive(Clone, Copy, Debug, PartialEq, Eq)]
+pub(crate) enum Reading {
+    Whole,
+    Lines,
+    Pieces,
+}
+
+impl Reading {
+    /// What a word asks for; `long` is one line that is the whole file, read as lines are.
+    pub(crate) fn from_word(word: &str) -> Option<Self> {
+        match word {
+            "whole" => Some(Reading::Whole),
+            "lines" | "long" => Some(Reading::Lines),
+            "pieces" => Some(Reading::Pieces),
+            _ => None,
+        }
+    }
+
+    /// Reads to the end, and counts the answers that aren't empty, and their bytes.
+    pub(crate) fn run<B: BufferedStream>(
+        self,
+        alloc: Global,
+        text: &mut TextIOWrapper<B>,
+    ) -> Result<Counts, IoFault> {
+        let mut counts = Counts::new();
+        for _ in 0..u64::MAX {
+            let answer = match self {
+                Reading::Whole => text.read(alloc, None)?,
+                Reading::Lines => text.readline(alloc, None)?,
+                Reading::Pieces => text.read(alloc, Some(PIECE))?,
+            };
+            let Some(answer) = answer else {
+                continue;
+            };
+            if answer.is_empty() {
+                break;
+            }
+            counts.add(answer.len());
+        }
+        Ok(counts)
+    }
+}
