@@ -20,11 +20,12 @@ use Rattle.py_plain.proofs.Walks.{walk-given}
 
 -- The bytes that an item used, as the first item of those bytes alone.
 
-handled_given : (size : ℕ) (handled : Handled) (characters : List ℕ) (used : ℕ) → item_handled size handled ≡ Given characters used → handled ≡ Replaced characters used
+-- a range whose item gives characters is replaced by them
+pub handled_given : (size : ℕ) (handled : Handled) (characters : List ℕ) (used : ℕ) → item_handled size handled ≡ Given characters used → handled ≡ Replaced characters used
 handled_given size (Replaced cs n) characters used is = cc
 handled_given size Refuses characters used is = absurd (cc)
 
-cut_given : (last : Bool) (size : ℕ) (handled : Handled) (characters : List ℕ) (used : ℕ) → cond last (item_handled size handled) Unfinished ≡ Given characters used → handled ≡ Replaced characters used
+pub cut_given : (last : Bool) (size : ℕ) (handled : Handled) (characters : List ℕ) (used : ℕ) → cond last (item_handled size handled) Unfinished ≡ Given characters used → handled ≡ Replaced characters used
 cut_given true size handled characters used is = handled_given size handled characters used is
 cut_given false size handled characters used is = absurd (cc)
 

@@ -2,7 +2,7 @@
 use Rattle.std.proofs.Common.{◌≡◌, ◌≢◌, ℕ, zero, suc, ◌+◌, ◌-◌, ◌<◌, ◌≤◌, Bool, true, false, not, nat_eq, ◌&&◌, ◌||◌, if◌then◌else◌, List, [], ◌∷◌, ◌++◌, length, take, drop, get_or, Ok, Err, refl, sym, ap, subst, ◌∙◌, arith, append_assoc, append-nil}
 use Rattle.std.specs.Bool.{⊤}
 use Rattle.std.specs.List.{starts_with}
-use Rattle.std.proofs.lemmas.Bool.{eqb-true}
+use Rattle.std.proofs.lemmas.Bool.{eqb-true, and_parts}
 use Rattle.std.proofs.lemmas.Bool.Decides.{nat_tests}
 use Rattle.std.proofs.lemmas.List.{length-append, length-take-le, length-drop, take_all, take_more, take-append-drop, drop_more, drop-drop, get_or-drop}
 use Rattle.std.proofs.Math.Seq.{split_at, take-add}
@@ -256,10 +256,6 @@ pair_there bytes at within =
     ap (λ (t : List ℕ). starts_with nat_eq t (cr ∷ lf ∷ [])) (all_behind at bytes ∙ (drop_more bytes at 0 within ∙ ap (λ (n : ℕ). get_or bytes at 0 ∷ drop n bytes) next_is))
     ∙ pair_first (get_or bytes at 0) (drop (suc at) bytes)
 
-both_true : (a b : Bool) → (a && b) ≡ true → (a ≡ true) × (b ≡ true)
-both_true true b is = (refl, is)
-both_true false b is = absurd (cc)
-
 goes_on : (a b d : Bool) → a ≡ false → d ≡ true → ((a || (b && not d)) || false) ≡ false
 goes_on true b d none next = absurd (cc)
 goes_on false b false none next = absurd (cc)
@@ -289,7 +285,7 @@ any_pair bytes at any first =
     let next : ℕ = at + 1 in
     let rest : List ℕ = drop next bytes in
     let next_is : suc at ≡ next = omega arith in
-    let both = both_true (nat_eq c cr) (begins_with_lf (drop (suc at) bytes)) (sym (pair_there bytes at any.within) ∙ first) in
+    let both = and_parts (nat_eq c cr) (begins_with_lf (drop (suc at) bytes)) (sym (pair_there bytes at any.within) ∙ first) in
     let begins : begins_with_lf rest ≡ true = ap (λ (n : ℕ). begins_with_lf (drop n bytes)) (sym next_is) ∙ both.1 in
     let some = begins_some rest begins in
     let within : next < length bytes = omega (arith, some.0, length-drop next bytes) in

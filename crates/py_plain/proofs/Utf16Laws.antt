@@ -10,26 +10,11 @@ use Rattle.py_plain.specs.declared.unit.Unit.TheVariants.{Character, Malformed}
 use Rattle.py_plain.specs.Utf16.{code_unit, is_high, is_low, joined, behind_high, unit_of, utf16_unit}
 use Rattle.py_plain.specs.Encode.{unit_bytes, utf16_bytes}
 use Rattle.py_plain.specs.UnitLaws.{AreBytes}
-use Rattle.py_plain.proofs.Rows.{is_within-in, is_within-below, is_within-above, is_within-true, is_within-false}
+use Rattle.py_plain.proofs.Rows.{is_within-below, is_within-above, is_within-false}
 use Rattle.py_plain.proofs.UnitLaws.{scalar_below, scalar_above}
+use Rattle.py_plain.proofs.Surrogates.{is_high-in, is_low-in, is_high-true, is_low-true}
 
 -- Surrogates.
-
-is_high-in : (unit : ℕ) → 0xD800 ≤ unit → unit ≤ 0xDBFF → is_high unit ≡ true
-unfolding is_high
-is_high-in unit from to = is_within-in 0xD800 0xDBFF unit from to
-
-is_low-in : (unit : ℕ) → 0xDC00 ≤ unit → unit ≤ 0xDFFF → is_low unit ≡ true
-unfolding is_low
-is_low-in unit from to = is_within-in 0xDC00 0xDFFF unit from to
-
-is_high-true : (unit : ℕ) → is_high unit ≡ true → (0xD800 ≤ unit) × (unit ≤ 0xDBFF)
-unfolding is_high
-is_high-true unit is = is_within-true 0xD800 0xDBFF unit is
-
-is_low-true : (unit : ℕ) → is_low unit ≡ true → (0xDC00 ≤ unit) × (unit ≤ 0xDFFF)
-unfolding is_low
-is_low-true unit is = is_within-true 0xDC00 0xDFFF unit is
 
 is_high-false : (unit : ℕ) → is_high unit ≡ false → (unit < 0xD800) ⊎ (0xDBFF < unit)
 unfolding is_high

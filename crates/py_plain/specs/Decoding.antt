@@ -1,5 +1,5 @@
 -- What the program does with a refused range and reads as the first item, in the words of the definitions.
-use Rattle.std.specs.Prelude.{ℕ, ◌≡◌, List, ◌++◌, Option, Some, None}
+use Rattle.std.specs.Prelude.{ℕ, ◌≡◌, ◌≤◌, List, ◌++◌, Option, Some, None, ⊤}
 use Rattle.py_plain.specs.Handlers.{Handled, Replaced, Refuses}
 use Rattle.py_plain.specs.Items.{FirstItem, Given, RefusedRange, Unfinished}
 use Rattle.py_plain.specs.declared.decoded.FirstItem.{FirstItem as Seen}
@@ -10,14 +10,14 @@ abbrev pub Treats : Handled → (before after : List ℕ) → Option ℕ → Typ
 Treats (Replaced characters used) before after answer = (after ≡ before ++ characters) × (answer ≡ Some used)
 Treats Refuses before after answer = (after ≡ before) × (answer ≡ None)
 
--- the characters of the first item are appended, and the bytes that it used answered; where nothing comes after the bytes, no item
--- is unfinished
+-- the characters of the first item are appended, and the bytes that it used answered
 abbrev pub Gives : FirstItem → (before after : List ℕ) → Seen → Type 0
 Gives (Given characters used) before after answer = (after ≡ before ++ characters) × (answer ≡ seen.Given used)
 Gives (RefusedRange length) before after answer = (after ≡ before) × (answer ≡ seen.RefusedRange length)
-Gives Unfinished before after answer = ⊥
+Gives Unfinished before after answer = (after ≡ before) × (answer ≡ seen.Unfinished)
 
--- how many bytes a first item stands for
-abbrev pub bytes_of : Seen → ℕ
-bytes_of (seen.Given used) = used
-bytes_of (seen.RefusedRange length) = length
+-- a first item stands for some of n bytes
+abbrev pub IsSeenIn : ℕ → Seen → Type 0
+IsSeenIn size (seen.Given used) = (1 ≤ used) × (used ≤ size)
+IsSeenIn size (seen.RefusedRange length) = (1 ≤ length) × (length ≤ size)
+IsSeenIn size seen.Unfinished = ⊤

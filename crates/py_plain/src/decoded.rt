@@ -1,8 +1,8 @@
-ghost use Rattle.std.specs.Prelude.{◌≡◌, ◌<◌, ◌≤◌, ℕ, true, length, IfOk};
+ghost use Rattle.std.specs.Prelude.{◌≡◌, ◌<◌, ◌≤◌, ℕ, length, IfOk};
 ghost use Rattle.py_plain.specs.Units.{Order};
 ghost use Rattle.py_plain.specs.Handlers.{treatment};
 ghost use Rattle.py_plain.specs.Items.{first_item, item_handled, plain, characters_of, refusal_of};
-ghost use Rattle.py_plain.specs.Decoding.{Gives, bytes_of};
+ghost use Rattle.py_plain.specs.Decoding.{Gives, IsSeenIn};
 
 use crate::replacement::push_replacement;
 use crate::{Encoding, Handler, Unit, first_unit};
@@ -18,13 +18,15 @@ pub struct Decoded {
     pub refusal: Option<(usize, usize)>,
 }
 
-/// What comes first of some bytes, where nothing comes after them.
-#[derive(Clone, Copy)]
-enum FirstItem {
+/// What comes first of some bytes.
+#[derive(Clone, Copy, Debug, PartialEq, Eq)]
+pub enum FirstItem {
     /// Characters, or none, that stand for n bytes.
     Given { used: usize },
     /// A range of n bytes that the handler refuses.
     RefusedRange { length: usize },
+    /// Bytes that may still become a character, where more may come.
+    Unfinished,
 }
 
 /// Appends what a handler gives for the refused range of n bytes that `rest` begins with.
@@ -41,7 +43,7 @@ fn handled(
     ensures shown { IfOk result (λ item. (place : ℕ)
         → Gives (item_handled size (treatment handler encoding place rest.now size))
         out.old.items out.new.items item) }
-    ensures within { IfOk result (λ item. (1 ≤ bytes_of item) × (bytes_of item ≤ length rest.now)) }
+    ensures within { IfOk result (IsSeenIn (length rest.now)) }
 {
     match push_replacement(alloc, out, encoding, handler, rest, size)? {
         Some(used) => Ok(FirstItem::Given { used }),
@@ -49,25 +51,29 @@ fn handled(
     }
 }
 
-/// Appends the characters of what comes first.
-fn first_item(
+/// Appends the characters of what some bytes begin with, of which there is one; `last` says that none come after them.
+///
+/// `Err` is out of memory, after which some of those characters may stand there.
+pub fn first_item(
     alloc: Global,
     out: &mut Vec<char>,
     encoding: Encoding,
     handler: Handler,
     bytes: &[u8],
+    last: bool,
 ) -> Result<FirstItem, AllocError>
     requires { 0 < length bytes.now }
     ensures shown { IfOk result (λ item. (order : Order) (place : ℕ)
-        → Gives (first_item encoding (treatment handler encoding) true order place bytes.now)
+        → Gives (first_item encoding (treatment handler encoding) last order place bytes.now)
         out.old.items out.new.items item) }
-    ensures within { IfOk result (λ item. (1 ≤ bytes_of item) × (bytes_of item ≤ length bytes.now)) }
+    ensures within { IfOk result (IsSeenIn (length bytes.now)) }
 {
     match first_unit(encoding, bytes).unwrap() {
         Unit::Character { character, length } => {
             out.push(character)?;
             Ok(FirstItem::Given { used: length })
         }
+        Unit::Cut { .. } if !last => Ok(FirstItem::Unfinished),
         Unit::Malformed { length } | Unit::Cut { length } => {
             handled(alloc, out, encoding, handler, bytes, length)
         }
@@ -92,8 +98,21 @@ pub fn decode(
     let mut characters = Vec::new(alloc);
     let mut place = from;
     while place < bytes.len() {
-        match first_item(alloc, &mut characters, encoding, handler, &bytes[place..])? {
+        match first_item(
+            alloc,
+            &mut characters,
+            encoding,
+            handler,
+            &bytes[place..],
+            true,
+        )? {
             FirstItem::Given { used } => place += used,
+            FirstItem::Unfinished => {
+                return Ok(Decoded {
+                    characters,
+                    refusal: None,
+                });
+            }
             FirstItem::RefusedRange { length } => {
                 return Ok(Decoded {
                     characters,

@@ -35,8 +35,8 @@ fn find_byte(byte: u8, bytes: &[u8]) -> Result<usize, usize>
     }
 }
 
-/// Whether the last of some bytes is a CR.
-fn ends_with_cr(bytes: &[u8]) -> bool
+/// Whether the last of some bytes is a CR; false where there are none.
+pub fn ends_with_cr(bytes: &[u8]) -> bool
     ensures { result ≡ ends_held false bytes.now }
 {
     match bytes {

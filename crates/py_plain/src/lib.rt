@@ -24,9 +24,10 @@ mod utf16;
 mod utf8;
 
 pub use character_bytes::{has_bytes, push_character};
-pub use decoded::{Decoded, decode};
+pub use decoded::{Decoded, FirstItem, decode, first_item};
 pub use encoding::Encoding;
 pub use examples::{a_line_end_is_told_by_the_place_behind_it, arguments_stand_for_rules};
+pub use find_newline::ends_with_cr;
 pub use handler::Handler;
 pub use laws::{characters_and_their_bytes, items_decode_alone, utf8_units};
 pub use line::{Line, first_line};
