@@ -1,6 +1,6 @@
 -- Calls leave a text where a cookie tells its place.
 use Rattle.std.proofs.Common.{◌≡◌, ℕ, zero, suc, ◌+◌, ◌≤◌, Bool, true, false, not, ◌&&◌, ◌||◌, nat_eq, nat_le, List, [], ◌∷◌, ◌++◌, length as len, take, drop, Option, Some, None, is_some, unwrap_or, if◌then◌else◌, refl, sym, ap, subst, ◌∙◌, arith, append-nil}
-use Rattle.std.proofs.lemmas.Bool.{and_parts, eqb-true, false≢true}
+use Rattle.std.proofs.lemmas.Bool.{and_parts, or_parts, eqb-true, false≢true}
 use Rattle.std.proofs.lemmas.Bool.Decides.{nat_tests}
 use Rattle.std.proofs.lemmas.List.{length-take, length-drop}
 use Rattle.py_flat.specs.declared.fault.IoFault.{IoFault}
@@ -51,10 +51,6 @@ all_none file call none =
 pub not_false : (test : Bool) → not test ≡ false → test ≡ true
 not_false true is = refl
 not_false false is = absurd (cc)
-
-or_false : (a b : Bool) → (a || b) ≡ false → (a ≡ false) × (b ≡ false)
-or_false true b none = absurd (cc)
-or_false false b none = (refl, none)
 
 -- Texts that have the same bytes and are read so.
 
@@ -204,7 +200,7 @@ taken_stands file stands readable count asks none_asked = record {
   reads = stands.reads;
   front = front_kept file (after_taking file count asks) (record { bytes = refl; at = refl; order = refl; encoding = refl; handler = refl }) file.place.front stands.front;
   clean = λ none.
-      let parts = or_false file.place.dirty asks none in
+      let parts = or_parts file.place.dirty asks none in
       let still = stands.clean parts.0 in
       let nothing : count ≡ 0 = none_asked parts.1 in
       (still.0, omega (arith, still.1, nothing));
@@ -247,8 +243,8 @@ settings_front file stands changes true is free =
     let still = stands.clean (test_none file.place.dirty fault.SeekFirst free) in
     subst (FrontStands (after_changes file changes)) (sym still.0) tt
 settings_front file stands changes false is free =
-    let first = or_false (is_some changes.encoding) (is_some changes.handler || is_some changes.newline) is in
-    let second = or_false (is_some changes.handler) (is_some changes.newline) first.1 in
+    let first = or_parts (is_some changes.encoding) (is_some changes.handler || is_some changes.newline) is in
+    let second = or_parts (is_some changes.handler) (is_some changes.newline) first.1 in
     front_kept file (after_changes file changes)
     (record {
       bytes = refl;

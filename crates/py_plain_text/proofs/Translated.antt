@@ -1,5 +1,6 @@
 -- The newline rule over characters that are cut in two.
 use Rattle.std.proofs.Common.{◌≡◌, ℕ, ◌≤◌, Bool, true, false, ◌&&◌, ◌||◌, nat_eq, if◌then◌else◌, List, [], ◌∷◌, ◌++◌, length as len, refl, sym, ap, ◌∙◌, arith, append_assoc, append-nil}
+use Rattle.std.proofs.lemmas.Bool.{and_parts}
 use Rattle.std.proofs.lemmas.Bool.Decides.{nat_tests}
 use Rattle.py_flat.specs.Lines.{lf, cr}
 use Rattle.py_plain.specs.declared.newlines.Newlines.{Newlines}
@@ -9,7 +10,8 @@ use Rattle.py_plain.proofs.LineEnds.{held_behind}
 use Rattle.py_plain.proofs.Translating.{finished}
 use Rattle.py_plain_text.proofs.Unbroken.{Unbroken}
 
-universal_both : (held : Bool) (xs ys : List ℕ) → universal held (xs ++ ys) ≡ universal held xs ++ universal (ends_held held xs) ys
+-- what the universal rule gives of characters in two parts
+pub universal_both : (held : Bool) (xs ys : List ℕ) → universal held (xs ++ ys) ≡ universal held xs ++ universal (ends_held held xs) ys
 universal_both held [] ys = refl
 universal_both held (x ∷ xs) ys =
     let first : List ℕ = passes held x in
@@ -54,14 +56,10 @@ apart rule.Lf xs c ys alone = same_apart xs (c ∷ ys)
 apart rule.Cr xs c ys alone = same_apart xs (c ∷ ys)
 apart rule.Crlf xs c ys alone = same_apart xs (c ∷ ys)
 
-parts_of : (a b : Bool) → (a && b) ≡ true → (a ≡ true) × (b ≡ true)
-parts_of true b is = (refl, is)
-parts_of false b is = absurd (cc)
-
 -- an LF that is joined gives nothing
 pub onto_cr : (newline : Newlines) (xs : List ℕ) (c : ℕ) → joins newline xs c ≡ true → translated newline (xs ++ (c ∷ [])) ≡ translated newline xs
 onto_cr rule.Universal xs c is =
-    let parts = parts_of (ends_held false xs) (nat_eq c lf) is in
+    let parts = and_parts (ends_held false xs) (nat_eq c lf) is in
     let one : nat_eq c cr ≡ false = grind (arith, nat_tests, parts.1) in
     finished_both false xs (c ∷ [])
     ∙ (ap (λ (h : Bool). universal false xs ++ finished h (c ∷ [])) parts.0

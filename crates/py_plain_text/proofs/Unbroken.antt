@@ -15,8 +15,9 @@ use Rattle.py_plain.specs.OneByte.{is_ascii}
 use Rattle.py_plain.specs.Units.{Order, first_unit}
 use Rattle.py_plain.specs.UnitLaws.{IsUtf8Long, IsWithin}
 use Rattle.py_plain.specs.Escapes.{hex_digit, hex_digits, backslash_escape, surrogate_escape, each_spelled}
-use Rattle.py_plain.specs.Handlers.{Handled, Replaced, Refuses, treatment, escaped, front_past_ascii, reads_texts}
-use Rattle.py_plain.specs.Items.{Given, item_handled, item_of, first_item}
+use Rattle.py_plain.specs.Handlers.{Replaced, treatment, escaped, front_past_ascii, reads_texts}
+use Rattle.py_plain.specs.Items.{Given, item_of, first_item}
+use Rattle.py_plain.proofs.Items.{handled_given}
 use Rattle.py_plain.proofs.UnitLaws.{unit_uses}
 use Rattle.py_plain.proofs.AnyUnits.{unit_within_any}
 use Rattle.py_plain.proofs.Looking.{front_within, reading, using}
@@ -182,10 +183,6 @@ pub record IsItem (left : ℕ) (characters : List ℕ) (used : ℕ) : Type 0 whe
   pub within : used ≤ left
   pub short : len characters ≤ 260
   pub kind : ((c : ℕ) × (characters ≡ c ∷ [])) ⊎ Unbroken characters
-
-handled_given : (size : ℕ) (handled : Handled) (characters : List ℕ) (used : ℕ) → item_handled size handled ≡ Given characters used → handled ≡ Replaced characters used
-handled_given size (Replaced cs n) characters used is = cc
-handled_given size Refuses characters used is = absurd (cc)
 
 range_item : (handler : Handler) (encoding : Encoding) → reads_texts handler ≡ true → (place left size : ℕ) (rest characters : List ℕ) (used : ℕ) → 1 ≤ size → size ≤ left → size ≤ 4 → treatment handler encoding place rest size ≡ Replaced characters used → IsItem left characters used
 range_item handler encoding reads place left size rest characters used some within small is =

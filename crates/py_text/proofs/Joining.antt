@@ -4,24 +4,13 @@ use Rattle.py_flat.specs.Lines.{cr, joined}
 use Rattle.py_plain.specs.declared.newlines.Newlines.{Newlines}
 use Rattle.py_plain.specs.declared.newlines.Newlines.TheVariants as rule
 use Rattle.py_plain.specs.NewlineRule.{released, passes, universal, ends_held, read_so_far, holds_after, translated}
+use Rattle.py_plain.proofs.LineEnds.{held_behind}
+use Rattle.py_plain_text.proofs.Translated.{universal_both}
 use Rattle.py_text.specs.NewlinePieces.{NewlineView, fresh, text_with, after_piece, after_pieces, texts_of}
-
--- what the universal rule gives of characters in two parts
-universal-both : (held : Bool) (xs ys : List ℕ) → universal held (xs ++ ys) ≡ universal held xs ++ universal (ends_held held xs) ys
-universal-both held [] ys = refl
-universal-both held (c ∷ xs) ys =
-    ap (λ (t : List ℕ). released held ++ (passes held c ++ t)) (universal-both (nat_eq c cr) xs ys)
-    ∙ (ap (λ (t : List ℕ). released held ++ t) (sym (append_assoc (passes held c) (universal (nat_eq c cr) xs) (universal (ends_held (nat_eq c cr) xs) ys)))
-    ∙ sym (append_assoc (released held) (passes held c ++ universal (nat_eq c cr) xs) (universal (ends_held (nat_eq c cr) xs) ys)))
-
--- whether a CR is held after characters in two parts
-ends_held-both : (held : Bool) (xs ys : List ℕ) → ends_held held (xs ++ ys) ≡ ends_held (ends_held held xs) ys
-ends_held-both held [] ys = refl
-ends_held-both held (c ∷ xs) ys = ends_held-both (nat_eq c cr) xs ys
 
 -- what any rule gives of characters in two parts
 pub read-both : (newline : Newlines) (held : Bool) (xs ys : List ℕ) → read_so_far newline held (xs ++ ys) ≡ read_so_far newline held xs ++ read_so_far newline (holds_after newline held xs) ys
-read-both rule.Universal held xs ys = universal-both held xs ys
+read-both rule.Universal held xs ys = universal_both held xs ys
 read-both rule.Passthrough held xs ys = refl
 read-both rule.Lf held xs ys = refl
 read-both rule.Cr held xs ys = refl
@@ -29,14 +18,14 @@ read-both rule.Crlf held xs ys = refl
 
 -- whether any rule holds a CR after characters in two parts
 pub holds-both : (newline : Newlines) (held : Bool) (xs ys : List ℕ) → holds_after newline held (xs ++ ys) ≡ holds_after newline (holds_after newline held xs) ys
-holds-both rule.Universal held xs ys = ends_held-both held xs ys
+holds-both rule.Universal held xs ys = held_behind held xs ys
 holds-both rule.Passthrough held xs ys = refl
 holds-both rule.Lf held xs ys = refl
 holds-both rule.Cr held xs ys = refl
 holds-both rule.Crlf held xs ys = refl
 
 -- no characters give none
-read-none : (newline : Newlines) (held : Bool) → read_so_far newline held [] ≡ []
+pub read-none : (newline : Newlines) (held : Bool) → read_so_far newline held [] ≡ []
 read-none rule.Universal held = refl
 read-none rule.Passthrough held = refl
 read-none rule.Lf held = refl
