@@ -1,5 +1,5 @@
 -- What a handler answers to a run, and how its treatment writes it or with which fault it refuses.
-use Rattle.std.proofs.Common.{◌≡◌, ℕ, ◌+◌, ◌-◌, ◌≤◌, ◌<◌, true, false, cond, inr, List, length, take, Option, Some, None, refl, sym, ap, ◌∙◌, arith}
+use Rattle.std.proofs.Common.{◌≡◌, ℕ, ◌+◌, ◌-◌, ◌≤◌, ◌<◌, false, cond, inr, List, length, take, Option, Some, None, refl, sym, ap, ◌∙◌, arith}
 use Rattle.std.proofs.lemmas.Bool.{cond-true, cond-false}
 use Rattle.std.proofs.lemmas.Bool.Decides.{nat_tests}
 use Rattle.py_flat.specs.declared.fault.IoFault.TheVariants.{UnicodeEncodeError, BadRestart}
@@ -12,9 +12,7 @@ use Rattle.py_codec.specs.declared.handler_ref.HandlerRef.TheVariants.{Builtin, 
 use Rattle.py_codec.specs.ErrorHandler.{EncodeMeaning, encode_answer}
 use Rattle.py_codec.specs.Treating.{is_restart, written_by, custom_encode_fault, encode_treatment_by, encode_fault}
 use Rattle.py_codec.specs.Substituting.{text_answer, run_answer, replacement_bytes, IsRunFault}
-
-is_restart-within : (start end restart : ℕ) → start < restart → restart ≤ end → is_restart start end restart ≡ true
-is_restart-within start end restart past within = grind (arith, nat_tests)
+use Rattle.py_codec.proofs.Restarts.{is_restart-in}
 
 pub is_restart-past : (start end restart : ℕ) → end < restart → is_restart start end restart ≡ false
 is_restart-past start end restart past = grind (arith, nat_tests)
@@ -24,11 +22,11 @@ text_written : (encoding : Encoding) (text : Option (List ℕ)) (place size last
 text_written encoding None place size last some within = refl
 text_written encoding (Some text) place size last some within =
     ap (λ used. written_as (text_bytes encoding text) used) (omega arith)
-    ∙ sym (cond-true _ _ _ (is_restart-within place last (place + size) (omega arith) within))
+    ∙ sym (cond-true _ _ _ (is_restart-in place last (place + size) (omega arith) within))
 
 text_fault : (text : Option (List ℕ)) (place size last : ℕ) → 1 ≤ size → place + size ≤ last → UnicodeEncodeError place (place + size) ≡ custom_encode_fault place (place + size) last (text_answer text (place + size))
 text_fault None place size last some within = refl
-text_fault (Some text) place size last some within = sym (cond-true _ _ _ (is_restart-within place last (place + size) (omega arith) within))
+text_fault (Some text) place size last some within = sym (cond-true _ _ _ (is_restart-in place last (place + size) (omega arith) within))
 
 -- a replacement is written as its bytes
 replacement_written : (encoding : Encoding) (given : EncodeReplace) (place last restart : ℕ) → written_by encoding place last (encode_answer given restart) ≡ cond (is_restart place last restart) (written_as (replacement_bytes encoding given) (restart - place)) RefusesRun

@@ -9,7 +9,7 @@ use Rattle.py_plain.specs.Handlers.{Treatment}
 use Rattle.py_plain.specs.Items.{Given, RefusedRange, Unfinished, item_of, first_item, used_behind, ends, onto_walk, Ending, AtEnd, AtRange, AtCut, Walk, walk_from, characters_of}
 use Rattle.py_plain.proofs.Walks.{walk-given}
 use Rattle.py_plain.proofs.OwnText.{walk-own}
-use Rattle.py_codec.specs.Appending.{IsRun}
+use Rattle.py_blocks.specs.Runs.{IsRun}
 use Rattle.py_codec.specs.Decoding.{ended, decoding_of, walk_here}
 
 pub record Continues (encoding : Encoding) (treat : Treatment) (last : Bool) (bytes : List ℕ) (place : ℕ) (out : List ℕ) : Type 0 where

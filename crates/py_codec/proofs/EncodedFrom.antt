@@ -8,9 +8,9 @@ use Rattle.py_plain.specs.Encode.{own_bytes, text_bytes, run_length, Written, Re
 use Rattle.py_plain.proofs.OwnText.{joined_bytes-parts}
 use Rattle.py_plain.proofs.Encodings.{encoded-skip}
 use Rattle.py_codec.specs.Encoding.{encode_ended, encoding_of}
-use Rattle.py_codec.specs.Writing.{Wrote}
+use Rattle.py_blocks.specs.Writing.{Wrote}
 use Rattle.py_codec.specs.Substituting.{IsTreated, IsRunFault}
-use Rattle.py_codec.proofs.Fronts.{Wrote-count}
+use Rattle.py_blocks.proofs.Written.{Wrote-count}
 use Rattle.py_codec.proofs.RunLengths.{run-none}
 
 -- what comes first of a text, and the encoding after it

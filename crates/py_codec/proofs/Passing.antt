@@ -22,11 +22,11 @@ use Rattle.py_codec.specs.declared.front.FrontStop.{FrontStop}
 use Rattle.py_codec.specs.declared.front.FrontStop.TheVariants.{Wanted, Refused, Drained}
 use Rattle.py_codec.specs.declared.front.Passed.{Passed}
 use Rattle.py_codec.specs.Answers.{text_of}
-use Rattle.py_codec.specs.Appending.{IsRun}
+use Rattle.py_blocks.specs.Runs.{IsRun}
 use Rattle.py_codec.specs.Decoding.{walk_here}
 use Rattle.py_codec.specs.Front.{items_for, bytes_in, front_stop, GivesFront}
 use Rattle.py_codec.specs.Passing.{Passes, Stops, PassOutcome}
-use Rattle.py_codec.proofs.Appended.{chars-fit}
+use Rattle.py_blocks.proofs.Appended.{chars-fit}
 use Rattle.py_codec.proofs.Continuing.{here-end, here-cut, here-refused}
 
 -- Passing.

@@ -14,7 +14,7 @@ use Rattle.py_codec.specs.Answers.{Expected}
 use Rattle.py_codec.specs.Encoding.{encode_ended, encoding_by}
 use Rattle.py_codec.specs.Refusing.{refuses_runs, strict_ending}
 use Rattle.py_codec.proofs.EncodedFrom.{Encodes, Encodes-wrote, encoded-refused}
-use Rattle.py_codec.proofs.Fronts.{Wrote-character}
+use Rattle.py_blocks.proofs.Written.{Wrote-character}
 use Rattle.py_codec.proofs.Texts.{written_from}
 
 -- an encoding that has bytes for each character

@@ -6,7 +6,7 @@ use Rattle.py_codec.specs.ErrorHandler.{DecodeAnswer, ReplacedBy}
 use Rattle.py_codec.specs.Treating.{is_restart, handled_by}
 
 -- a restart past the start of a range, and not past its end, passes the test of the bounds
-is_restart-in : (start end restart : ℕ) → start < restart → restart ≤ end → is_restart start end restart ≡ true
+pub is_restart-in : (start end restart : ℕ) → start < restart → restart ≤ end → is_restart start end restart ≡ true
 is_restart-in start end restart past inside = and_from (nat_lt start restart) (nat_le restart end) (lt-ltb start restart past) (le-leb restart end inside)
 
 -- an answer whose restart lies in the bounds stands for its text, in place of the bytes up to the restart

@@ -7,7 +7,7 @@ use Rattle.std.proofs.lemmas.Str.{chars-nil, encodes-chars}
 use Rattle.py_plain.specs.declared.encoding.Encoding.{Encoding}
 use Rattle.py_plain.specs.Encode.{own_bytes, joined_bytes, text_bytes, run_length}
 use Rattle.py_plain.proofs.TextBytes.{text_bytes-append}
-use Rattle.py_codec.specs.Writing.{Wrote, Stops}
+use Rattle.py_blocks.specs.Writing.{Wrote, Stops}
 use Rattle.py_codec.specs.Substituting.{IsAppended}
 use Rattle.py_codec.proofs.RunLengths.{run-none}
 

@@ -1,16 +1,13 @@
 -- What a call that decodes or encodes answers.
-use Rattle.std.specs.Prelude.{◌≡◌, ℕ, ◌⊎◌, List, Result, Ok, Err, Vec, String, string_bytes, chars}
+use Rattle.std.specs.Prelude.{◌≡◌, ℕ, ◌⊎◌, List, Result, Ok, Err, Vec}
 use Rattle.std.specs.declared.alloc.Global.{Global}
 use Rattle.py_flat.specs.declared.fault.IoFault.{IoFault}
 use Rattle.py_flat.specs.declared.fault.IoFault.TheVariants as fault
+pub use Rattle.py_blocks.specs.Texts.{text_of}
 
 -- the characters of a text, and how much of the argument was used; or a refusal
 abbrev pub Expected : Type 0
 Expected = Result (List ℕ × ℕ) IoFault
-
--- the characters of a string
-abbrev pub text_of : String Global → List ℕ
-text_of text = chars (string_bytes text)
 
 -- the bytes of a vector
 abbrev pub bytes_of : Vec ℕ Global → List ℕ

@@ -2,8 +2,6 @@ pub mod Answers
 pub mod ErrorHandler
 pub mod Treating
 pub mod Appending
-pub mod Writing
-pub mod Blocks
 pub mod Substituting
 pub mod Decoding
 pub mod Front

@@ -7,8 +7,8 @@ ghost use Rattle.py_codec.specs.Appending.{Reads};
 ghost use Rattle.py_codec.specs.Decoding.{decoding_by};
 
 use crate::replacing::replace;
-use crate::runs::{LEAST, next_most, push_run};
 use crate::{ErrorHandler, HandlerRef};
+use py_blocks::{LEAST, next_most, push_run};
 use py_flat::IoFault;
 use py_plain::{Encoding, Unit, first_unit};
 use std::alloc::Global;

@@ -7,8 +7,8 @@ ghost use Rattle.py_codec.specs.Refusing.{RefusedFirst};
 
 use crate::refusing::first_refusal;
 use crate::substituting::push_substitute;
-use crate::writing::{first_character, push_written};
 use crate::{ErrorHandler, HandlerRef};
+use py_blocks::{first_character, push_written};
 use py_flat::IoFault;
 use py_plain::{Encoding, has_bytes};
 use std::alloc::Global;

@@ -1,20 +1,19 @@
-ghost use Rattle.std.specs.Prelude.{◌≡◌, ◌+◌, ◌-◌, ◌≤◌, ◌<◌, ℕ, true, length, drop, IfOk, OnErr};
+ghost use Rattle.std.specs.Prelude.{◌≡◌, ◌+◌, ◌-◌, ◌≤◌, ◌<◌, ℕ, true, [], length, drop, IfOk, IfErr, OnErr};
 ghost use Rattle.std.specs.Fmt.{is_char_start};
 ghost use Rattle.std.specs.List.{count_by};
 ghost use Rattle.std.specs.String.{string_bytes};
 ghost use Rattle.py_plain.specs.Units.{Unknown};
 ghost use Rattle.py_plain.specs.Handlers.{treatment, reads_texts};
 ghost use Rattle.py_codec.specs.Answers.{text_of};
-ghost use Rattle.py_codec.specs.Appending.{IsRun};
+ghost use Rattle.py_blocks.specs.Runs.{IsRun};
 ghost use Rattle.py_codec.specs.Decoding.{walk_here, walk_past};
 ghost use Rattle.py_codec.specs.Front.{items_for, GivesFront, FrontOutcome};
 ghost use Rattle.py_codec.specs.Passing.{PassOutcome};
 
-use crate::counting::starts;
 use crate::decoding::push_item;
-use crate::runs::{LEAST, next_most, push_run, window};
 use crate::steps::Steps;
 use crate::{HandlerRef, NoHandler};
+use py_blocks::{LEAST, count_starts, next_most, push_run, window};
 use py_flat::IoFault;
 use py_plain::{Encoding, Handler};
 use std::alloc::{AllocError, Global};
@@ -56,7 +55,7 @@ fn count_past(text: &String, from: usize) -> usize
     requires { from ≤ length (string_bytes text.now) }
     ensures { result ≡ count_by is_char_start (drop from (string_bytes text.now)) }
 {
-    starts(&text.as_bytes()[from..])
+    count_starts(&text.as_bytes()[from..])
 }
 
 /// Appends whole characters that some bytes begin with, as many as are found at once in the first `most` bytes, and no
@@ -205,6 +204,37 @@ fn push_wanted<L: Ledger>(
     })
 }
 
+/// The text of the items that some bytes begin with, as `decode_front` appends it, in a string of its own: what that call
+/// answers of them, with a copy of the text less. `NoMemory` alone is a fault.
+pub fn front_text<L: Ledger>(
+    alloc: Global,
+    encoding: Encoding,
+    handler: Handler,
+    bytes: &[u8],
+    want: usize,
+    last: bool,
+    steps: &mut Steps<L>,
+) -> Result<(String, FrontDecoded), IoFault>
+    requires reads { reads_texts handler ≡ true }
+    ensures front { IfOk result (λ t.
+        let ahead = walk_past encoding (treatment handler encoding) last bytes.now in
+        let walk = ahead Unknown 0 in
+        GivesFront want (items_for want walk.items) walk ahead [] (text_of t.0) steps.old steps.new t.1) }
+    ensures within { IfOk result (λ t. t.1.used ≤ length bytes.now) }
+    ensures memory { IfErr result (λ why. why ≡ IoFault.NoMemory) }
+    ensures steps { OnErr result (
+        let walk = walk_here encoding (treatment handler encoding) last bytes.now 0 in
+        steps.new ≤ steps.old + length (items_for want walk.items) + 1) }
+{
+    let mut text = String::new(alloc);
+    match push_wanted(
+        alloc, encoding, handler, bytes, want, last, &mut text, steps,
+    ) {
+        Ok(front) => Ok((text, front)),
+        Err(_) => Err(IoFault::NoMemory),
+    }
+}
+
 /// Appends the characters of the items that some bytes begin with, up to the first place between two of them where at
 /// least as many as are wanted were given.
 ///
@@ -232,12 +262,7 @@ pub fn decode_front<L: Ledger>(
         (text_of out.old) (text_of out.new) steps.old steps.new result }
     ensures within { IfOk result (λ front. front.used ≤ length bytes.now) }
 {
-    let mut text = String::new(alloc);
-    let Ok(front) = push_wanted(
-        alloc, encoding, handler, bytes, want, last, &mut text, steps,
-    ) else {
-        return Err(IoFault::NoMemory);
-    };
+    let (text, front) = front_text(alloc, encoding, handler, bytes, want, last, steps)?;
     match out.push_str(&text) {
         Ok(()) => Ok(front),
         Err(_) => Err(IoFault::NoMemory),

@@ -3,13 +3,13 @@ ghost use Rattle.std.specs.Prelude.{◌≡◌, ◌+◌, ◌≤◌, true, Err, ch
 ghost use Rattle.py_flat.specs.declared.fault.IoFault.{IoFault};
 ghost use Rattle.py_plain.specs.Encode.{refused_run};
 ghost use Rattle.py_codec.specs.Encoding.{encoding_by};
-ghost use Rattle.py_codec.specs.Writing.{IsOneByte};
+ghost use Rattle.py_blocks.specs.Writing.{IsOneByte};
 ghost use Rattle.py_codec.specs.Refusing.{refuses_runs, strict_ending};
 
 use crate::encoding::run_length;
 use crate::substituting::encode_error;
-use crate::writing::{first_character, split_ascii};
 use crate::{ErrorHandler, HandlerRef};
+use py_blocks::{first_character, split_ascii};
 use py_flat::IoFault;
 use py_plain::{Encoding, Handler, has_bytes};
 

@@ -8,8 +8,8 @@ ghost use Rattle.py_codec.specs.Substituting.{run_answer, replacement_bytes, IsA
 
 use crate::encoding::without_front;
 use crate::replacing::push_characters;
-use crate::writing::push_written;
 use crate::{EncodeReplace, ErrorHandler, HandlerRef, HandlerRefusal};
+use py_blocks::push_written;
 use py_flat::IoFault;
 use py_plain::{Encoding, Handler, push_replacement_text};
 use std::alloc::{AllocError, Global};

@@ -1,73 +1,19 @@
 -- Fronts of a text that answer a call.
-use Rattle.std.proofs.Common.{◌≡◌, ℕ, zero, suc, ◌-◌, ◌<◌, ◌≤◌, Bool, true, false, nat_eq, nat_le, if◌then◌else◌, List, [], ◌∷◌, ◌++◌, length, take, drop, chars, encode_utf8_all, Option, Some, None, Ok, Err, refl, sym, ap, subst, ◌∙◌, arith, append_assoc, le-leb, leb-true, leb-false}
-use Rattle.std.specs.Fmt.{is_char_start}
-use Rattle.std.specs.List.{count_by}
-use Rattle.std.specs.Str.{IsUtf8, IsCharBoundary}
-use Rattle.std.proofs.lemmas.Bool.Decides.{nat_tests}
-use Rattle.std.proofs.lemmas.List.{length-append, length-take, length-take-le, take_all, take_at, take-append-le, take-append-drop}
-use Rattle.std.proofs.lemmas.Str.{IsUtf8-take, chars-append, encodes-chars, length-le-encodes}
+use Rattle.std.proofs.Common.{◌≡◌, ℕ, zero, suc, ◌-◌, ◌≤◌, Bool, true, false, nat_eq, nat_le, if◌then◌else◌, List, [], ◌∷◌, ◌++◌, length, take, drop, chars, encode_utf8_all, Option, Some, None, Ok, Err, refl, sym, ap, subst, ◌∙◌, arith, append_assoc, le-leb}
+use Rattle.std.specs.Str.{IsUtf8}
+use Rattle.std.proofs.lemmas.List.{length-append, length-take-le, take_all, take_at, take-append-le, take-append-drop}
+use Rattle.std.proofs.lemmas.Str.{length-le-encodes}
 use Rattle.py_flat.specs.Lines.{LineEnd, Lf, Cr, CrLf, AnyEnd, lf, cr, line_after, has_end_after, first_line}
 use Rattle.py_flat.proofs.Cutting.{first_line_is_front}
 use Rattle.py_plain.specs.declared.newlines.Newlines.{Newlines}
 use Rattle.py_plain.specs.NewlineRule.{line_end}
-use Rattle.py_codec.proofs.Beginning.{count-chars}
-use Rattle.py_held_text.specs.declared.held_front.HeldFront.{HeldFront}
+use Rattle.py_blocks.specs.declared.fronts.TextFront.{TextFront}
 use Rattle.py_plain.specs.FindNewline.{kept_back, newline_place}
 use Rattle.py_held_text.specs.Finding.{IsFrontOf, line_in_hand}
-use Rattle.py_held_text.specs.Fronts.{IsPassed, Ends}
 use Rattle.py_held_text.specs.LineSearch.{IsBegin}
 use Rattle.py_plain.proofs.LineEnds.{here}
 use Rattle.py_held_text.proofs.Lines.{found-at, missed-at, line-open}
 use Rattle.py_held_text.proofs.Parts.{IsCut, cut}
-
--- Characters, counted.
-
-lead-start : (byte : ℕ) → is_char_start byte ≡ true → 128 ≤ byte → 192 ≤ byte
-lead-start byte starts high = grind (arith, nat_tests)
-
--- what was passed is a front
-record AreTaken (cs : List ℕ) (bytes count : ℕ) : Type 0 where
-  within : count ≤ length cs
-  spelled : bytes ≡ length (encode_utf8_all (take count cs))
-  all : (total : ℕ) → bytes ≡ total → total ≡ length (encode_utf8_all cs) → count ≡ length cs
-
-taken : (text : List ℕ) (bytes count : ℕ) → IsUtf8 text → IsCharBoundary text bytes → count ≡ count_by is_char_start (take bytes text) → AreTaken (chars text) bytes count
-taken text bytes count utf8 boundary counted =
-    let part : List ℕ = take bytes text in
-    let part_utf8 : IsUtf8 part = IsUtf8-take text bytes utf8 boundary in
-    let rest : List ℕ = chars (drop bytes text) in
-    let whole : chars text ≡ chars part ++ rest = ap chars (sym (take-append-drop bytes text)) ∙ chars-append part (drop bytes text) part_utf8 in
-    let count_is : length (chars part) ≡ count = sym (counted ∙ count-chars part part_utf8) in
-    let front : take count (chars text) ≡ chars part = ap (take count) whole ∙ take_at (chars part) rest count count_is in
-    record {
-      within = omega (arith, count_is, ap (λ (t : List ℕ). length t) whole, length-append (chars part) rest);
-      spelled = sym (ap (λ (t : List ℕ). length (encode_utf8_all t)) front ∙ (ap (λ (t : List ℕ). length t) (encodes-chars part part_utf8) ∙ length-take-le bytes text boundary.0));
-      all = λ total reaches total_is.
-          let end : bytes ≡ length text = reaches ∙ (total_is ∙ ap (λ (t : List ℕ). length t) (encodes-chars text utf8)) in
-          sym count_is ∙ ap (λ (t : List ℕ). length (chars t)) (take_all bytes text (omega (arith, end)));
-    }
-
-passed-boundary : (text : List ℕ) (most : ℕ) (front : HeldFront) → IsPassed text most front → Ends text most front → IsCharBoundary text front.bytes
-passed-boundary text most front passed ends = (passed.within, λ less high. lead-start _ (ends less).1 high)
-
-count-by : (cs : List ℕ) (most count bytes total : ℕ) → (less : Bool) → nat_le total bytes ≡ less → AreTaken cs bytes count → count ≤ most → bytes ≤ total → total ≡ length (encode_utf8_all cs) → (bytes < total → count ≡ most) → count ≡ length (take most cs)
-count-by cs most count bytes total true test are few within total_is ends =
-    let all : bytes ≡ total = omega (arith, leb-true total bytes test, within) in
-    let count_is : count ≡ length cs = are.all total all total_is in
-    omega (arith, count_is, few, length-take most cs)
-count-by cs most count bytes total false test are few within total_is ends =
-    let full : count ≡ most = ends (leb-false total bytes test) in
-    omega (arith, full, are.within, length-take most cs)
-
--- the front that was passed is the one that is asked for
-pub front-passed : (text bytes : List ℕ) (most : ℕ) (front : HeldFront) → IsUtf8 text → bytes ≡ text → IsPassed bytes most front → Ends bytes most front → (front.chars ≡ length (take most (chars text))) × IsFrontOf (chars text) front
-front-passed text bytes most front utf8 are was was_ends =
-    let passed : IsPassed text most front = subst (λ (t : List ℕ). IsPassed t most front) are was in
-    let ends : Ends text most front = subst (λ (t : List ℕ). Ends t most front) are was_ends in
-    let own = taken text front.bytes front.chars utf8 (passed-boundary text most front passed ends) passed.counted in (
-      count-by (chars text) most front.chars front.bytes (length text) (nat_le (length text) front.bytes) refl own passed.few passed.within (ap (λ (t : List ℕ). length t) (sym (encodes-chars text utf8))) (λ less. (ends less).0),
-      record { within = own.within; bytes = own.spelled },
-    )
 
 -- Lines.
 
@@ -82,12 +28,12 @@ from-start text part place is =
     is ∙ ap (λ (n : ℕ). take n text) same
 
 -- what a front of a line is in the text
-pub record InText (cs line : List ℕ) (most : ℕ) (found : HeldFront) : Type 0 where
+pub record InText (cs line : List ℕ) (most : ℕ) (found : TextFront) : Type 0 where
   pub count : found.chars ≡ length (take most line)
   pub front : IsFrontOf cs found
   pub taken : take found.chars cs ≡ take most line
 
-pub line-of : (text part line : List ℕ) (bytes most : ℕ) (front : HeldFront) → IsUtf8 text → part ≡ take bytes text → IsBegin (chars text) line bytes → front.chars ≡ length (take most (chars part)) → IsFrontOf (chars part) front → InText (chars text) line most front
+pub line-of : (text part line : List ℕ) (bytes most : ℕ) (front : TextFront) → IsUtf8 text → part ≡ take bytes text → IsBegin (chars text) line bytes → front.chars ≡ length (take most (chars part)) → IsFrontOf (chars part) front → InText (chars text) line most front
 line-of text part line bytes most front utf8 part_is begin counted begins =
     let same : chars part ≡ line = ap chars part_is ∙ (line-cut text line bytes utf8 begin).front_chars in
     let count : front.chars ≡ length (take most line) = counted ∙ ap (λ (t : List ℕ). length (take most t)) same in
@@ -161,12 +107,12 @@ limited-count end limit count cs within counted =
     ∙ ap (λ (t : List ℕ). if nat_le (length t) (length cs) then Some (length t) else None) (sym same))
 
 -- the front of n characters
-pub record IsPart (cs : List ℕ) (limit : ℕ) (front : HeldFront) : Type 0 where
+pub record IsPart (cs : List ℕ) (limit : ℕ) (front : TextFront) : Type 0 where
   pub whole : cs ≡ take limit cs ++ drop limit cs
   pub bytes : front.bytes ≡ length (encode_utf8_all (take limit cs))
   pub count : front.chars ≡ limit
 
-pub part-of : (cs : List ℕ) (limit : ℕ) (front : HeldFront) → limit ≤ length cs → front.chars ≡ length (take limit cs) → IsFrontOf cs front → IsPart cs limit front
+pub part-of : (cs : List ℕ) (limit : ℕ) (front : TextFront) → limit ≤ length cs → front.chars ≡ length (take limit cs) → IsFrontOf cs front → IsPart cs limit front
 part-of cs limit front within counted begins =
     let count : front.chars ≡ limit = counted ∙ length-take-le limit cs within in
     record {
@@ -175,7 +121,7 @@ part-of cs limit front within counted begins =
       count = count;
     }
 
-pub part-begin : (cs : List ℕ) (limit : ℕ) (front : HeldFront) → IsPart cs limit front → IsBegin cs (take limit cs) front.bytes
+pub part-begin : (cs : List ℕ) (limit : ℕ) (front : TextFront) → IsPart cs limit front → IsBegin cs (take limit cs) front.bytes
 part-begin cs limit front part = record { rest = drop limit cs; whole = part.whole; bytes_are = part.bytes }
 
 -- the first line of such a front begins the text

@@ -1,5 +1,5 @@
 -- How many characters a decoding gives for its bytes: at most six for each.
-use Rattle.std.proofs.Common.{◌≡◌, ℕ, zero, suc, ◌+◌, ◌*◌, ◌<◌, ◌≤◌, Bool, true, false, cond, nat_eq, nat_lt, if◌then◌else◌, List, [], ◌∷◌, ◌++◌, length as len, get_or, take, codes, decimal, Option, Some, None, IfSome, refl, ap, arith}
+use Rattle.std.proofs.Common.{◌≡◌, ℕ, zero, suc, ◌+◌, ◌*◌, ◌<◌, ◌≤◌, Bool, true, false, nat_eq, nat_lt, if◌then◌else◌, List, [], ◌∷◌, ◌++◌, length as len, get_or, take, codes, decimal, Option, Some, None, IfSome, refl, ap, arith}
 use Rattle.std.proofs.Math.Nat.{mul-suc}
 use Rattle.std.proofs.lemmas.Bool.{cond-true, lt-ltb}
 use Rattle.std.proofs.lemmas.Fmt.{length-decimal-le}
@@ -14,9 +14,10 @@ use Rattle.py_plain.specs.OneByte.{is_ascii}
 use Rattle.py_plain.specs.Escapes.{hex_digits, backslash_escape, surrogate_escape, each_spelled}
 use Rattle.py_plain.specs.Units.{Order, first_unit, order_after}
 use Rattle.py_plain.specs.UnitLaws.{IsWithin, AreBytes}
-use Rattle.py_plain.specs.Handlers.{Handled, Replaced, Refuses, Treatment, treatment, reads_texts, front_past_ascii, escaped}
-use Rattle.py_plain.specs.Items.{FirstItem, Given, RefusedRange, Unfinished, item_handled, item_of, first_item, used_behind, Walk, onto_walk, walk_from, characters_of}
+use Rattle.py_plain.specs.Handlers.{Replaced, Treatment, treatment, reads_texts, front_past_ascii, escaped}
+use Rattle.py_plain.specs.Items.{FirstItem, Given, RefusedRange, Unfinished, item_of, first_item, used_behind, Walk, onto_walk, walk_from, characters_of}
 use Rattle.py_plain.proofs.AnyUnits.{unit_within_any}
+use Rattle.py_plain.proofs.Items.{handled_given, cut_given}
 use Rattle.py_plain.proofs.Looking.{escaped_whole}
 use Rattle.py_codec.specs.Front.{bytes_in}
 
@@ -86,14 +87,6 @@ handler-few SurrogateEscape encoding reads place size rest characters used some 
 
 -- A walk.
 
-replaced : (size : ℕ) (handled : Handled) (characters : List ℕ) (used : ℕ) → item_handled size handled ≡ Given characters used → handled ≡ Replaced characters used
-replaced size (Replaced cs n) characters used is = cc
-replaced size Refuses characters used is = absurd (cc)
-
-cut-replaced : (last : Bool) (size : ℕ) (handled : Handled) (characters : List ℕ) (used : ℕ) → cond last (item_handled size handled) Unfinished ≡ Given characters used → handled ≡ Replaced characters used
-cut-replaced true size handled characters used is = replaced size handled characters used is
-cut-replaced false size handled characters used is = absurd (cc)
-
 item-few : (treat : Treatment) (last : Bool) (place left : ℕ) (bytes : List ℕ) (unit : Option Read) (characters : List ℕ) (used : ℕ) → IsFew treat → AreBytes bytes → IfSome unit (λ whole. IsWithin whole left) → item_of treat last place bytes unit ≡ Given characters used → len characters ≤ 6 * used
 item-few treat last place left bytes None characters used few all within is = absurd (cc)
 item-few treat last place left bytes (Some (Character c n)) characters used few all within is =
@@ -101,9 +94,9 @@ item-few treat last place left bytes (Some (Character c n)) characters used few 
     let same : c ∷ [] ≡ characters = cc in
     omega (arith, whole, within.0, ap (λ (t : List ℕ). len t) same)
 item-few treat last place left bytes (Some (Malformed n)) characters used few all within is =
-    few place n bytes characters used within.0 all (replaced n (treat place bytes n) characters used is)
+    few place n bytes characters used within.0 all (handled_given n (treat place bytes n) characters used is)
 item-few treat last place left bytes (Some (Cut n)) characters used few all within is =
-    few place n bytes characters used within.0 all (cut-replaced last n (treat place bytes n) characters used is)
+    few place n bytes characters used within.0 all (cut_given last n (treat place bytes n) characters used is)
 
 abbrev FewIn : Walk → Type 0
 FewIn walk = len (characters_of walk.items) ≤ 6 * bytes_in walk.items

@@ -6,12 +6,11 @@ use Rattle.std.proofs.lemmas.List.{length-append, length-drop, take-append-drop,
 use Rattle.std.proofs.lemmas.Str.{IsUtf8-string_bytes, IsUtf8-drop, IsUtf8-take, IsCharBoundary-end, IsCharBoundary-start, IsCharBoundary-from_rest, chars-append, chars-nil, encodes-chars}
 use Rattle.py_flat.specs.Lines.{LineEnd, line_after, has_end_after}
 use Rattle.py_plain.specs.declared.newlines.Newlines.{Newlines}
-use Rattle.py_plain.specs.declared.newlines.Newlines.TheVariants as rule
-use Rattle.py_plain.specs.NewlineRule.{line_end, released, read_so_far, read_all, holds_after}
+use Rattle.py_plain.specs.NewlineRule.{line_end, released, read_all, holds_after}
 use Rattle.py_codec.specs.Answers.{text_of}
-use Rattle.py_codec.proofs.Fronts.{chars_within}
-use Rattle.py_text.proofs.Joining.{holds-none}
-use Rattle.py_held_text.specs.declared.held_front.HeldFront.{HeldFront}
+use Rattle.py_blocks.proofs.Written.{chars_within}
+use Rattle.py_text.proofs.Joining.{read-none}
+use Rattle.py_blocks.specs.declared.fronts.TextFront.{TextFront}
 use Rattle.py_held_text.specs.Finding.{IsFrontOf}
 use Rattle.py_held_text.specs.LineSearch.{IsSearched}
 use Rattle.py_held_text.specs.Known.{IsKnown}
@@ -66,9 +65,6 @@ known-empty newline bytes count cr none no_count holds =
     } in
     subst (λ (n : ℕ). IsKnown newline bytes 0 n 0 cr) (sym no_count) (subst (λ (t : List ℕ). IsKnown newline t 0 0 0 cr) (sym none) empty)
 
-pub nothing-held : (newline : Newlines) → holds_after newline false [] ≡ false
-nothing-held newline = holds-none newline
-
 -- more stands behind it
 pub grown : (newline : Newlines) (before after : List ℕ) (given : ℕ) (more : List ℕ) → IsUtf8 before → IsUtf8 after → IsCharBoundary before given → chars after ≡ chars before ++ more → IsCharBoundary after given × (chars (drop given after) ≡ chars (drop given before) ++ more)
 grown newline before after given more utf8 utf8_after boundary is =
@@ -112,13 +108,6 @@ known-same newline before after given count searched cr is known = subst (λ (t 
 
 -- Where nothing comes.
 
-read-none : (newline : Newlines) (held : Bool) → read_so_far newline held [] ≡ []
-read-none rule.Universal held = refl
-read-none rule.Passthrough held = refl
-read-none rule.Lf held = refl
-read-none rule.Cr held = refl
-read-none rule.Crlf held = refl
-
 -- a rule gives an LF for a CR that is held
 pub last-none : (newline : Newlines) (cr : Bool) → holds_after newline cr [] ≡ cr → read_all newline cr [] ≡ released cr
 last-none newline cr holds = ap (λ (t : List ℕ). t ++ released (holds_after newline cr [])) (read-none newline cr) ∙ ap released holds
@@ -126,7 +115,7 @@ last-none newline cr holds = ap (λ (t : List ℕ). t ++ released (holds_after n
 -- A front that is given.
 
 -- a front of what is known, in the bytes of the text
-pub given-cut : (cs bytes : List ℕ) (given : ℕ) (front : HeldFront) → IsUtf8 bytes → IsCharBoundary bytes given → cs ≡ chars (drop given bytes) → IsFrontOf cs front → IsCut (drop given bytes) (take front.chars cs) (drop front.chars cs) front.bytes
+pub given-cut : (cs bytes : List ℕ) (given : ℕ) (front : TextFront) → IsUtf8 bytes → IsCharBoundary bytes given → cs ≡ chars (drop given bytes) → IsFrontOf cs front → IsCut (drop given bytes) (take front.chars cs) (drop front.chars cs) front.bytes
 given-cut cs bytes given front utf8 boundary is begins =
     cut (drop given bytes) (take front.chars cs) (drop front.chars cs) front.bytes (IsUtf8-drop bytes given utf8 boundary) (sym is ∙ sym (take-append-drop front.chars cs)) begins.bytes
 
@@ -145,12 +134,12 @@ all-front cs bytes rest given count utf8 boundary is counted rest_is =
     }
 
 -- a front that is given, and what is known behind it
-pub record IsGiven (cs bytes : List ℕ) (given : ℕ) (front : HeldFront) : Type 0 where
+pub record IsGiven (cs bytes : List ℕ) (given : ℕ) (front : TextFront) : Type 0 where
   pub boundary : IsCharBoundary bytes (given + front.bytes)
   pub text : chars (take front.bytes (drop given bytes)) ≡ take front.chars cs
   pub left : chars (drop (given + front.bytes) bytes) ≡ drop front.chars cs
 
-pub front-given : (cs bytes : List ℕ) (given : ℕ) (front : HeldFront) → IsUtf8 bytes → IsCharBoundary bytes given → cs ≡ chars (drop given bytes) → IsFrontOf cs front → IsGiven cs bytes given front
+pub front-given : (cs bytes : List ℕ) (given : ℕ) (front : TextFront) → IsUtf8 bytes → IsCharBoundary bytes given → cs ≡ chars (drop given bytes) → IsFrontOf cs front → IsGiven cs bytes given front
 front-given cs bytes given front utf8 boundary is begins =
     let own = given-cut cs bytes given front utf8 boundary is begins in
     record {
@@ -160,7 +149,7 @@ front-given cs bytes given front utf8 boundary is begins =
     }
 
 -- what is known behind a front that is given
-pub known-behind : (newline : Newlines) (cs bytes : List ℕ) (given count searched : ℕ) (cr : Bool) (front : HeldFront) → IsKnown newline bytes given count searched cr → cs ≡ chars (drop given bytes) → IsGiven cs bytes given front → IsKnown newline bytes (given + front.bytes) (count - front.chars) 0 cr
+pub known-behind : (newline : Newlines) (cs bytes : List ℕ) (given count searched : ℕ) (cr : Bool) (front : TextFront) → IsKnown newline bytes given count searched cr → cs ≡ chars (drop given bytes) → IsGiven cs bytes given front → IsKnown newline bytes (given + front.bytes) (count - front.chars) 0 cr
 known-behind newline cs bytes given count searched cr front known is own = record {
   boundary = own.boundary;
   counted = omega (arith, known.counted, ap (λ (t : List ℕ). length t) is, ap (λ (t : List ℕ). length t) own.left, length-drop front.chars cs);
@@ -188,7 +177,7 @@ pub all-from : (bytes : List ℕ) (given : ℕ) → given ≡ 0 → drop given b
 all-from bytes given none = ap (λ (n : ℕ). drop n bytes) none
 
 -- what is known behind a front that is given, in a text of its own
-pub known-rest : (newline : Newlines) (cs bytes : List ℕ) (given count searched : ℕ) (cr : Bool) (front : HeldFront) (rest : String Global) → IsKnown newline bytes given count searched cr → cs ≡ chars (drop given bytes) → IsGiven cs bytes given front → string_bytes rest ≡ drop (given + front.bytes) bytes → IsKnown newline (string_bytes rest) 0 (count - front.chars) 0 cr
+pub known-rest : (newline : Newlines) (cs bytes : List ℕ) (given count searched : ℕ) (cr : Bool) (front : TextFront) (rest : String Global) → IsKnown newline bytes given count searched cr → cs ≡ chars (drop given bytes) → IsGiven cs bytes given front → string_bytes rest ≡ drop (given + front.bytes) bytes → IsKnown newline (string_bytes rest) 0 (count - front.chars) 0 cr
 known-rest newline cs bytes given count searched cr front rest known is own rest_is =
     let behind = known-behind newline cs bytes given count searched cr front known is own in
     record {

@@ -1,6 +1,7 @@
 -- The first line of a text, of which a front was searched, and were an LF to come.
 use Rattle.std.proofs.Common.{◌≡◌, ◌⊎◌, ℕ, ◌+◌, ◌-◌, ◌<◌, ◌≤◌, inl, inr, Bool, true, false, not, nat_eq, ◌&&◌, ◌||◌, if◌then◌else◌, List, [], ◌∷◌, ◌++◌, length, drop, None, Result, Ok, Err, refl, sym, ap, subst, ◌∙◌, arith, true≢false, eqb-true, append_assoc, append-nil, chars, encode_utf8_all}
 use Rattle.std.specs.Str.{IsUtf8}
+use Rattle.std.proofs.lemmas.Bool.{or_parts}
 use Rattle.std.proofs.lemmas.List.{length-append}
 use Rattle.std.proofs.lemmas.Str.{encodes-append, encodes-chars, encode_ascii, length-le-encodes}
 use Rattle.py_flat.proofs.Cutting.{first_line_is_front}
@@ -10,13 +11,9 @@ use Rattle.py_plain.specs.declared.newlines.Newlines.TheVariants as rule
 use Rattle.py_plain.specs.NewlineRule.{line_end, ends_held}
 use Rattle.py_plain.specs.FindNewline.{kept_back, newline_place}
 use Rattle.py_held_text.specs.LineSearch.{IsBegin, IsSearched, may_go_on}
-use Rattle.py_held_text.proofs.Parts.{cut}
-use Rattle.py_plain.proofs.LineEnds.{here, Passed, line_passed, end_passed}
+use Rattle.py_held_text.proofs.Parts.{cut, spelled-both}
+use Rattle.py_plain.proofs.LineEnds.{here, Passed, line_passed, end_passed, held_behind}
 use Rattle.py_plain.proofs.CharacterEnds.{held_same}
-
-or-false : (a b : Bool) → (a || b) ≡ false → (a ≡ false) × (b ≡ false)
-or-false true b is = absurd (cc)
-or-false false b is = (refl, is)
 
 and-true : (a : Bool) → a ≡ (a && true)
 and-true true = refl
@@ -29,7 +26,7 @@ ends-none Cr c xs ys none = none
 ends-none CrLf c xs ys none = refl
 ends-none AnyEnd c (x ∷ xs) ys none = none
 ends-none AnyEnd c [] ys none =
-    let both = or-false (nat_eq c lf) (nat_eq c cr && true) none in
+    let both = or_parts (nat_eq c lf) (nat_eq c cr && true) none in
     let no_cr : nat_eq c cr ≡ false = and-true (nat_eq c cr) ∙ both.1 in
     ap (λ (b : Bool). b || (nat_eq c cr && not (begins_with_lf ys))) both.0 ∙ ap (λ (b : Bool). b && not (begins_with_lf ys)) no_cr
 
@@ -37,8 +34,8 @@ ends-none AnyEnd c [] ys none =
 pub passed-none : (end : LineEnd) (after_cr : Bool) (xs ys : List ℕ) → has_end_after end after_cr xs ≡ false → Passed end after_cr xs ys
 passed-none end after_cr [] ys none = tt
 passed-none end after_cr (x ∷ xs) ys none =
-    let both = or-false (here end after_cr x xs) (has_end_after end (nat_eq x cr) xs) none in
-    let first = or-false (ends_line end x xs) (ends_pair end after_cr x) both.0 in (
+    let both = or_parts (here end after_cr x xs) (has_end_after end (nat_eq x cr) xs) none in
+    let first = or_parts (ends_line end x xs) (ends_pair end after_cr x) both.0 in (
       ap (λ (b : Bool). b || ends_pair end after_cr x) (ends-none end x xs ys first.0) ∙ first.1,
       passed-none end (nat_eq x cr) xs ys both.1,
     )
@@ -76,7 +73,7 @@ ends-cr (x ∷ xs) is = last-cr false x xs is
 passed-pair : (after_cr : Bool) (front more : List ℕ) → has_end_after CrLf after_cr (front ++ cr ∷ []) ≡ false → Passed CrLf after_cr front more
 passed-pair after_cr [] more none = tt
 passed-pair after_cr (x ∷ xs) more none =
-    let both = or-false (here CrLf after_cr x (xs ++ cr ∷ [])) (has_end_after CrLf (nat_eq x cr) (xs ++ cr ∷ [])) none in
+    let both = or_parts (here CrLf after_cr x (xs ++ cr ∷ [])) (has_end_after CrLf (nat_eq x cr) (xs ++ cr ∷ [])) none in
     (both.0, passed-pair (nat_eq x cr) xs more both.1)
 
 cr-anew : (after_cr : Bool) (more : List ℕ) → line_after CrLf after_cr (cr ∷ more) ≡ line_after CrLf false (cr ∷ more)
@@ -177,7 +174,7 @@ settles-here AnyEnd after_cr c [] ends = settles-last after_cr c (nat_eq c lf) (
 
 here-none : (end : LineEnd) (after_cr : Bool) (c : ℕ) (xs ys : List ℕ) → here end after_cr c xs ≡ false → here end after_cr c (xs ++ ys) ≡ false
 here-none end after_cr c xs ys none =
-    let first = or-false (ends_line end c xs) (ends_pair end after_cr c) none in
+    let first = or_parts (ends_line end c xs) (ends_pair end after_cr c) none in
     ap (λ (b : Bool). b || ends_pair end after_cr c) (ends-none end c xs ys first.0) ∙ first.1
 
 settles-behind : (end : LineEnd) (after_cr : Bool) (c : ℕ) (cs : List ℕ) → here end after_cr c cs ≡ false → Settles end (nat_eq c cr) cs → Settles end after_cr (c ∷ cs)
@@ -219,10 +216,6 @@ found-at false size n m is = absurd (cc)
 pub missed-at : (b : Bool) (size n m : ℕ) → ◌≡◌ {A = Result ℕ ℕ} (Err size) (if b then Ok n else Err m) → (b ≡ false) × (size ≡ m)
 missed-at true size n m is = absurd (cc)
 missed-at false size n m is = (refl, cc)
-
--- the bytes of two parts
-spelled-both : (xs ys : List ℕ) → length (encode_utf8_all (xs ++ ys)) ≡ length (encode_utf8_all xs) + length (encode_utf8_all ys)
-spelled-both xs ys = ap (λ (t : List ℕ). length t) (encodes-append xs ys) ∙ length-append (encode_utf8_all xs) (encode_utf8_all ys)
 
 -- the first line is a front
 line-begins : (end : LineEnd) (cs : List ℕ) → (more : List ℕ) × (line_after end false cs ++ more ≡ cs)
@@ -273,11 +266,6 @@ searched-on end cs searched further was past = record {
   ends = λ more. was.ends more ∙ past.ends more;
 }
 
--- the last of some characters behind others
-held-behind : (held : Bool) (xs ys : List ℕ) → ends_held held (xs ++ ys) ≡ ends_held (ends_held held xs) ys
-held-behind held [] ys = refl
-held-behind held (x ∷ xs) ys = held-behind (nat_eq x cr) xs ys
-
 held-some : (one other : Bool) (xs : List ℕ) → 1 ≤ length xs → ends_held one xs ≡ ends_held other xs
 held-some one other [] some = absurd (omega (arith, some))
 held-some one other (x ∷ xs) some = refl
@@ -289,7 +277,7 @@ has-some end (x ∷ xs) is = omega arith
 -- the last of all is the last of what wasn't searched
 held-rest : (end : LineEnd) (cs : List ℕ) (searched : ℕ) (was : IsSearched end cs searched) → has_end_after end false was.rest ≡ true → ends_held false cs ≡ ends_held false was.rest
 held-rest end cs searched was has =
-    ap (ends_held false) was.whole ∙ (held-behind false was.front was.rest ∙ held-some (ends_held false was.front) false was.rest (has-some end was.rest has))
+    ap (ends_held false) was.whole ∙ (held_behind false was.front was.rest ∙ held-some (ends_held false was.front) false was.rest (has-some end was.rest has))
 
 may : (cs : List ℕ) (newline : Newlines) → line_end newline ≡ AnyEnd → ends_held false cs ≡ true → may_go_on newline cs ≡ true
 may cs rule.Universal is held = absurd (cc)

@@ -1,29 +1,23 @@
 -- A text's characters in two parts, and the bytes of each.
-use Rattle.std.proofs.Common.{◌≡◌, ℕ, ◌≤◌, Bool, true, false, ◌&&◌, List, [], ◌∷◌, ◌++◌, length, take, drop, chars, encode_utf8_all, refl, sym, ap, subst, ◌∙◌, arith}
+use Rattle.std.proofs.Common.{◌≡◌, ℕ, ◌+◌, ◌≤◌, true, List, [], ◌∷◌, ◌++◌, length, take, drop, chars, encode_utf8_all, refl, sym, ap, subst, ◌∙◌, arith}
 use Rattle.std.specs.Str.{IsUtf8, IsCharBoundary}
 use Rattle.std.proofs.Math.Utf8.{scalars}
 use Rattle.std.proofs.Math.Seq.{drop-append_seam, take-append_seam}
+use Rattle.std.proofs.lemmas.Bool.{and_parts, and_from}
 use Rattle.std.proofs.lemmas.List.{length-append}
 use Rattle.std.proofs.lemmas.Str.{encodes-append, encodes-chars, scalars-chars, chars-encodes, IsCharBoundary-at_seam}
 
-and-left : (a b : Bool) → (a && b) ≡ true → a ≡ true
-and-left true b is = refl
-and-left false b is = absurd (cc)
-
-and-right : (a b : Bool) → (a && b) ≡ true → b ≡ true
-and-right true b is = is
-and-right false b is = absurd (cc)
-
 scalars-right : (xs ys : List ℕ) → scalars (xs ++ ys) ≡ true → scalars ys ≡ true
 scalars-right [] ys is = is
-scalars-right (x ∷ xs) ys is = scalars-right xs ys (and-right _ (scalars (xs ++ ys)) is)
-
-both-true : (a b : Bool) → a ≡ true → b ≡ true → (a && b) ≡ true
-both-true a b first second = ap (λ (t : Bool). t && b) first ∙ second
+scalars-right (x ∷ xs) ys is = scalars-right xs ys (and_parts _ (scalars (xs ++ ys)) is).1
 
 scalars-left : (xs ys : List ℕ) → scalars (xs ++ ys) ≡ true → scalars xs ≡ true
 scalars-left [] ys is = refl
-scalars-left (x ∷ xs) ys is = both-true _ (scalars xs) (and-left _ (scalars (xs ++ ys)) is) (scalars-left xs ys (and-right _ (scalars (xs ++ ys)) is))
+scalars-left (x ∷ xs) ys is = and_from _ (scalars xs) (and_parts _ (scalars (xs ++ ys)) is).0 (scalars-left xs ys (and_parts _ (scalars (xs ++ ys)) is).1)
+
+-- the bytes of two parts
+pub spelled-both : (xs ys : List ℕ) → length (encode_utf8_all (xs ++ ys)) ≡ length (encode_utf8_all xs) + length (encode_utf8_all ys)
+spelled-both xs ys = ap (λ (t : List ℕ). length t) (encodes-append xs ys) ∙ length-append (encode_utf8_all xs) (encode_utf8_all ys)
 
 -- a text is cut between two parts of its characters
 pub record IsCut (text front rest : List ℕ) (bytes : ℕ) : Type 0 where

@@ -2,12 +2,13 @@
 use Rattle.std.proofs.Common.{◌≡◌, ℕ, ◌+◌, ◌≤◌, Bool, true, false, nat_eq, ◌&&◌, ◌||◌, if◌then◌else◌, List, [], ◌∷◌, ◌++◌, length, encode_utf8_all, refl, sym, ap, ◌∙◌, arith, append_assoc, append-nil, eqb-true}
 use Rattle.std.specs.Char.{encode_utf8}
 use Rattle.std.proofs.lemmas.List.{length-append}
-use Rattle.std.proofs.lemmas.Str.{encodes-append, encode_ascii}
+use Rattle.std.proofs.lemmas.Str.{encode_ascii}
 use Rattle.py_flat.specs.Lines.{lf, cr}
 use Rattle.py_plain.specs.declared.newlines.Newlines.{Newlines}
 use Rattle.py_plain.specs.declared.newlines.Newlines.TheVariants as rule
 use Rattle.py_plain.specs.NewlineRule.{released, passes, universal, ends_held, read_so_far, holds_after, read_all}
 use Rattle.py_text.proofs.Joining.{read-both, holds-both}
+use Rattle.py_held_text.proofs.Parts.{spelled-both}
 
 -- the first part while more may come, and then the last
 pub all-both : (newline : Newlines) (held : Bool) (xs ys : List ℕ) → read_all newline held (xs ++ ys) ≡ read_so_far newline held xs ++ read_all newline (holds_after newline held xs) ys
@@ -53,9 +54,6 @@ read-few rule.Crlf held cs = omega arith
 
 abbrev spelled : List ℕ → ℕ
 spelled cs = length (encode_utf8_all cs)
-
-spelled-both : (xs ys : List ℕ) → spelled (xs ++ ys) ≡ spelled xs + spelled ys
-spelled-both xs ys = ap (λ (t : List ℕ). length t) (encodes-append xs ys) ∙ length-append (encode_utf8_all xs) (encode_utf8_all ys)
 
 released-spelled : (held : Bool) → spelled (released held) ≡ one-if held
 released-spelled true = ap (λ (t : List ℕ). length (t ++ [])) (encode_ascii lf (omega arith))

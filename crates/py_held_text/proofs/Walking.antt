@@ -1,17 +1,15 @@
 -- The decoding of bytes in hand, and of what comes behind them, after a front of them was decoded.
-use Rattle.std.proofs.Common.{◌≡◌, ℕ, ◌+◌, ◌-◌, ◌≤◌, Bool, true, false, nat_eq, List, [], ◌∷◌, ◌++◌, length as len, drop, Option, Some, None, refl, sym, ap, subst, ◌∙◌, arith, append-nil, true≢false}
+use Rattle.std.proofs.Common.{◌≡◌, ℕ, ◌+◌, ◌-◌, ◌≤◌, Bool, true, false, List, [], ◌∷◌, ◌++◌, length as len, drop, refl, sym, ap, subst, ◌∙◌, arith, append-nil, true≢false}
 use Rattle.std.proofs.lemmas.List.{length-drop, drop-drop}
 use Rattle.py_plain.specs.declared.encoding.Encoding.{Encoding}
-use Rattle.py_plain.specs.declared.unit.Unit.{Unit as Read}
-use Rattle.py_plain.specs.declared.unit.Unit.TheVariants.{Character, Malformed, Cut}
-use Rattle.py_plain.specs.Units.{Order, Unknown, first_unit}
+use Rattle.py_plain.specs.Units.{Order, Unknown}
 use Rattle.py_plain.specs.Handlers.{Treatment}
-use Rattle.py_plain.specs.Items.{Item, Ending, AtEnd, AtRange, AtCut, Walk, FirstItem, Given, RefusedRange, Unfinished, item_handled, item_of, first_item, used_behind, ends, onto_walk, walk_from, characters_of, refusal_of}
+use Rattle.py_plain.specs.Items.{Item, Ending, AtEnd, AtRange, AtCut, Walk, FirstItem, Given, RefusedRange, Unfinished, first_item, used_behind, ends, onto_walk, walk_from, characters_of, refusal_of}
 use Rattle.py_plain.specs.Pieces.{LooksAtRange, walk_at, items_before, place_behind, unused, unless_refused}
 use Rattle.py_plain.proofs.Joining.{two}
 use Rattle.py_plain.proofs.Walks.{walk-order, characters-append}
-use Rattle.py_incremental.proofs.Cuts.{walk_cut, unit_anywhere}
-use Rattle.py_incremental.proofs.Moving.{IgnoresPlace, moved, IsBehind, walk_moved}
+use Rattle.py_incremental.proofs.Cuts.{walk_cut}
+use Rattle.py_incremental.proofs.Moving.{IgnoresPlace, moved, IsBehind, first_anywhere, walk_moved}
 
 abbrev behind-first : List Item → List Item
 behind-first [] = []
@@ -88,18 +86,6 @@ on-so-far encoding treat looks false bytes used leaves is more = on-while encodi
 
 -- A walk without items, at another place.
 
-item-elsewhere : (treat : Treatment) (last : Bool) (here there : ℕ) (bytes : List ℕ) (unit : Option Read) → IgnoresPlace treat → item_of treat last here bytes unit ≡ item_of treat last there bytes unit
-item-elsewhere treat last here there bytes None ignores = refl
-item-elsewhere treat last here there bytes (Some (Character c n)) ignores = refl
-item-elsewhere treat last here there bytes (Some (Malformed n)) ignores = ap (item_handled n) (ignores here there bytes n)
-item-elsewhere treat true here there bytes (Some (Cut n)) ignores = ap (item_handled n) (ignores here there bytes n)
-item-elsewhere treat false here there bytes (Some (Cut n)) ignores = refl
-
-first-elsewhere : (encoding : Encoding) (treat : Treatment) (last : Bool) (order : Order) (here there : ℕ) (bytes : List ℕ) → IgnoresPlace treat → first_item encoding treat last order here bytes ≡ first_item encoding treat last order there bytes
-first-elsewhere encoding treat last order here there bytes ignores =
-    ap (λ (unit : Option Read). item_of treat last here bytes unit) (unit_anywhere encoding order (nat_eq here 0) (nat_eq there 0) bytes)
-    ∙ item-elsewhere treat last here there bytes (first_unit encoding order (nat_eq there 0) bytes) ignores
-
 still-by : (order : Order) (by place : ℕ) (first : FirstItem) (here there : Walk) → (onto_walk order place first here).items ≡ [] → onto_walk order (by + place) first there ≡ ends order (moved by (onto_walk order place first here).ending)
 still-by order by place (Given characters used) here there none = absurd (cc)
 still-by order by place (RefusedRange size) here there none =
@@ -111,7 +97,7 @@ pub still : (encoding : Encoding) (treat : Treatment) (last : Bool) (by place : 
 still encoding treat last by place [] ignores none = refl
 still encoding treat last by place (byte ∷ rest) ignores none =
     let first : FirstItem = first_item encoding treat last Unknown place (byte ∷ rest) in
-    ap (λ (item : FirstItem). onto_walk Unknown (by + place) item (walk_from encoding treat last Unknown (by + place + 1) (used_behind item) rest)) (first-elsewhere encoding treat last Unknown (by + place) place (byte ∷ rest) ignores)
+    ap (λ (item : FirstItem). onto_walk Unknown (by + place) item (walk_from encoding treat last Unknown (by + place + 1) (used_behind item) rest)) (first_anywhere encoding treat last Unknown (by + place) place (byte ∷ rest) ignores)
     ∙ still-by Unknown by place first (walk_from encoding treat last Unknown (place + 1) (used_behind first) rest) _ none
 
 -- What is left, at the place of the stream.

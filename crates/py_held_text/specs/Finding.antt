@@ -1,5 +1,5 @@
 -- How much of what is known a call is answered with.
-use Rattle.std.specs.Prelude.{◌≡◌, ℕ, ◌≤◌, nat_le, List, [], ◌∷◌, ◌++◌, length, take, drop, Option, Some, None, Result, Ok, Err, String, encode_utf8_all, if◌then◌else◌}
+use Rattle.std.specs.Prelude.{◌≡◌, ℕ, nat_le, List, [], ◌∷◌, ◌++◌, length, take, drop, Option, Some, None, Result, Ok, Err, String, if◌then◌else◌}
 use Rattle.std.specs.declared.alloc.Global.{Global}
 use Rattle.py_flat.specs.declared.fault.IoFault.{IoFault}
 use Rattle.py_flat.specs.declared.fault.IoFault.TheVariants.{NoMemory}
@@ -10,7 +10,8 @@ use Rattle.py_plain.specs.NewlineRule.{line_end}
 use Rattle.py_codec.specs.Answers.{text_of}
 use Rattle.py_held_text.specs.declared.wanted.Wanted.{Wanted}
 use Rattle.py_held_text.specs.declared.wanted.Wanted.TheVariants.{Characters, Line}
-use Rattle.py_held_text.specs.declared.held_front.HeldFront.{HeldFront}
+use Rattle.py_blocks.specs.declared.fronts.TextFront.{TextFront}
+pub use Rattle.py_blocks.specs.Fronts.{IsFrontOf}
 use Rattle.py_held_text.specs.Held.{HeldView}
 
 -- the answer of a call where some characters are all that is left
@@ -40,12 +41,7 @@ abbrev pub enough_before : Wanted → Newlines → List ℕ → Option ℕ
 enough_before (Characters size) newline cs = size_in_hand size cs
 enough_before (Line limit) newline cs = if is_ended (line_end newline) limit cs then Some (length (first_line (line_end newline) limit cs)) else None
 
--- a front of some characters, and the bytes of UTF-8 that it has
-pub record IsFrontOf (cs : List ℕ) (front : HeldFront) : Type 0 where
-  pub within : front.chars ≤ length cs
-  pub bytes : front.bytes ≡ length (encode_utf8_all (take front.chars cs))
-
 -- a front was given, and is known no more; running out of memory leaves all as it was
-abbrev pub GiveOutcome : HeldFront → HeldView → Result (String Global) IoFault → HeldView → Type 0
+abbrev pub GiveOutcome : TextFront → HeldView → Result (String Global) IoFault → HeldView → Type 0
 GiveOutcome front old (Ok text) new = (text_of text ≡ take front.chars old.known) × (new ≡ record old { known = drop front.chars old.known })
 GiveOutcome front old (Err why) new = (why ≡ NoMemory) × (new ≡ old)

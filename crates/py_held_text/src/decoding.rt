@@ -6,69 +6,44 @@ ghost use Rattle.py_codec.specs.Answers.{text_of};
 ghost use Rattle.py_codec.specs.Decoding.{walk_here};
 ghost use Rattle.py_held_text.specs.Known.{IsWhole};
 
-use py_codec::{FrontDecoded, IoFault, Steps, decode_front};
+use py_codec::{FrontDecoded, IoFault, Steps, front_text};
 use py_plain::Newlines;
 use py_text::{Coder, read_so_far};
 use std::alloc::Global;
 use std::marker::Brand;
 use std::sync::ledger::{Blank, Ledger};
 
-/// Appends the characters of all items that some bytes begin with, with a count of steps of any ledger.
-fn decode_counted<L: Ledger>(
+/// The characters of all items that some bytes begin with, with a count of steps of any ledger.
+fn decode_all<L: Ledger>(
     blank: Blank,
     alloc: Global,
     coder: Coder,
     bytes: &[u8],
     last: bool,
-    text: &mut String,
-) -> Result<FrontDecoded, IoFault>
+) -> Result<(String, FrontDecoded), IoFault>
     requires name { blank.name ≡ L.name }
     requires parts { blank.parts ≡ L.parts }
     requires some { 0 < L.parts }
     requires reads { reads_texts coder.errors ≡ true }
-    ensures whole { IfOk result (λ front.
+    ensures whole { IfOk result (λ t.
         let behind = walk_here coder.encoding (treatment coder.errors coder.encoding) last bytes.now in
-        IsWhole (behind 0) behind front) }
-    ensures appended { IfOk result (λ front.
+        IsWhole (behind 0) behind t.1) }
+    ensures text { IfOk result (λ t.
         let walk = walk_here coder.encoding (treatment coder.errors coder.encoding) last bytes.now 0 in
-        text_of text.new ≡ text_of text.old ++ characters_of walk.items) }
-    ensures within { IfOk result (λ front. front.used ≤ length bytes.now) }
+        text_of t.0 ≡ characters_of walk.items) }
+    ensures within { IfOk result (λ t. t.1.used ≤ length bytes.now) }
     ensures memory { IfErr result (λ why. why ≡ IoFault.NoMemory) }
-    ensures same { OnErr result (text_of text.new ≡ text_of text.old) }
 {
     let mut steps = Steps::<L>::new(blank);
-    decode_front(
+    front_text(
         alloc,
         coder.encoding,
         coder.errors,
         bytes,
         usize::MAX,
         last,
-        text,
         &mut steps,
     )
-}
-
-/// Appends the characters of all items that some bytes begin with.
-fn decode_all(
-    alloc: Global,
-    coder: Coder,
-    bytes: &[u8],
-    last: bool,
-    text: &mut String,
-) -> Result<FrontDecoded, IoFault>
-    requires reads { reads_texts coder.errors ≡ true }
-    ensures whole { IfOk result (λ front.
-        let behind = walk_here coder.encoding (treatment coder.errors coder.encoding) last bytes.now in
-        IsWhole (behind 0) behind front) }
-    ensures appended { IfOk result (λ front.
-        let walk = walk_here coder.encoding (treatment coder.errors coder.encoding) last bytes.now 0 in
-        text_of text.new ≡ text_of text.old ++ characters_of walk.items) }
-    ensures within { IfOk result (λ front. front.used ≤ length bytes.now) }
-    ensures memory { IfErr result (λ why. why ≡ IoFault.NoMemory) }
-    ensures same { OnErr result (text_of text.new ≡ text_of text.old) }
-{
-    decode_counted::<Brand>(Blank::new(1), alloc, coder, bytes, last, text)
 }
 
 /// What a decoding came to.
@@ -110,10 +85,9 @@ pub(crate) fn decode_by(
     ensures memory { IfErr result (λ why. why ≡ IoFault.NoMemory) }
     ensures same { OnErr result (text_of text.new ≡ text_of text.old) }
 {
+    let (raw, front) = decode_all::<Brand>(Blank::new(1), alloc, coder, bytes, last)?;
     match newline {
         Newlines::Universal => {
-            let mut raw = String::new(alloc);
-            let front = decode_all(alloc, coder, bytes, last, &mut raw)?;
             let (read, cr) = read_so_far(alloc, newline, cr, &raw)?;
             text.push_str(&read)?;
             Ok(Decoded {
@@ -123,7 +97,7 @@ pub(crate) fn decode_by(
             })
         }
         Newlines::Passthrough | Newlines::Lf | Newlines::Cr | Newlines::Crlf => {
-            let front = decode_all(alloc, coder, bytes, last, text)?;
+            text.push_str(&raw)?;
             Ok(Decoded {
                 front,
                 chars: front.chars,

@@ -7,7 +7,8 @@ ghost use Rattle.py_held_text.specs.Decodes.{DecodeOutcome};
 ghost use Rattle.py_held_text.specs.Finding.{IsFrontOf, answer_of, enough, enough_before, GiveOutcome};
 
 use crate::known_text::KnownText;
-use crate::{HeldFront, HeldStop, Wanted};
+use crate::{HeldStop, Wanted};
+use py_blocks::TextFront;
 use py_codec::{FrontStop, IoFault};
 use py_plain::Newlines;
 use py_text::Coder;
@@ -187,7 +188,7 @@ impl HeldText {
 
     /// The front of what is known that is the whole answer, whatever comes behind; `None` where what is known may be only a
     /// front of the answer. A line that isn't whole yet is looked at from where the last search for its end came to.
-    pub fn find(&mut self, wanted: Wanted) -> Option<HeldFront>
+    pub fn find(&mut self, wanted: Wanted) -> Option<TextFront>
         ensures count { option_map (λ front. front.chars) result ≡ enough wanted self.old.newline self.old.known }
         ensures front { IfSome result (IsFrontOf self.old.known) }
         ensures same { self.new ≡ self.old }
@@ -197,7 +198,7 @@ impl HeldText {
 
     /// The front of what is known that is the whole answer where a refused range comes behind; `None` where the answer would
     /// pass the range. A held CR is to be released before.
-    pub fn find_before(&self, wanted: Wanted) -> Option<HeldFront>
+    pub fn find_before(&self, wanted: Wanted) -> Option<TextFront>
         ensures count { option_map (λ front. front.chars) result ≡ enough_before wanted self.now.newline self.now.known }
         ensures front { IfSome result (IsFrontOf self.now.known) }
     {
@@ -205,7 +206,7 @@ impl HeldText {
     }
 
     /// The front of what is known that is the answer where nothing comes behind.
-    pub fn find_last(&self, wanted: Wanted) -> HeldFront
+    pub fn find_last(&self, wanted: Wanted) -> TextFront
         ensures answer { take result.chars self.now.known ≡ answer_of wanted self.now.newline self.now.known }
         ensures front { IsFrontOf self.now.known result }
     {
@@ -215,7 +216,7 @@ impl HeldText {
     /// Gives a front of what is known, which isn't known any more.
     ///
     /// `NoMemory` when out of memory, and all is as before.
-    pub fn give(&mut self, alloc: Global, front: HeldFront) -> Result<String, IoFault>
+    pub fn give(&mut self, alloc: Global, front: TextFront) -> Result<String, IoFault>
         requires front { IsFrontOf self.old.known front }
         ensures { GiveOutcome front self.old result self.new }
     {

@@ -7,10 +7,10 @@ ghost use Rattle.py_codec.specs.Decoding.{walk_here};
 ghost use Rattle.py_held_text.specs.Finding.{IsFrontOf, answer_of, enough, enough_before};
 ghost use Rattle.py_held_text.specs.Known.{KnownView, reading, ended, IsWhole};
 
+use crate::Wanted;
 use crate::decoding::decode_by;
-use crate::fronts::front_of;
 use crate::line_search::{ended_line, last_line, limited_line, line_front};
-use crate::{HeldFront, Wanted};
+use py_blocks::{TextFront, front_of};
 use py_codec::{FrontDecoded, IoFault};
 use py_plain::Newlines;
 use py_text::Coder;
@@ -166,7 +166,7 @@ impl KnownText {
     }
 
     /// The front that is the whole answer, whatever comes behind it.
-    pub fn find(&mut self, wanted: Wanted) -> Option<HeldFront>
+    pub fn find(&mut self, wanted: Wanted) -> Option<TextFront>
         ensures count { option_map (λ front. front.chars) result ≡ enough wanted self.old.newline self.old.characters }
         ensures front { IfSome result (IsFrontOf self.old.characters) }
         ensures same { self.new ≡ self.old }
@@ -183,7 +183,7 @@ impl KnownText {
     }
 
     /// The front that is the whole answer where a refused range comes behind.
-    pub fn find_before(&self, wanted: Wanted) -> Option<HeldFront>
+    pub fn find_before(&self, wanted: Wanted) -> Option<TextFront>
         ensures count { option_map (λ front. front.chars) result ≡ enough_before wanted self.now.newline self.now.characters }
         ensures front { IfSome result (IsFrontOf self.now.characters) }
     {
@@ -198,13 +198,13 @@ impl KnownText {
     }
 
     /// The front that is the answer where nothing comes behind.
-    pub fn find_last(&self, wanted: Wanted) -> HeldFront
+    pub fn find_last(&self, wanted: Wanted) -> TextFront
         ensures answer { take result.chars self.now.characters ≡ answer_of wanted self.now.newline self.now.characters }
         ensures front { IsFrontOf self.now.characters result }
     {
         let text = &self.text[self.given..];
         match wanted {
-            Wanted::Characters(None) => HeldFront {
+            Wanted::Characters(None) => TextFront {
                 chars: self.count,
                 bytes: text.len(),
             },
@@ -214,7 +214,7 @@ impl KnownText {
     }
 
     /// Gives a front, which isn't known any more.
-    pub fn give(&mut self, alloc: Global, front: HeldFront) -> Result<String, AllocError>
+    pub fn give(&mut self, alloc: Global, front: TextFront) -> Result<String, AllocError>
         requires { IsFrontOf self.old.characters front }
         ensures text { IfOk result (λ text. text_of text ≡ take front.chars self.old.characters) }
         ensures left { OnOk result (self.new ≡ record self.old { characters = drop front.chars self.old.characters }) }

@@ -5,17 +5,15 @@
 #![tactic(auto)]
 
 mod decoding;
-mod fronts;
-mod held_front;
 mod held_stop;
 mod held_text;
 mod known_text;
 mod line_search;
 mod wanted;
 
-pub use held_front::HeldFront;
 pub use held_stop::HeldStop;
 pub use held_text::HeldText;
+pub use py_blocks::TextFront as HeldFront;
 pub use py_codec::IoFault;
 pub use py_plain::Newlines;
 pub use py_text::Coder;

@@ -1,23 +1,13 @@
 //! The first line of a text, of which a front was searched already.
 ghost use Rattle.std.specs.Prelude.{◌≡◌, ◌≤◌, ℕ, List, false, None, Some, length, take, chars, option_map, IfSome};
 ghost use Rattle.py_flat.specs.Lines.{line_after, has_end_after, first_line, reaches};
-ghost use Rattle.py_plain.specs.NewlineRule.{line_end, ends_held};
+ghost use Rattle.py_plain.specs.NewlineRule.{line_end};
 ghost use Rattle.py_held_text.specs.Finding.{IsFrontOf, line_in_hand, enough_before};
 ghost use Rattle.py_held_text.specs.LineSearch.{IsBegin, IsSearched, LineFound, may_go_on};
 
-use crate::fronts::front_of;
-use crate::{HeldFront, Wanted};
-use py_plain::Newlines;
-
-/// Whether the last of some bytes is a CR.
-fn ends_with_cr(bytes: &[u8]) -> bool
-    ensures { result ≡ ends_held false bytes.now }
-{
-    match bytes {
-        [.., last] => *last == b'\r',
-        [] => false,
-    }
-}
+use crate::Wanted;
+use py_blocks::{TextFront, front_of};
+use py_plain::{Newlines, ends_with_cr};
 
 /// Whether an LF behind a text would be one line end with its last character: by the rule that knows CR LF, CR and LF, a
 /// CR.
@@ -66,7 +56,7 @@ fn last_line_in(newline: Newlines, text: &str, searched: usize) -> usize
 }
 
 /// The first line, where it is one whatever comes behind the text. Else it notes how far the text was searched.
-pub(crate) fn line_front(newline: Newlines, text: &str, searched: &mut usize) -> Option<HeldFront>
+pub(crate) fn line_front(newline: Newlines, text: &str, searched: &mut usize) -> Option<TextFront>
     requires { IsSearched (line_end newline) (chars text.now) searched.old }
     ensures count { option_map (λ front. front.chars) result ≡ line_in_hand (line_end newline) None (chars text.now) }
     ensures front { IfSome result (IsFrontOf (chars text.now)) }
@@ -77,7 +67,7 @@ pub(crate) fn line_front(newline: Newlines, text: &str, searched: &mut usize) ->
 }
 
 /// The first line of a text that has n characters, at most n of it.
-pub(crate) fn limited_line(newline: Newlines, text: &str, limit: usize) -> HeldFront
+pub(crate) fn limited_line(newline: Newlines, text: &str, limit: usize) -> TextFront
     requires { limit ≤ length (chars text.now) }
     ensures count { Some result.chars ≡ line_in_hand (line_end newline) (Some limit) (chars text.now) }
     ensures front { IsFrontOf (chars text.now) result }
@@ -95,7 +85,7 @@ pub(crate) fn last_line(
     text: &str,
     searched: usize,
     limit: Option<usize>,
-) -> HeldFront
+) -> TextFront
     requires { IsSearched (line_end newline) (chars text.now) searched }
     ensures line { take result.chars (chars text.now) ≡ first_line (line_end newline) limit (chars text.now) }
     ensures front { IsFrontOf (chars text.now) result }
@@ -137,7 +127,7 @@ pub(crate) fn ended_line(
     searched: usize,
     count: usize,
     limit: Option<usize>,
-) -> Option<HeldFront>
+) -> Option<TextFront>
     requires searched { IsSearched (line_end newline) (chars text.now) searched }
     requires count { count ≡ length (chars text.now) }
     ensures count { option_map (λ front. front.chars) result ≡ enough_before (Wanted.Line limit) newline (chars text.now) }

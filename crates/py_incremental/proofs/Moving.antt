@@ -53,7 +53,8 @@ item_anywhere treat last here there bytes (Some (Malformed n)) ignores = ap (ite
 item_anywhere treat true here there bytes (Some (Cut n)) ignores = ap (item_handled n) (ignores here there bytes n)
 item_anywhere treat false here there bytes (Some (Cut n)) ignores = refl
 
-first_anywhere : (encoding : Encoding) (treat : Treatment) (last : Bool) (order : Order) (here there : ℕ) (bytes : List ℕ) → IgnoresPlace treat → first_item encoding treat last order here bytes ≡ first_item encoding treat last order there bytes
+-- the first item is the same at any place
+pub first_anywhere : (encoding : Encoding) (treat : Treatment) (last : Bool) (order : Order) (here there : ℕ) (bytes : List ℕ) → IgnoresPlace treat → first_item encoding treat last order here bytes ≡ first_item encoding treat last order there bytes
 first_anywhere encoding treat last order here there bytes ignores =
     ap (λ (unit : Option Read). item_of treat last here bytes unit) (unit_anywhere encoding order (nat_eq here 0) (nat_eq there 0) bytes)
     ∙ item_anywhere treat last here there bytes (first_unit encoding order (nat_eq there 0) bytes) ignores

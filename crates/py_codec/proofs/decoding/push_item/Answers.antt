@@ -3,7 +3,7 @@ use Rattle.std.proofs.lemmas.List.{take_rest}
 use Rattle.py_plain.specs.Units.{Unknown}
 use Rattle.py_plain.specs.Items.{item_of}
 use Rattle.py_codec.specs.Treating.{treatment_by}
-use Rattle.py_codec.proofs.Appended.{text_of-push}
+use Rattle.py_blocks.proofs.Appended.{text_of-push}
 use Rattle.py_codec.proofs.decoding.push_item.Goals as goal
 
 pub returns-in-Ok-clause-shown : goal.returns-in-Ok-clause-shown

@@ -1,7 +1,7 @@
 use Rattle.std.proofs.Common.{◌≡◌, ◌≤◌, [], chars, sym, ◌∙◌, arith}
 use Rattle.std.proofs.lemmas.Result.{err_from_is_err_and}
 use Rattle.py_codec.specs.Treating.{encode_fault}
-use Rattle.py_codec.proofs.Fronts.{chars_within}
+use Rattle.py_blocks.proofs.Written.{chars_within}
 use Rattle.py_codec.proofs.EncodedFrom.{Encodes-wrote, Encodes-treated, answer-all, answer-fault}
 use Rattle.py_codec.proofs.encoding.encode_each.Goals as goal
 

@@ -1,5 +1,5 @@
 use Rattle.std.proofs.Common.{chars, arith}
-use Rattle.py_codec.proofs.Fronts.{chars_within}
+use Rattle.py_blocks.proofs.Written.{chars_within}
 use Rattle.py_codec.proofs.RunLengths.{run_length-next, run_length-within}
 use Rattle.py_codec.proofs.encoding.run_length.Goals as goal
 

@@ -1,20 +1,12 @@
-use Rattle.std.proofs.Common.{List, ℕ, ◌≡◌, [], ◌++◌, chars, ap, ◌∙◌}
-use Rattle.std.proofs.lemmas.Str.{chars-nil}
-use Rattle.py_plain.specs.Items.{characters_of}
-use Rattle.py_plain.specs.Handlers.{treatment}
+use Rattle.std.proofs.Common.{◌++◌, chars, ap, ◌∙◌}
 use Rattle.py_codec.specs.Answers.{text_of}
-use Rattle.py_codec.specs.Decoding.{walk_here}
-use Rattle.py_codec.specs.Front.{items_for}
-use Rattle.py_codec.proofs.Appended.{text_of-push_str}
+use Rattle.py_blocks.proofs.Appended.{text_of-push_str}
 use Rattle.py_codec.proofs.front.decode_front.Goals as goal
 
-pub returns-in-Ok-push_str-clause-front : goal.returns-in-Ok-push_str-clause-front
-returns-in-Ok-push_str-clause-front g c =
-    let walk = walk_here c.args.encoding (treatment c.args.handler c.args.encoding) c.args.last c.args.bytes.now 0 in
-    let given : List ℕ = characters_of (items_for c.args.want walk.items) in
-    let shown = c.in-Ok.ensures.front in
-    let none : text_of c.new-text.result ≡ [] = ap chars c.new-text.ensures.bytes ∙ chars-nil in
-    let appended = text_of-push_str c.args.out.now c.push_str.new.self c.deref.result.now c.in-Ok-push_str.ensures.bytes
+pub returns-in-Ok-clause-front : goal.returns-in-Ok-clause-front
+returns-in-Ok-clause-front g c =
+    let shown = c.in_ok-text.ensures.front in
+    let appended = text_of-push_str c.args.out.now c.push_str.new.self c.deref.result.now c.in-Ok.ensures.bytes
     ∙ ap (λ bytes. text_of c.args.out.now ++ chars bytes) c.deref.ensures
-    ∙ ap (λ cs. text_of c.args.out.now ++ cs) (shown.2 ∙ ap (λ cs. cs ++ given) none) in
+    ∙ ap (λ cs. text_of c.args.out.now ++ cs) shown.2 in
     (shown.0, shown.1, appended, shown.3)

@@ -1,7 +1,7 @@
 use Rattle.std.proofs.Common.{◌≡◌, ◌-◌, refl, ◌∙◌, arith}
 use Rattle.std.proofs.lemmas.List.{length-drop, take_rest}
 use Rattle.py_plain.specs.Handlers.{treatment}
-use Rattle.py_codec.proofs.Appended.{behind-within, counted-behind}
+use Rattle.py_blocks.proofs.Appended.{behind-within, counted-behind}
 use Rattle.py_codec.proofs.Passing.{Passes-run, Passes-as, run_none, pass_from}
 use Rattle.py_codec.proofs.front.pass.Goals as goal
 

@@ -1,7 +1,7 @@
 use Rattle.std.proofs.Common.{refl, arith}
 use Rattle.py_plain.specs.Units.{Unknown}
 use Rattle.py_plain.specs.Handlers.{treatment}
-use Rattle.py_codec.proofs.Appended.{behind-within, counted-behind}
+use Rattle.py_blocks.proofs.Appended.{behind-within, counted-behind}
 use Rattle.py_codec.proofs.Continuing.{here-given}
 use Rattle.py_codec.proofs.Passing.{Passes-item, Passes-as}
 use Rattle.py_codec.proofs.front.pass_item.Goals as goal

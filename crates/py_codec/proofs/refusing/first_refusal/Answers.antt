@@ -1,5 +1,5 @@
 use Rattle.std.proofs.Common.{◌≡◌, true, false, Err, chars, sym, ap, ◌∙◌, arith}
-use Rattle.py_codec.proofs.Fronts.{chars_within}
+use Rattle.py_blocks.proofs.Written.{chars_within}
 use Rattle.py_codec.proofs.Refusals.{refused-at, refused-not}
 use Rattle.py_codec.proofs.refusing.first_refusal.Goals as goal
 

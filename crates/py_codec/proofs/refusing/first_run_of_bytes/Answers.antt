@@ -1,7 +1,7 @@
 use Rattle.std.proofs.Common.{◌+◌, ◌≤◌, chars, length, ap, arith}
 use Rattle.std.proofs.lemmas.List.{length-drop}
 use Rattle.py_codec.proofs.EncodedFrom.{Encodes-wrote}
-use Rattle.py_codec.proofs.Fronts.{chars_within}
+use Rattle.py_blocks.proofs.Written.{chars_within}
 use Rattle.py_codec.proofs.RunLengths.{run_length-next, run_length-within}
 use Rattle.py_codec.proofs.Refusals.{run-none_left, run-here, Encodes-character}
 use Rattle.py_codec.proofs.refusing.first_run_of_bytes.Goals as goal

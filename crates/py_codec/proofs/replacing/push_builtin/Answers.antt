@@ -1,5 +1,5 @@
 use Rattle.std.proofs.Common.{refl}
-use Rattle.py_codec.proofs.Appended.{text_of-push}
+use Rattle.py_blocks.proofs.Appended.{text_of-push}
 use Rattle.py_codec.proofs.replacing.push_builtin.Goals as goal
 
 pub returns-in_ok-push-in-Replace-clause-shown : goal.returns-in_ok-push-in-Replace-clause-shown

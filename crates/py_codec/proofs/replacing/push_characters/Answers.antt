@@ -1,4 +1,4 @@
-use Rattle.py_codec.proofs.Appended.{text_of-push, take-push}
+use Rattle.py_blocks.proofs.Appended.{text_of-push, take-push}
 use Rattle.py_codec.proofs.replacing.push_characters.Goals as goal
 
 pub loop-character-preserved : goal.loop-character-preserved

@@ -1,6 +1,6 @@
 use Rattle.std.proofs.Common.{length, chars, string_bytes, ◌∙◌, ap, ◌++◌}
 use Rattle.py_codec.specs.Answers.{text_of}
-use Rattle.py_codec.proofs.Appended.{text_of-push_str}
+use Rattle.py_blocks.proofs.Appended.{text_of-push_str}
 use Rattle.py_codec.proofs.Restarts.{handled_by-in}
 use Rattle.py_codec.proofs.replacing.push_custom.Goals as goal
 

@@ -1,5 +1,5 @@
 use Rattle.std.proofs.Common.{arith}
-use Rattle.py_codec.proofs.Fronts.{chars_within}
+use Rattle.py_blocks.proofs.Written.{chars_within}
 use Rattle.py_codec.proofs.substituting.asked.Goals as goal
 
 pub overflow_add-result : goal.overflow_add-result

@@ -1,6 +1,6 @@
 use Rattle.std.proofs.Common.{◌+◌, ◌≤◌, chars, length, ap, arith}
 use Rattle.std.proofs.lemmas.List.{length-drop}
-use Rattle.py_codec.proofs.Fronts.{chars_within}
+use Rattle.py_blocks.proofs.Written.{chars_within}
 use Rattle.py_codec.proofs.RunLengths.{run_length-within}
 use Rattle.py_codec.proofs.Answering.{is_restart-past, bad_restart}
 use Rattle.py_codec.proofs.substituting.push_substitute.Goals as goal

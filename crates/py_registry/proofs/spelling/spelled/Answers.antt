@@ -1,7 +1,7 @@
 use Rattle.std.proofs.Common.{List, ℕ, [], ◌∷◌, ◌++◌, chars, string_bytes, sym, ap, ◌∙◌}
 use Rattle.std.proofs.lemmas.Str.{IsUtf8-string_bytes, chars_from_encodes}
 use Rattle.py_codec.specs.Answers.{text_of}
-use Rattle.py_codec.proofs.Appended.{text_of-push}
+use Rattle.py_blocks.proofs.Appended.{text_of-push}
 use Rattle.py_registry.specs.Names.{normal_name}
 use Rattle.py_registry.proofs.Spelled.{spelled-next}
 use Rattle.py_registry.proofs.spelling.spelled.Goals as goal

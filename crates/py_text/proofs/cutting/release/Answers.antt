@@ -1,6 +1,6 @@
 use Rattle.std.proofs.Common.{rules, ◌≡◌, true, chars}
 use Rattle.py_codec.specs.Answers.{text_of}
-use Rattle.py_codec.proofs.Appended.{text_of-push}
+use Rattle.py_blocks.proofs.Appended.{text_of-push}
 use Rattle.py_flat.specs.Lines.{lf}
 use Rattle.py_text.proofs.Copying.{given-before}
 use Rattle.py_text.proofs.cutting.release.Goals as goal

@@ -1,6 +1,6 @@
 use Rattle.std.proofs.Common.{rules, ◌≡◌, true}
 use Rattle.py_codec.specs.Answers.{text_of}
-use Rattle.py_codec.proofs.Appended.{text_of-push}
+use Rattle.py_blocks.proofs.Appended.{text_of-push}
 use Rattle.py_flat.specs.Lines.{lf}
 use Rattle.py_text.proofs.Copying.{given-last}
 use Rattle.py_text.proofs.newline_decoder.finish.Goals as goal

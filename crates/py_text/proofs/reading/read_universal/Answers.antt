@@ -4,7 +4,7 @@ use Rattle.std.proofs.lemmas.Str.{chars-nil}
 use Rattle.std.specs.Str.{IsUtf8}
 use Rattle.py_plain.specs.NewlineRule.{universal}
 use Rattle.py_codec.specs.Answers.{text_of}
-use Rattle.py_codec.proofs.Appended.{text_of-push_str}
+use Rattle.py_blocks.proofs.Appended.{text_of-push_str}
 use Rattle.py_text.proofs.Copying.{goes-on, none-left, none-held}
 use Rattle.py_text.proofs.reading.read_universal.Goals as goal
 

@@ -1,10 +1,11 @@
 use Rattle.std.proofs.Common.{refl, ap, ◌∙◌, chars, false, List, ℕ}
 use Rattle.std.proofs.lemmas.Str.{chars-nil}
-use Rattle.py_held_text.proofs.Knowing.{known-empty, nothing-held}
+use Rattle.py_text.proofs.Joining.{holds-none}
+use Rattle.py_held_text.proofs.Knowing.{known-empty}
 use Rattle.py_held_text.proofs.known_text.KnownText.new.Goals as goal
 
 pub invariant_of-result : goal.invariant_of-result
-invariant_of-result c = known-empty c.args.newline _ 0 false c.new.ensures.bytes refl (nothing-held c.args.newline)
+invariant_of-result c = known-empty c.args.newline _ 0 false c.new.ensures.bytes refl (holds-none c.args.newline)
 
 pub returns : goal.returns
 returns c = ap (λ (cs : List ℕ). record { newline = c.args.newline; characters = cs; cr = false }) (ap chars c.new.ensures.bytes ∙ chars-nil)

@@ -1,9 +1,10 @@
 use Rattle.std.proofs.Common.{◌≡◌, ◌++◌, ◌∷◌, [], false, List, ℕ, drop, chars, string_bytes, refl, sym, ap, ◌∙◌, arith}
 use Rattle.py_flat.specs.Lines.{lf}
 use Rattle.py_plain.specs.NewlineRule.{released, read_all}
-use Rattle.py_codec.proofs.Appended.{text_of-push}
+use Rattle.py_blocks.proofs.Appended.{text_of-push}
 use Rattle.py_held_text.specs.Known.{ended}
-use Rattle.py_held_text.proofs.Knowing.{nothing-held, counted-fits, known-grown, text-grown, last-none}
+use Rattle.py_text.proofs.Joining.{holds-none}
+use Rattle.py_held_text.proofs.Knowing.{counted-fits, known-grown, text-grown, last-none}
 use Rattle.py_held_text.proofs.known_text.KnownText.release.Goals as goal
 
 pub overflow_add-self : goal.overflow_add-self
@@ -11,7 +12,7 @@ overflow_add-self c = omega (arith, counted-fits c.self.inside.newline c.self.in
 
 pub invariant_of-self-then-self : goal.invariant_of-self-then-self
 invariant_of-self-then-self c =
-    known-grown c.self.inside.newline c.self.inside.text c.push.new.self c.self.inside.given c.self.inside.count c.self.inside.searched c.self.inside.cr (lf ∷ []) false _ c.self.invariant (text_of-push c.self.inside.text c.push.new.self lf c.in_ok-push.ensures.bytes) refl (nothing-held c.self.inside.newline)
+    known-grown c.self.inside.newline c.self.inside.text c.push.new.self c.self.inside.given c.self.inside.count c.self.inside.searched c.self.inside.cr (lf ∷ []) false _ c.self.invariant (text_of-push c.self.inside.text c.push.new.self lf c.in_ok-push.ensures.bytes) refl (holds-none c.self.inside.newline)
 
 pub returns-in_ok-push-clause-released : goal.returns-in_ok-push-clause-released
 returns-in_ok-push-clause-released c =

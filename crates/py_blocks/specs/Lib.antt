@@ -1,0 +1,5 @@
+pub mod Texts
+pub mod Runs
+pub mod Blocks
+pub mod Writing
+pub mod Fronts

@@ -1,5 +1,0 @@
-use Rattle.py_codec.proofs.Blocks.{paired-halves}
-use Rattle.py_codec.proofs.utf16_blocks.halves.Goals as goal
-
-pub returns-clause-units : goal.returns-clause-units
-returns-clause-units c = paired-halves c.args.wide.now c.requires
