@@ -36,4 +36,5 @@ pub use no_handler::NoHandler;
 pub use py_blocks::first_character;
 pub use py_flat::IoFault;
 pub use py_plain::{Encoding, Handler, items_decode_alone, pieces_decode_as_one};
+pub use refusing::first_refusal;
 pub use steps::Steps;

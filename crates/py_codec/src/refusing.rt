@@ -58,7 +58,7 @@ fn first_run(encoding: Encoding, text: &str) -> Option<(usize, usize)>
 }
 
 /// The refusal of a text that a handler refuses, if it is one that refuses every run. It takes no memory.
-pub(crate) fn first_refusal<H: ErrorHandler>(
+pub fn first_refusal<H: ErrorHandler>(
     encoding: Encoding,
     text: &str,
     errors: HandlerRef<H>,

@@ -12,22 +12,22 @@ use Rattle.py_plain.specs.NewlineRule.{released, universal, ends_held}
 use Rattle.py_text.specs.NewlinePieces.{IsCopied}
 
 -- a number isn't in a list
-abbrev Lacks : ℕ → List ℕ → Type 0
+abbrev pub Lacks : ℕ → List ℕ → Type 0
 Lacks n [] = ⊤
 Lacks n (b ∷ bs) = (nat_eq b n ≡ false) × Lacks n bs
 
 -- a test that isn't true is false
-not-true : (test : Bool) → test ≢ true → test ≡ false
+pub not-true : (test : Bool) → test ≢ true → test ≡ false
 not-true true isnt = absurd (isnt refl)
 not-true false isnt = refl
 
 -- the end of a list lacks what the list lacks
-lacks-right : (n : ℕ) (xs ys : List ℕ) → Lacks n (xs ++ ys) → Lacks n ys
+pub lacks-right : (n : ℕ) (xs ys : List ℕ) → Lacks n (xs ++ ys) → Lacks n ys
 lacks-right n [] ys lacks = lacks
 lacks-right n (x ∷ xs) ys lacks = lacks-right n xs ys lacks.1
 
 -- a search passed some bytes
-lacks-passed : (n : ℕ) (xs : List ℕ) (count : ℕ) → Nowhere (Passes (is_byte n) xs) 0 count → Lacks n (take count xs)
+pub lacks-passed : (n : ℕ) (xs : List ℕ) (count : ℕ) → Nowhere (Passes (is_byte n) xs) 0 count → Lacks n (take count xs)
 lacks-passed n xs zero none = tt
 lacks-passed n [] (suc count) none = tt
 lacks-passed n (x ∷ xs) (suc count) none = (not-true (nat_eq x n) (none 0 (omega arith) (omega arith)), lacks-passed n xs count (λ k low high. none (suc k) (omega arith) (omega arith)))
@@ -56,11 +56,11 @@ pub first-cr : (bytes text : List ℕ) (at : ℕ) → bytes ≡ text → NoneBef
 first-cr bytes text at same none here = subst (λ (t : List ℕ). IsFirstCr t at) same (record { none = none; here = here })
 
 -- a text may be cut before a byte of ASCII
-ascii-boundary : (text : List ℕ) (at n : ℕ) → at < length text → get_or text at 0 ≡ n → n < 128 → IsCharBoundary text at
+pub ascii-boundary : (text : List ℕ) (at n : ℕ) → at < length text → get_or text at 0 ≡ n → n < 128 → IsCharBoundary text at
 ascii-boundary text at n inside is low = IsCharBoundary-before_ascii text at inside (subst (λ (b : ℕ). b < 128) (sym is) low)
 
 -- a text that begins with a byte of ASCII begins with its character
-begins-with : (text left : List ℕ) (n : ℕ) → IsUtf8 text → n < 128 → text ≡ n ∷ left → chars text ≡ n ∷ chars left
+pub begins-with : (text left : List ℕ) (n : ℕ) → IsUtf8 text → n < 128 → text ≡ n ∷ left → chars text ≡ n ∷ chars left
 begins-with text left n utf8 low is = chars_past_char text left n utf8 (is ∙ ap (λ (bs : List ℕ). bs ++ left) (sym (encode_ascii n low)))
 
 -- a text is cut at its first CR

@@ -1,0 +1,16 @@
+use Rattle.std.proofs.Common.{length, chars}
+use denote.Text.{Utf8}
+use denote.Shadow.{shadow}
+use Rattle.py_written_text.specs.EachWritten.{IsWhole}
+use Rattle.py_written_text.proofs.Lines.{IsDone}
+use Rattle.py_written_text.proofs.pushing.push_lines.Given as goal
+
+abbrev pub invariant-loop-out : goal.invariant-loop-out
+invariant-loop-out l = record {
+  is_text : shadow (Utf8 l.left);
+  whole : IsWhole l.coder.errors l.coder.encoding (chars l.left);
+  done : IsDone l.coder l.newline l.fn.out.items l.out.items (chars l.text) (chars l.left);
+}
+
+abbrev pub decreases-loop-out : goal.decreases-loop-out
+decreases-loop-out l = length (chars l.left)

@@ -1,0 +1,3 @@
+pub mod Written
+pub mod EachWritten
+pub mod Cutting
