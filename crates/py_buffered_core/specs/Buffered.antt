@@ -4,6 +4,7 @@ use Rattle.py_flat.specs.declared.fault.IoFault.{IoFault}
 use Rattle.py_flat.specs.declared.fault.IoFault.TheVariants as fault
 use Rattle.py_raw.specs.RawStream.{Raw}
 use Rattle.py_stream.specs.declared.access.Access.{Access}
+use Rattle.py_stream.specs.declared.access.Access.TheVariants as access
 use Rattle.py_stream.specs.Access.{can_of}
 use Rattle.py_stream.specs.Stream.{Stream, detached_stream}
 use Rattle.py_stream.specs.Buffer.{Buffer, buffer_of}
@@ -29,10 +30,15 @@ seen_as None access seekable size = detached_stream (can_of access seekable) (So
 abbrev pub seen_of : BufferedView → Stream
 seen_of view = seen_as view.engine view.access view.seekable view.size
 
+-- a stream that is opened to be both read and written can be moved
+abbrev pub IsMovable : Access → Bool → Type 0
+IsMovable access.Update seekable = seekable ≡ true
+IsMovable other seekable = Unit {0}
+
 -- what is kept beside the engine is the engine's own
 abbrev pub IsBuffered : Option EngineView → Access → Bool → ℕ → Type 0
-IsBuffered (Some engine) opened seekable size = (can_of engine.access engine.raw.seekable ≡ can_of opened seekable) × (engine.window.size ≡ size)
-IsBuffered None opened seekable size = Unit {0}
+IsBuffered (Some engine) opened seekable size = (can_of engine.access engine.raw.seekable ≡ can_of opened seekable) × (engine.window.size ≡ size) × IsMovable opened seekable
+IsBuffered None opened seekable size = IsMovable opened seekable
 
 -- By what it can do.
 

@@ -374,9 +374,10 @@ impl<R: RawStream> Buffered<R> {
         }
     }
 
-    /// Whether it can be moved, but for one that appends: where its raw can.
+    /// Whether it can be moved, but for one that appends: where its raw can. One that is read and written can, and doesn't append.
     pub fn seekable(&self) -> bool
-        ensures { result ≡ (seen_of self.now).can.seekable }
+        ensures says { result ≡ (seen_of self.now).can.seekable }
+        ensures moves { (seen_of self.now).can.readable ≡ true → (seen_of self.now).can.writable ≡ true → ((seen_of self.now).can.seekable ≡ true) × ((seen_of self.now).can.appending ≡ false) }
     {
         self.seekable
     }

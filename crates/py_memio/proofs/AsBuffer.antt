@@ -1,24 +1,25 @@
 -- A stream in memory is a buffered stream.
-use Rattle.std.proofs.Common.{◌≡◌, ℕ, zero, suc, ◌+◌, ◌-◌, ◌≤◌, max, ℤ, pos, inl, inr, ◌⊎◌, Bool, true, false, ◌&&◌, ◌||◌, IsTrue, List, [], length, drop, Option, Some, None, is_none, nat_lt, unwrap_or, refl, sym, ap, subst, ◌∙◌, arith, if◌then◌else◌}
-use Rattle.std.proofs.lemmas.List.{length-take, length-drop, take_all}
+use Rattle.std.proofs.Common.{◌≡◌, ℕ, zero, suc, ◌+◌, ◌-◌, ◌≤◌, max, ℤ, pos, inl, inr, ◌⊎◌, Bool, true, false, ◌&&◌, ◌||◌, IsTrue, List, [], length, take, drop, Option, Some, None, is_none, nat_lt, unwrap_or, refl, sym, ap, subst, ◌∙◌, arith, if◌then◌else◌}
+use Rattle.std.proofs.lemmas.List.{length-take, length-drop, take_all, drop_all}
 use Rattle.py_flat.specs.declared.fault.IoFault.{IoFault}
 use Rattle.py_flat.specs.declared.fault.IoFault.TheVariants as fault
+use Rattle.py_flat.specs.declared.life.Life.TheVariants as life
 use Rattle.py_flat.specs.Limits.{greatest_place}
 use Rattle.py_flat.specs.Bytes.{lay}
 use Rattle.py_flat.specs.Calls.{FileCall, Read1, Write, Seek, Flush, Close, FileReply, Bytes, Count, Place, Done, Refused}
 use Rattle.py_flat.specs.FlatFile.{FlatFile, InMemory}
 use Rattle.py_flat.specs.Refusals.{refusal, too_far, target_refusal, moved_by}
-use Rattle.py_flat.specs.ExactStep.{one_transfer, seek_target, carried_out}
+use Rattle.py_flat.specs.ExactStep.{is_closed, one_transfer, seek_target, carried_out}
 use Rattle.py_flat.specs.AllowedStep.{settled, out_of_memory}
 use Rattle.py_flat.specs.BinaryStep.{payload, SettledBy, BinaryStep}
 use Rattle.py_flat.proofs.Settling.{blames, may_blame, refusal_blames_nobody}
 use Rattle.py_stream.specs.Kinds.{is_reading, says_fault}
 use Rattle.py_stream.specs.Answers.{IsAnswerTo, IsReplyTo, IsShort, SeekGoes, Within, UnlessStopped}
-use Rattle.py_stream.specs.Buffer.{Buffer, taken_by, refusal_lent, refused_here, LeavesBuffer, BufferMoves, BufferPasses, BufferLays, BufferTakes, asks_for, closes_twice, GoesFromEnd, BufferSeeksFromEnd, BufferSeeksByEnd, is_made, AnswersAsBuffer}
-use Rattle.py_memio.specs.InMemory.{file_in_memory, refusal_in_memory, may_lack_memory, CarriedOutInMemory, AnswersWith, AnswersInMemory}
+use Rattle.py_stream.specs.Buffer.{Buffer, taken_by, refusal_lent, refused_here, LeavesBuffer, is_close, BufferMoves, BufferPasses, BufferLays, BufferTakes, asks_for, closes_twice, GoesFromEnd, BufferSeeksFromEnd, BufferSeeksByEnd, BufferOwes, is_made, AnswersAsBuffer}
+use Rattle.py_memio.specs.InMemory.{life_of, file_in_memory, refusal_in_memory, may_lack_memory, CarriedOutInMemory, AnswersWith, AnswersInMemory}
 use Rattle.py_memio.specs.BytesIO.{Exports, BytesView, has_some, is_lent, buffer_with, as_buffer}
 use Rattle.py_stream.specs.Stream.{nothing_owed}
-use Rattle.py_memio.proofs.Calm.{Calmly, calm, refusedly, lays_none}
+use Rattle.py_memio.proofs.Calm.{Calmly, calm, refusedly, lays_none, owes_still}
 
 -- a call that doesn't change the length is refused by the flat file alone
 unlent : (lent : Bool) (by_lending by_file : Option IoFault) → (if lent && false then by_lending else by_file) ≡ by_file
@@ -39,6 +40,11 @@ within_size (Some size) bytes = omega (arith, length-take size bytes)
 abbrev seen : (lent closed : Bool) → List ℕ → (place was : ℕ) → Buffer
 seen lent closed items place was = buffer_with (file_in_memory items place closed) lent was
 
+-- nothing fails a stream in memory
+never_fails : (closed : Bool) → life_of closed ≡ life.Failed → ⊥
+never_fails true fails = cc
+never_fails false fails = cc
+
 -- what is left to show of a call that isn't refused
 calmly_by : (lent closed ends : Bool) (items left : List ℕ) (place new was taken : ℕ) (call : FileCall) (reply : FileReply)
     → taken ≡ taken_by call place new was
@@ -51,11 +57,13 @@ calmly_by : (lent closed ends : Bool) (items left : List ℕ) (place new was tak
     → IsReplyTo (Some 0) true call reply × IsAnswerTo call reply
     → BinaryStep (file_in_memory items place closed) call reply false false (file_in_memory left new ends)
     → (IsTrue (is_reading call) → new ≤ max place (length items))
+    → (is_close call ≡ false → ends ≡ closed)
+    → BufferOwes (seen lent closed items place was) call (seen lent ends left new taken)
     → BufferLays (seen lent closed items place was) (payload call) left
     → BufferPasses (seen lent closed items place was) call reply (seen lent ends left new taken)
     → BufferTakes call place new
     → Calmly (file_in_memory items place closed) lent was call reply (file_in_memory left new ends) taken
-calmly_by lent closed ends items left place new was taken call reply counts quiet accepts again shorts moves seeks answer told reach lays passes takes = record {
+calmly_by lent closed ends items left place new was taken call reply counts quiet accepts again shorts moves seeks answer told reach stays owes lays passes takes = record {
   can = refl;
   writes = refl;
   buffering = refl;
@@ -69,6 +77,9 @@ calmly_by lent closed ends items left place new was taken call reply counts quie
   answer = λ accepted. answer;
   told = λ open_to. told;
   reach = reach;
+  unfailed = never_fails ends;
+  stays = λ closes. ap (λ (ended : Bool). is_closed (life_of ended)) (stays closes);
+  owes = owes;
   lays = lays;
   passes = passes;
   takes = takes;
@@ -78,39 +89,59 @@ read_calmly : (lent : Bool) (items : List ℕ) (place was : ℕ) (size : Option 
 read_calmly lent items place was size far =
     let given = one_transfer InMemory size (drop place items) in
     let fits = fits_rest size (drop place items) in
-    calmly_by lent false false items items place (place + length given) was was (Read1 size) (Bytes given) refl refl (unlent lent (Some fault.BufferError) None) (λ twice. absurd (cc)) refl (record { life_is = refl; place = refl; far = far; within = within_size size (drop place items) }) tt (tt, tt) (settled refl) (λ reads. omega (arith, fits, length-drop place items)) (lays_none _ _ _ _) tt tt
+    calmly_by lent false false items items place (place + length given) was was (Read1 size) (Bytes given) refl refl (unlent lent (Some fault.BufferError) None) (λ twice. absurd (cc)) refl (record { life_is = refl; place = refl; far = far; within = within_size size (drop place items) }) tt (tt, tt) (settled refl) (λ reads. omega (arith, fits, length-drop place items)) (λ closes. refl) (owes_still (file_in_memory items place false) (file_in_memory items (place + length given) false) lent (Read1 size) was was (λ writing. absurd (cc))) (lays_none _ _ _ _) tt tt
+
+-- all bytes that are written are taken, and have their place
+write_owes : (items : List ℕ) (place was taken : ℕ) (bytes : List ℕ) → BufferOwes (seen false false items place was) (Write bytes) (seen false false (lay items place bytes) (place + length bytes) taken)
+write_owes items place was taken bytes =
+    let all : take (length bytes) bytes ≡ bytes = take_all (length bytes) bytes (omega arith) in
+    record {
+      both = record { taken = length bytes; within = omega arith; place = refl; owes = λ some. absurd (some refl); none = λ _ told. absurd (cc); told = λ told. (length bytes, omega arith, omega arith, ap (lay items place) (sym all)) };
+      takes = λ up_to. record {
+        taken = length bytes;
+        within = omega arith;
+        place = refl;
+        passed = length bytes;
+        most = omega arith;
+        answered = λ told. absurd (cc);
+        forth = λ behind. refl;
+        owed = sym (drop_all (length bytes) (take (length bytes) bytes) (omega (arith, ap length all)));
+        up_to = inl refl;
+        told = λ told. (length bytes, omega arith, omega arith, ap (lay items place) (sym all));
+      };
+    }
 
 write_calmly : (items : List ℕ) (place was : ℕ) (bytes : List ℕ) (taken : ℕ) → taken ≡ place + length bytes - place → place + length bytes ≤ greatest_place → too_far (place + length bytes) ≡ None → Calmly (file_in_memory items place false) false was (Write bytes) (Count (length bytes)) (file_in_memory (lay items place bytes) (place + length bytes) false) taken
 write_calmly items place was bytes taken counts far accepts =
     let laid = lay items place bytes in
     let told = subst (λ (refused : Option IoFault). SettledBy (file_in_memory items place false) (Write bytes) refused (Count (length bytes)) (file_in_memory laid (place + length bytes) false)) (sym accepts) refl in
-    calmly_by false false false items laid place (place + length bytes) was taken (Write bytes) (Count (length bytes)) counts refl accepts (λ twice. absurd (cc)) refl (record { life_is = refl; place = (refl, refl); far = far; within = tt }) tt (tt, tt) (settled told) (λ reads. absurd (cc)) (record { passed = 0; more = length bytes; laid = ap (lay items place) (sym (take_all (length bytes) bytes (omega arith))); order = λ _. omega arith }) tt (omega arith, omega arith)
+    calmly_by false false false items laid place (place + length bytes) was taken (Write bytes) (Count (length bytes)) counts refl accepts (λ twice. absurd (cc)) refl (record { life_is = refl; place = (refl, refl); far = far; within = tt }) tt (tt, tt) (settled told) (λ reads. absurd (cc)) (λ closes. refl) (write_owes items place was taken bytes) (record { passed = 0; more = length bytes; laid = ap (lay items place) (sym (take_all (length bytes) bytes (omega arith))); order = λ _. omega arith }) tt (omega arith, omega arith)
 
 seek_calmly : (lent : Bool) (items : List ℕ) (place was : ℕ) (offset whence : ℤ) (target : ℕ) → target ≤ greatest_place → refusal (file_in_memory items place false) (Seek offset whence) ≡ None → seek_target (file_in_memory items place false) offset whence ≡ target → SeekGoes place offset whence target → BufferSeeksByEnd (buffer_with (file_in_memory items place false) lent was) (Seek offset whence) (Place target) (buffer_with (file_in_memory items target false) lent was) → refused_here (buffer_with (file_in_memory items place false) lent was) (Seek offset whence) ≡ None → Calmly (file_in_memory items place false) lent was (Seek offset whence) (Place target) (file_in_memory items target false) was
 seek_calmly lent items place was offset whence target far accepts goes_to goes seeks here =
     let told = subst (λ (refused : Option IoFault). SettledBy (file_in_memory items place false) (Seek offset whence) refused (Place target) (file_in_memory items target false)) (sym accepts) (ap (λ (at : ℕ). let step : FileReply × FlatFile = (Place at, file_in_memory items at false) in step) (sym goes_to)) in
-    calmly_by lent false false items items place target was was (Seek offset whence) (Place target) refl refl here (λ twice. absurd (cc)) refl (record { life_is = refl; place = (refl, goes); far = far; within = tt }) seeks (tt, tt) (settled told) (λ reads. absurd (cc)) (lays_none _ _ _ _) tt tt
+    calmly_by lent false false items items place target was was (Seek offset whence) (Place target) refl refl here (λ twice. absurd (cc)) refl (record { life_is = refl; place = (refl, goes); far = far; within = tt }) seeks (tt, tt) (settled told) (λ reads. absurd (cc)) (λ closes. refl) (owes_still (file_in_memory items place false) (file_in_memory items target false) lent (Seek offset whence) was was (λ writing. absurd (cc))) (lays_none _ _ _ _) tt tt
 
 flush_calmly : (lent : Bool) (items : List ℕ) (place was : ℕ) → place ≤ greatest_place → Calmly (file_in_memory items place false) lent was Flush Done (file_in_memory items place false) was
 flush_calmly lent items place was far =
-    calmly_by lent false false items items place place was was Flush Done refl refl (unlent lent (Some fault.BufferError) None) (λ twice. absurd (cc)) refl (record { life_is = refl; place = refl; far = far; within = tt }) tt (tt, tt) (settled refl) (λ reads. absurd (cc)) (lays_none _ _ _ _) (record { none = refl; holds = λ told. refl }) tt
+    calmly_by lent false false items items place place was was Flush Done refl refl (unlent lent (Some fault.BufferError) None) (λ twice. absurd (cc)) refl (record { life_is = refl; place = refl; far = far; within = tt }) tt (tt, tt) (settled refl) (λ reads. absurd (cc)) (λ closes. refl) (owes_still (file_in_memory items place false) (file_in_memory items place false) lent Flush was was (λ writing. absurd (cc))) (lays_none _ _ _ _) (record { none = refl; holds = λ told. refl }, λ writes. refl) tt
 
 close_calmly : (closed : Bool) (items : List ℕ) (place was : ℕ) → place ≤ greatest_place → Calmly (file_in_memory items place closed) false was Close Done (file_in_memory items place true) was
 close_calmly true items place was far =
-    calmly_by false true true items items place place was was Close Done refl refl refl (λ twice. record { says = refl; same = refl }) refl (record { life_is = refl; place = refl; far = far; within = tt }) tt (tt, tt) (settled refl) (λ reads. absurd (cc)) (lays_none _ _ _ _) (λ live. record { none = refl; holds = λ told. refl }) tt
+    calmly_by false true true items items place place was was Close Done refl refl refl (λ twice. record { says = refl; same = refl }) refl (record { life_is = refl; place = refl; far = far; within = tt }) tt (tt, tt) (settled refl) (λ reads. absurd (cc)) (λ closes. absurd (cc)) (owes_still (file_in_memory items place true) (file_in_memory items place true) false Close was was (λ writing. absurd (cc))) (lays_none _ _ _ _) (λ live. record { none = refl; holds = λ told. refl }) tt
 close_calmly false items place was far =
-    calmly_by false false true items items place place was was Close Done refl refl refl (λ twice. absurd (cc)) refl (record { life_is = refl; place = refl; far = far; within = tt }) tt (tt, tt) (settled refl) (λ reads. absurd (cc)) (lays_none _ _ _ _) (λ live. record { none = refl; holds = λ told. refl }) tt
+    calmly_by false false true items items place place was was Close Done refl refl refl (λ twice. absurd (cc)) refl (record { life_is = refl; place = refl; far = far; within = tt }) tt (tt, tt) (settled refl) (λ reads. absurd (cc)) (λ closes. absurd (cc)) (owes_still (file_in_memory items place false) (file_in_memory items place true) false Close was was (λ writing. absurd (cc))) (lays_none _ _ _ _) (λ live. record { none = refl; holds = λ told. refl }) tt
 
 -- Running out of memory.
 
 read_starves : (lent : Bool) (items : List ℕ) (place was : ℕ) (size : Option ℕ) → place ≤ greatest_place → Calmly (file_in_memory items place false) lent was (Read1 size) (Refused fault.NoMemory) (file_in_memory items place false) was
 read_starves lent items place was size far =
-    calmly_by lent false false items items place place was was (Read1 size) (Refused fault.NoMemory) refl refl (unlent lent (Some fault.BufferError) None) (λ twice. absurd (cc)) refl (record { life_is = refl; place = refl; far = far; within = tt }) tt (tt, tt) (out_of_memory refl (refl, refl)) (λ reads. omega arith) (lays_none _ _ _ _) tt tt
+    calmly_by lent false false items items place place was was (Read1 size) (Refused fault.NoMemory) refl refl (unlent lent (Some fault.BufferError) None) (λ twice. absurd (cc)) refl (record { life_is = refl; place = refl; far = far; within = tt }) tt (tt, tt) (out_of_memory refl (refl, refl)) (λ reads. omega arith) (λ closes. refl) (owes_still (file_in_memory items place false) (file_in_memory items place false) lent (Read1 size) was was (λ writing. absurd (cc))) (lays_none _ _ _ _) tt tt
 
 write_starves : (items : List ℕ) (place was : ℕ) (bytes : List ℕ) (taken : ℕ) → taken ≡ place - place → place ≤ greatest_place → too_far (place + length bytes) ≡ None → Calmly (file_in_memory items place false) false was (Write bytes) (Refused fault.NoMemory) (file_in_memory items place false) taken
 write_starves items place was bytes taken counts far accepts =
     let starved = subst (λ (refused : Option IoFault). IsTrue ((is_none refused && true) || false)) (sym accepts) refl in
-    calmly_by false false false items items place place was taken (Write bytes) (Refused fault.NoMemory) counts refl accepts (λ twice. absurd (cc)) refl (record { life_is = inl refl; place = refl; far = far; within = tt }) tt (tt, tt) (out_of_memory refl (starved, inl refl)) (λ reads. absurd (cc)) (lays_none _ _ _ _) tt (omega arith, omega arith)
+    calmly_by false false false items items place place was taken (Write bytes) (Refused fault.NoMemory) counts refl accepts (λ twice. absurd (cc)) refl (record { life_is = inl refl; place = refl; far = far; within = tt }) tt (tt, tt) (out_of_memory refl (starved, inl refl)) (λ reads. absurd (cc)) (λ closes. refl) (owes_still (file_in_memory items place false) (file_in_memory items place false) false (Write bytes) was taken (λ writing. (refl, refl))) (lays_none _ _ _ _) tt (omega arith, omega arith)
 
 -- Refused calls.
 
@@ -118,9 +149,9 @@ own_by : (refused : Option IoFault) (why : IoFault) → may_blame refused ≡ fa
 own_by refused why own is = sym (ap may_blame is) ∙ own
 
 -- what a call is refused by, unless it is a seek from the end
-plainly : (file : FlatFile) (lent : Bool) (was : ℕ) (call : FileCall) (why : IoFault) (taken : ℕ) → file.can.writable ≡ true → blames why ≡ false → taken ≡ taken_by call file.place file.place was → file.place ≤ greatest_place → refused_here (buffer_with file lent was) call ≡ Some why → refusal_in_memory lent file call ≡ Some why → closes_twice (buffer_with file lent was) call ≡ false → BufferSeeksByEnd (buffer_with file lent was) call (Refused why) (buffer_with file lent taken) → Calmly file lent was call (Refused why) file taken
-plainly file lent was call why taken writes own counts far here refused once ends =
-    refusedly file lent was call why taken writes own counts far
+plainly : (file : FlatFile) (lent : Bool) (was : ℕ) (call : FileCall) (why : IoFault) (taken : ℕ) → (file.life ≡ life.Failed → ⊥) → file.can.writable ≡ true → blames why ≡ false → taken ≡ taken_by call file.place file.place was → file.place ≤ greatest_place → refused_here (buffer_with file lent was) call ≡ Some why → refusal_in_memory lent file call ≡ Some why → closes_twice (buffer_with file lent was) call ≡ false → BufferSeeksByEnd (buffer_with file lent was) call (Refused why) (buffer_with file lent taken) → Calmly file lent was call (Refused why) file taken
+plainly file lent was call why taken unfailed writes own counts far here refused once ends =
+    refusedly file lent was call why taken unfailed writes own counts far
     (λ other also. let same = sym here ∙ also in cc)
     once ends
     (λ accepts. let none = sym here ∙ accepts in absurd (cc))
@@ -149,7 +180,7 @@ end_answers offset (Some target) why is = too_far_answers offset (nat_lt greates
 end_refused : (lent : Bool) (items : List ℕ) (place was : ℕ) (offset : ℤ) (why : IoFault) → place ≤ greatest_place → length items ≤ greatest_place → target_refusal (moved_by (length items) offset) ≡ Some why → Calmly (file_in_memory items place false) lent was (Seek offset (pos 2)) (Refused why) (file_in_memory items place false) was
 end_refused lent items place was offset why far small is =
     let file : FlatFile = file_in_memory items place false in
-    refusedly file lent was (Seek offset (pos 2)) why was refl (own_by (refusal file (Seek offset (pos 2))) why (refusal_blames_nobody file (Seek offset (pos 2))) is) refl far
+    refusedly file lent was (Seek offset (pos 2)) why was (never_fails false) refl (own_by (refusal file (Seek offset (pos 2))) why (refusal_blames_nobody file (Seek offset (pos 2))) is) refl far
     (λ other also. absurd (cc))
     refl
     (λ asks. end_goes (buffer_with file lent was) (buffer_with file lent was) offset why (record {
@@ -196,20 +227,20 @@ refused_call : (lent closed : Bool) (items : List ℕ) (place was : ℕ) (call :
 refused_call lent closed items place was (Read1 size) why taken near small shut made counts is =
     let file : FlatFile = file_in_memory items place closed in
     let by_file = sym (unlent lent (refusal_lent file (Read1 size)) (refusal file (Read1 size))) ∙ is in
-    plainly file lent was (Read1 size) why taken refl (own_by (refusal file (Read1 size)) why (refusal_blames_nobody file (Read1 size)) by_file) counts near is is refl tt
+    plainly file lent was (Read1 size) why taken (never_fails closed) refl (own_by (refusal file (Read1 size)) why (refusal_blames_nobody file (Read1 size)) by_file) counts near is is refl tt
 refused_call lent closed items place was Flush why taken near small shut made counts is =
     let file : FlatFile = file_in_memory items place closed in
     let by_file = sym (unlent lent (refusal_lent file Flush) (refusal file Flush)) ∙ is in
-    plainly file lent was Flush why taken refl (own_by (refusal file Flush) why (refusal_blames_nobody file Flush) by_file) counts near is is refl tt
+    plainly file lent was Flush why taken (never_fails closed) refl (own_by (refusal file Flush) why (refusal_blames_nobody file Flush) by_file) counts near is is refl tt
 refused_call true true items place was (Write bytes) why taken near small shut made counts is = let none = shut refl in absurd (cc)
 refused_call true false items place was (Write bytes) why taken near small shut made counts is =
-    plainly (file_in_memory items place false) true was (Write bytes) why taken refl (own_by (Some fault.BufferError) why refl is) counts near is is refl tt
+    plainly (file_in_memory items place false) true was (Write bytes) why taken (never_fails false) refl (own_by (Some fault.BufferError) why refl is) counts near is is refl tt
 refused_call false closed items place was (Write bytes) why taken near small shut made counts is =
     let file : FlatFile = file_in_memory items place closed in
-    plainly file false was (Write bytes) why taken refl (own_by (refusal file (Write bytes)) why (refusal_blames_nobody file (Write bytes)) is) counts near is is refl tt
+    plainly file false was (Write bytes) why taken (never_fails closed) refl (own_by (refusal file (Write bytes)) why (refusal_blames_nobody file (Write bytes)) is) counts near is is refl tt
 refused_call true true items place was Close why taken near small shut made counts is = let none = shut refl in absurd (cc)
 refused_call true false items place was Close why taken near small shut made counts is =
-    plainly (file_in_memory items place false) true was Close why taken refl (own_by (Some fault.BufferError) why refl is) counts near is is refl tt
+    plainly (file_in_memory items place false) true was Close why taken (never_fails false) refl (own_by (Some fault.BufferError) why refl is) counts near is is refl tt
 refused_call false true items place was Close why taken near small shut made counts is = absurd (cc)
 refused_call false false items place was Close why taken near small shut made counts is = absurd (cc)
 refused_call lent false items place was (Seek offset (pos (suc (suc zero)))) why taken near small shut made counts is =
@@ -218,11 +249,11 @@ refused_call lent false items place was (Seek offset (pos (suc (suc zero)))) why
 refused_call lent true items place was (Seek offset (pos (suc (suc zero)))) why taken near small shut made counts is =
     let file : FlatFile = file_in_memory items place true in
     let by_file = sym (unlent lent (refusal_lent file (Seek offset (pos 2))) (refusal file (Seek offset (pos 2)))) ∙ is in
-    plainly file lent was (Seek offset (pos 2)) why taken refl (own_by (refusal file (Seek offset (pos 2))) why (refusal_blames_nobody file (Seek offset (pos 2))) by_file) counts near is is refl (λ asks. absurd (cc))
+    plainly file lent was (Seek offset (pos 2)) why taken (never_fails true) refl (own_by (refusal file (Seek offset (pos 2))) why (refusal_blames_nobody file (Seek offset (pos 2))) by_file) counts near is is refl (λ asks. absurd (cc))
 refused_call lent closed items place was (Seek offset whence) why taken near small shut made counts is =
     let file : FlatFile = file_in_memory items place closed in
     let by_file = sym (unlent lent (refusal_lent file (Seek offset whence)) (refusal file (Seek offset whence))) ∙ is in
-    plainly file lent was (Seek offset whence) why taken refl (own_by (refusal file (Seek offset whence)) why (refusal_blames_nobody file (Seek offset whence)) by_file) counts near is is refl tt
+    plainly file lent was (Seek offset whence) why taken (never_fails closed) refl (own_by (refusal file (Seek offset whence)) why (refusal_blames_nobody file (Seek offset whence)) by_file) counts near is is refl tt
 refused_call lent closed items place was call why taken near small shut made counts is = absurd (cc)
 
 -- how an accepted call came out: it lacks memory, or is carried out

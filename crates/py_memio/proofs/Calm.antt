@@ -3,19 +3,22 @@ use Rattle.std.proofs.Common.{◌≡◌, ℕ, ◌≤◌, max, Bool, true, false,
 use Rattle.py_flat.specs.declared.fault.IoFault.{IoFault}
 use Rattle.py_flat.specs.declared.fault.IoFault.TheVariants as fault
 use Rattle.py_flat.specs.declared.life.Life.{Life}
+use Rattle.py_flat.specs.declared.life.Life.TheVariants as life
 use Rattle.py_flat.specs.Limits.{greatest_place}
 use Rattle.py_flat.specs.Calls.{FileCall, Read1, Write, Flush, Close, FileReply, Done, Refused}
 use Rattle.py_flat.specs.FlatFile.{Abilities, FlatFile, Buffering}
 use Rattle.py_flat.specs.Refusals.{refusal}
 use Rattle.py_flat.specs.AllowedStep.{settled}
+use Rattle.py_flat.specs.ExactStep.{is_closed}
 use Rattle.py_flat.specs.BinaryStep.{payload, SettledBy, BinaryStep}
 use Rattle.py_flat.proofs.Settling.{blames}
 use Rattle.py_flat.specs.Owed.{Owed}
 use Rattle.py_raw.specs.RawStream.{Keeps}
-use Rattle.py_stream.specs.Writing.{LaysFrontOf}
-use Rattle.py_stream.specs.Kinds.{is_reading, says_fault}
+use Rattle.py_stream.specs.Stream.{Stream}
+use Rattle.py_stream.specs.Writing.{LaysFrontOf, BlocksFull}
+use Rattle.py_stream.specs.Kinds.{is_reading, is_writing, says_fault}
 use Rattle.py_stream.specs.Answers.{IsAnswerTo, IsReplyTo, IsShort, LifeMoves, PlaceMoves}
-use Rattle.py_stream.specs.Buffer.{Buffer, size_shown, taken_by, refused_here, refused_lent, LeavesBuffer, closes_twice, GivesAsked, BufferMoves, BufferSeeksByEnd, BufferPasses, BufferLays, BufferBlocksFull, BufferTakes, AnswersAsBuffer}
+use Rattle.py_stream.specs.Buffer.{Buffer, size_shown, taken_by, refused_here, refused_lent, LeavesBuffer, closes_twice, is_close, GivesAsked, BufferMoves, BufferSeeksByEnd, stream_shown, BufferOwes, BufferPasses, BufferLays, BufferTakes, AnswersAsBuffer}
 use Rattle.py_stream.proofs.Buffering.{owes_none_so}
 use Rattle.py_memio.specs.BytesIO.{raw_in_memory, buffer_with}
 
@@ -24,13 +27,17 @@ pub lays_none : (bytes : List ℕ) (owed : Owed) (place : ℕ) (own : List ℕ) 
 lays_none bytes owed place own = record { passed = 0; more = 0; laid = refl; order = λ some. absurd (some refl) }
 
 -- a call that isn't short had nothing to wait for
-full_of : (call : FileCall) (reply : FileReply) (after : Buffer) → IsShort call reply false → BufferBlocksFull call reply after
+full_of : (call : FileCall) (reply : FileReply) (after : Stream) → IsShort call reply false → BlocksFull call reply after
 full_of call reply after whole = grind arith
 
 -- a call that leaves the place takes nothing
 takes_none : (call : FileCall) (place : ℕ) → BufferTakes call place place
 takes_none (Write bytes) place = (omega arith, omega arith)
 takes_none call place = tt
+
+-- a call that gives nothing to the stream, or leaves it as it was, owes nothing
+pub owes_still : (file left : FlatFile) (lent : Bool) (call : FileCall) (was taken : ℕ) → (IsTrue (is_writing call) → (left.place ≡ file.place) × (left.bytes ≡ file.bytes)) → BufferOwes (buffer_with file lent was) call (buffer_with left lent taken)
+owes_still file left lent call was taken still = owes_none_so (buffer_with file lent was) (buffer_with left lent taken) call refl refl (λ told. absurd (cc)) (λ writing. record { place = (still writing).0; raw_place = (still writing).0; bytes = λ told. (still writing).1 })
 
 -- what a stream in memory can do stays, and so does what its raw can do
 keeps_raw : (file left : FlatFile) → left.can ≡ file.can → Keeps (raw_in_memory file) (raw_in_memory left)
@@ -62,6 +69,9 @@ pub record Calmly (file : FlatFile) (lent : Bool) (was : ℕ) (call : FileCall) 
   pub answer : refused_here (buffer_with file lent was) call ≡ None → IsReplyTo (size_shown file.buffering) file.can.writable call reply × IsAnswerTo call reply
   pub told : refused_lent (buffer_with file lent was) call ≡ false → BinaryStep file call reply false false left
   pub reach : IsTrue (is_reading call) → left.place ≤ max file.place (length file.bytes)
+  pub unfailed : left.life ≡ life.Failed → ⊥
+  pub stays : is_close call ≡ false → is_closed left.life ≡ is_closed file.life
+  pub owes : BufferOwes (buffer_with file lent was) call (buffer_with left lent taken)
   pub lays : BufferLays (buffer_with file lent was) (payload call) left.bytes
   pub passes : BufferPasses (buffer_with file lent was) call reply (buffer_with left lent taken)
   pub takes : BufferTakes call file.place left.place
@@ -74,6 +84,7 @@ calm file lent was call reply left taken calmly =
       refused = calmly.refused;
       again = calmly.again;
       shut = λ whole none closed. refl;
+      stays = λ closes closed. calmly.stays closes;
       stands = λ live told. refl;
       causes = record { waits = λ short. absurd (cc); faults = λ fails. absurd (cc) };
       counted = λ exactly. record { faults = λ none. refl; waits = λ whole on. refl; once = λ short on. absurd (cc) };
@@ -86,10 +97,14 @@ calm file lent was call reply left taken calmly =
       told = λ unlent told. subst (λ (faulted : Bool). BinaryStep file call reply false faulted left) (sym quiet) (calmly.told unlent);
       reach = λ reads told. calmly.reach reads;
       hides = λ short. absurd (cc);
-      owes = owes_none_so (buffer_with file lent was) (buffer_with left lent taken) call refl refl;
+      owes = calmly.owes;
       lays = λ told. calmly.lays;
       spares = λ can owes. absurd (cc (calmly.writes));
-      full = full_of call reply (buffer_with left lent taken) calmly.shorts;
+      full = full_of call reply (stream_shown (buffer_with left lent taken)) calmly.shorts;
+      unwaited = λ reads gives none. refl;
+      single = λ one none told. absurd (cc);
+      passes_first = λ some single asks given. refl;
+      starves = λ wanting writing fails. absurd (calmly.unfailed fails);
       takes = calmly.takes;
       taken = calmly.counts;
       passes = calmly.passes;
@@ -129,8 +144,8 @@ quiet_refused fault.RawFault own = absurd (cc)
 quiet_refused why own = refl
 
 -- a refused call leaves all as it was
-pub refusedly : (file : FlatFile) (lent : Bool) (was : ℕ) (call : FileCall) (why : IoFault) (taken : ℕ) → file.can.writable ≡ true → blames why ≡ false → taken ≡ taken_by call file.place file.place was → file.place ≤ greatest_place → ((other : IoFault) → refused_here (buffer_with file lent was) call ≡ Some other → why ≡ other) → closes_twice (buffer_with file lent was) call ≡ false → BufferSeeksByEnd (buffer_with file lent was) call (Refused why) (buffer_with file lent taken) → (refused_here (buffer_with file lent was) call ≡ None → IsReplyTo (size_shown file.buffering) file.can.writable call (Refused why) × IsAnswerTo call (Refused why)) → (refused_lent (buffer_with file lent was) call ≡ false → refusal file call ≡ Some why) → Calmly file lent was call (Refused why) file taken
-refusedly file lent was call why taken writes own counts far only once ends answer told = record {
+pub refusedly : (file : FlatFile) (lent : Bool) (was : ℕ) (call : FileCall) (why : IoFault) (taken : ℕ) → (file.life ≡ life.Failed → ⊥) → file.can.writable ≡ true → blames why ≡ false → taken ≡ taken_by call file.place file.place was → file.place ≤ greatest_place → ((other : IoFault) → refused_here (buffer_with file lent was) call ≡ Some other → why ≡ other) → closes_twice (buffer_with file lent was) call ≡ false → BufferSeeksByEnd (buffer_with file lent was) call (Refused why) (buffer_with file lent taken) → (refused_here (buffer_with file lent was) call ≡ None → IsReplyTo (size_shown file.buffering) file.can.writable call (Refused why) × IsAnswerTo call (Refused why)) → (refused_lent (buffer_with file lent was) call ≡ false → refusal file call ≡ Some why) → Calmly file lent was call (Refused why) file taken
+refusedly file lent was call why taken unfailed writes own counts far only once ends answer told = record {
   can = refl;
   writes = writes;
   buffering = refl;
@@ -144,6 +159,9 @@ refusedly file lent was call why taken writes own counts far only once ends answ
   answer = answer;
   told = λ unlent. settled (subst (λ (refused : Option IoFault). SettledBy file call refused (Refused why) file) (sym (told unlent)) (refl, refl));
   reach = λ reads. omega arith;
+  unfailed = unfailed;
+  stays = λ closes. refl;
+  owes = owes_still file file lent call was taken (λ writing. (refl, refl));
   lays = lays_none _ _ _ _;
   passes = passes_refused (buffer_with file lent was) (buffer_with file lent taken) call why;
   takes = takes_none call file.place;

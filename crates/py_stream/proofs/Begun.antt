@@ -68,7 +68,7 @@ module _ (short : Bool) where
   owed_so before after new (inr (inr fills)) = inr (inr (record { passed = fills.passed; answered = fills.answered; cut = fills.cut; leaves = fills.leaves }))
 
   owed_both : (before after : Stream) (bytes : List ℕ) → OwesBoth (seen short before) bytes after → OwesBoth before bytes after
-  owed_both before after bytes is = record { taken = is.taken; within = is.within; place = is.place; owes = λ some. owed_so before after (take is.taken bytes) (is.owes some); none = is.none }
+  owed_both before after bytes is = record { taken = is.taken; within = is.within; place = is.place; owes = λ some. owed_so before after (take is.taken bytes) (is.owes some); none = is.none; told = is.told }
 
   front_passed : (before after : Stream) → PassesFront (seen short before) after → PassesFront before after
   front_passed before after is = record { passed = is.passed; most = is.most; answered = is.answered; bytes = is.bytes; place = is.place }

@@ -178,6 +178,13 @@ module _ (before mid after : Stream) (own : List ℕ) (count : ℕ) (fits : coun
         };
       }
 
+  -- told: the flat file has what was taken, at the place
+  kept_bytes : WhereTold before.raw (flat_of after ≡ lay (flat_of before) before.place (take count own))
+  kept_bytes tells =
+      over.told (tells_still before.raw mid.raw passes.kept.raw ∙ tells)
+      ∙ ap (λ (place : ℕ). lay (flat_of mid) place (take count own)) passes.still
+      ∙ ap (λ (bytes : List ℕ). lay bytes before.place (take count own)) (passing_keeps_bytes before mid passes tells)
+
   -- all of both are owed
   kept_both : OwesAll mid.owed mid.place (take count own) after.owed → (short : Bool) → ReachesRest before mid (take count own) → OwesBoth before own (record after { short = short })
   kept_both owes short reach = record {
@@ -186,6 +193,7 @@ module _ (before mid after : Stream) (own : List ℕ) (count : ℕ) (fits : coun
     place = kept_place;
     owes = λ some. inl (kept_rest owes short reach some);
     none = λ none. let nothing = owes.none none in subst (λ (sent : ℕ). AnswersFor sent before.raw after.raw) (omega (arith, passes.within, left_many, ap length nothing.0, ap length nothing.1, long)) kept_answered;
+    told = λ tells. (count, omega arith, fits, kept_bytes tells);
   }
 
   -- where none are taken, what is left of what was owed goes on up to the place
@@ -207,14 +215,8 @@ module _ (before mid after : Stream) (own : List ℕ) (count : ℕ) (fits : coun
       };
     }));
     none = λ none. absurd (some none);
+    told = λ tells. (count, omega arith, fits, kept_bytes tells);
   }
-
-  -- told: the flat file has what was taken, at the place
-  kept_bytes : WhereTold before.raw (flat_of after ≡ lay (flat_of before) before.place (take count own))
-  kept_bytes tells =
-      over.told (tells_still before.raw mid.raw passes.kept.raw ∙ tells)
-      ∙ ap (λ (place : ℕ). lay (flat_of mid) place (take count own)) passes.still
-      ∙ ap (λ (bytes : List ℕ). lay bytes before.place (take count own)) (passing_keeps_bytes before mid passes tells)
 
   -- where what was owed ended at the place, the first were taken after it
   kept_takes : (short : Bool) → OwesUpTo before.owed before.place → Takes before own (record after { short = short })

@@ -200,6 +200,7 @@ module _ (old new : Stream) (passes : PassesSome old new) where
     place = omega (arith, passes.still);
     owes = λ some. inl (left_rest short some);
     none = λ none. subst (λ (count : ℕ). AnswersFor count old.raw new.raw) (omega (arith, passes.within, ap length none, as_many)) passes.answered;
+    told = λ tells. (0, omega arith, omega arith, passing_keeps_bytes old new passes tells);
   }
 
   -- a call that took nothing passed on a front of what was owed

@@ -3,6 +3,7 @@ use Rattle.std.proofs.Common.{◌≡◌, ◌≢◌, ℕ, ◌+◌, ◌-◌, ◌<�
 use Rattle.std.proofs.Math.Seq.{take-nil, drop-nil, drop-append-add}
 use Rattle.std.proofs.lemmas.Bool.{cases_lt}
 use Rattle.std.proofs.lemmas.List.{append-nil, take_all, take_min, drop_all, drop-append-le, take_at, length-take-le}
+use Rattle.py_flat.specs.Bytes.{lay}
 use Rattle.py_flat.specs.Owed.{Owed}
 use Rattle.py_raw.specs.RawStream.{Raw, AnswersFor}
 use Rattle.py_stream.specs.Stream.{Stream}
@@ -141,6 +142,7 @@ owes_both before bytes after up_to takes =
           })))
           (cases_lt takes.passed (length old));
       none = λ none. subst (λ (count : ℕ). AnswersFor count before.raw after.raw) (omega (arith, takes.most, ap length (sym none ∙ takes.owed), length-drop takes.passed (old ++ taken), length-append old taken, as_many)) takes.answered;
+      told = takes.told;
     }
 
 -- A write that passed on nothing.
@@ -210,4 +212,5 @@ owes_as_before before after bytes raw place same = record {
     };
   });
   none = λ none. subst (λ (count : ℕ). AnswersFor count before.raw after.raw) (omega (arith, ap length (sym (ap (λ (owed : Owed). owed.bytes) same) ∙ none))) (subst (λ (now : Raw). AnswersFor 0 before.raw now) (sym raw) (λ _. refl));
+  told = λ tells. (0, omega arith, omega arith, ap (λ (now : Raw). lay now.bytes after.owed.place after.owed.bytes) raw ∙ ap (λ (owed : Owed). lay before.raw.bytes owed.place owed.bytes) same);
 }

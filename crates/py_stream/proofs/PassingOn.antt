@@ -188,8 +188,8 @@ pub stays_open : (old : Stream) (left : Life) → old.life ≡ life.Live → is_
 stays_open old left live alive closed = closed ∙ ap is_closed live ∙ sym alive
 
 -- the raw would have blocked
-pub waiting_answers : (old new : Stream) (call : FileCall) (size : ℕ) → Accepts old call → old.buffer ≡ Some size → old.can.writable ≡ true → (InHand old call → ⊥) → PassesOn old call (Refused (fault.WouldBlock 0)) new → LivesOn old (record new { short = old.short }) → new.short ≡ true → Rose old.raw.waits new.raw.waits → WaitsOnce old.raw new.raw → Answers old call (Refused (fault.WouldBlock 0)) new
-waiting_answers old new call size accepts buffered can apart away goes short rose once =
+pub waiting_answers : (old new : Stream) (call : FileCall) (size : ℕ) → Accepts old call → old.buffer ≡ Some size → old.can.writable ≡ true → (InHand old call → ⊥) → PassesOn old call (Refused (fault.WouldBlock 0)) new → LivesOn old (record new { short = old.short }) → new.short ≡ true → Rose old.raw.waits new.raw.waits → WaitsOnce old.raw new.raw → 0 < length new.owed.bytes → Answers old call (Refused (fault.WouldBlock 0)) new
+waiting_answers old new call size accepts buffered can apart away goes short rose once some =
     let asked : Asked old call = accepts.asked in
     let left : Stream = record new { short = old.short } in
     let passes : PassesSome old left = goes.passes in
@@ -199,6 +199,7 @@ waiting_answers old new call size accepts buffered can apart away goes short ros
     let shorts : IsShort call reply new.short = subst (IsShort call reply) (sym short) (says_short call (fault.WouldBlock 0)) in
     let life_is : LifeMoves old.buffer call reply old.life new.life = subst (LifeMoves old.buffer call reply old.life) (sym same) (waits_alive old.buffer call old.life) in
     let place : PlaceMoves old.buffer call reply new.life old.place new.place = subst (PlaceMoves old.buffer call reply new.life old.place) (sym passes.still) (waits_there old.buffer call new.life old.place asked.none.writing) in
+    let owing : new.owed.bytes ≢ [] = λ none. omega (arith, some, ap length none) in
     let writes : Writes old call reply new = passing_writes old call reply new asked.none (search (rules, passing_front, waits_with_none)) in
     let answer : IsReplyTo old.buffer old.can.writable call reply = subst (λ (does : Bool). IsReplyTo old.buffer does call reply) (sym can) (subst (λ (buffer : Option ℕ). IsReplyTo buffer true call reply) (sym buffered) (waits_answer size call asked.none.reading asked.none.telling)) in
     let told : WhereTold old.raw (BinaryStep (file_of old) call reply new.short false (file_of new)) = λ tells. waited_for short (accepts.works tells, subst (λ (file : FlatFile). WaitedBy (file_of old) call reply file) (sym (passing_file old left passes same tells)) (asked.none.waits (file_of old))) in
@@ -255,7 +256,7 @@ fault_fails old failed call asked beside leaves passes is cause no_wait =
 pub waits_refuse : (old new : Stream) (call : FileCall) (size taken : ℕ) → Accepts old call → old.buffer ≡ Some size → old.can.writable ≡ true → (InHand old call → ⊥) → PassesOn old call (Refused (fault.WouldBlock 0)) new → SettleOutcome old (Err (fault.WouldBlock taken)) new → Answers old call (Refused (fault.WouldBlock taken)) new
 waits_refuse old new call size taken accepts buffered can apart away waits =
     subst (λ (count : ℕ). Answers old call (Refused (fault.WouldBlock count)) new) (sym waits.0)
-    (waiting_answers old new call size accepts buffered can apart away waits.1 waits.2 waits.3 waits.4)
+    (waiting_answers old new call size accepts buffered can apart away waits.1 waits.2 waits.3 waits.4 waits.5)
 
 -- running out of memory refuses a call that passes on, after a step of its stream
 pub lacks_refuse : (old new : Stream) (call : FileCall) → Asked old call → old.can.writable ≡ true → (InHand old call → ⊥) → SettleOutcome old (Err fault.NoMemory) new → Answers old call (Refused fault.NoMemory) new

@@ -14,7 +14,7 @@ use Rattle.py_raw.proofs.Telling.{tells_still}
 use Rattle.py_raw.proofs.ReadingOn.{Keeps-then}
 use Rattle.py_stream.specs.Stream.{Stream, file_of, nothing_owed}
 use Rattle.py_stream.specs.Kinds.{is_reading, is_writing, reads_on, takes_space_first, makes_one, asks_none, by_several, calls_none, says_fault, says_no_memory, says_given}
-use Rattle.py_stream.specs.Writing.{HasRoom, OwesUpTo, OwesBehind, Takes, PassesFront, OwesBoth, LaysFront, LaysInOrder, OwesOld, OwesNoneOfIts, TookOwn, Writes}
+use Rattle.py_stream.specs.Writing.{HasRoom, OwesUpTo, OwesBehind, LaysTaken, Takes, PassesFront, OwesBoth, LaysFront, LaysInOrder, OwesOld, OwesNoneOfIts, TookOwn, Writes}
 use Rattle.py_stream.specs.Answers.{Answers, HasCauses, IsAhead, GoesPast, InHand, AsksNoMore, AtMostOne, CameByReads, Starves, StarvesFirst, SeeksByEnd, SeekStands, refused_by, closes_again, parts_at_close}
 use Rattle.py_stream.specs.Settling.{PassesSome, LivesOn, SettleOutcome}
 use Rattle.py_stream.proofs.Taking.{waited_then, faulted_then, answers_then, answers_still}
@@ -247,6 +247,10 @@ writing_behind before mid passes none stands = grind arith
 writing_answers : (before mid : Stream) (after : Stream) (count : ℕ) → PassesSome before mid → mid.owed.bytes ≡ [] → AnswersFor count mid.raw after.raw → AnswersFor (length before.owed.bytes + count) before.raw after.raw
 writing_answers before mid after count passes none more = answers_then before.raw mid.raw after.raw (length before.owed.bytes) count passes.kept.raw (all_answered before mid passes none) more
 
+-- told, the flat file has what such a write took
+writing_lays_taken : (before mid after : Stream) (bytes : List ℕ) → PassesSome before mid → mid.owed.bytes ≡ [] → (takes : Takes (settled_as before mid) bytes after) → LaysTaken before bytes takes.taken after
+writing_lays_taken before mid after bytes passes none takes tells = subst (λ (all : List ℕ). (count : ℕ) × (takes.taken ≤ count) × (count ≤ length bytes) × ((file_of after).bytes ≡ lay all before.place (take count bytes))) (same_bytes before mid passes none tells) (takes.told (tells_still before.raw mid.raw passes.kept.raw ∙ tells))
+
 -- what a write after a passing on took, and passed on with all that was owed
 writing_takes : (before mid after : Stream) (bytes : List ℕ) → PassesSome before mid → mid.owed ≡ nothing_owed mid.place → mid.raw_place ≡ mid.place → Takes (settled_as before mid) bytes after → Takes before bytes after
 writing_takes before mid after bytes passes none stands takes =
@@ -261,7 +265,7 @@ writing_takes before mid after bytes passes none stands takes =
       forth = λ behind. omega (arith, takes.forth (writing_behind before mid passes none stands), behind.ends, behind.stands, stands, passes.still);
       owed = takes.owed ∙ ap (λ (owed : List ℕ). drop takes.passed (owed ++ take takes.taken bytes)) nothing ∙ sym (drop-append-add before.owed.bytes (take takes.taken bytes) takes.passed);
       up_to = takes.up_to;
-      told = λ tells. subst (λ (all : List ℕ). (count : ℕ) × (takes.taken ≤ count) × (count ≤ length bytes) × ((file_of after).bytes ≡ lay all before.place (take count bytes))) (same_bytes before mid passes nothing tells) (takes.told (tells_still before.raw mid.raw passes.kept.raw ∙ tells));
+      told = writing_lays_taken before mid after bytes passes nothing takes;
     }
 
 -- where what is owed ends at a place, and is some, it begins so many bytes before
@@ -288,6 +292,7 @@ writing_owes before mid after bytes passes none takes =
         leaves = record { most = omega (arith, most, as_many); bytes = owed; at = omega (arith, begins_before after.owed after.place some takes.up_to, takes.place, many, most) };
       }));
       none = λ nothing. subst (λ (count : ℕ). AnswersFor (length before.owed.bytes + count) before.raw after.raw) (omega (arith, most, many, ap length nothing)) answered;
+      told = writing_lays_taken before mid after bytes passes none takes;
     }
 
 -- the raw has all that was owed, and then what it was given of a call's own bytes

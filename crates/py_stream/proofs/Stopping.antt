@@ -1,5 +1,5 @@
 -- What a call leaves that its raw stops, whichever call it is: the raw would have blocked, or failed, or memory ran out.
-use Rattle.std.proofs.Common.{◌≡◌, ℕ, inl, Bool, true, false, Option, Some, None, refl, arith, ◌||◌, IsTrue, ap}
+use Rattle.std.proofs.Common.{◌≡◌, ◌≢◌, [], ℕ, inl, Bool, true, false, Option, Some, None, refl, arith, ◌||◌, IsTrue, ap}
 use Rattle.py_flat.specs.declared.fault.IoFault.{IoFault}
 use Rattle.py_flat.specs.declared.fault.IoFault.TheVariants as fault
 use Rattle.py_flat.specs.declared.life.Life.{Life}
@@ -51,9 +51,9 @@ waits_alive buffer call current = grind arith
 pub waits_there : (buffer : Option ℕ) (call : FileCall) (current : Life) (place : ℕ) → is_writing call ≡ false → PlaceMoves buffer call (Refused (fault.WouldBlock 0)) current place place
 waits_there buffer call current place writing = grind arith
 
--- a call that gives no bytes to the stream took none where it would have blocked
-pub waits_with_none : (call : FileCall) (after : Stream) → is_writing call ≡ false → BlocksFull call (Refused (fault.WouldBlock 0)) after
-waits_with_none call after writing = grind arith
+-- a call that gives no bytes to the stream took none where it would have blocked, while some is owed
+pub waits_with_none : (call : FileCall) (after : Stream) → is_writing call ≡ false → after.owed.bytes ≢ [] → BlocksFull call (Refused (fault.WouldBlock 0)) after
+waits_with_none call after writing owing = grind arith
 
 -- a call that doesn't read may answer a wait with a refusal
 pub waits_answer : (size : ℕ) (call : FileCall) → is_reading call ≡ false → is_tell call ≡ false → IsReplyTo (Some size) true call (Refused (fault.WouldBlock 0))

@@ -1,6 +1,6 @@
 -- The one contract of buffered streams for the layer above them: what such a stream shows, over a raw stream or in memory, and what a
 -- call of it may answer and leave.
-use Rattle.std.specs.Prelude.{◌≡◌, ℕ, ◌+◌, ◌-◌, ◌≤◌, ℤ, pos, suc, zero, Bool, true, false, ◌&&◌, IsTrue, List, [], length, take, max, Option, Some, None, Result, Ok, Err, if◌then◌else◌}
+use Rattle.std.specs.Prelude.{◌≡◌, ℕ, ◌+◌, ◌-◌, ◌≤◌, ℤ, pos, suc, zero, Bool, true, false, ◌&&◌, IsTrue, List, [], length, max, Option, Some, None, Result, Ok, Err, if◌then◌else◌}
 use Rattle.py_flat.specs.declared.fault.IoFault.{IoFault}
 use Rattle.py_flat.specs.declared.fault.IoFault.TheVariants as fault
 use Rattle.py_flat.specs.declared.life.Life.{Life}
@@ -16,9 +16,9 @@ use Rattle.py_flat.specs.ExactStep.{is_closed}
 use Rattle.py_flat.specs.BinaryStep.{asks_end, payload, BinaryStep}
 use Rattle.py_raw.specs.RawStream.{Raw, tells, Keeps, StaysOpen, WherePlace, KeepsBytes, AnswersFor, NoFault, NoWait}
 use Rattle.py_stream.specs.Stream.{Stream, buffering_of, nothing_owed, nothing_held}
-use Rattle.py_stream.specs.Kinds.{is_reading, moves_raw, has_room, outlasts, says_fault, says_no_memory}
-use Rattle.py_stream.specs.Writing.{OwesUpTo, OwesWithin, OwesRest, OwedAfter, LaysFrontOf, IsFull}
-use Rattle.py_stream.specs.Answers.{ClosedWith, parts_at_close, IsAnswerTo, IsReplyTo, IsShort, LifeMoves, PlaceMoves, Within, UnlessStopped}
+use Rattle.py_stream.specs.Kinds.{is_reading, is_writing, is_single, has_room, outlasts, says_fault, says_no_memory}
+use Rattle.py_stream.specs.Writing.{OwesUpTo, OwesWithin, OwesBoth, Takes, PassesFront, PassedOn, LaysFrontOf, BlocksFull, TookOwn}
+use Rattle.py_stream.specs.Answers.{ClosedWith, parts_at_close, IsAnswerTo, IsReplyTo, IsShort, LifeMoves, PlaceMoves, AtMostOne, PassesFirst, SparesBytes, Within, UnlessStopped}
 
 -- What a buffered stream shows: what its raw shows; where the raw stands, as the stream counts; its own place; what it can do; its life;
 -- how large its buffer is, of 0 bytes in memory; whether a wait cut the last answer short; what it owes its raw; whether bytes of it are
@@ -118,6 +118,11 @@ abbrev pub closes_twice : Buffer → FileCall → Bool
 closes_twice buffer Close = is_closed buffer.life
 closes_twice buffer call = false
 
+-- closing calls
+abbrev pub is_close : FileCall → Bool
+is_close Close = true
+is_close call = false
+
 -- What becomes of the raw.
 
 -- a buffered stream as one over its raw, by what it shows of itself: nothing of what it holds
@@ -145,14 +150,6 @@ IsClosedWithRaw buffer = ClosedWith buffer.life buffer.raw
 -- the raw stands where the stream counts, where it tells its place
 abbrev pub StandsAsCounted : Buffer → Type 0
 StandsAsCounted buffer = WherePlace buffer.raw (buffer.raw.place ≡ buffer.raw_place)
-
--- the raw's bytes are as they were, its writes answered for none, and nothing is owed, at the place; the raw stands where it stood, as the
--- stream counts, but after a reading or a seek
-pub record SparesRaw (before : Buffer) (call : FileCall) (after : Buffer) : Type 0 where
-  pub bytes : KeepsBytes before.raw after.raw
-  pub written : AnswersFor 0 before.raw after.raw
-  pub owed : after.owed ≡ nothing_owed after.place
-  pub still : moves_raw call ≡ false → after.raw_place ≡ before.raw_place
 
 -- Causes.
 
@@ -217,36 +214,29 @@ BufferSeeksByEnd before call reply after = Unit {0}
 
 -- What is owed.
 
--- after a write what is owed covers what was owed and the bytes that were taken, as far as these aren't passed on, wherever the write was
--- made; where nothing was owed, or what was owed ended at the place, it ends where the bytes end that were taken
+-- what is owed after a write, wherever it was made, and for how many of the bytes that were owed and were taken the raw answered; where
+-- nothing was owed, or what was owed ended at the place, it ends where the bytes end that were taken, which the raw has as far as they
+-- aren't owed
 pub record BufferOwesBoth (before : Buffer) (bytes : List ℕ) (after : Buffer) : Type 0 where
-  pub both : OwedAfter before.owed before.place (take (after.place - before.place) bytes) after.owed
-  pub up_to : OwesUpTo before.owed before.place → OwesUpTo after.owed after.place
+  pub both : OwesBoth (stream_shown before) bytes (stream_shown after)
+  pub takes : OwesUpTo before.owed before.place → Takes (stream_shown before) bytes (stream_shown after)
 
--- what is owed after a write; every other call leaves the rest of what was owed, where that stood
+-- what is owed after a write; every other call leaves the rest of what was owed, where that stood, without as many bytes as the raw
+-- answered for
 abbrev pub BufferOwes : Buffer → FileCall → Buffer → Type 0
 BufferOwes before (Write bytes) after = BufferOwesBoth before bytes after
-BufferOwes before call after = OwesRest before.owed after.owed
+BufferOwes before call after = PassesFront (stream_shown before) (stream_shown after)
 
--- a done flush or close of a live stream leaves nothing owed, and told, the raw with the flat bytes
-pub record BufferPassedOn (before after : Buffer) : Type 0 where
-  pub none : after.owed.bytes ≡ []
-  pub holds : WhereShown before (after.raw.bytes ≡ (flat_of before).bytes)
-
--- a flush that was done, and a close of a live stream, passed all on that was owed
+-- a flush that was done, and a close of a live stream, passed all on that was owed, and told, the raw has the flat bytes; after a flush of
+-- a stream that writes it stands at the place
 abbrev pub BufferPasses : Buffer → FileCall → FileReply → Buffer → Type 0
-BufferPasses before Flush Done after = BufferPassedOn before after
-BufferPasses before Close Done after = before.life ≡ life.Live → BufferPassedOn before after
+BufferPasses before Flush Done after = PassedOn (stream_shown before) (stream_shown after) × (before.can.writable ≡ true → after.raw_place ≡ after.place)
+BufferPasses before Close Done after = before.life ≡ life.Live → PassedOn (stream_shown before) (stream_shown after)
 BufferPasses before call reply after = Unit {0}
 
 -- the raw's bytes after a call: those before it, with a front laid on of what was owed and what the call gives
 abbrev pub BufferLays : (before : Buffer) → (own after : List ℕ) → Type 0
 BufferLays before own after = LaysFrontOf before.raw.bytes before.owed before.place own after
-
--- a write that the raw's waiting cut short has filled the buffer
-abbrev pub BufferBlocksFull : FileCall → FileReply → Buffer → Type 0
-BufferBlocksFull (Write bytes) (Refused (fault.WouldBlock taken)) after = (size : ℕ) × (size_shown after.buffering ≡ Some size) × IsFull after.owed after.place size
-BufferBlocksFull call reply after = Unit {0}
 
 -- a write takes a front of its bytes, whatever it answers
 abbrev pub BufferTakes : FileCall → (from to : ℕ) → Type 0
@@ -276,6 +266,8 @@ pub record AnswersAsBuffer (before : Buffer) (call : FileCall) (reply : FileRepl
   pub again : closes_twice before call ≡ true → LeavesBuffer before call Done reply after
   -- the raw is closed exactly where the stream is, once nothing is owed, but where a close failed to move it back
   pub shut : parts_when_closed before call reply after ≡ false → after.owed.bytes ≡ [] → IsClosedWithRaw before → IsClosedWithRaw after
+  -- no call but a close closes the raw of a stream whose raw is closed where it is
+  pub stays : is_close call ≡ false → IsClosedWithRaw before → StaysOpen before.raw after.raw
   -- the raw of a live stream stands where the stream counts
   pub stands : after.life ≡ life.Live → StandsAsCounted after
   -- the causes of short answers and of RawFault
@@ -300,14 +292,22 @@ pub record AnswersAsBuffer (before : Buffer) (call : FileCall) (reply : FileRepl
   pub reach : IsTrue (is_reading call) → WhereShown before (after.place ≤ max before.place (length (flat_of before).bytes))
   -- a wait hides nothing: the raw then stands at the place
   pub hides : IsTrue after.short → IsTrue (is_reading call) → after.owed.bytes ≡ [] → after.raw_place ≡ after.place
-  -- what is owed after a call
+  -- what is owed after a call, and how much was passed on: exactly what the raw answered for
   pub owes : BufferOwes before call after
   -- what the raw's bytes are after a call
   pub lays : WhereShown before (BufferLays before (payload call) after.raw.bytes)
   -- a stream that doesn't write leaves the raw's bytes, and owes nothing; only its readings and seeks move the raw
-  pub spares : before.can.writable ≡ false → before.owed ≡ nothing_owed before.place → SparesRaw before call after
-  -- a write that would have blocked leaves as many bytes owed as the buffer holds
-  pub full : BufferBlocksFull call reply after
+  pub spares : before.can.writable ≡ false → before.owed ≡ nothing_owed before.place → SparesBytes (stream_shown before) call (stream_shown after)
+  -- a write that would have blocked leaves as many bytes owed as the buffer holds, another call some
+  pub full : BlocksFull call reply (stream_shown after)
+  -- so a call that neither gives nor takes bytes isn't made to wait where nothing was owed
+  pub unwaited : is_reading call ≡ false → is_writing call ≡ false → before.owed.bytes ≡ [] → after.short ≡ false
+  -- a `read1` makes at most one transfer where nothing was owed
+  pub single : IsTrue (is_single call) → before.owed.bytes ≡ [] → AtMostOne (stream_shown before) (stream_shown after)
+  -- one that gives bytes, or the end, passed on first what was owed
+  pub passes_first : PassesFirst (stream_shown before) call reply (stream_shown after)
+  -- running out of memory fails a write only once the raw took some of its own bytes
+  pub starves : IsTrue (says_no_memory reply) → IsTrue (is_writing call) → after.life ≡ life.Failed → TookOwn (stream_shown before) (stream_shown after)
   -- a write takes a front of its bytes
   pub takes : BufferTakes call before.place after.place
   -- how many bytes of the last write were taken

@@ -30,6 +30,10 @@ pub record OwesBehind (stream : Stream) : Type 0 where
 abbrev pub NoneAtPlace : Stream → Type 0
 NoneAtPlace stream = stream.owed.bytes ≡ [] → stream.owed.place ≡ stream.place
 
+-- told, the bytes that a write took, the first n, are laid on in the flat file, and after a fault of the raw some more of them may be
+abbrev pub LaysTaken : (before : Stream) (bytes : List ℕ) (taken : ℕ) (after : Stream) → Type 0
+LaysTaken before bytes taken after = WhereTold before.raw ((count : ℕ) × (taken ≤ count) × (count ≤ length bytes) × ((file_of after).bytes ≡ lay (file_of before).bytes before.place (take count bytes)))
+
 -- a call that writes, whatever it answers: the stream took the first n of the bytes, after those that it owed, and
 -- passed on the first of them all, exactly as many as the raw answered for; so it owes a suffix, up to its place. By so many the raw
 -- went forth, where it stood where what was owed begins. Told, those that the stream took are laid on in the flat file, and after a fault
@@ -44,7 +48,7 @@ pub record Takes (before : Stream) (bytes : List ℕ) (after : Stream) : Type 0 
   pub forth : OwesBehind before → after.raw_place ≡ before.raw_place + passed
   pub owed : after.owed.bytes ≡ drop passed (before.owed.bytes ++ take taken bytes)
   pub up_to : OwesUpTo after.owed after.place
-  pub told : WhereTold before.raw ((count : ℕ) × (taken ≤ count) × (count ≤ length bytes) × ((file_of after).bytes ≡ lay (file_of before).bytes before.place (take count bytes)))
+  pub told : LaysTaken before bytes taken after
 
 -- what is left of the owed bytes is a suffix of them, at the place where it stood
 pub record OwesRest (before after : Owed) : Type 0 where
@@ -150,18 +154,14 @@ abbrev pub OwesSome : (before : Stream) (new : List ℕ) (after : Stream) → Ty
 OwesSome before new after = OwesTheRest before new after ⊎ (OwesNewAlone before new after ⊎ OwesUpToPlace before new after)
 
 -- what is owed after a write that took n bytes, wherever its place lay. Where nothing is, all that was owed and all that was taken is
--- passed on: the raw answered for exactly so many bytes
+-- passed on: the raw answered for exactly so many bytes. Told, those that were taken are in the flat file
 pub record OwesBoth (before : Stream) (bytes : List ℕ) (after : Stream) : Type 0 where
   pub taken : ℕ
   pub within : taken ≤ length bytes
   pub place : after.place ≡ before.place + taken
   pub owes : after.owed.bytes ≢ [] → OwesSome before (take taken bytes) after
   pub none : after.owed.bytes ≡ [] → AnswersFor (length before.owed.bytes + taken) before.raw after.raw
-
--- the same of what is owed alone, whatever the raw answered for: it covers what was owed and the new bytes that a write took at a place; or
--- nothing is left of the former; or the write took nothing, and what was owed goes on up to the place
-abbrev pub OwedAfter : (was : Owed) (place : ℕ) (new : List ℕ) (owed : Owed) → Type 0
-OwedAfter was place new owed = owed.bytes ≢ [] → ((passed : ℕ) × LeavesBoth passed was place new owed) ⊎ (((passed : ℕ) × LeavesNew passed place new owed) ⊎ ((passed : ℕ) × LeavesUpTo passed was place new owed))
+  pub told : LaysTaken before bytes taken after
 
 -- what a call may lay on the raw's bytes: a front of what was owed at its place, and then a front of what it gives at the stream's; none of
 -- the latter before all that was owed
@@ -246,11 +246,12 @@ pub record IsFull (owed : Owed) (place size : ℕ) : Type 0 where
   pub up_to : owed.place + size ≡ place
   pub owes : length owed.bytes ≡ size
 
--- a write that couldn't take all has filled the buffer; another call that would have blocked took nothing
+-- a write that couldn't take all has filled the buffer; another call that would have blocked took nothing, and not all that was owed was
+-- passed on: only that is made to wait
 abbrev pub BlocksFull : FileCall → FileReply → Stream → Type 0
 BlocksFull (Write bytes) (Refused (fault.WouldBlock taken)) after = IsFull after.owed after.place (size_of after)
 BlocksFull (WriteLines lines) (Refused (fault.WouldBlock taken)) after = IsFull after.owed after.place (size_of after)
-BlocksFull call (Refused (fault.WouldBlock taken)) after = taken ≡ 0
+BlocksFull call (Refused (fault.WouldBlock taken)) after = (taken ≡ 0) × (after.owed.bytes ≢ [])
 BlocksFull call reply after = Unit {0}
 
 -- what is owed is left of what was owed. Once the place moved nothing is, and the place is where the raw had come to; so it is, with

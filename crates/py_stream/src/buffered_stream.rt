@@ -1,6 +1,7 @@
 //! What the layer above asks of a buffered stream.
-ghost use Rattle.std.specs.Prelude.{◌≡◌, unwrap_or};
+ghost use Rattle.std.specs.Prelude.{◌≡◌, true, false, unwrap_or};
 ghost use Rattle.py_flat.specs.Calls.{Read1, Write, Seek, Flush, Close};
+ghost use Rattle.py_flat.specs.Refusals.{is_unbuffered};
 ghost use Rattle.py_flat.specs.ExactStep.{is_closed};
 ghost use Rattle.py_stream.specs.Replies.{bytes_reply, count_reply, place_reply, done_reply};
 ghost use Rattle.py_stream.specs.Buffer.{Buffer, size_shown, TellsPlace, AnswersEnd, AnswersAsBuffer};
@@ -55,9 +56,10 @@ pub trait BufferedStream {
     fn writable(&self) -> bool
         ensures { result ≡ (shows self.now).can.writable };
 
-    /// Whether the stream can be moved.
+    /// Whether the stream can be moved. One that is both read and written can, and doesn't append.
     fn seekable(&self) -> bool
-        ensures { result ≡ (shows self.now).can.seekable };
+        ensures says { result ≡ (shows self.now).can.seekable }
+        ensures moves { (shows self.now).can.readable ≡ true → (shows self.now).can.writable ≡ true → ((shows self.now).can.seekable ≡ true) × ((shows self.now).can.appending ≡ false) };
 
     /// Whether the stream is closed.
     fn closed(&self) -> bool
@@ -75,9 +77,10 @@ pub trait BufferedStream {
     fn life(&self) -> Life
         ensures { result ≡ (shows self.now).life };
 
-    /// How many bytes the buffer holds; 0 of a stream in memory.
+    /// How many bytes the buffer holds; 0 of a stream in memory. No such stream is one without a buffer.
     fn buffer_size(&self) -> usize
-        ensures { result ≡ unwrap_or (size_shown (shows self.now).buffering) 0 };
+        ensures size { result ≡ unwrap_or (size_shown (shows self.now).buffering) 0 }
+        ensures buffered { is_unbuffered (shows self.now).buffering ≡ false };
 
     /// How many bytes of the last write were taken: after a fault those that the raw answered for or the buffer keeps.
     fn taken(&self) -> u64

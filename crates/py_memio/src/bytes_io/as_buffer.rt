@@ -101,6 +101,7 @@ impl BufferedStream for BytesIO {
     }
 
     fn seekable(&self) -> bool {
+        let _ = &self.bytes;
         BytesIO::seekable(self)
     }
 
