@@ -99,8 +99,9 @@ impl<R: RawStream> BufferedRandom<R> {
         self.inner.read1(alloc, size)
     }
 
-    /// Shows some of the next bytes, lent from the buffer, by at most one transfer of the raw after all that is owed was passed on; the place
-    /// stays. No bytes are shown only where nothing is left.
+    /// Shows some of the next bytes, lent from the buffer; the place stays. Where some are held, these are shown without a call of the raw,
+    /// owed or not; else at most one transfer of the raw brings them, after all that is owed was passed on. No bytes are shown only where
+    /// nothing is left.
     ///
     /// It takes no memory: `NoMemory` comes only of a raw that takes some.
     pub fn peek(&mut self) -> Result<Option<&[u8]>, IoFault>
@@ -128,8 +129,8 @@ impl<R: RawStream> BufferedRandom<R> {
         self.inner.readinto(buffer)
     }
 
-    /// Reads some of the next bytes into the front of `buffer`, by at most one transfer of the raw after all that is owed was passed on, and
-    /// answers how many. No bytes come only where `buffer` is empty or nothing is left. What `buffer` has after them stays as it was; `None` and
+    /// Reads some of the next bytes into the front of `buffer`, and answers how many. Where some are held, these are given without a call of
+    /// the raw, owed or not; else at most one transfer of the raw brings them, after all that is owed was passed on. No bytes come only where `buffer` is empty or nothing is left. What `buffer` has after them stays as it was; `None` and
     /// refusals leave all of it.
     ///
     /// It takes no memory: `NoMemory` comes only of a raw that takes some, and leaves place and life as they were.

@@ -21,7 +21,7 @@ use Rattle.py_stream.specs.Kinds.{is_reading, is_single, asks_none, asks_nothing
 use Rattle.py_stream.specs.Held.{GivesHeld}
 use Rattle.py_stream.specs.Keeping.{IsSound}
 use Rattle.py_stream.specs.Moving.{owed_at}
-use Rattle.py_stream.specs.Answers.{Answers, IsAhead, InHandOf}
+use Rattle.py_stream.specs.Answers.{Answers, IsAhead, ahead, FlushesFirst, InHandOf}
 use Rattle.py_stream.specs.Settling.{SettleOutcome}
 use Rattle.py_stream.specs.Reading.{wanted_by, reply_by, has_answer, is_wait}
 use Rattle.py_stream.specs.Replies.{look_reply}
@@ -41,7 +41,7 @@ use Rattle.py_stream.proofs.Settled.{settled_reads}
 use Rattle.py_window.specs.Window.{WindowView, IsWindow, place_of, end_of, ahead_of, advanced, flat_over, HoldsBytes}
 use Rattle.py_engine.specs.Engine.{EngineView, stream_of, Stands, IsEngine, HasShape, HoldsRead, BeginOutcome}
 use Rattle.py_engine.specs.Reading.{reading_of, AnswersSized, IsReading, ReadyOutcome}
-use Rattle.py_engine.specs.Random.{GoesToRaw, AnswersFrom, WentAhead, GoesAhead, WantsPast, gave, AnswersOnce, OnceOutcome}
+use Rattle.py_engine.specs.Random.{GoesToRaw, AnswersFrom, WentAhead, GoesAhead, WantsPast, gave, AnswersSome, AnswersOnce, AnswersFirst, OnceOutcome, SomeOutcome}
 use Rattle.py_engine.proofs.Transfers.{bytes_ahead}
 use Rattle.py_engine.proofs.Standing.{is_placed, is_sound, owes_nothing, none_over, reads_alone, reads_both}
 use Rattle.py_engine.proofs.Seen.{readable, same_stream}
@@ -277,9 +277,9 @@ stands_begun old begun is began = subst Stands (sym began.1) (stands_whole old i
 pub held_begun : (old begun : EngineView) → Stands old → is_read old.access ≡ true → BeginOutcome old (Ok tt) begun → ReadsHeld (stream_of begun)
 held_begun old begun is reads began = reads_held begun (stands_begun old begun is began) (ap (λ (engine : EngineView). is_read engine.access) began.1 ∙ reads) (ap (λ (engine : EngineView). engine.life) began.1 ∙ began.0) (ap (λ (engine : EngineView). engine.short) began.1)
 
--- the bytes held answer a call by one transfer only where some are held and nothing is owed
-once_apart : (engine : EngineView) (call : FileCall) → is_single call ≡ true → InHandOf (stream_of engine) call → (0 < length (ahead_of engine.window) → (stream_of engine).owed.bytes ≡ [] → ⊥) → ⊥
-once_apart engine call single has apart = grind (arith, length-drop)
+-- the bytes held answer a call by one transfer that has to pass on first only where some are held and nothing is owed
+once_apart : (engine : EngineView) (call : FileCall) → is_single call ≡ true → FlushesFirst (stream_of engine) call → InHandOf (stream_of engine) call → (0 < length (ahead_of engine.window) → (stream_of engine).owed.bytes ≡ [] → ⊥) → ⊥
+once_apart engine call single first has apart = grind (arith, length-drop)
 
 -- a line that goes on after a piece may have some byte
 limit_some : (limit : Option ℕ) (piece line : List ℕ) → WantsMore (wanted_by (ReadLine limit)) [] piece line → asks_zero limit ≡ false
@@ -372,15 +372,15 @@ module _ (old begun : EngineView) (is : Stands old) (reads : is_read old.access 
   lines_go hint piece lent past = record { reads = refl; some = refl; apart = λ hand. held_past (ReadLines hint) piece refl lent past hand.of }
 
   -- a call by one transfer is given some of the bytes held
-  pub once_given : (new : EngineView) (call : FileCall) (size : ℕ) (part : List ℕ) → is_single call ≡ true → moves_by call (length part) ≡ length part → asks_for begun.window.size call ≡ size → size ≢ 0 → (0 < length (ahead_of begun.window)) × ((stream_of begun).owed.bytes ≡ []) → part ≡ take size (ahead_of begun.window) → new ≡ record begun { window = advanced (length part) begun.window } → Answers (stream_of old) call (Bytes part) (stream_of new)
+  pub once_given : (new : EngineView) (call : FileCall) (size : ℕ) (part : List ℕ) → is_single call ≡ true → moves_by call (length part) ≡ length part → asks_for begun.window.size call ≡ size → size ≢ 0 → (0 < length (ahead_of begun.window)) × (FlushesFirst (stream_of begun) call → (stream_of begun).owed.bytes ≡ []) → part ≡ take size (ahead_of begun.window) → new ≡ record begun { window = advanced (length part) begun.window } → Answers (stream_of old) call (Bytes part) (stream_of new)
   once_given new call size part single moves asked asks ready front same =
       let least : length part ≡ min size (length (ahead_of begun.window)) = ap length front ∙ length-take size (ahead_of begun.window) in
       answers_from_begun old begun call (Bytes part) (stream_of new) began
       (held_answers_once (stream_of begun) (stream_of new) call part begun_held ready.1 single moves (λ none. omega (arith, ap length none, least, asks, ready.0)) (omega (arith, least, asked)) (gives_front begun new part size begun_is begun_reads begun_held.live front same))
 
   -- the bytes held are shown
-  pub held_shown : 0 < length (ahead_of begun.window) → (stream_of begun).owed.bytes ≡ [] → Answers (stream_of old) Peek (Bytes (ahead_of begun.window)) (stream_of begun)
-  held_shown some passed = answers_from_begun old begun Peek (Bytes (ahead_of begun.window)) (stream_of begun) began (held_peek (stream_of begun) (ahead_of begun.window) begun_held passed (λ none. omega (arith, some, ap length none)) (omega (arith, length-drop begun.window.cursor begun.window.held)) begun_told)
+  pub held_shown : 0 < length (ahead_of begun.window) → Answers (stream_of old) Peek (Bytes (ahead_of begun.window)) (stream_of begun)
+  held_shown some = answers_from_begun old begun Peek (Bytes (ahead_of begun.window)) (stream_of begun) began (held_peek (stream_of begun) (ahead_of begun.window) begun_held (λ none. omega (arith, some, ap length none)) (omega (arith, length-drop begun.window.cursor begun.window.held)) begun_told)
 
 -- what a reading of n bytes answers that goes on once all was passed on
 pub size_on : (old begun mid new : EngineView) (size many : ℕ) (done : Bool) (reply : FileReply) → Stands old → BeginOutcome old (Ok tt) begun → length (ahead_of begun.window) < size → done ≡ true → GoesAhead begun (Ok done) mid → IsReading new → many ≡ size → AnswersSized (reading_of mid) many reply (reading_of new) → Answers (stream_of old) (Read (Some size)) reply (stream_of new)
@@ -399,8 +399,8 @@ single_space : (call : FileCall) → is_single call ≡ true → IsTrue (takes_s
 single_space call single first = grind arith
 
 -- one has to go to the raw that asks for some byte, where no byte is held or some is owed
-pub once_goes : (engine : EngineView) (call : FileCall) → is_single call ≡ true → asks_nothing call ≡ false → (0 < length (ahead_of engine.window) → (stream_of engine).owed.bytes ≡ [] → ⊥) → GoesToRaw (stream_of engine) call
-once_goes engine call single some apart = record { reads = single_reads call single; some = some; apart = λ has. once_apart engine call single has.of apart }
+pub once_goes : (engine : EngineView) (call : FileCall) → is_single call ≡ true → asks_nothing call ≡ false → FlushesFirst (stream_of engine) call → (0 < length (ahead_of engine.window) → (stream_of engine).owed.bytes ≡ [] → ⊥) → GoesToRaw (stream_of engine) call
+once_goes engine call single some first apart = record { reads = single_reads call single; some = some; apart = λ has. once_apart engine call single first has.of apart }
 
 -- an engine reads on whose one transfer failed
 failed_reads : (old new : EngineView) (why : IoFault) → IsReading old → ReadyOutcome old (Err why) new → IsReading new
@@ -408,53 +408,86 @@ failed_reads old new fault.RawFault is fails = fails.0.kept.is
 failed_reads old new fault.NoMemory is wants = subst IsReading (sym wants.1) is
 failed_reads old new why is never = absurd never
 
+-- where some are held, a call that needn't pass on first doesn't
+needs_none : (engine : EngineView) → 0 < length (ahead_of engine.window) → ahead (stream_of engine) ≡ 0 → ⊥
+needs_none engine some none = omega (arith, some, none, length-drop engine.window.cursor engine.window.held)
+
+-- the bytes held answer a call that needn't pass on first
+pub some_now : (engine : EngineView) (wanted : ℕ) → Stands engine → is_read engine.access ≡ true → BeginOutcome engine (Ok tt) engine → wanted ≢ 0 → 0 < length (ahead_of engine.window) → AnswersSome engine wanted engine
+some_now engine wanted is reads began asks some = record {
+  reads = reads;
+  readinto1 = once_given engine engine is reads began (gave wanted engine) (ReadInto1 wanted) wanted (take wanted (ahead_of engine.window)) refl refl refl asks (some, λ none. absurd (needs_none engine some none)) refl refl;
+  look = λ _. held_shown engine engine is reads began some;
+}
+
 -- the bytes held answer at once
 pub once_now : (engine : EngineView) (wanted : ℕ) → Stands engine → is_read engine.access ≡ true → BeginOutcome engine (Ok tt) engine → wanted ≢ 0 → (0 < length (ahead_of engine.window)) × ((stream_of engine).owed.bytes ≡ []) → AnswersOnce engine wanted engine
 once_now engine wanted is reads began asks ready = record {
   live = began.0;
   reads = reads;
-  read1 = λ size same. once_given engine engine is reads began (gave wanted engine) (Read1 size) wanted (take wanted (ahead_of engine.window)) refl refl same asks ready refl refl;
-  readinto1 = once_given engine engine is reads began (gave wanted engine) (ReadInto1 wanted) wanted (take wanted (ahead_of engine.window)) refl refl refl asks ready refl refl;
-  look = λ _. held_shown engine engine is reads began ready.0 ready.1;
+  some = λ _. some_now engine wanted is reads began asks ready.0;
+  read1 = λ size same. once_given engine engine is reads began (gave wanted engine) (Read1 size) wanted (take wanted (ahead_of engine.window)) refl refl same asks (ready.0, λ _. ready.1) refl refl;
   lacks = λ size same. lacks engine engine is reads began (Read1 size) refl refl;
 }
 
-module _ (old ahead : EngineView) (began : BeginOutcome old (Ok tt) old) (apart : 0 < length (ahead_of old.window) → (stream_of old).owed.bytes ≡ [] → ⊥) (went : WentAhead old ahead) where
+module _ (old went_to : EngineView) (began : BeginOutcome old (Ok tt) old) (apart : 0 < length (ahead_of old.window) → (stream_of old).owed.bytes ≡ [] → ⊥) (went : WentAhead old went_to) where
   -- it begins again where all was passed on
-  begun_ahead : BeginOutcome ahead (Ok tt) ahead
-  begun_ahead = begun_self ahead went.live went.whole
+  begun_ahead : BeginOutcome went_to (Ok tt) went_to
+  begun_ahead = begun_self went_to went.live went.whole
 
   -- what a call answers from there
-  once_on : (new : EngineView) (call : FileCall) (reply : FileReply) → is_single call ≡ true → asks_nothing call ≡ false → IsReading new → Answers (reading_of ahead) call reply (reading_of new) → Answers (stream_of old) call reply (stream_of new)
-  once_on new call reply single some reads answers = went_on old old call began (once_goes old call single some apart) ahead new true reply refl went reads (λ wanting takes. absurd (single_space call single takes)) answers
+  once_on : (new : EngineView) (call : FileCall) (reply : FileReply) → is_single call ≡ true → asks_nothing call ≡ false → FlushesFirst (stream_of old) call → IsReading new → Answers (reading_of went_to) call reply (reading_of new) → Answers (stream_of old) call reply (stream_of new)
+  once_on new call reply single some first reads answers = went_on old old call began (once_goes old call single some first apart) went_to new true reply refl went reads (λ wanting takes. absurd (single_space call single takes)) answers
 
   -- its one transfer failed
-  pub once_not : (new : EngineView) (wanted : ℕ) (why : IoFault) → ReadyOutcome ahead (Err why) new → OnceOutcome old wanted (Err why) new
-  once_not new wanted why fails call single some = once_on new call (Refused why) single some (failed_reads ahead new why went.reads fails) (once_failed ahead ahead new call why single some went.reads begun_ahead fails)
+  pub once_not : (new : EngineView) (wanted : ℕ) (why : IoFault) → ReadyOutcome went_to (Err why) new → OnceOutcome old wanted (Err why) new
+  once_not new wanted why fails call single some first = once_on new call (Refused why) single some first (failed_reads went_to new why went.reads fails) (once_failed went_to went_to new call why single some went.reads begun_ahead fails)
 
   -- it has its answer, or the raw made it wait
-  pub once_ready : (mid new : EngineView) (wanted : ℕ) (stop : Stop) (shown : Bool) → wanted ≢ 0 → ReadyOutcome ahead (Ok stop) mid → shown ≡ has_answer stop true → new ≡ record mid { short = is_wait stop } → OnceOutcome old wanted (Ok shown) new
+  pub once_ready : (mid new : EngineView) (wanted : ℕ) (stop : Stop) (shown : Bool) → wanted ≢ 0 → ReadyOutcome went_to (Ok stop) mid → shown ≡ has_answer stop true → new ≡ record mid { short = is_wait stop } → OnceOutcome old wanted (Ok shown) new
   once_ready mid new wanted stop false asks ready shows new_is =
-      λ call single some. once_on new call NotReady single some (answered_reads ahead mid new stop ready new_is) (once_unready ahead ahead mid new call stop single some went.reads begun_ahead ready (sym shows) new_is)
+      λ call single some first. once_on new call NotReady single some first (answered_reads went_to mid new stop ready new_is) (once_unready went_to went_to mid new call stop single some went.reads begun_ahead ready (sym shows) new_is)
   once_ready mid new wanted stop true asks ready shows new_is =
-      let reads : IsReading new = answered_reads ahead mid new stop ready new_is in
+      let reads : IsReading new = answered_reads went_to mid new stop ready new_is in
       let part : List ℕ = take wanted (ahead_of new.window) in
       let gave_reads : IsReading (gave wanted new) = advanced_reads new (gave wanted new) (length part) reads (omega (arith, length-take wanted (ahead_of new.window))) refl in
       record {
-        live = ap (λ (engine : EngineView). engine.life) new_is ∙ (moved_to_ready ahead mid stop ready).0.live;
+        live = ap (λ (engine : EngineView). engine.life) new_is ∙ (moved_to_ready went_to mid stop ready).0.live;
+        some = λ none. record {
+          reads = reads.reads;
+          readinto1 = once_on (gave wanted new) (ReadInto1 wanted) (Bytes part) refl (asks_some old.window.size (ReadInto1 wanted) refl asks) none gave_reads
+              (once_held went_to went_to mid new (gave wanted new) (ReadInto1 wanted) stop part refl (asks_some old.window.size (ReadInto1 wanted) refl asks) went.reads begun_ahead ready (sym shows) new_is refl refl);
+          look = λ _. once_on new Peek (Bytes (ahead_of new.window)) refl refl none reads (once_looked went_to went_to mid new stop went.reads begun_ahead ready (sym shows) new_is);
+        };
         reads = reads.reads;
-        read1 = λ size same. once_on (gave wanted new) (Read1 size) (Bytes part) refl (asks_some old.window.size (Read1 size) refl (λ none. asks (sym same ∙ none))) gave_reads
-            (once_held ahead ahead mid new (gave wanted new) (Read1 size) stop part refl (asks_some old.window.size (Read1 size) refl (λ none. asks (sym same ∙ none))) went.reads begun_ahead ready (sym shows) new_is
+        read1 = λ size same. once_on (gave wanted new) (Read1 size) (Bytes part) refl (asks_some old.window.size (Read1 size) refl (λ none. asks (sym same ∙ none))) tt gave_reads
+            (once_held went_to went_to mid new (gave wanted new) (Read1 size) stop part refl (asks_some old.window.size (Read1 size) refl (λ none. asks (sym same ∙ none))) went.reads begun_ahead ready (sym shows) new_is
             (ap (λ (n : ℕ). take n (ahead_of new.window)) (sym (ap (unwrap_or size) went.size ∙ same))) refl);
-        readinto1 = once_on (gave wanted new) (ReadInto1 wanted) (Bytes part) refl (asks_some old.window.size (ReadInto1 wanted) refl asks) gave_reads
-            (once_held ahead ahead mid new (gave wanted new) (ReadInto1 wanted) stop part refl (asks_some old.window.size (ReadInto1 wanted) refl asks) went.reads begun_ahead ready (sym shows) new_is refl refl);
-        look = λ _. once_on new Peek (Bytes (ahead_of new.window)) refl refl reads (once_looked ahead ahead mid new stop went.reads begun_ahead ready (sym shows) new_is);
-        lacks = λ size same. once_on new (Read1 size) (Refused fault.NoMemory) refl (asks_some old.window.size (Read1 size) refl (λ none. asks (sym same ∙ none))) reads
-            (once_starved ahead ahead mid new size stop (asks_some old.window.size (Read1 size) refl (λ none. asks (sym same ∙ none))) went.reads begun_ahead ready (sym shows) new_is);
+        lacks = λ size same. once_on new (Read1 size) (Refused fault.NoMemory) refl (asks_some old.window.size (Read1 size) refl (λ none. asks (sym same ∙ none))) tt reads
+            (once_starved went_to went_to mid new size stop (asks_some old.window.size (Read1 size) refl (λ none. asks (sym same ∙ none))) went.reads begun_ahead ready (sym shows) new_is);
       }
 
+-- where no byte is held, every call by one transfer has to pass on first
+flushes_all : (stream : Stream) (call : FileCall) → ahead stream ≡ 0 → FlushesFirst stream call
+flushes_all stream (Read1 size) none = tt
+flushes_all stream call none = none
+
+-- a window that is used up holds none from the place on
+pub used_up_ahead : (engine : EngineView) → ahead_of engine.window ≡ [] → ahead (stream_of engine) ≡ 0
+used_up_ahead engine none = omega (arith, ap length none, length-drop engine.window.cursor engine.window.held)
+
+-- where none was held, what comes of a passing on and one transfer answers a call that needn't pass on first
+pub some_once : (old new : EngineView) (wanted : ℕ) (result : Result Bool IoFault) → ahead (stream_of old) ≡ 0 → OnceOutcome old wanted result new → SomeOutcome old wanted result new
+some_once old new wanted (Ok true) none once = once.some none
+some_once old new wanted (Ok false) none once = (none, once)
+some_once old new wanted (Err why) none once = (none, once)
+
+-- what stopped a call answers it, where no byte was held
+pub some_stops : (old new : EngineView) (call : FileCall) (reply : FileReply) → is_single call ≡ true → asks_nothing call ≡ false → (ahead (stream_of old) ≡ 0) × AnswersFirst old reply new → Answers (stream_of old) call reply (stream_of new)
+some_stops old new call reply single some stops = stops.1 call single some (flushes_all (stream_of old) call stops.0)
+
 -- a `peek` that began
-pub look_once : (old begun new : EngineView) (result : Result Bool IoFault) → BeginOutcome old (Ok tt) begun → OnceOutcome begun begun.window.size result new → Answers (stream_of old) Peek (look_reply result (ahead_of new.window)) (stream_of new)
-look_once old begun new (Ok true) began once = answers_from_begun old begun Peek (Bytes (ahead_of new.window)) (stream_of new) began (once.look refl)
-look_once old begun new (Ok false) began once = answers_from_begun old begun Peek NotReady (stream_of new) began (once Peek refl refl)
-look_once old begun new (Err why) began once = answers_from_begun old begun Peek (Refused why) (stream_of new) began (once Peek refl refl)
+pub look_once : (old begun new : EngineView) (result : Result Bool IoFault) → BeginOutcome old (Ok tt) begun → SomeOutcome begun begun.window.size result new → Answers (stream_of old) Peek (look_reply result (ahead_of new.window)) (stream_of new)
+look_once old begun new (Ok true) began some = answers_from_begun old begun Peek (Bytes (ahead_of new.window)) (stream_of new) began (some.look refl)
+look_once old begun new (Ok false) began some = answers_from_begun old begun Peek NotReady (stream_of new) began (some_stops begun new Peek NotReady refl refl some)
+look_once old begun new (Err why) began some = answers_from_begun old begun Peek (Refused why) (stream_of new) began (some_stops begun new Peek (Refused why) refl refl some)

@@ -10,7 +10,7 @@ use Rattle.py_lines.specs.Collecting.{HasEnough}
 use Rattle.py_stream.specs.Access.{is_read}
 use Rattle.py_stream.specs.Stream.{Stream}
 use Rattle.py_stream.specs.Kinds.{is_reading, is_single, asks_none, asks_nothing, takes_space_first, says_no_memory}
-use Rattle.py_stream.specs.Answers.{Answers, InHand}
+use Rattle.py_stream.specs.Answers.{Answers, ahead, FlushesFirst, InHand}
 use Rattle.py_stream.specs.Reading.{wanted_by}
 use Rattle.py_window.specs.Window.{ahead_of, advanced}
 use Rattle.py_engine.specs.Engine.{EngineView, stream_of}
@@ -55,17 +55,32 @@ LinesIn bytes hint (Err lacks) = Unit {0}
 abbrev pub gave : ℕ → EngineView → EngineView
 gave wanted engine = record engine { window = advanced (length (take wanted (ahead_of engine.window))) engine.window }
 
--- those held answer each call by one transfer that wants n bytes
-pub record AnswersOnce (old : EngineView) (wanted : ℕ) (new : EngineView) : Type 0 where
-  pub live : new.life ≡ life.Live
+-- those held answer each call by one transfer that wants n bytes and needn't pass on first
+pub record AnswersSome (old : EngineView) (wanted : ℕ) (new : EngineView) : Type 0 where
   pub reads : is_read new.access ≡ true
-  pub read1 : (size : Option ℕ) → unwrap_or size old.window.size ≡ wanted → Answers (stream_of old) (Read1 size) (Bytes (take wanted (ahead_of new.window))) (stream_of (gave wanted new))
   pub readinto1 : Answers (stream_of old) (ReadInto1 wanted) (Bytes (take wanted (ahead_of new.window))) (stream_of (gave wanted new))
   pub look : old.window.size ≡ wanted → Answers (stream_of old) Peek (Bytes (ahead_of new.window)) (stream_of new)
+
+-- those held answer each such call, a `read1` too, where it has passed on first
+pub record AnswersOnce (old : EngineView) (wanted : ℕ) (new : EngineView) : Type 0 where
+  pub live : new.life ≡ life.Live
+  pub some : ahead (stream_of old) ≡ 0 → AnswersSome old wanted new
+  pub reads : is_read new.access ≡ true
+  pub read1 : (size : Option ℕ) → unwrap_or size old.window.size ≡ wanted → Answers (stream_of old) (Read1 size) (Bytes (take wanted (ahead_of new.window))) (stream_of (gave wanted new))
   pub lacks : (size : Option ℕ) → unwrap_or size old.window.size ≡ wanted → Answers (stream_of old) (Read1 size) (Refused fault.NoMemory) (stream_of new)
 
--- those held answer such a call; or what stopped it answers each that asks for some byte
+-- a reply answers each call by one transfer that asks for some byte and has to pass on first
+abbrev pub AnswersFirst : EngineView → FileReply → EngineView → Type 0
+AnswersFirst old reply new = (call : FileCall) → is_single call ≡ true → asks_nothing call ≡ false → FlushesFirst (stream_of old) call → Answers (stream_of old) call reply (stream_of new)
+
+-- those held answer such a call once all was passed on; or what stopped that, or the one transfer, answers it
 abbrev pub OnceOutcome : EngineView → ℕ → Result Bool IoFault → EngineView → Type 0
 OnceOutcome old wanted (Ok true) new = AnswersOnce old wanted new
-OnceOutcome old wanted (Ok false) new = (call : FileCall) → is_single call ≡ true → asks_nothing call ≡ false → Answers (stream_of old) call NotReady (stream_of new)
-OnceOutcome old wanted (Err why) new = (call : FileCall) → is_single call ≡ true → asks_nothing call ≡ false → Answers (stream_of old) call (Refused why) (stream_of new)
+OnceOutcome old wanted (Ok false) new = AnswersFirst old NotReady new
+OnceOutcome old wanted (Err why) new = AnswersFirst old (Refused why) new
+
+-- those held answer a call by one transfer that needn't pass on first; or where none was held, what stopped it answers it
+abbrev pub SomeOutcome : EngineView → ℕ → Result Bool IoFault → EngineView → Type 0
+SomeOutcome old wanted (Ok true) new = AnswersSome old wanted new
+SomeOutcome old wanted (Ok false) new = (ahead (stream_of old) ≡ 0) × AnswersFirst old NotReady new
+SomeOutcome old wanted (Err why) new = (ahead (stream_of old) ≡ 0) × AnswersFirst old (Refused why) new

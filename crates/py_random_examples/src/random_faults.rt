@@ -83,19 +83,16 @@ fn a_seek_past_the_bytes_held_waits_for_what_is_owed(rt: HostRuntime) -> Result<
 }
 
 #[test]
-fn a_single_transfer_waits_for_what_is_owed_also_where_bytes_are_held(
-    rt: HostRuntime,
-) -> Result<(), Fail> {
+fn a_read1_alone_waits_for_what_is_owed_where_bytes_are_held(rt: HostRuntime) -> Result<(), Fail> {
     let alloc = rt.alloc();
-    // the raw is read, and then asks three times to wait
-    let plan = [Cut::Take(4), Cut::Wait, Cut::Wait, Cut::Wait];
+    // the raw is read, and then asks to wait
+    let plan = [Cut::Take(4), Cut::Wait];
     let mut stream = random_over(alloc, b"0123456789", &plan, &[], 4)?;
     assert_eq!(rt; shown(&stream.read(alloc, Some(2))), Ok(Some(&b"01"[..]))); // four bytes are held
     assert_eq!(rt; stream.write(b"a"), Ok(1));
     assert_eq!(rt; shown(&stream.read1(alloc, Some(1))), Ok(None)); // `3` is held, but `a` is still owed
-    assert_eq!(rt; stream.readinto1(&mut [0]), Ok(None));
-    assert_eq!(rt; stream.peek(), Ok(None));
-    assert_eq!(rt; shown(&stream.read(alloc, Some(1))), Ok(Some(&b"3"[..]))); // this one calls no raw
+    assert_eq!(rt; stream.peek(), Ok(Some(&b"3"[..]))); // these two call no raw
+    assert_eq!(rt; stream.readinto1(&mut [0]), Ok(Some(1)));
     assert_eq!(rt; shown(&stream.read1(alloc, Some(1))), Ok(Some(&b"4"[..]))); // later
     Ok(())
 }

@@ -6,7 +6,7 @@ use Rattle.py_flat.specs.declared.life.Life.{Life}
 use Rattle.py_flat.specs.declared.life.Life.TheVariants as life
 use Rattle.py_flat.specs.Bytes.{lay}
 use Rattle.py_flat.specs.Owed.{Owed}
-use Rattle.py_flat.specs.Calls.{FileCall, Write, Seek, Close, FileReply, Done}
+use Rattle.py_flat.specs.Calls.{FileCall, Read1, Write, Seek, Close, FileReply, Done}
 use Rattle.py_flat.specs.ExactStep.{is_closed}
 use Rattle.py_flat.specs.BinaryStep.{payload}
 use Rattle.py_raw.specs.RawStream.{tells, WhereTold, AnswersFor, StaysOpen}
@@ -14,7 +14,7 @@ use Rattle.py_raw.proofs.Telling.{tells_still, tells_its_bytes}
 use Rattle.py_stream.specs.Stream.{Stream, buffering_of, nothing_owed}
 use Rattle.py_stream.specs.Kinds.{is_reading, is_writing, is_single, makes_one, moves_raw, says_no_memory}
 use Rattle.py_stream.specs.Writing.{OwesBehind, LaysTaken, Takes, OwesSome, PassesFront, PassedOn, OwesBoth, PassesOn, LaysInOrder, BlocksFull, TookOwn, Writes}
-use Rattle.py_stream.specs.Answers.{Answers, Leaves, ClosedWith, parts_at_close, LifeMoves, GivesWithin, IsReplyTo, IsShort, AtMostOne, PassesFirst, SparesBytes, SeeksTo, SeeksFromEnd, UnlessStopped, EndMoves, SeeksByEnd, closes_again, refused_by}
+use Rattle.py_stream.specs.Answers.{Answers, Leaves, ClosedWith, parts_at_close, LifeMoves, GivesWithin, IsReplyTo, IsShort, AtMostOne, FlushesFirst, PassesFirst, SparesBytes, SeeksTo, SeeksFromEnd, UnlessStopped, EndMoves, SeeksByEnd, closes_again, refused_by}
 use Rattle.py_stream.specs.Buffer.{Buffer, buffer_of, taken_by, size_shown, LeavesBuffer, closes_twice, is_close, stream_shown, GivesAsked, GoesFromEnd, BufferSeeksFromEnd, BufferSeeksByEnd, BufferOwes, BufferPasses, BufferLays, BufferTakes, OwesAsItCan, is_made, AnswersAsBuffer}
 use Rattle.py_stream.proofs.LeftOwed.{none_or_some}
 
@@ -264,6 +264,10 @@ one_so : (buffer : Option ℕ) (call : FileCall) → IsSome buffer → IsTrue (i
 one_so (Some size) call some single = single
 one_so None call some single = absurd (cc)
 
+-- the one reading by one transfer that the layer above makes flushes first, whatever is held
+flushes_so : (before : Stream) (call : FileCall) → IsTrue (is_made call) → IsTrue (is_single call) → FlushesFirst before call
+flushes_so before call made single = grind arith
+
 -- an answer of a stream with a buffer is one of a buffered stream
 pub answers_as_buffer : (before : Stream) (was : ℕ) (call : FileCall) (reply : FileReply) (after : Stream) (taken : ℕ) → Answers before call reply after → taken ≡ taken_by call before.place after.place was → IsTrue (is_made call) → IsSome before.buffer → OwesAsItCan (buffer_of before was) → AnswersAsBuffer (buffer_of before was) call reply (buffer_of after taken)
 answers_as_buffer before was call reply after taken answers counts made buffered owes =
@@ -273,6 +277,6 @@ answers_as_buffer before was call reply after taken answers counts made buffered
     let unwaited : is_reading call ≡ false → is_writing call ≡ false → before.owed.bytes ≡ [] → after.short ≡ false = λ reads gives none. unwaited_by (refused_by before call) before after taken call reply refl reads gives made answers passing.full (left_none (buffer_of before was) (buffer_of after taken) call gives none passing.owes) in
     let stays : is_close call ≡ false → ClosedWith before.life before.raw → StaysOpen before.raw after.raw = λ closes closed. stays_by (refused_by before call) before after call reply refl made closes answers (owing_stays before.can.writable was before after call reply refl owes answers) closed in
     let single : IsTrue (is_single call) → before.owed.bytes ≡ [] → AtMostOne (shown before was) (shown after taken) = λ one none. answers.single (one_so before.buffer call buffered one) none in
-    let first : PassesFirst (shown before was) call reply (shown after taken) = λ some single asks given. answers.passes_first buffered single asks given in
+    let first : PassesFirst (shown before was) call reply (shown after taken) = λ some single asks given first. answers.passes_first buffered single asks given (flushes_so before call made single) in
     let spares : before.can.writable ≡ false → before.owed ≡ nothing_owed before.place → SparesBytes (shown before was) call (shown after taken) = λ can none. spares_so was taken before after call (answers.spares can none) in
     grind (arith, size_is, tells_still, left_so, closed_so, gives_asked, by_end_so)

@@ -20,7 +20,7 @@ use Rattle.py_raw.proofs.Telling.{keeps_same}
 use Rattle.py_stream.specs.Stream.{Stream, size_of, file_of, nothing_owed}
 use Rattle.py_stream.specs.Kinds.{is_reading, is_single, asks_nothing, reads_on, by_several, makes_one, asks_none, has_room, says_fault, says_no_memory, says_given}
 use Rattle.py_stream.specs.Writing.{NoneAtPlace, LaysFront, LaysInOrder, BlocksFull, Writes}
-use Rattle.py_stream.specs.Answers.{Answers, KeepsStream, ClosedWith, HasCauses, IsCounted, IsShort, LifeMoves, PlaceMoves, GivesWithin, WantsMemory, Starves, StarvesFirst, AsksNothing, AtMostOne, PassesFirst, CameByReads, InHand, StaysHeld, IsAhead, GoesPast, AsksNoMore, SparesBytes, IsReplyTo, IsNear, refused_by, ahead}
+use Rattle.py_stream.specs.Answers.{Answers, KeepsStream, ClosedWith, HasCauses, IsCounted, IsShort, LifeMoves, PlaceMoves, GivesWithin, WantsMemory, Starves, StarvesFirst, AsksNothing, AtMostOne, FlushesFirst, PassesFirst, CameByReads, InHand, StaysHeld, IsAhead, GoesPast, AsksNoMore, SparesBytes, IsReplyTo, IsNear, refused_by, ahead}
 use Rattle.py_stream.specs.Keeping.{IsSound}
 use Rattle.py_stream.specs.Settling.{PassesSome, LivesOn, SettleOutcome}
 use Rattle.py_stream.specs.Reading.{Reaches, ComesNext, wanted_by, reply_by}
@@ -269,7 +269,7 @@ record IsHeldAnswer (before : Stream) (call : FileCall) (reply : FileReply) (pla
   said : says_fault reply ≡ false
   fed : says_no_memory reply ≡ false
   answers : IsReplyTo before.buffer before.can.writable call reply
-  passed : IsTrue (is_single call) → asks_nothing call ≡ false → before.owed.bytes ≡ []
+  passed : IsTrue (is_single call) → asks_nothing call ≡ false → FlushesFirst before call → before.owed.bytes ≡ []
   told : WhereTold before.raw (Accepted (file_of before) call reply (record (file_of before) { place = place }))
   reach : WhereTold before.raw (place ≤ max before.place (length (file_of before).bytes))
 
@@ -320,7 +320,7 @@ held_reading before call reply place owed reads held moved is =
       first = λ wanting. absurd (fed wanting);
       nothing = λ _. idle;
       single = λ _ _ tells. omega arith;
-      passes_first = λ _ single some _. moved.bytes ∙ is.passed single some;
+      passes_first = λ _ single some _ first. moved.bytes ∙ is.passed single some first;
       brings = λ _. came_still before after 1 refl refl;
       in_hand = λ _. idle;
       owing = λ _. record { owed = moved.bytes; held = refl };
@@ -401,7 +401,7 @@ held_once : (before : Stream) (call : FileCall) → ReadsHeld before → is_sing
 held_once before call held single = grind arith
 
 -- what an answer of one transfer says that some of the bytes held make
-once_answer : (before : Stream) (call : FileCall) (part : List ℕ) → ReadsHeld before → before.owed.bytes ≡ [] → is_single call ≡ true → part ≢ [] → length part ≤ asks_for (size_of before) call → length part ≤ ahead before → WhereTold before.raw (ComesNext before part) → IsHeldAnswer before call (Bytes part) (before.place + moves_by call (length part))
+once_answer : (before : Stream) (call : FileCall) (part : List ℕ) → ReadsHeld before → (FlushesFirst before call → before.owed.bytes ≡ []) → is_single call ≡ true → part ≢ [] → length part ≤ asks_for (size_of before) call → length part ≤ ahead before → WhereTold before.raw (ComesNext before part) → IsHeldAnswer before call (Bytes part) (before.place + moves_by call (length part))
 once_answer before call part held passed single some most within next =
     let file : FlatFile = file_of before in
     let once : reads_once before.buffer call ≡ true = held_once before call held single in
@@ -416,13 +416,13 @@ once_answer before call part held passed single some most within next =
       said = refl;
       fed = refl;
       answers = is.answers before.can.writable part;
-      passed = λ _ _. passed;
+      passed = λ _ _ first. passed first;
       told = λ tells. once_carried before.buffer file call part (record file { place = place }) once sized (record { front = front_of (asks_for (size_of before) call) (rest file) part most (next tells); some = λ none. absurd (some none) }) refl;
       reach = λ tells. omega (arith, moves_within call (length part), within_end file.bytes part before.place (length part) (next tells) refl);
     }
 
 -- a `read1` or `readinto1`, which some of the bytes held answer
-pub held_answers_once : (before after : Stream) (call : FileCall) (part : List ℕ) → ReadsHeld before → before.owed.bytes ≡ [] → is_single call ≡ true → moves_by call (length part) ≡ length part → part ≢ [] → length part ≤ asks_for (size_of before) call → GivesHeld before part after → Answers before call (Bytes part) after
+pub held_answers_once : (before after : Stream) (call : FileCall) (part : List ℕ) → ReadsHeld before → (FlushesFirst before call → before.owed.bytes ≡ []) → is_single call ≡ true → moves_by call (length part) ≡ length part → part ≢ [] → length part ≤ asks_for (size_of before) call → GivesHeld before part after → Answers before call (Bytes part) after
 held_answers_once before after call part held passed single moves some most gives =
     let place : before.place + moves_by call (length part) ≡ before.place + length part = ap (λ (n : ℕ). before.place + n) moves in
     let is : IsHeldAnswer before call (Bytes part) (before.place + length part) = subst (IsHeldAnswer before call (Bytes part)) place (once_answer before call part held passed single some most gives.within gives.told) in
@@ -433,10 +433,14 @@ held_answers_once before after call part held passed single moves some most give
 held_still : (before : Stream) → ReadsHeld before → Moved before before.place before.owed
 held_still before held = grind arith
 
+empty_of : (part : List ℕ) → length part ≡ 0 → part ≡ []
+empty_of [] none = refl
+empty_of (byte ∷ more) none = absurd (omega (arith, none))
+
 -- a `peek`, which some of the bytes held answer: all is as it was
-pub held_peek : (before : Stream) (part : List ℕ) → ReadsHeld before → before.owed.bytes ≡ [] → part ≢ [] → length part ≤ ahead before → WhereTold before.raw (ComesNext before part) → Answers before Peek (Bytes part) before
-held_peek before part held passed some within next =
-    let is : IsHeldAnswer before Peek (Bytes part) before.place = subst (IsHeldAnswer before Peek (Bytes part)) (add-zero before.place) (once_answer before Peek part held passed refl some (omega (arith, within, ahead_fits before held)) within next) in
+pub held_peek : (before : Stream) (part : List ℕ) → ReadsHeld before → part ≢ [] → length part ≤ ahead before → WhereTold before.raw (ComesNext before part) → Answers before Peek (Bytes part) before
+held_peek before part held some within next =
+    let is : IsHeldAnswer before Peek (Bytes part) before.place = subst (IsHeldAnswer before Peek (Bytes part)) (add-zero before.place) (once_answer before Peek part held (λ none. absurd (some (empty_of part (omega (arith, within, none))))) refl some (omega (arith, within, ahead_fits before held)) within next) in
     held_reading before Peek (Bytes part) before.place before.owed refl held (held_still before held) is
 
 -- Readings that ask for nothing.

@@ -97,5 +97,5 @@ answers_coming before mid call reply short reads has begun comes =
     let goes_on : IsAhead after = record { none = ap (λ (owed : Owed). owed.bytes) kept.owed; stands = λ _. kept.ahead } in
     let none : mid.owed.bytes ≡ before.owed.bytes = ap (λ (owed : Owed). owed.bytes) kept.owed ∙ sym (ap (λ (owed : Owed). owed.bytes) begun.bare) in
     let owing : InHand before call → StaysHeld before after = λ has. record { owed = none; held = comes.holds has.buffered has.of } in
-    let passes_first : PassesFirst before call reply after = λ _ _ _ _. goes_on.none in
+    let passes_first : PassesFirst before call reply after = λ _ _ _ _ _. goes_on.none in
     search (rules, passes_nothing, completes, near_seen, came_seen)

@@ -15,7 +15,7 @@ use Rattle.py_raw.proofs.ReadingOn.{Keeps-then}
 use Rattle.py_stream.specs.Stream.{Stream, file_of, nothing_owed}
 use Rattle.py_stream.specs.Kinds.{is_reading, is_writing, reads_on, takes_space_first, makes_one, asks_none, by_several, calls_none, says_fault, says_no_memory, says_given}
 use Rattle.py_stream.specs.Writing.{HasRoom, OwesUpTo, OwesBehind, LaysTaken, Takes, PassesFront, OwesBoth, LaysFront, LaysInOrder, OwesOld, OwesNoneOfIts, TookOwn, Writes}
-use Rattle.py_stream.specs.Answers.{Answers, HasCauses, IsAhead, GoesPast, InHand, AsksNoMore, AtMostOne, CameByReads, Starves, StarvesFirst, SeeksByEnd, SeekStands, refused_by, closes_again, parts_at_close}
+use Rattle.py_stream.specs.Answers.{Answers, HasCauses, IsAhead, GoesPast, InHand, AsksNoMore, AtMostOne, PassesFirst, CameByReads, Starves, StarvesFirst, SeeksByEnd, SeekStands, refused_by, closes_again, parts_at_close}
 use Rattle.py_stream.specs.Settling.{PassesSome, LivesOn, SettleOutcome}
 use Rattle.py_stream.proofs.Taking.{waited_then, faulted_then, answers_then, answers_still}
 use Rattle.py_stream.proofs.Flat.{flat_of}
@@ -114,6 +114,7 @@ pub record AfterSettling (before : Stream) (call : FileCall) (reply : FileReply)
   pub first : StarvesFirst before call reply after
   pub nothing : asks_none before.buffer call ≡ false
   pub single : IsTrue (makes_one before.buffer call) → before.owed.bytes ≡ [] → AtMostOne before after
+  pub passes_first : PassesFirst before call reply after
   pub brings : IsTrue (is_reading call) → IsAhead before → CameByReads 1 before after
   pub unread : is_reading call ≡ false → KeepsReads before.raw after.raw
   pub in_hand : InHand before call → ⊥
@@ -152,7 +153,7 @@ then_answers before mid after call reply moves settled answers own =
       nothing = λ asks. absurd (cc (own.nothing));
       idle = λ keeps. absurd (cc (is.calls before.buffer before.can.writable));
       single = own.single;
-      passes_first = answers.passes_first;
+      passes_first = own.passes_first;
       in_hand = λ has. absurd (own.in_hand has);
       owing = λ has. absurd (own.in_hand has);
       brings = own.brings;

@@ -316,14 +316,19 @@ pub record AsksNothing (before : Stream) (reply : FileReply) (after : Stream) : 
 abbrev pub AtMostOne : Stream → Stream → Type 0
 AtMostOne before after = WhereTransfers before.raw (after.raw.transfers ≤ before.raw.transfers + 1)
 
--- a reading by one transfer of a stream with a buffer that asks for some byte passes on first all that was owed: where it gives bytes, also
--- none as the end is met, nothing is owed after it
-abbrev pub PassesFirst : Stream → FileCall → FileReply → Stream → Type 0
-PassesFirst before call reply after = IsSome before.buffer → IsTrue (is_single call) → asks_nothing call ≡ false → IsTrue (says_given reply) → after.owed.bytes ≡ []
-
 -- how many of the bytes held lie from the place on
 abbrev pub ahead : Stream → ℕ
 ahead stream = stream.held.to - stream.place
+
+-- whether a reading by one transfer has to pass on first what is owed: a `read1` always, any other where no byte is held from the place on
+abbrev pub FlushesFirst : Stream → FileCall → Type 0
+FlushesFirst stream (Read1 size) = Unit {0}
+FlushesFirst stream call = ahead stream ≡ 0
+
+-- a reading by one transfer of a stream with a buffer that asks for some byte, and has to, passes on first all that was owed: where it gives
+-- bytes, also none as the end is met, nothing is owed after it
+abbrev pub PassesFirst : Stream → FileCall → FileReply → Stream → Type 0
+PassesFirst before call reply after = IsSome before.buffer → IsTrue (is_single call) → asks_nothing call ≡ false → IsTrue (says_given reply) → FlushesFirst before call → after.owed.bytes ≡ []
 
 -- a target of a seek lies among the bytes held, or right after them
 abbrev pub Covers : Span → Option ℕ → Type 0
@@ -335,8 +340,8 @@ abbrev pub HasAllHeld : (List ℕ → List ℕ) → Stream → Type 0
 HasAllHeld wanted stream = IsTrue (tells stream.raw) × ((more : List ℕ) → length (wanted (take (ahead stream) (rest (file_of stream)) ++ more)) ≤ ahead stream)
 
 -- the bytes held answer a call by themselves: one of n bytes, or of at most n of a line, where n are held from the place on; one of a line,
--- or of lines above a hint, which end among them, where the raw tells; one of a single transfer where some are held and nothing is owed,
--- which it may pass on first; and a seek of a stream that reads, from the start or from the place, to a target among them
+-- or of lines above a hint, which end among them, where the raw tells; one of a single transfer where some are held, a `read1` only where
+-- nothing is owed, which it passes on first; and a seek of a stream that reads, from the start or from the place, to a target among them
 abbrev pub InHandOf : Stream → FileCall → Type 0
 InHandOf stream (Read (Some size)) = size ≤ ahead stream
 InHandOf stream (ReadInto size) = size ≤ ahead stream
@@ -344,8 +349,8 @@ InHandOf stream (ReadLine (Some limit)) = (limit ≤ ahead stream) ⊎ HasAllHel
 InHandOf stream (ReadLine None) = HasAllHeld (first_line Lf None) stream
 InHandOf stream (ReadLines hint) = HasAllHeld (λ left. joined (lines_within hint left)) stream
 InHandOf stream (Read1 size) = (0 < ahead stream) × (stream.owed.bytes ≡ [])
-InHandOf stream (ReadInto1 size) = (0 < ahead stream) × (stream.owed.bytes ≡ [])
-InHandOf stream Peek = (0 < ahead stream) × (stream.owed.bytes ≡ [])
+InHandOf stream (ReadInto1 size) = 0 < ahead stream
+InHandOf stream Peek = 0 < ahead stream
 InHandOf stream (Seek offset (pos zero)) = (stream.can.readable ≡ true) × Covers stream.held (moved_by 0 offset)
 InHandOf stream (Seek offset (pos (suc zero))) = (stream.can.readable ≡ true) × Covers stream.held (moved_by stream.place offset)
 InHandOf stream call = ⊥
@@ -462,7 +467,7 @@ pub record AnswersWith (room : FileCall → Bool) (before : Stream) (call : File
   pub idle : IsTrue (calls_none before.buffer before.can.writable call) → IsIdle before reply after
   -- calls that make at most one transfer, where nothing was owed
   pub single : IsTrue (profile before.buffer call).one → before.owed.bytes ≡ [] → AtMostOne before after
-  -- a reading by one transfer gives bytes only once all that was owed is passed on
+  -- a `read1` gives bytes only once all that was owed is passed on; so do the others by one transfer where no byte was held
   pub passes_first : PassesFirst before call reply after
   -- a reading that goes on from the bytes held moves the raw by as many bytes as its reads bring, and meets the end once at most
   pub brings : IsTrue (is_reading call) → IsAhead before → CameByReads 1 before after

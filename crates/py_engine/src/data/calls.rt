@@ -98,7 +98,7 @@ impl<R: RawStream> BufferedData<R> {
         if buffer.is_empty() {
             return Ok(Some(0));
         }
-        if !self.has_once(buffer.len())? {
+        if !self.has_some(buffer.len())? {
             return Ok(None);
         }
         let count = self.copy_ahead(buffer);
@@ -114,7 +114,7 @@ impl<R: RawStream> BufferedData<R> {
         let _ = &self.live;
         self.begin()?;
         let size = self.window.size();
-        self.has_once(size)
+        self.has_some(size)
     }
 
     /// Reads a line, of at most so many bytes.

@@ -4,7 +4,7 @@ ghost use Rattle.py_flat.specs.declared.life.Life.TheVariants.{Live};
 ghost use Rattle.py_stream.specs.Access.{is_read};
 ghost use Rattle.py_window.specs.Window.{ahead_of};
 ghost use Rattle.py_engine.specs.Engine.{stream_of};
-ghost use Rattle.py_engine.specs.Random.{OnceOutcome};
+ghost use Rattle.py_engine.specs.Random.{OnceOutcome, SomeOutcome};
 ghost use Rattle.py_engine.specs.Reading.{IsReading, ReadyOutcome, GivesHeld};
 
 use super::BufferedData;
@@ -14,8 +14,8 @@ use py_window::Filled;
 use std::alloc::Global;
 
 impl<R: RawStream> BufferedData<R> {
-    /// Sees to it that the bytes held answer a call by one transfer that wants n: some are held and none owed, or nothing comes. False
-    /// where the raw would have blocked, which is remembered.
+    /// Sees to it that the bytes held answer a call by one transfer that wants n and passes on first: some are held and none owed, or
+    /// nothing comes. False where the raw would have blocked, which is remembered.
     pub(super) fn has_once(&mut self, wanted: usize) -> Result<bool, IoFault>
         requires live { self.old.life ≡ Live }
         requires whole { self.old.short ≡ false }
@@ -32,6 +32,22 @@ impl<R: RawStream> BufferedData<R> {
         }
         let stop = self.ready(wanted)?;
         Ok(self.answers(stop, true))
+    }
+
+    /// Sees to it that some of the bytes that come next are held, owed or not, for a call by one transfer that wants n and needn't pass
+    /// on first; or that nothing comes. False where the raw would have blocked, which is remembered.
+    pub(super) fn has_some(&mut self, wanted: usize) -> Result<bool, IoFault>
+        requires live { self.old.life ≡ Live }
+        requires whole { self.old.short ≡ false }
+        requires reads { is_read self.old.access ≡ true }
+        requires wants { 0 < wanted }
+        ensures { SomeOutcome self.old wanted result self.new }
+    {
+        let _ = &self.live;
+        if !self.window.is_used_up() {
+            return Ok(true);
+        }
+        self.has_once(wanted)
     }
 
     /// Whether bytes are held from the place on, and nothing is owed.

@@ -11,10 +11,10 @@ returns-then-gives_at_once g c = once_now c.args.self.now c.args.wanted (subst S
 pub returns-in_err-go_ahead : goal.returns-in_err-go_ahead
 returns-in_err-go_ahead g c =
     let left = err_from_is_err_and c.from_residual.result c.from_residual.ensures.1 in
-    rw (left.1, left.2) (λ call single some. went_not c.args.self.now c.args.self.now call (begun_self c.args.self.now c.requires.live c.requires.whole) (once_goes c.args.self.now call single some (c.gives_at_once.ensures.no c.if-gives_at_once.false)) c.go_ahead.new.self c.in_err-go_ahead.field-0.0 c.in_err-go_ahead.ensures)
+    rw (left.1, left.2) (λ call single some first. went_not c.args.self.now c.args.self.now call (begun_self c.args.self.now c.requires.live c.requires.whole) (once_goes c.args.self.now call single some first (c.gives_at_once.ensures.no c.if-gives_at_once.false)) c.go_ahead.new.self c.in_err-go_ahead.field-0.0 c.in_err-go_ahead.ensures)
 
 pub returns-then-not-branch : goal.returns-then-not-branch
-returns-then-not-branch g c = λ call single some. went_unready c.args.self.now c.args.self.now call (begun_self c.args.self.now c.requires.live c.requires.whole) (once_goes c.args.self.now call single some (c.gives_at_once.ensures.no c.if-gives_at_once.false)) c.go_ahead.new.self c.in_ok-go_ahead.field-0 c.if-not-branch.true c.in_ok-go_ahead.ensures
+returns-then-not-branch g c = λ call single some first. went_unready c.args.self.now c.args.self.now call (begun_self c.args.self.now c.requires.live c.requires.whole) (once_goes c.args.self.now call single some first (c.gives_at_once.ensures.no c.if-gives_at_once.false)) c.go_ahead.new.self c.in_ok-go_ahead.field-0 c.if-not-branch.true c.in_ok-go_ahead.ensures
 
 pub returns-in_err-stop : goal.returns-in_err-stop
 returns-in_err-stop g c =

@@ -11,4 +11,4 @@ returns-in_err-begin g c =
     rw (left.1, left.2) (begins_not c.args.self.now c.begin.new.self Peek c.in_err-begin.field-0.0 refl (subst Stands c.self.view_is c.self.invariant) c.in_err-begin.ensures)
 
 pub returns : goal.returns
-returns g c = look_once c.args.self.now c.begin.new.self c.has_once.new.self c.has_once.result c.in_ok-begin.ensures (rw (c.size-size.ensures.size ∙ ap (λ (engine : EngineView). engine.window.size) c.self-2.view_is) at c.has_once.ensures)
+returns g c = look_once c.args.self.now c.begin.new.self c.has_some.new.self c.has_some.result c.in_ok-begin.ensures (rw (c.size-size.ensures.size ∙ ap (λ (engine : EngineView). engine.window.size) c.self-2.view_is) at c.has_some.ensures)

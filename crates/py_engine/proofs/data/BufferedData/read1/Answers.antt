@@ -19,13 +19,13 @@ returns-in_err-has_once g c =
     let sized : c.unwrap_or-most.result ≡ unwrap_or c.args.size c.begin.new.self.window.size = c.unwrap_or-most.ensures ∙ ap (unwrap_or c.args.size) (c.size.ensures.size ∙ ap (λ (engine : EngineView). engine.window.size) c.self-2.view_is) in
     let some : asks_nothing (Read1 c.args.size) ≡ false = asks_some c.begin.new.self.window.size (Read1 c.args.size) refl (λ none. c.if-most-eq0.false (sized ∙ none)) in
     let left = err_from_is_err_and c.from_residual-in_err-has_once.result c.from_residual-in_err-has_once.ensures.1 in
-    rw (left.1, left.2) (answers_from_begun c.args.self.now c.begin.new.self (Read1 c.args.size) (Refused c.in_err-has_once.field-0.0) (stream_of c.has_once.new.self) c.in_ok-begin.ensures (c.in_err-has_once.ensures (Read1 c.args.size) refl some))
+    rw (left.1, left.2) (answers_from_begun c.args.self.now c.begin.new.self (Read1 c.args.size) (Refused c.in_err-has_once.field-0.0) (stream_of c.has_once.new.self) c.in_ok-begin.ensures (c.in_err-has_once.ensures (Read1 c.args.size) refl some tt))
 
 pub returns-then-not-branch : goal.returns-then-not-branch
 returns-then-not-branch g c =
     let sized : c.unwrap_or-most.result ≡ unwrap_or c.args.size c.begin.new.self.window.size = c.unwrap_or-most.ensures ∙ ap (unwrap_or c.args.size) (c.size.ensures.size ∙ ap (λ (engine : EngineView). engine.window.size) c.self-2.view_is) in
     let some : asks_nothing (Read1 c.args.size) ≡ false = asks_some c.begin.new.self.window.size (Read1 c.args.size) refl (λ none. c.if-most-eq0.false (sized ∙ none)) in
-    answers_from_begun c.args.self.now c.begin.new.self (Read1 c.args.size) NotReady (stream_of c.has_once.new.self) c.in_ok-begin.ensures ((rw c.if-not-branch.true at c.in_ok-has_once.ensures) (Read1 c.args.size) refl some)
+    answers_from_begun c.args.self.now c.begin.new.self (Read1 c.args.size) NotReady (stream_of c.has_once.new.self) c.in_ok-begin.ensures ((rw c.if-not-branch.true at c.in_ok-has_once.ensures) (Read1 c.args.size) refl some tt)
 
 pub returns-in_err-bytes : goal.returns-in_err-bytes
 returns-in_err-bytes g c =
