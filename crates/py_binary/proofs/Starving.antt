@@ -59,10 +59,13 @@ starved_into stream size is live reads = record {
   wants = λ wanting room. absurd (cc);
   goes_on = λ reading ahead. ahead_seen stream false ahead;
   goes_past = λ reading given. absurd (cc);
-  starves = λ wanting reading ahead. record {
-    unmoved = λ lives. refl;
-    moved = λ failed. let wrong : life.Live ≡ life.Failed = sym live ∙ failed in absurd (cc);
-    stands = λ failed. let wrong : life.Live ≡ life.Failed = sym live ∙ failed in absurd (cc);
+  starves = λ wanting reading. record {
+    ahead = λ none. record {
+      unmoved = λ lives. refl;
+      moved = λ failed. let wrong : life.Live ≡ life.Failed = sym live ∙ failed in absurd (cc);
+      stands = λ failed. let wrong : life.Live ≡ life.Failed = sym live ∙ failed in absurd (cc);
+    };
+    left = λ failed. let wrong : life.Live ≡ life.Failed = sym live ∙ failed in absurd (cc);
   };
   first = λ wanting takes. absurd (cc);
   nothing = λ asks. record { raw = refl; fault = refl };

@@ -122,7 +122,7 @@ module _ (short : Bool) where
     wants = answers.wants;
     goes_on = λ reads ahead. answers.goes_on reads (ahead_as before ahead);
     goes_past = answers.goes_past;
-    starves = λ wanting reads ahead. let starved = answers.starves wanting reads (ahead_as before ahead) in record { unmoved = starved.unmoved; moved = starved.moved; stands = starved.stands };
+    starves = λ wanting reads. let starved = answers.starves wanting reads in record { ahead = λ was. let same = starved.ahead (ahead_as before was) in record { unmoved = same.unmoved; moved = same.moved; stands = same.stands }; left = starved.left };
     first = answers.first;
     nothing = λ asks. let none = answers.nothing asks in record { raw = none.raw; fault = none.fault };
     idle = λ keeps. let still = answers.idle keeps in record { raw = still.raw; fault = still.fault; memory = still.memory };

@@ -6,7 +6,7 @@ use Rattle.py_flat.specs.declared.life.Life.{Life}
 use Rattle.py_flat.specs.declared.life.Life.TheVariants as life
 use Rattle.py_flat.specs.Bytes.{lay}
 use Rattle.py_flat.specs.Owed.{Owed}
-use Rattle.py_flat.specs.Calls.{FileCall, Read1, Write, Seek, Close, FileReply, Done}
+use Rattle.py_flat.specs.Calls.{FileCall, Write, Seek, Close, FileReply, Done}
 use Rattle.py_flat.specs.ExactStep.{is_closed}
 use Rattle.py_flat.specs.BinaryStep.{payload}
 use Rattle.py_raw.specs.RawStream.{tells, WhereTold, AnswersFor, StaysOpen}

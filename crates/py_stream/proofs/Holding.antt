@@ -20,7 +20,7 @@ use Rattle.py_raw.proofs.Telling.{keeps_same}
 use Rattle.py_stream.specs.Stream.{Stream, size_of, file_of, nothing_owed}
 use Rattle.py_stream.specs.Kinds.{is_reading, is_single, asks_nothing, reads_on, by_several, makes_one, asks_none, has_room, says_fault, says_no_memory, says_given}
 use Rattle.py_stream.specs.Writing.{NoneAtPlace, LaysFront, LaysInOrder, BlocksFull, Writes}
-use Rattle.py_stream.specs.Answers.{Answers, KeepsStream, ClosedWith, HasCauses, IsCounted, IsShort, LifeMoves, PlaceMoves, GivesWithin, WantsMemory, Starves, StarvesFirst, AsksNothing, AtMostOne, FlushesFirst, PassesFirst, CameByReads, InHand, StaysHeld, IsAhead, GoesPast, AsksNoMore, SparesBytes, IsReplyTo, IsNear, refused_by, ahead}
+use Rattle.py_stream.specs.Answers.{Answers, KeepsStream, ClosedWith, HasCauses, IsCounted, IsShort, LifeMoves, PlaceMoves, GivesWithin, WantsMemory, Starves, StarvesReading, StarvesFirst, AsksNothing, AtMostOne, FlushesFirst, PassesFirst, CameByReads, InHand, StaysHeld, IsAhead, GoesPast, AsksNoMore, SparesBytes, IsReplyTo, IsNear, refused_by, ahead}
 use Rattle.py_stream.specs.Keeping.{IsSound}
 use Rattle.py_stream.specs.Settling.{PassesSome, LivesOn, SettleOutcome}
 use Rattle.py_stream.specs.Reading.{Reaches, ComesNext, wanted_by, reply_by}
@@ -68,7 +68,7 @@ pub record ShowsReading (before : Stream) (call : FileCall) (reply : FileReply) 
   pub wants : WantsMemory (has_room call) reply before.raw
   pub goes_on : IsAhead before → IsAhead after
   pub goes_past : IsTrue (says_given reply) → GoesPast before after → IsAhead after
-  pub starves : IsTrue (says_no_memory reply) → IsTrue (reads_on call) → IsAhead before → Starves before after
+  pub starves : IsTrue (says_no_memory reply) → IsTrue (reads_on call) → StarvesReading before after
   pub first : StarvesFirst before call reply after
   pub nothing : IsTrue (asks_none before.buffer call) → AsksNothing before reply after
   pub single : IsTrue (makes_one before.buffer call) → before.owed.bytes ≡ [] → AtMostOne before after
@@ -139,6 +139,7 @@ record Stops (before mid : Stream) (call : FileCall) (reply : FileReply) (short 
   place : PlaceMoves before.buffer call reply mid.life before.place before.place
   within : GivesWithin (size_of before) call reply
   wants : IsTrue (says_no_memory reply) → IsTrue before.raw.takes_memory
+  unfailed : IsTrue (says_no_memory reply) → mid.life ≡ life.Failed → ⊥
   ungiven : says_given reply ≡ false
   single : before.owed.bytes ≡ [] → AtMostOne before mid
   full : BlocksFull call reply (record mid { short = short })
@@ -164,7 +165,7 @@ stops_reading before mid call reply short may stops =
       wants = λ wanting _. stops.wants wanting;
       goes_on = λ ahead. absurd (stops.behind ahead);
       goes_past = λ given. absurd (cc (stops.ungiven));
-      starves = λ _ _ ahead. absurd (stops.behind ahead);
+      starves = λ wanting _. record { ahead = λ was. absurd (stops.behind was); left = λ failed. absurd (stops.unfailed wanting failed) };
       first = λ wanting _ takes_none. absurd (let takes = stops.wants wanting in cc);
       nothing = λ asks. absurd (cc (may.some));
       single = λ _ none. stops.single none;
@@ -215,6 +216,7 @@ reading_blocked before after call taken may waits =
     let passes : PassesSome before mid = goes.passes in
     let owing : before.owed.bytes ≢ [] = was_owed before mid passes waits.5 in
     let same : after.life ≡ before.life = goes.live ∙ sym may.held.live in
+    let unfailed : IsTrue (says_no_memory NotReady) → after.life ≡ life.Failed → ⊥ = λ wanting failed. absurd (cc) in
     let told : WhereTold before.raw (BinaryStep (file_of before) call NotReady true false (file_of mid)) = λ tells. waited_for refl (reading_works before call may, subst (λ (file : FlatFile). WaitedBy (file_of before) call NotReady file) (sym (passing_file before mid passes same tells)) (unready_waited (file_of before) call may.reads)) in
     subst (λ (cut : Bool). Answers before call NotReady (record after { short = cut })) (sym waits.2)
     (stops_reading before mid call NotReady true may (search (rules, unready_gives, unready_fills)))
@@ -236,6 +238,7 @@ pub reading_failed : (before after : Stream) (call : FileCall) → HasToPass bef
 reading_failed before after call may behind calm fails =
     let is : IsReadingCall call = reading_call call may.reads in
     let passes : PassesSome before after = fails.0 in
+    let unfailed : IsTrue (says_no_memory (Refused fault.RawFault)) → after.life ≡ life.Failed → ⊥ = λ wanting failed. absurd (cc) in
     let told : WhereTold before.raw (BinaryStep (file_of before) call (Refused fault.RawFault) false true (file_of after)) = λ tells. raw_faulted refl refl (work_reaches (file_of before) call (reading_works before call may), is.faulted_by (file_of before) (file_of after) (failed_file before after life.Failed (flat_of before) passes.kept fails.1 (passing_keeps_bytes before after passes tells))) in
     stops_whole before after call (Refused fault.RawFault) may (search (rules, fails_there, gives_nothing, calm_once, nothing_blocked))
 
@@ -247,6 +250,7 @@ reading_starved before after call may behind calm lacks =
     let passes : PassesSome before after = goes.passes in
     let same : after.life ≡ before.life = goes.live ∙ sym may.held.live in
     let told : WhereTold before.raw (BinaryStep (file_of before) call (Refused fault.NoMemory) false false (file_of after)) = λ tells. out_of_memory refl (work_reaches (file_of before) call (reading_works before call may), subst (λ (file : FlatFile). StarvedBy (file_of before) call file) (sym (passing_file before after passes same tells)) (starved_same (file_of before) call may.reads)) in
+    let unfailed : IsTrue (says_no_memory (Refused fault.NoMemory)) → after.life ≡ life.Failed → ⊥ = λ wanting failed. let wrong : life.Live ≡ life.Failed = sym goes.live ∙ failed in absurd (cc) in
     let life_is : LifeMoves before.buffer call (Refused fault.NoMemory) before.life after.life = subst (LifeMoves before.buffer call (Refused fault.NoMemory) before.life) (sym same) (starves_alive before.buffer call before.life) in
     stops_whole before after call (Refused fault.NoMemory) may (search (rules, starves_there, gives_nothing, calm_once, nothing_blocked))
 
@@ -489,7 +493,7 @@ reading_lacks before call reads room held =
       wants = λ wanting has. absurd (cc (room));
       goes_on = λ ahead. ahead;
       goes_past = λ given. absurd (cc);
-      starves = λ _ _ _. starves_same before held;
+      starves = λ _ _. record { ahead = λ _. starves_same before held; left = λ failed. absurd (let live = held.live in cc) };
       first = λ _ _ _. (starves_same before held).unmoved held.live;
       nothing = λ _. idle;
       single = λ _ _ tells. omega arith;

@@ -1,5 +1,5 @@
 -- What an accepted reading answers, however it came out.
-use Rattle.std.proofs.Common.{◌≡◌, Bool, true, false, ◌&&◌, IsTrue, None, IsSome, Err, sym, ap, ◌∙◌, subst, arith, rules}
+use Rattle.std.proofs.Common.{◌≡◌, ◌<◌, Bool, true, false, ◌&&◌, IsTrue, None, IsSome, Err, sym, ap, ◌∙◌, subst, arith, rules}
 use Rattle.py_flat.specs.declared.fault.IoFault.{IoFault}
 use Rattle.py_flat.specs.declared.life.Life.TheVariants as life
 use Rattle.py_flat.specs.Calls.{FileCall, FileReply, Refused}
@@ -11,7 +11,7 @@ use Rattle.py_raw.specs.RawStream.{WhereTold}
 use Rattle.py_stream.specs.Stream.{Stream, size_of, buffering_of, file_of, nothing_owed}
 use Rattle.py_stream.specs.Kinds.{is_reading, reads_on, makes_one, has_room, asks_none, says_fault, says_no_memory, by_several}
 use Rattle.py_stream.specs.Writing.{Writes}
-use Rattle.py_stream.specs.Answers.{Answers, CameByReads, IsReplyTo, IsShort, LifeMoves, PlaceMoves, GivesWithin, WantsMemory, Starves, HasCauses, IsCounted, StarvesFirst, IsAhead, InHandOf, InHand, StaysHeld, AsksNoMore, PassesFirst, refused_by}
+use Rattle.py_stream.specs.Answers.{Answers, CameByReads, IsReplyTo, IsShort, LifeMoves, PlaceMoves, GivesWithin, WantsMemory, Starves, BringsSome, StarvesReading, HasCauses, IsCounted, StarvesFirst, IsAhead, InHandOf, InHand, StaysHeld, AsksNoMore, PassesFirst, refused_by}
 use Rattle.py_stream.specs.Reading.{KeepsReading, OneTransfer, Reaches}
 use Rattle.py_stream.proofs.Begun.{answers_whole}
 use Rattle.py_stream.proofs.Completing.{completes}
@@ -87,6 +87,10 @@ pub record Comes (before : Stream) (call : FileCall) (reply : FileReply) (short 
   pub reach : Reaches before mid
   pub hides : IsTrue short → mid.raw_place ≡ mid.place
 
+-- where the raw came further, as the stream counts, its reads brought some bytes
+brings_some : (before mid : Stream) → before.raw_place < mid.raw_place → CameByReads 1 before mid → BringsSome before mid
+brings_some before mid further came tells = omega (arith, further, (came.reads tells).brought)
+
 -- what a reading left answers the call
 pub answers_coming : (before mid : Stream) (call : FileCall) (reply : FileReply) (short : Bool) → is_reading call ≡ true → lacks (file_of before) call ≡ false → Reads before → Comes before call reply short mid → Answers before call reply (record mid { short = short })
 answers_coming before mid call reply short reads has begun comes =
@@ -97,5 +101,9 @@ answers_coming before mid call reply short reads has begun comes =
     let goes_on : IsAhead after = record { none = ap (λ (owed : Owed). owed.bytes) kept.owed; stands = λ _. kept.ahead } in
     let none : mid.owed.bytes ≡ before.owed.bytes = ap (λ (owed : Owed). owed.bytes) kept.owed ∙ sym (ap (λ (owed : Owed). owed.bytes) begun.bare) in
     let owing : InHand before call → StaysHeld before after = λ has. record { owed = none; held = comes.holds has.buffered has.of } in
+    let starves : IsTrue (says_no_memory reply) → IsTrue (reads_on call) → StarvesReading before after = λ wanting on. record {
+      ahead = λ _. comes.starves wanting on;
+      left = λ failed. brings_some before mid ((comes.starves wanting on).moved failed) comes.brings;
+    } in
     let passes_first : PassesFirst before call reply after = λ _ _ _ _ _. goes_on.none in
     search (rules, passes_nothing, completes, near_seen, came_seen)

@@ -9,13 +9,16 @@ use Rattle.py_flat.specs.Calls.{FileCall, FileReply}
 use Rattle.py_flat.specs.FlatFile.{Abilities, FlatFile}
 use Rattle.py_flat.specs.Owed.{Owed}
 use Rattle.py_flat.specs.BinaryStep.{BinaryStep, payload}
+use Rattle.py_flat.specs.Causes.{Rose}
+use Rattle.py_raw.specs.declared.reads.Reads.{Reads}
 use Rattle.py_raw.specs.RawStream.{Keeps, KeepsReads, WhereTold, WhereTransfers, AnswersFor}
 use Rattle.py_raw.proofs.Telling.{tells_still}
 use Rattle.py_raw.proofs.ReadingOn.{Keeps-then}
 use Rattle.py_stream.specs.Stream.{Stream, file_of, nothing_owed}
 use Rattle.py_stream.specs.Kinds.{is_reading, is_writing, reads_on, takes_space_first, makes_one, asks_none, by_several, calls_none, says_fault, says_no_memory, says_given}
 use Rattle.py_stream.specs.Writing.{HasRoom, OwesUpTo, OwesBehind, LaysTaken, Takes, PassesFront, OwesBoth, LaysFront, LaysInOrder, OwesOld, OwesNoneOfIts, TookOwn, Writes}
-use Rattle.py_stream.specs.Answers.{Answers, HasCauses, IsAhead, GoesPast, InHand, AsksNoMore, AtMostOne, PassesFirst, CameByReads, Starves, StarvesFirst, SeeksByEnd, SeekStands, refused_by, closes_again, parts_at_close}
+use Rattle.py_stream.specs.Keeping.{KeepsOn}
+use Rattle.py_stream.specs.Answers.{Answers, HasCauses, IsAhead, GoesPast, InHand, AsksNoMore, AtMostOne, PassesFirst, CameByReads, StarvesReading, StarvesFirst, SeeksByEnd, SeekStands, refused_by, closes_again, parts_at_close}
 use Rattle.py_stream.specs.Settling.{PassesSome, LivesOn, SettleOutcome}
 use Rattle.py_stream.proofs.Taking.{waited_then, faulted_then, answers_then, answers_still}
 use Rattle.py_stream.proofs.Flat.{flat_of}
@@ -110,7 +113,7 @@ takes_by_several buffer call some writing = grind arith
 pub record AfterSettling (before : Stream) (call : FileCall) (reply : FileReply) (after : Stream) : Type 0 where
   pub goes_on : IsTrue (is_reading call) → IsAhead before → IsAhead after
   pub goes_past : IsTrue (is_reading call) → IsTrue (says_given reply) → GoesPast before after → IsAhead after
-  pub starves : IsTrue (says_no_memory reply) → IsTrue (reads_on call) → IsAhead before → Starves before after
+  pub starves : IsTrue (says_no_memory reply) → IsTrue (reads_on call) → StarvesReading before after
   pub first : StarvesFirst before call reply after
   pub nothing : asks_none before.buffer call ≡ false
   pub single : IsTrue (makes_one before.buffer call) → before.owed.bytes ≡ [] → AtMostOne before after
@@ -230,6 +233,11 @@ ahead_settled before mid call settled ahead = record { none = ahead.none; stands
 reading_own : (before mid after : Stream) (call : FileCall) (reply : FileReply) → is_reading call ≡ true → SettledReading before call reply mid → Answers (settled_as before mid) call reply after → AfterSettling before call reply after
 reading_own before mid after call reply reads is answers =
     let ahead : IsAhead after = answers.goes_on reads (ahead_settled before mid call is.settled is.ahead) in
+    let kept : KeepsOn before mid = is.settled.settled_by.0.passes.kept in
+    let starves : IsTrue (says_no_memory reply) → IsTrue (reads_on call) → StarvesReading before after = λ wanting on. record {
+      ahead = λ was. absurd (is.apart was);
+      left = λ failed tells. subst (λ (reads : Reads). Rose reads.brought after.raw.reads.brought) (kept.reads tells) ((answers.starves wanting on).left failed (kept.raw.tells_transfers ∙ tells));
+    } in
     search (rules, reading_writes)
 
 -- an answer of a reading, after all that was owed was passed on

@@ -295,6 +295,16 @@ pub record Starves (before after : Stream) : Type 0 where
   pub moved : after.life ≡ life.Failed → before.raw_place < after.raw_place
   pub stands : after.life ≡ life.Failed → WherePlace before.raw (before.raw.place < after.raw.place)
 
+-- bytes left the raw in a call, where it tells its transfers: its reads brought some
+abbrev pub BringsSome : Stream → Stream → Type 0
+BringsSome before after = WhereTransfers before.raw (Rose before.raw.reads.brought after.raw.reads.brought)
+
+-- running out of memory fails a reading that may make several transfers only where bytes left the raw in this call, also where it had to
+-- pass on first; one that goes on from the bytes held it leaves as it was else
+pub record StarvesReading (before after : Stream) : Type 0 where
+  pub ahead : IsAhead before → Starves before after
+  pub left : after.life ≡ life.Failed → BringsSome before after
+
 -- where the space is taken first, the call's own running out of memory leaves all as it was
 abbrev pub StarvesFirst : Stream → FileCall → FileReply → Stream → Type 0
 StarvesFirst before call reply after = IsTrue (says_no_memory reply) → IsTrue (takes_space_first call) → before.raw.takes_memory ≡ false → after ≡ record before { short = false }
@@ -457,8 +467,8 @@ pub record AnswersWith (room : FileCall → Bool) (before : Stream) (call : File
   pub goes_on : IsTrue (is_reading call) → IsAhead before → IsAhead after
   -- so does one that gave bytes and went past those that were held
   pub goes_past : IsTrue (is_reading call) → IsTrue (says_given reply) → GoesPast before after → IsAhead after
-  -- running out of memory leaves a reading that goes on from the bytes held as it was, or fails it once bytes left the raw
-  pub starves : IsTrue (says_no_memory reply) → IsTrue (reads_on call) → IsAhead before → Starves before after
+  -- running out of memory fails a reading only once bytes left the raw, and leaves one that goes on from the bytes held as it was else
+  pub starves : IsTrue (says_no_memory reply) → IsTrue (reads_on call) → StarvesReading before after
   -- a call that takes its space first leaves all as it was where there is none
   pub first : StarvesFirst before call reply after
   -- calls that ask no raw leave the raw as it was, and answer no fault
