@@ -129,9 +129,10 @@ impl<R: RawStream> BufferedRandom<R> {
         self.inner.readinto(buffer)
     }
 
-    /// Reads some of the next bytes into the front of `buffer`, and answers how many. Where some are held, these are given without a call of
-    /// the raw, owed or not; else at most one transfer of the raw brings them, after all that is owed was passed on. No bytes come only where `buffer` is empty or nothing is left. What `buffer` has after them stays as it was; `None` and
-    /// refusals leave all of it.
+    /// Reads some of the next bytes into the front of `buffer`, and answers how many. Where some are held, these are given without a call
+    /// of the raw, owed or not; else at most one transfer of the raw brings them, after all that is owed was passed on. No bytes come
+    /// only where `buffer` is empty or nothing is left. What `buffer` has after them stays as it was; `None` and refusals leave all of
+    /// it.
     ///
     /// It takes no memory: `NoMemory` comes only of a raw that takes some, and leaves place and life as they were.
     pub fn readinto1(&mut self, buffer: &mut [u8]) -> Result<Option<usize>, IoFault>
