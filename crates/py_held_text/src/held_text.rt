@@ -1,5 +1,6 @@
 ghost use Rattle.std.specs.Prelude.{◌≡◌, ◌++◌, ◌+◌, ◌-◌, ◌≤◌, true, false, [], length, take, drop, vec_len, vec_capacity, option_map, IfErr, IfSome, OnOk, OnErr};
 ghost use Rattle.py_flat.specs.Limits.{greatest_place};
+ghost use Rattle.py_plain.specs.Units.{Unknown};
 ghost use Rattle.py_plain.specs.Handlers.{reads_texts};
 ghost use Rattle.py_plain.specs.NewlineRule.{read_all};
 ghost use Rattle.py_held_text.specs.Held.{nothing_held};
@@ -68,7 +69,7 @@ impl fmt::Debug for HeldText {
 }
 
 /// Removes the front of some bytes. The room that they had is left for others.
-fn drop_front(bytes: &mut Vec<u8>, count: usize)
+pub fn drop_front(bytes: &mut Vec<u8>, count: usize)
     requires { count ≤ vec_len bytes.old }
     ensures items { bytes.new.items ≡ drop count bytes.old.items }
     ensures len { vec_len bytes.new ≤ vec_len bytes.old }
@@ -227,7 +228,7 @@ impl HeldText {
     /// Lets go of all that is in hand, and stands at another byte place of the stream.
     pub fn clear(&mut self, place: u64)
         requires near { place ≤ greatest_place }
-        ensures cleared { self.new ≡ record self.old { known = []; cr = false; bytes = []; place = place; room = self.new.room } }
+        ensures cleared { self.new ≡ record self.old { known = []; cr = false; bytes = []; place = place; order = Unknown; room = self.new.room } }
         ensures room { self.old.room ≤ self.new.room }
     {
         self.known.clear();

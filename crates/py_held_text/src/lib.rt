@@ -12,7 +12,7 @@ mod line_search;
 mod wanted;
 
 pub use held_stop::HeldStop;
-pub use held_text::HeldText;
+pub use held_text::{HeldText, drop_front};
 pub use py_blocks::TextFront as HeldFront;
 pub use py_codec::IoFault;
 pub use py_plain::Newlines;

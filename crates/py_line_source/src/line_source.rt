@@ -3,7 +3,7 @@ ghost use Rattle.py_flat.specs.Calls.{FileReply, ReadLine};
 ghost use Rattle.py_stream.specs.Answers.{Answers};
 ghost use Rattle.py_stream.specs.Replies.{bytes_reply};
 ghost use Rattle.py_plain_text.specs.TextCalls as text;
-ghost use Rattle.py_textio.specs.Answers as of_text;
+ghost use Rattle.py_read_text.specs.Answers as of_text;
 ghost use Rattle.py_line_source.specs.Lines.{line_reply};
 
 use crate::LineValue;

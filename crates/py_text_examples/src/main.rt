@@ -7,6 +7,7 @@ mod making;
 mod reading;
 mod shown;
 mod stopping;
+mod writing;
 
 use anyhow::Result;
 
@@ -29,5 +30,7 @@ fn main(rt: HostRuntime) -> Result<()> {
     print(&rt, stopping::closed(alloc))?;
     print(&rt, line_ends::pieces(alloc))?;
     print(&rt, line_ends::found(alloc))?;
-    print(&rt, lines::of_both(alloc))
+    print(&rt, lines::of_both(alloc))?;
+    print(&rt, writing::written(alloc))?;
+    print(&rt, writing::by_lines(alloc))
 }

@@ -42,7 +42,7 @@ pub(crate) fn fails(alloc: Global) -> Result<String> {
     let first = text.read(alloc, Some(1))?; // Some("a")
     let is_fault = text.readline(alloc, None) == Err(IoFault::RawFault);
     let is_failed = text.readline(alloc, None) == Err(IoFault::Failed); // from then on
-    let parts = text.into_parts(alloc); // the buffer, and the byte of the text place
+    let parts = text.into_parts(); // the buffer, and the byte of the text place
     let at = parts.place.unwrap_or(0);
     Ok(format!(in alloc;
         "fails: {:?} {is_fault} {is_failed} {at}",

@@ -19,14 +19,14 @@ use Rattle.py_stream.specs.Kinds.{says_fault}
 use Rattle.py_stream.specs.Answers.{ClosedWith}
 use Rattle.py_flat.specs.Calls as binary
 use Rattle.py_stream.specs.Buffer.{Buffer, size_shown, parts_when_closed, IsClosedWithRaw}
-use Rattle.py_textio.specs.TextState as over
-use Rattle.py_textio.specs.Answers as over_answers
+use Rattle.py_read_text.specs.TextState as over
+use Rattle.py_read_text.specs.Answers as over_answers
 use Rattle.py_text_reader.specs.Seen.{seen, OnlyReads}
 use Rattle.py_text_reader.specs.TextState.{TextState}
 use Rattle.py_text_reader.specs.Answers.{AnswersText, Answers, LeavesText, closes_again, IsAnswerTo, IsReplyTo, IsComplete, WantsMemory, ClosesSound, PlaceMoves, GoesToEnd, TextMoves, life_after}
 use Rattle.py_text_reader.proofs.SoFar.{step_so_far}
 use Rattle.py_raw.proofs.Telling.{tells_its_bytes, tells_its_place, tells_still}
-use Rattle.py_textio.specs.Waiting.{ShowsAll}
+use Rattle.py_read_text.specs.Waiting.{ShowsAll}
 
 never_detached : (call : TextCall) (reply : FileReply) (current : Life) → current ≢ life.Detached → over_answers.life_after (whole_call call) reply current ≢ life.Detached
 never_detached (far.Read size) reply current is = grind arith
@@ -34,15 +34,25 @@ never_detached (far.ReadLine limit) reply current is = grind arith
 never_detached far.Close reply current is = grind arith
 never_detached far.OtherKind reply current is = grind arith
 
+-- over a buffer that can't write running out of memory leaves the life
+moves_so : (writes : Bool) (call : TextCall) (reply : FileReply) (current next : Life) → writes ≡ false → over_answers.LifeMoves writes (whole_call call) reply current next → next ≡ over_answers.life_after (whole_call call) reply current
+moves_so writes (far.Read size) reply current next is moves = grind arith
+moves_so writes (far.ReadLine limit) reply current next is moves = grind arith
+moves_so writes far.Close reply current next is moves = grind arith
+moves_so writes far.OtherKind reply current next is moves = grind arith
+
+life_moves : (before : over.TextState) (call : TextCall) (reply : FileReply) (after : over.TextState) → OnlyReads before → over_answers.Answers before (whole_call call) reply after → after.text.life ≡ over_answers.life_after (whole_call call) reply before.text.life
+life_moves before call reply after reads answers = moves_so before.text.buffer.can.writable call reply before.text.life after.text.life reads.unwritten answers.moves.life_is
+
 -- it goes on so
 pub reads_on : (before : over.TextState) (call : TextCall) (reply : FileReply) (after : over.TextState) → OnlyReads before → over_answers.Answers before (whole_call call) reply after → OnlyReads after
 reads_on before call reply after reads answers = record {
   unwritten = ap (λ can. can.writable) answers.keeps.can ∙ reads.unwritten;
   none = (answers.spares reads.unwritten reads.none).owed;
-  own = answers.tied.owed ∙ reads.own;
-  life_is = answers.tied.life_is reads.life_is;
+  own = answers.tied.owed reads.unwritten ∙ reads.own;
+  life_is = answers.tied.life_is reads.unwritten reads.life_is;
   stands = answers.stands reads.stands;
-  attached = λ gone. never_detached call reply before.text.life (λ was. reads.attached (reads.life_is ∙ was)) (sym answers.moves.life_is ∙ sym (answers.tied.life_is reads.life_is) ∙ gone);
+  attached = λ gone. never_detached call reply before.text.life (λ was. reads.attached (reads.life_is ∙ was)) (sym (life_moves before call reply after reads answers) ∙ sym (answers.tied.life_is reads.unwritten reads.life_is) ∙ gone);
 }
 
 lay_none : (bytes : List ℕ) (place : ℕ) → lay bytes place [] ≡ bytes
@@ -72,10 +82,10 @@ parts_none : (before after : Buffer) (reply : FileReply) → before.can.writable
 parts_none before after reply unwritten = grind arith
 
 shuts : (before : over.TextState) (call : TextCall) (reply : FileReply) (after : over.TextState) → OnlyReads before → OnlyReads after → over_answers.Answers before (whole_call call) reply after → IsClosedWithRaw before.text.buffer → IsClosedWithRaw after.text.buffer
-shuts before (far.Read size) reply after reads still answers = answers.shut reads.unwritten reads.none
-shuts before (far.ReadLine limit) reply after reads still answers = answers.shut reads.unwritten reads.none
-shuts before far.Close reply after reads still answers = answers.shut (parts_none before.text.buffer after.text.buffer reply reads.unwritten) (ap (λ (owed : Owed). owed.bytes) still.none)
-shuts before far.OtherKind reply after reads still answers = answers.shut reads.unwritten reads.none
+shuts before (far.Read size) reply after reads still answers = answers.shut reads.own reads.unwritten reads.none
+shuts before (far.ReadLine limit) reply after reads still answers = answers.shut reads.own reads.unwritten reads.none
+shuts before far.Close reply after reads still answers = answers.shut reads.own (parts_none before.text.buffer after.text.buffer reply reads.unwritten) (ap (λ (owed : Owed). owed.bytes) still.none)
+shuts before far.OtherKind reply after reads still answers = answers.shut reads.own reads.unwritten reads.none
 
 settings_so : (call : TextCall) (reply : FileReply) (settings : TextSettings) → over_answers.settings_after (whole_call call) reply settings ≡ settings
 settings_so (far.Read size) reply settings = refl
@@ -133,8 +143,8 @@ hides_by None false before call reply after is kind reads answers short =
     absurd (cc)
 hides_by None true before call reply after is kind reads answers short = λ tells.
     let still = reads_on before call reply after reads answers in
-    let hides = answers.hides short kind in
-    let lives : after.text.life ≡ life.Live = answers.moves.life_is ∙ life_so call reply before.text.life ∙ stays_live call reply after.short before.text.life short answers.shorts kind ∙ live_so (over.file_of before) call is kind in
+    let hides = answers.hides short kind still.own in
+    let lives : after.text.life ≡ life.Live = life_moves before call reply after reads answers ∙ life_so call reply before.text.life ∙ stays_live call reply after.short before.text.life short answers.shorts kind ∙ live_so (over.file_of before) call is kind in
     let counted : after.text.buffer.raw.place ≡ after.text.buffer.raw_place = still.stands (still.life_is ∙ lives) (tells_its_place after.text.buffer.raw (tells_still before.text.buffer.raw after.text.buffer.raw answers.keeps.raw ∙ tells)) in
     let empty : after.text.buffer.raw_place ≡ after.text.buffer.place = hides.empty (ap (λ (owed : Owed). owed.bytes) still.none) in
     subst (λ (place : ℕ). ShowsAll (over.file_of after) place) (sym (counted ∙ empty)) (hides.shows tells)
@@ -163,7 +173,7 @@ answers_so before call reply after reads answers =
         moves = record {
           can = answers.keeps.can;
           settings = answers.moves.settings ∙ settings_so call reply before.text.settings;
-          life_is = answers.moves.life_is ∙ life_so call reply before.text.life;
+          life_is = life_moves before call reply after reads answers ∙ life_so call reply before.text.life;
           place = place_so call after.short reply before.text.place after.text.buffer.place after.text.place answers.moves.place;
         };
         answer = λ none. reply_so file call reply none (subst (λ (writes : Bool). over_answers.IsReplyTo writes (whole_call call) reply) reads.unwritten (answers.answer (refusal-far file call ∙ none)));

@@ -12,8 +12,8 @@ use Rattle.py_plain_text.specs.TextStep.{TextCall, Read, ReadLine, Close, text_r
 use Rattle.py_raw.specs.RawStream.{Raw, Keeps, KeepsBytes, WhereBytes, WhereTold, NoFault, AnswersFor}
 use Rattle.py_stream.specs.Kinds.{says_fault}
 use Rattle.py_stream.specs.Answers.{ClosedWith, HasCauses}
-use Rattle.py_textio.specs.Waiting.{ShowsAll}
-use Rattle.py_textio.specs.Answers.{IsShort, TakesText}
+use Rattle.py_read_text.specs.Waiting.{ShowsAll}
+use Rattle.py_read_text.specs.Answers.{IsShort, TakesText}
 use Rattle.py_text_reader.specs.TextState.{TextState}
 
 -- what the answer of a reading says, in the model's words

@@ -3,9 +3,9 @@ use Rattle.std.specs.Prelude.{◌≡◌, ◌≢◌, ℕ, false, [], unwrap_or}
 use Rattle.py_flat.specs.declared.life.Life.TheVariants as life
 use Rattle.py_stream.specs.Stream.{nothing_owed}
 use Rattle.py_stream.specs.Buffer.{size_shown}
-use Rattle.py_textio.specs.TextState as over
-use Rattle.py_textio.specs.TextState.{file_of}
-use Rattle.py_textio.specs.Answers.{StandsWhileLive}
+use Rattle.py_read_text.specs.TextState as over
+use Rattle.py_read_text.specs.TextState.{file_of}
+use Rattle.py_read_text.specs.Answers.{StandsWhileLive}
 use Rattle.py_text_reader.specs.TextState.{TextState}
 
 -- what a text over a buffer is seen as over its raw

@@ -5,7 +5,7 @@ ghost use Rattle.py_flat.specs.ExactStep.{is_closed};
 ghost use Rattle.py_plain_text.specs.TextStep.{Read, ReadLine, Close, OtherKind};
 ghost use Rattle.py_stream.specs.Opening.{StandsAtStart};
 ghost use Rattle.py_stream.specs.Replies.{done_reply};
-ghost use Rattle.py_textio.specs.Answers as over;
+ghost use Rattle.py_read_text.specs.Answers as over;
 ghost use Rattle.py_text_reader.specs.Answers.{Answers, text_reply};
 ghost use Rattle.py_text_reader.specs.Opening.{TextOutcome, handed_at};
 
@@ -235,7 +235,7 @@ impl<R: RawStream> TextReader<R> {
             buffer,
             unwritten,
             place,
-        } = text.into_parts(alloc);
+        } = text.into_parts();
         let Detached {
             raw,
             unwritten: _,

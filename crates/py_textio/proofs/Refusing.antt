@@ -1,5 +1,5 @@
 -- A call of a text that is refused leaves all as it was.
-use Rattle.std.proofs.Common.{◌≡◌, ◌≢◌, zero, suc, true, nat_eq, ℕ, inl, Bool, false, Option, Some, None, refl, sym, ap, ◌∙◌, subst, arith}
+use Rattle.std.proofs.Common.{◌≡◌, ◌≢◌, zero, suc, true, nat_eq, ℕ, inl, Bool, false, List, Option, Some, None, refl, sym, ap, ◌∙◌, subst, arith}
 use Rattle.std.proofs.lemmas.Bool.Decides.{nat_tests}
 use Rattle.py_flat.specs.declared.fault.IoFault.{IoFault}
 use Rattle.py_flat.specs.declared.fault.IoFault.TheVariants as fault
@@ -10,7 +10,7 @@ use Rattle.py_flat.specs.Refusals.{life_fault}
 use Rattle.py_flat.specs.AllowedStep.{settled}
 use Rattle.py_flat.proofs.Settling.{blames}
 use Rattle.py_plain_text.specs.TextFile.{TextFile, TextPlace, TextSettings}
-use Rattle.py_plain_text.specs.TextCalls.{TextFileCall, Read, ReadLine, SetChunkSize, Close, OtherKind}
+use Rattle.py_plain_text.specs.TextCalls.{TextFileCall, Read, ReadLine, WriteText, SetChunkSize, Flush, Close, OtherKind}
 use Rattle.py_plain_text.specs.TextRefusals.{refusal}
 use Rattle.py_plain_text.specs.TextExact.{with_chunk_size}
 use Rattle.py_plain_text.specs.TextAllowed.{SettledBy, TextFileStep}
@@ -19,10 +19,10 @@ use Rattle.py_stream.specs.Kinds.{says_fault}
 use Rattle.py_stream.specs.Buffer.{Buffer}
 use Rattle.py_held_text.specs.declared.wanted.Wanted.{Wanted}
 use Rattle.py_held_text.specs.declared.wanted.Wanted.TheVariants.{Characters, Line}
-use Rattle.py_textio.specs.TextState.{TextState}
-use Rattle.py_textio.specs.Answers.{IsShort, PlaceMoves, life_after, settings_after, closes_again, WantsMemory, ClosesWithRaw, IsBounded, Answers}
-use Rattle.py_textio.specs.Knowing.{TextView, place_of, state_of, shown_file}
-use Rattle.py_textio.specs.Reading.{call_of}
+use Rattle.py_read_text.specs.TextState.{TextState}
+use Rattle.py_read_text.specs.Answers.{IsShort, PlaceMoves, WriteMoves, LifeMoves, settings_after, closes_again, WantsMemory, ClosesWithRaw, IsBounded, TextPasses, TextKeeps, Answers}
+use Rattle.py_read_text.specs.Reading.{call_of}
+use Rattle.py_textio.specs.Written.{WrittenView, place_now, state_of, file_now}
 
 whole_refused : (why : IoFault) → blames why ≡ false → IsShort (Refused why) false
 whole_refused (fault.WouldBlock taken) own = absurd (cc)
@@ -32,10 +32,28 @@ quiet_refused : (why : IoFault) → blames why ≡ false → says_fault (Refused
 quiet_refused fault.RawFault own = absurd (cc)
 quiet_refused why own = refl
 
-life_refused : (call : TextFileCall) (why : IoFault) (current : Life) → blames why ≡ false → current ≡ life_after call (Refused why) current
-life_refused call fault.RawFault current own = absurd (cc)
-life_refused Close why current own = refl
-life_refused call why current own = refl
+life_refused : (writes : Bool) (call : TextFileCall) (why : IoFault) (current : Life) → blames why ≡ false → LifeMoves writes call (Refused why) current current
+life_refused writes call fault.RawFault current own = absurd (cc)
+life_refused writes call fault.NoMemory current own = inl refl
+life_refused writes Close why current own = refl
+life_refused writes call why current own = refl
+
+written_refused : (settings : TextSettings) (call : TextFileCall) (why : IoFault) (place : TextPlace) → blames why ≡ false → WriteMoves settings call (Refused why) place place
+written_refused settings (WriteText text) (fault.WouldBlock taken) place own = absurd (cc)
+written_refused settings (WriteText text) fault.RawFault place own = inl refl
+written_refused settings (WriteText text) fault.NoMemory place own = inl refl
+written_refused settings (WriteText text) why place own = refl
+written_refused settings call why place own = tt
+
+passes_refused : (before : TextState) (call : TextFileCall) (why : IoFault) (after : TextState) → TextPasses before call (Refused why) after
+passes_refused before (WriteText text) why after = tt
+passes_refused before Flush why after = tt
+passes_refused before Close why after = tt
+passes_refused before call why after = tt
+
+keeps_refused : (call : TextFileCall) (why : IoFault) (after : TextState) → TextKeeps call (Refused why) after
+keeps_refused (WriteText text) why after = tt
+keeps_refused call why after = tt
 
 settings_refused : (call : TextFileCall) (why : IoFault) (settings : TextSettings) → settings ≡ settings_after call (Refused why) settings
 settings_refused (SetChunkSize size) why settings = refl
@@ -45,9 +63,12 @@ place_refused : (call : TextFileCall) (why : IoFault) (place : TextPlace) (far :
 place_refused (Read None) why place far = refl
 place_refused (Read (Some size)) why place far = refl
 place_refused (ReadLine limit) why place far = refl
+place_refused (WriteText text) why place far = tt
 place_refused call why place far = refl
 
 wants_refused : (call : TextFileCall) (why : IoFault) (buffer : Buffer) → blames why ≡ false → WantsMemory call (Refused why) buffer
+wants_refused Flush fault.NoMemory buffer own = absurd (cc)
+wants_refused Flush why buffer own = tt
 wants_refused Close fault.NoMemory buffer own = absurd (cc)
 wants_refused Close why buffer own = tt
 wants_refused call why buffer own = tt
@@ -60,27 +81,29 @@ step_refused : (file : TextFile) (call : TextFileCall) (why : IoFault) → refus
 step_refused file call why is = settled (subst (λ (refused : Option IoFault). SettledBy file call refused (Refused why) file) (sym is) (refl, refl))
 
 -- a call that is refused
-pub refused : (text : TextView) (was : Bool) (call : TextFileCall) (why : IoFault) → refusal (shown_file text) call ≡ Some why → blames why ≡ false → closes_again text.buffer.life call ≡ false → IsBounded (state_of text false) → Answers (state_of text was) call (Refused why) (state_of text false)
+pub refused : (text : WrittenView) (was : Bool) (call : TextFileCall) (why : IoFault) → refusal (file_now text) call ≡ Some why → blames why ≡ false → closes_again text.life call ≡ false → IsBounded (state_of text false) → Answers (state_of text was) call (Refused why) (state_of text false)
 refused text was call why is own once bounded =
     let quiet = quiet_refused why own in
     record {
-      keeps = record { raw = keeps_same text.buffer.raw; can = refl; buffering = refl; exported = refl };
+      keeps = record { raw = keeps_same text.text.buffer.raw; can = refl; buffering = refl; exported = refl };
       refused = λ other here. record { says = (let same : Some why ≡ Some other = sym is ∙ here in let whys : why ≡ other = cc in ap Refused whys); same = refl };
       again = λ closes. let never = sym once ∙ closes in absurd (cc);
       causes = record { waits = λ short. absurd (cc); faults = λ fails. let never = sym quiet ∙ fails in absurd (cc) };
-      counted = λ exact. record { faults = λ sound. refl; waits = λ whole has. refl; once = λ short. absurd (cc); most = inl refl };
+      counted = λ exact. record { faults = λ sound. refl; ends = λ own. record { waits = λ whole has. refl; once = λ short. absurd (cc); most = inl refl } };
       shorts = whole_refused why own;
       nothing = λ none. refl;
-      moves = record { settings = settings_refused call why text.settings; life_is = life_refused call why text.buffer.life own; place = place_refused call why (place_of text) text.buffer.place; bounded = bounded };
+      moves = record { settings = settings_refused call why text.text.settings; life_is = life_refused text.text.buffer.can.writable call why text.life own; place = place_refused call why (place_now text) text.text.buffer.place; written = written_refused text.text.settings call why (place_now text) own; bounded = bounded };
       answer = λ accepts. let never = sym is ∙ accepts in absurd (cc);
       complete = λ accepts calm sound. let never = sym is ∙ accepts in absurd (cc);
-      wants = wants_refused call why text.buffer own;
-      shut = shut_refused call why text.buffer;
+      wants = wants_refused call why text.text.buffer own;
+      shut = λ none. shut_refused call why text.text.buffer;
       spares = λ can none. record { bytes = λ told. refl; written = λ told. refl; owed = none };
-      tied = record { owed = refl; life_is = λ was. refl };
+      tied = record { owed = λ can. refl; life_is = λ can was. was };
       stands = λ stood. stood;
-      told = λ told. subst (λ (faulted : Bool). TextFileStep (shown_file text) call (Refused why) false faulted (shown_file text)) (sym quiet) (step_refused (shown_file text) call why is);
+      told = λ told. subst (λ (faulted : Bool). TextFileStep (file_now text) call (Refused why) false faulted (file_now text)) (sym quiet) (step_refused (file_now text) call why is);
       hides = λ short. absurd (cc);
+      passes = passes_refused (state_of text was) call why (state_of text false);
+      kept = keeps_refused call why (state_of text false);
     }
 
 -- What refuses.
@@ -109,16 +132,16 @@ own_life life.Closed why is = let same : fault.Closed ≡ why = cc in ap blames 
 own_life life.Detached why is = let same : fault.Detached ≡ why = cc in ap blames (sym same)
 
 -- a reading that the life refuses
-pub refused_by_life : (now : TextState) (text : TextView) (was : Bool) (asked : Wanted) (current : Life) (why : IoFault) → state_of text was ≡ now → text.buffer.life ≡ current → life_fault current ≡ Some why → IsBounded (state_of text false) → Answers now (call_of asked) (Refused why) (state_of text false)
+pub refused_by_life : (now : TextState) (text : WrittenView) (was : Bool) (asked : Wanted) (current : Life) (why : IoFault) → state_of text was ≡ now → text.life ≡ current → life_fault current ≡ Some why → IsBounded (state_of text false) → Answers now (call_of asked) (Refused why) (state_of text false)
 refused_by_life now text was asked current why same is refuses bounded =
     subst (λ (before : TextState). Answers before (call_of asked) (Refused why) (state_of text false)) same
-    (refused text was (call_of asked) why (by_life (shown_file text) asked current why is refuses) (own_life current why refuses) (never_again asked text.buffer.life) bounded)
+    (refused text was (call_of asked) why (by_life (file_now text) asked current why is refuses) (own_life current why refuses) (never_again asked text.life) bounded)
 
 -- a reading of a buffer that can't be read
-pub refused_unread : (now : TextState) (text : TextView) (was : Bool) (asked : Wanted) → state_of text was ≡ now → text.buffer.life ≡ life.Live → text.buffer.can.readable ≡ false → IsBounded (state_of text false) → Answers now (call_of asked) (Refused fault.Unsupported) (state_of text false)
+pub refused_unread : (now : TextState) (text : WrittenView) (was : Bool) (asked : Wanted) → state_of text was ≡ now → text.life ≡ life.Live → text.text.buffer.can.readable ≡ false → IsBounded (state_of text false) → Answers now (call_of asked) (Refused fault.Unsupported) (state_of text false)
 refused_unread now text was asked same live can bounded =
     subst (λ (before : TextState). Answers before (call_of asked) (Refused fault.Unsupported) (state_of text false)) same
-    (refused text was (call_of asked) fault.Unsupported (unread (shown_file text) asked live can) refl (never_again asked text.buffer.life) bounded)
+    (refused text was (call_of asked) fault.Unsupported (unread (file_now text) asked live can) refl (never_again asked text.life) bounded)
 
 -- what refuses a call that texts don't have
 abbrev pub other_fault : Life → IoFault
@@ -139,11 +162,11 @@ own_other life.Failed = refl
 own_other life.Closed = refl
 own_other life.Detached = refl
 
-pub refused_other : (now : TextState) (text : TextView) (was : Bool) (current : Life) (why : IoFault) → state_of text was ≡ now → text.buffer.life ≡ current → why ≡ other_fault current → IsBounded (state_of text false) → Answers now OtherKind (Refused why) (state_of text false)
+pub refused_other : (now : TextState) (text : WrittenView) (was : Bool) (current : Life) (why : IoFault) → state_of text was ≡ now → text.life ≡ current → why ≡ other_fault current → IsBounded (state_of text false) → Answers now OtherKind (Refused why) (state_of text false)
 refused_other now text was current why same is says bounded =
     subst (λ (before : TextState). Answers before OtherKind (Refused why) (state_of text false)) same
     (subst (λ (own : IoFault). Answers (state_of text was) OtherKind (Refused own) (state_of text false)) (sym says)
-    (refused text was OtherKind (other_fault current) (other_by (shown_file text) current is) (own_other current) refl bounded))
+    (refused text was OtherKind (other_fault current) (other_by (file_now text) current is) (own_other current) refl bounded))
 
 -- Closing.
 
@@ -160,10 +183,10 @@ not_again life.Closed other = absurd (other refl)
 not_again life.Detached other = refl
 
 -- a close that the life refuses
-pub refused_close : (now : TextState) (text : TextView) (was : Bool) (current : Life) (why : IoFault) → state_of text was ≡ now → text.buffer.life ≡ current → current ≢ life.Closed → life_fault current ≡ Some why → IsBounded (state_of text false) → Answers now Close (Refused why) (state_of text false)
+pub refused_close : (now : TextState) (text : WrittenView) (was : Bool) (current : Life) (why : IoFault) → state_of text was ≡ now → text.life ≡ current → current ≢ life.Closed → life_fault current ≡ Some why → IsBounded (state_of text false) → Answers now Close (Refused why) (state_of text false)
 refused_close now text was current why same is other refuses bounded =
     subst (λ (before : TextState). Answers before Close (Refused why) (state_of text false)) same
-    (refused text was Close why (close_by (shown_file text) current why is other refuses) (own_life current why refuses) (ap (λ (own : Life). closes_again own Close) is ∙ not_again current other) bounded)
+    (refused text was Close why (close_by (file_now text) current why is other refuses) (own_life current why refuses) (ap (λ (own : Life). closes_again own Close) is ∙ not_again current other) bounded)
 
 closed_accepts : (file : TextFile) → file.life ≡ life.Closed → refusal file Close ≡ None
 closed_accepts file is = rw is refl
@@ -174,27 +197,29 @@ closed_step file is =
     settled (subst (λ (none : Option IoFault). SettledBy file Close none Done file) (sym (closed_accepts file is)) (ap (λ (left : TextFile). let pair : FileReply × TextFile = (Done, left) in pair) same))
 
 -- a close of a closed text is done again
-pub closed_again : (now : TextState) (text : TextView) (was : Bool) → state_of text was ≡ now → text.buffer.life ≡ life.Closed → IsBounded (state_of text false) → Answers now Close Done (state_of text false)
+pub closed_again : (now : TextState) (text : WrittenView) (was : Bool) → state_of text was ≡ now → text.life ≡ life.Closed → IsBounded (state_of text false) → Answers now Close Done (state_of text false)
 closed_again now text was same is bounded =
     subst (λ (before : TextState). Answers before Close Done (state_of text false)) same
     (record {
-      keeps = record { raw = keeps_same text.buffer.raw; can = refl; buffering = refl; exported = refl };
-      refused = λ why here. let never = sym (closed_accepts (shown_file text) is) ∙ here in absurd (cc);
+      keeps = record { raw = keeps_same text.text.buffer.raw; can = refl; buffering = refl; exported = refl };
+      refused = λ why here. let never = sym (closed_accepts (file_now text) is) ∙ here in absurd (cc);
       again = λ closes. record { says = refl; same = refl };
       causes = record { waits = λ short. absurd (cc); faults = λ fails. absurd (cc) };
-      counted = λ exact. record { faults = λ sound. refl; waits = λ whole has. refl; once = λ short. absurd (cc); most = inl refl };
+      counted = λ exact. record { faults = λ sound. refl; ends = λ own. record { waits = λ whole has. refl; once = λ short. absurd (cc); most = inl refl } };
       shorts = refl;
       nothing = λ none. refl;
-      moves = record { settings = refl; life_is = is; place = refl; bounded = bounded };
+      moves = record { settings = refl; life_is = is; place = refl; written = tt; bounded = bounded };
       answer = λ accepts. tt;
       complete = λ accepts calm sound. record { answer = tt; whole = refl };
       wants = tt;
-      shut = λ whole none closed. closed;
+      shut = λ own whole none closed. closed;
       spares = λ can none. record { bytes = λ told. refl; written = λ told. refl; owed = none };
-      tied = record { owed = refl; life_is = λ was. refl };
+      tied = record { owed = λ can. refl; life_is = λ can was. was };
       stands = λ stood. stood;
-      told = λ told. closed_step (shown_file text) is;
+      told = λ told. closed_step (file_now text) is;
       hides = λ short. absurd (cc);
+      passes = λ live. let never : life.Closed ≡ life.Live = sym is ∙ live in absurd (cc);
+      kept = tt;
     })
 
 -- Chunks of another size.
@@ -210,50 +235,89 @@ chunk_by file size life.Closed why is refuses = rw is refuses
 chunk_by file size life.Detached why is refuses = rw is refuses
 
 -- a chunk size that the life refuses
-pub refused_chunk : (now : TextState) (text : TextView) (was : Bool) (size : ℕ) (current : Life) (why : IoFault) → state_of text was ≡ now → text.buffer.life ≡ current → life_fault current ≡ Some why → IsBounded (state_of text false) → Answers now (SetChunkSize size) (Refused why) (state_of text false)
+pub refused_chunk : (now : TextState) (text : WrittenView) (was : Bool) (size : ℕ) (current : Life) (why : IoFault) → state_of text was ≡ now → text.life ≡ current → life_fault current ≡ Some why → IsBounded (state_of text false) → Answers now (SetChunkSize size) (Refused why) (state_of text false)
 refused_chunk now text was size current why same is refuses bounded =
     subst (λ (before : TextState). Answers before (SetChunkSize size) (Refused why) (state_of text false)) same
-    (refused text was (SetChunkSize size) why (chunk_by (shown_file text) size current why is refuses) (own_life current why refuses) refl bounded)
+    (refused text was (SetChunkSize size) why (chunk_by (file_now text) size current why is refuses) (own_life current why refuses) refl bounded)
 
 no_chunk : (file : TextFile) (size : ℕ) → file.life ≡ life.Live → nat_eq size 0 ≡ true → refusal file (SetChunkSize size) ≡ Some fault.BadArgument
 no_chunk file size live none = rw live (rw none refl)
 
 -- a chunk of no bytes
-pub refused_none : (now : TextState) (text : TextView) (was : Bool) (size : ℕ) → state_of text was ≡ now → text.buffer.life ≡ life.Live → nat_eq size 0 ≡ true → IsBounded (state_of text false) → Answers now (SetChunkSize size) (Refused fault.BadArgument) (state_of text false)
+pub refused_none : (now : TextState) (text : WrittenView) (was : Bool) (size : ℕ) → state_of text was ≡ now → text.life ≡ life.Live → nat_eq size 0 ≡ true → IsBounded (state_of text false) → Answers now (SetChunkSize size) (Refused fault.BadArgument) (state_of text false)
 refused_none now text was size same live none bounded =
     subst (λ (before : TextState). Answers before (SetChunkSize size) (Refused fault.BadArgument) (state_of text false)) same
-    (refused text was (SetChunkSize size) fault.BadArgument (no_chunk (shown_file text) size live none) refl refl bounded)
+    (refused text was (SetChunkSize size) fault.BadArgument (no_chunk (file_now text) size live none) refl refl bounded)
 
 some_chunk : (file : TextFile) (size : ℕ) → file.life ≡ life.Live → nat_eq size 0 ≡ false → refusal file (SetChunkSize size) ≡ None
 some_chunk file size live some = rw live (rw some refl)
 
-abbrev pub with_chunk : TextView → ℕ → TextView
-with_chunk text size = record text { settings = record text.settings { chunk_size = size } }
+abbrev pub with_chunk : WrittenView → ℕ → WrittenView
+with_chunk view size = record view { text = record view.text { settings = record view.text.settings { chunk_size = size } } }
 
 chunk_step : (file : TextFile) (size : ℕ) → file.life ≡ life.Live → nat_eq size 0 ≡ false → TextFileStep file (SetChunkSize size) Done false false (with_chunk_size file size)
 chunk_step file size live some = settled (subst (λ (none : Option IoFault). SettledBy file (SetChunkSize size) none Done (with_chunk_size file size)) (sym (some_chunk file size live some)) refl)
 
 -- chunks of another size
-pub chunks_so : (now : TextState) (text new : TextView) (was : Bool) (size : ℕ) → state_of text was ≡ now → text.buffer.life ≡ life.Live → nat_eq size 0 ≡ false → IsBounded (state_of text false) → new ≡ with_chunk text size → Answers now (SetChunkSize size) Done (state_of new false)
+pub chunks_so : (now : TextState) (text new : WrittenView) (was : Bool) (size : ℕ) → state_of text was ≡ now → text.life ≡ life.Live → nat_eq size 0 ≡ false → IsBounded (state_of text false) → new ≡ with_chunk text size → Answers now (SetChunkSize size) Done (state_of new false)
 chunks_so now text new was size same live some bounded is =
-    subst (λ (view : TextView). Answers now (SetChunkSize size) Done (state_of view false)) (sym is)
+    subst (λ (view : WrittenView). Answers now (SetChunkSize size) Done (state_of view false)) (sym is)
     (subst (λ (before : TextState). Answers before (SetChunkSize size) Done (state_of (with_chunk text size) false)) same
     (record {
-      keeps = record { raw = keeps_same text.buffer.raw; can = refl; buffering = refl; exported = refl };
-      refused = λ why here. let never = sym (some_chunk (shown_file text) size live some) ∙ here in absurd (cc);
+      keeps = record { raw = keeps_same text.text.buffer.raw; can = refl; buffering = refl; exported = refl };
+      refused = λ why here. let never = sym (some_chunk (file_now text) size live some) ∙ here in absurd (cc);
       again = λ closes. absurd (cc);
       causes = record { waits = λ short. absurd (cc); faults = λ fails. absurd (cc) };
-      counted = λ exact. record { faults = λ sound. refl; waits = λ whole has. refl; once = λ short. absurd (cc); most = inl refl };
+      counted = λ exact. record { faults = λ sound. refl; ends = λ own. record { waits = λ whole has. refl; once = λ short. absurd (cc); most = inl refl } };
       shorts = refl;
       nothing = λ none. refl;
-      moves = record { settings = refl; life_is = refl; place = refl; bounded = record { behind = bounded.behind; far = bounded.far } };
+      moves = record { settings = refl; life_is = refl; place = refl; written = tt; bounded = record { behind = bounded.behind; far = bounded.far } };
       answer = λ accepts. refl;
       complete = λ accepts calm sound. record { answer = refl; whole = refl };
       wants = tt;
-      shut = λ can none closed. closed;
+      shut = λ own can none closed. closed;
       spares = λ can none. record { bytes = λ told. refl; written = λ told. refl; owed = none };
-      tied = record { owed = refl; life_is = λ was. refl };
+      tied = record { owed = λ can. refl; life_is = λ can was. was };
       stands = λ stood. stood;
-      told = λ told. chunk_step (shown_file text) size live some;
+      told = λ told. chunk_step (file_now text) size live some;
       hides = λ short. absurd (cc);
+      passes = tt;
+      kept = tt;
     }))
+
+-- Flushing.
+
+flush_by : (file : TextFile) (current : Life) (why : IoFault) → file.life ≡ current → life_fault current ≡ Some why → refusal file Flush ≡ Some why
+flush_by file life.Live why is refuses = absurd (cc)
+flush_by file life.Failed why is refuses = rw is refuses
+flush_by file life.Closed why is refuses = rw is refuses
+flush_by file life.Detached why is refuses = rw is refuses
+
+-- a flush that the life refuses
+pub refused_flush : (now : TextState) (text : WrittenView) (was : Bool) (current : Life) (why : IoFault) → state_of text was ≡ now → text.life ≡ current → life_fault current ≡ Some why → IsBounded (state_of text false) → Answers now Flush (Refused why) (state_of text false)
+refused_flush now text was current why same is refuses bounded =
+    subst (λ (before : TextState). Answers before Flush (Refused why) (state_of text false)) same
+    (refused text was Flush why (flush_by (file_now text) current why is refuses) (own_life current why refuses) refl bounded)
+
+-- Writing.
+
+write_by : (file : TextFile) (text : List ℕ) (current : Life) (why : IoFault) → file.life ≡ current → life_fault current ≡ Some why → refusal file (WriteText text) ≡ Some why
+write_by file text life.Live why is refuses = absurd (cc)
+write_by file text life.Failed why is refuses = rw is refuses
+write_by file text life.Closed why is refuses = rw is refuses
+write_by file text life.Detached why is refuses = rw is refuses
+
+-- a write that the life refuses
+pub refused_write : (now : TextState) (text : WrittenView) (was : Bool) (written : List ℕ) (current : Life) (why : IoFault) → state_of text was ≡ now → text.life ≡ current → life_fault current ≡ Some why → IsBounded (state_of text false) → Answers now (WriteText written) (Refused why) (state_of text false)
+refused_write now text was written current why same is refuses bounded =
+    subst (λ (before : TextState). Answers before (WriteText written) (Refused why) (state_of text false)) same
+    (refused text was (WriteText written) why (write_by (file_now text) written current why is refuses) (own_life current why refuses) refl bounded)
+
+unwritable : (file : TextFile) (text : List ℕ) → file.life ≡ life.Live → file.can.writable ≡ false → refusal file (WriteText text) ≡ Some fault.Unsupported
+unwritable file text live can = rw live (rw can refl)
+
+-- a write to a buffer that can't be written
+pub refused_unwritten : (now : TextState) (text : WrittenView) (was : Bool) (written : List ℕ) → state_of text was ≡ now → text.life ≡ life.Live → text.text.buffer.can.writable ≡ false → IsBounded (state_of text false) → Answers now (WriteText written) (Refused fault.Unsupported) (state_of text false)
+refused_unwritten now text was written same live can bounded =
+    subst (λ (before : TextState). Answers before (WriteText written) (Refused fault.Unsupported) (state_of text false)) same
+    (refused text was (WriteText written) fault.Unsupported (unwritable (file_now text) written live can) refl refl bounded)

@@ -1,20 +1,254 @@
--- What a refused range leaves of what is in hand.
-use Rattle.std.proofs.Common.{◌≡◌, ℕ, Bool, Some, refl, sym, ap, subst}
-use Rattle.py_plain.specs.Items.{Walk}
+-- A call that ends where what is owed couldn't be handed on.
+use Rattle.std.proofs.Common.{◌≡◌, ◌≢◌, ℕ, inl, inr, ◌⊎◌, Bool, true, false, IsTrue, List, [], ◌∷◌, Some, None, Err, refl, sym, ap, ◌∙◌, subst, arith}
+use Rattle.py_flat.specs.declared.fault.IoFault.{IoFault}
+use Rattle.py_flat.specs.declared.fault.IoFault.TheVariants as fault
+use Rattle.py_flat.specs.declared.life.Life.{Life}
+use Rattle.py_flat.specs.declared.life.Life.TheVariants as life
+use Rattle.py_flat.specs.AllowedStep.{waited_for, raw_faulted, out_of_memory}
+use Rattle.py_flat.specs.Calls.{FileReply, NotReady, Refused}
+use Rattle.py_flat.specs.Causes.{Rose, rose}
+use Rattle.py_plain_text.specs.TextFile.{TextFile, TextPlace, TextSettings}
+use Rattle.py_plain_text.specs.TextCalls.{TextFileCall, Flush, Close}
+use Rattle.py_plain_text.specs.TextRefusals.{refusal}
+use Rattle.py_plain_text.specs.TextAllowed.{Fails, TextFileStep}
+use Rattle.py_stream.specs.Kinds.{says_wait, says_fault}
+use Rattle.py_stream.specs.Buffer.{Buffer, WhereShown}
 use Rattle.py_held_text.specs.declared.wanted.Wanted.{Wanted}
-use Rattle.py_blocks.specs.declared.fronts.TextFront.{TextFront}
-use Rattle.py_held_text.specs.Held.{HeldView}
-use Rattle.py_held_text.specs.Decodes.{RefusesNext}
-use Rattle.py_held_text.specs.Finding.{IsFrontOf, enough_before}
-use Rattle.py_textio.specs.declared.looking.Gathered.TheVariants as gathered
-use Rattle.py_textio.specs.Reading.{Coming, Follows, RefusesAt, HeldAt}
-use Rattle.py_textio.proofs.Following.{after_release, let_go}
+use Rattle.py_held_text.specs.declared.wanted.Wanted.TheVariants.{Characters, Line}
+use Rattle.py_read_text.specs.Answers.{asks_nothing, passes_on, IsReplyTo, IsComplete, IsShort, PlaceMoves, WriteMoves, LifeMoves, settings_after, closes_again, WantsMemory, IsBounded, TextPasses, TextKeeps, Answers}
+use Rattle.py_read_text.specs.Reading.{call_of, asks_none}
+use Rattle.py_read_text.proofs.Steps.{accepts, works, waited_by}
+use Rattle.py_read_text.proofs.Results.{faults_step, starves_step}
+use Rattle.py_textio.specs.Written.{WrittenView, place_now, state_of, file_now, HandsOn, TakesNothing, SettleOutcome, stopped_reply, with_taken}
+use Rattle.py_textio.specs.Working.{Works}
+use Rattle.py_textio.proofs.Working.{answers_work}
+use Rattle.py_textio.proofs.Over.{handed_file}
 
-pub stopped_follows : (last : Bool) (old new : HeldView) (start end : ℕ) → RefusesNext last old start end → new ≡ after_release old → Follows (Coming last) old new
-stopped_follows last old new start end refuses released = subst (Follows (Coming last) old) (sym released) (let_go (Coming last) old (λ more may. ap (λ (walk : Walk). walk.items) (refuses.whole more may)))
+pub not_rose : (before after : ℕ) → Rose before after → rose before after ≡ false → ⊥
+not_rose before after is still = grind arith
 
-pub refuses_at : (last : Bool) (old new : HeldView) (start end : ℕ) → RefusesNext last old start end → new ≡ after_release old → RefusesAt (Coming last) new (start, end)
-refuses_at last old new start end refuses released = subst (λ (held : HeldView). RefusesAt (Coming last) held (start, end)) (sym released) (record { next = λ more may. refuses.whole more may; whole = refl })
+-- calls of a live text that may end so: what each of them says of a reply that refuses, or isn't ready
+pub record Ends (call : TextFileCall) (reply : FileReply) (short : Bool) : Type 0 where
+  pub once : closes_again life.Live call ≡ false
+  pub some : asks_nothing call ≡ false
+  pub shorts : IsShort reply short
+  pub settings : (own : TextSettings) → settings_after call reply own ≡ own
+  pub place : (own : TextPlace) (end : ℕ) → PlaceMoves call short reply own end own
+  pub written : (settings : TextSettings) (own : TextPlace) → WriteMoves settings call reply own own
+  pub answer : IsReplyTo true call reply
+  pub calm : short ≡ false → says_fault reply ≡ false → IsComplete call reply short
+  pub passes : (before after : _) → TextPasses before call reply after
+  pub kept : (after : _) → TextKeeps call reply after
 
-pub stopped_before : (last : Bool) (old new : HeldView) (start end : ℕ) (asked : Wanted) (front : TextFront) → RefusesNext last old start end → new ≡ after_release old → Some front.chars ≡ enough_before asked new.newline new.known → IsFrontOf new.known front → HeldAt (Coming last) asked new (gathered.Before front)
-stopped_before last old new start end asked front refuses released found is = (sym found, is, ((start, end), refuses_at last old new start end refuses released))
+-- a text that owes something, and whose buffer called for it
+pub record Owes (old : WrittenView) : Type 0 where
+  pub writes : old.text.buffer.can.writable ≡ true
+  pub live : old.life ≡ life.Live
+  pub some : old.pending ≢ []
+
+busy_so : (owed : List ℕ) (call : TextFileCall) → owed ≢ [] → passes_on owed call ≡ true
+busy_so [] call some = absurd (some refl)
+busy_so (byte ∷ more) call some = grind arith
+
+pub ends_work : (old : WrittenView) (call : TextFileCall) (reply : FileReply) (new : WrittenView) (short : Bool) → Owes old → Ends call reply short → refusal (file_now old) call ≡ None → HandsOn old short (says_fault reply) new → (IsTrue short → new.pending ≢ []) → LifeMoves true call reply old.life new.life → IsBounded (state_of new short) → WantsMemory call reply old.text.buffer → WhereShown old.text.buffer (TextFileStep (file_now old) call reply short (says_fault reply) (file_now new)) → Works old call reply new short
+ends_work old call reply new short owes ends accepted hands left current bounded wants told = record {
+  accepted = accepted;
+  once = ap (λ (own : Life). closes_again own call) owes.live ∙ ends.once;
+  some = ends.some;
+  busy = busy_so old.pending call owes.some;
+  writes = owes.writes;
+  calls = hands.calls;
+  shorts = ends.shorts;
+  settings = hands.settings ∙ sym (ends.settings old.text.settings);
+  life_is = current;
+  place = subst (λ (own : TextPlace). PlaceMoves call short reply (place_now old) new.text.buffer.place own) (sym hands.place) (ends.place (place_now old) new.text.buffer.place);
+  written = subst (λ (own : TextPlace). WriteMoves old.text.settings call reply (place_now old) own) (sym hands.place) (ends.written old.text.settings (place_now old));
+  bounded = bounded;
+  answer = ends.answer;
+  complete = λ calm sound. by_short short (says_fault reply) refl refl calm sound;
+  wants = wants;
+  shut = λ none. absurd (owes.some none);
+  told = told;
+  hides = λ is gives none. absurd (left is none);
+  passes = ends.passes (state_of old false) (state_of new short);
+  kept = ends.kept (state_of new short);
+}
+  where
+    by_short : (waited faulted : Bool) → short ≡ waited → says_fault reply ≡ faulted → rose old.text.buffer.raw.waits new.text.buffer.raw.waits ≡ false → rose old.text.buffer.raw.faults new.text.buffer.raw.faults ≡ false → IsComplete call reply short
+    by_short true faulted is fails calm sound = absurd (not_rose old.text.buffer.raw.waits new.text.buffer.raw.waits (hands.calls.wait is) calm)
+    by_short false true is fails calm sound = absurd (not_rose old.text.buffer.raw.faults new.text.buffer.raw.faults (hands.calls.fault fails) sound)
+    by_short false false is fails calm sound = ends.calm is fails
+
+-- Readings.
+
+some_asked : (asked : Wanted) → asks_none asked ≡ false → asks_nothing (call_of asked) ≡ false
+some_asked asked some = grind arith
+
+unready_ends : (asked : Wanted) → asks_none asked ≡ false → Ends (call_of asked) NotReady true
+unready_ends (Characters None) some = record { once = refl; some = some_asked (Characters None) some; shorts = refl; settings = λ own. refl; place = λ own end. refl; written = λ settings own. tt; answer = tt; calm = λ is. absurd (cc); passes = λ before after. tt; kept = λ after. tt }
+unready_ends (Characters (Some size)) some = record { once = refl; some = some_asked (Characters (Some size)) some; shorts = refl; settings = λ own. refl; place = λ own end. refl; written = λ settings own. tt; answer = tt; calm = λ is. absurd (cc); passes = λ before after. tt; kept = λ after. tt }
+unready_ends (Line limit) some = record { once = refl; some = some_asked (Line limit) some; shorts = refl; settings = λ own. refl; place = λ own end. refl; written = λ settings own. tt; answer = tt; calm = λ is. absurd (cc); passes = λ before after. tt; kept = λ after. tt }
+
+fault_ends : (asked : Wanted) → asks_none asked ≡ false → Ends (call_of asked) (Refused fault.RawFault) false
+fault_ends (Characters None) some = record { once = refl; some = some_asked (Characters None) some; shorts = refl; settings = λ own. refl; place = λ own end. refl; written = λ settings own. tt; answer = tt; calm = λ is fails. absurd (cc); passes = λ before after. tt; kept = λ after. tt }
+fault_ends (Characters (Some size)) some = record { once = refl; some = some_asked (Characters (Some size)) some; shorts = refl; settings = λ own. refl; place = λ own end. refl; written = λ settings own. tt; answer = tt; calm = λ is fails. absurd (cc); passes = λ before after. tt; kept = λ after. tt }
+fault_ends (Line limit) some = record { once = refl; some = some_asked (Line limit) some; shorts = refl; settings = λ own. refl; place = λ own end. refl; written = λ settings own. tt; answer = tt; calm = λ is fails. absurd (cc); passes = λ before after. tt; kept = λ after. tt }
+
+memory_ends : (asked : Wanted) → asks_none asked ≡ false → Ends (call_of asked) (Refused fault.NoMemory) false
+memory_ends (Characters None) some = record { once = refl; some = some_asked (Characters None) some; shorts = refl; settings = λ own. refl; place = λ own end. refl; written = λ settings own. tt; answer = tt; calm = λ is fails. record { answer = tt; whole = refl }; passes = λ before after. tt; kept = λ after. tt }
+memory_ends (Characters (Some size)) some = record { once = refl; some = some_asked (Characters (Some size)) some; shorts = refl; settings = λ own. refl; place = λ own end. refl; written = λ settings own. tt; answer = tt; calm = λ is fails. record { answer = tt; whole = refl }; passes = λ before after. tt; kept = λ after. tt }
+memory_ends (Line limit) some = record { once = refl; some = some_asked (Line limit) some; shorts = refl; settings = λ own. refl; place = λ own end. refl; written = λ settings own. tt; answer = tt; calm = λ is fails. record { answer = tt; whole = refl }; passes = λ before after. tt; kept = λ after. tt }
+
+wants_nothing : (asked : Wanted) (reply : FileReply) (buffer : Buffer) → WantsMemory (call_of asked) reply buffer
+wants_nothing (Characters size) reply buffer = tt
+wants_nothing (Line limit) reply buffer = tt
+
+same_life : (asked : Wanted) (reply : FileReply) → reply ≡ NotReady → (before after : Life) → after ≡ before → LifeMoves true (call_of asked) reply before after
+same_life (Characters size) reply is before after same = rw is same
+same_life (Line limit) reply is before after same = rw is same
+
+failed_life : (asked : Wanted) (before after : Life) → after ≡ life.Failed → LifeMoves true (call_of asked) (Refused fault.RawFault) before after
+failed_life (Characters size) before after is = is
+failed_life (Line limit) before after is = is
+
+-- told: the raw failed, or memory ran out, before the call wrote or read anything
+pub fails_still : (file after : TextFile) (current : Life) → after.life ≡ current → after.bytes ≡ file.bytes → after.can ≡ file.can → after.settings ≡ file.settings → Fails file current file.bytes after
+fails_still file after current ends bytes can settings = record { life_is = ends; bytes_are = bytes; can = can; settings = settings }
+
+midway_read : (file after : TextFile) (asked : Wanted) → file.life ≡ life.Live → file.can.readable ≡ true → file.can.writable ≡ true → Fails file life.Failed file.bytes after → TextFileStep file (call_of asked) (Refused fault.NoMemory) false false after
+midway_read file after (Characters size) live can writes fails = out_of_memory refl (inr (rw live (rw can refl), (writes, (0, omega arith, fails))))
+midway_read file after (Line limit) live can writes fails = out_of_memory refl (inr (rw live (rw can refl), (writes, (0, omega arith, fails))))
+
+pub read_waits : (old new : WrittenView) (asked : Wanted) → Owes old → old.text.buffer.can.readable ≡ true → asks_none asked ≡ false → HandsOn old true false new → new.pending ≢ [] → new.life ≡ life.Live → IsBounded (state_of new true) → Answers (state_of old false) (call_of asked) NotReady (state_of new true)
+read_waits old new asked owes can some hands left lives bounded =
+    let current : new.life ≡ old.life = lives ∙ sym owes.live in
+    answers_work old (call_of asked) NotReady new true (ends_work old (call_of asked) NotReady new true owes (unready_ends asked some) (accepts (file_now old) asked owes.live can) hands (λ is. left) (same_life asked NotReady refl old.life new.life current) bounded (wants_nothing asked NotReady old.text.buffer)
+    (λ told. waited_for refl (works (file_now old) asked owes.live can, waited_by (file_now old) asked NotReady (file_now new) (inl (refl, handed_file old new true false hands current told)))))
+
+pub read_fails : (old new : WrittenView) (asked : Wanted) → Owes old → old.text.buffer.can.readable ≡ true → asks_none asked ≡ false → HandsOn old false true new → new.life ≡ life.Failed → IsBounded (state_of new false) → Answers (state_of old false) (call_of asked) (Refused fault.RawFault) (state_of new false)
+read_fails old new asked owes can some hands failed bounded =
+    answers_work old (call_of asked) (Refused fault.RawFault) new false (ends_work old (call_of asked) (Refused fault.RawFault) new false owes (fault_ends asked some) (accepts (file_now old) asked owes.live can) hands (λ is. absurd (cc)) (failed_life asked old.life new.life failed) bounded (wants_nothing asked (Refused fault.RawFault) old.text.buffer)
+    (λ told. faults_step (file_now old) (file_now new) asked owes.live can failed (hands.bytes told) hands.calls.keeps.can hands.settings))
+
+pub read_starves : (old new : WrittenView) (asked : Wanted) → Owes old → old.text.buffer.can.readable ≡ true → asks_none asked ≡ false → HandsOn old false false new → (new.life ≡ life.Live) ⊎ (new.life ≡ life.Failed) → IsBounded (state_of new false) → Answers (state_of old false) (call_of asked) (Refused fault.NoMemory) (state_of new false)
+read_starves old new asked owes can some hands (inl lives) bounded =
+    let current : new.life ≡ old.life = lives ∙ sym owes.live in
+    answers_work old (call_of asked) (Refused fault.NoMemory) new false (ends_work old (call_of asked) (Refused fault.NoMemory) new false owes (memory_ends asked some) (accepts (file_now old) asked owes.live can) hands (λ is. absurd (cc)) (inl current) bounded (wants_nothing asked (Refused fault.NoMemory) old.text.buffer)
+    (λ told. starves_step (file_now old) (file_now new) asked owes.live can (handed_file old new false false hands current told)))
+read_starves old new asked owes can some hands (inr failed) bounded =
+    answers_work old (call_of asked) (Refused fault.NoMemory) new false (ends_work old (call_of asked) (Refused fault.NoMemory) new false owes (memory_ends asked some) (accepts (file_now old) asked owes.live can) hands (λ is. absurd (cc)) (inr (refl, failed)) bounded (wants_nothing asked (Refused fault.NoMemory) old.text.buffer)
+    (λ told. midway_read (file_now old) (file_now new) asked owes.live can owes.writes (fails_still (file_now old) (file_now new) life.Failed failed (hands.bytes told) hands.calls.keeps.can hands.settings)))
+
+-- Flushing and closing.
+
+abbrev pub Passing : Bool → TextFileCall
+Passing true = Close
+Passing false = Flush
+
+passes_accepted : (file : TextFile) (closes : Bool) → file.life ≡ life.Live → refusal file (Passing closes) ≡ None
+passes_accepted file true live = rw live refl
+passes_accepted file false live = rw live refl
+
+wait_ends : (closes : Bool) → Ends (Passing closes) (Refused (fault.WouldBlock 0)) true
+wait_ends true = record { once = refl; some = refl; shorts = refl; settings = λ own. refl; place = λ own end. refl; written = λ settings own. tt; answer = refl; calm = λ is fails. absurd (cc); passes = λ before after. tt; kept = λ after. tt }
+wait_ends false = record { once = refl; some = refl; shorts = refl; settings = λ own. refl; place = λ own end. refl; written = λ settings own. tt; answer = refl; calm = λ is fails. absurd (cc); passes = λ before after. tt; kept = λ after. tt }
+
+passing_faults : (closes : Bool) → Ends (Passing closes) (Refused fault.RawFault) false
+passing_faults true = record { once = refl; some = refl; shorts = refl; settings = λ own. refl; place = λ own end. refl; written = λ settings own. tt; answer = tt; calm = λ is fails. absurd (cc); passes = λ before after. tt; kept = λ after. tt }
+passing_faults false = record { once = refl; some = refl; shorts = refl; settings = λ own. refl; place = λ own end. refl; written = λ settings own. tt; answer = tt; calm = λ is fails. absurd (cc); passes = λ before after. tt; kept = λ after. tt }
+
+passing_starves : (closes : Bool) → Ends (Passing closes) (Refused fault.NoMemory) false
+passing_starves true = record { once = refl; some = refl; shorts = refl; settings = λ own. refl; place = λ own end. refl; written = λ settings own. tt; answer = tt; calm = λ is fails. record { answer = tt; whole = refl }; passes = λ before after. tt; kept = λ after. tt }
+passing_starves false = record { once = refl; some = refl; shorts = refl; settings = λ own. refl; place = λ own end. refl; written = λ settings own. tt; answer = tt; calm = λ is fails. record { answer = tt; whole = refl }; passes = λ before after. tt; kept = λ after. tt }
+
+-- the life that a fault leaves
+abbrev pub faulted_life : Bool → Life
+faulted_life true = life.Closed
+faulted_life false = life.Failed
+
+passing_life : (closes : Bool) (before after : Life) → after ≡ faulted_life closes → LifeMoves true (Passing closes) (Refused fault.RawFault) before after
+passing_life true before after is = is
+passing_life false before after is = is
+
+passing_waits : (closes : Bool) (before after : Life) → after ≡ before → LifeMoves true (Passing closes) (Refused (fault.WouldBlock 0)) before after
+passing_waits true before after is = is
+passing_waits false before after is = is
+
+wants_raw : (closes : Bool) (buffer : Buffer) → IsTrue buffer.raw.takes_memory → WantsMemory (Passing closes) (Refused fault.NoMemory) buffer
+wants_raw true buffer takes = takes
+wants_raw false buffer takes = takes
+
+wait_wants : (closes : Bool) (buffer : Buffer) → WantsMemory (Passing closes) (Refused (fault.WouldBlock 0)) buffer
+wait_wants true buffer = tt
+wait_wants false buffer = tt
+
+fault_wants : (closes : Bool) (buffer : Buffer) → WantsMemory (Passing closes) (Refused fault.RawFault) buffer
+fault_wants true buffer = tt
+fault_wants false buffer = tt
+
+wait_step : (file after : TextFile) (closes : Bool) → file.life ≡ life.Live → after ≡ file → TextFileStep file (Passing closes) (Refused (fault.WouldBlock 0)) true false after
+wait_step file after true live same = waited_for refl (rw live refl, (refl, same))
+wait_step file after false live same = waited_for refl (rw live refl, (refl, same))
+
+fault_step : (file after : TextFile) (closes : Bool) → file.life ≡ life.Live → Fails file (faulted_life closes) file.bytes after → TextFileStep file (Passing closes) (Refused fault.RawFault) false true after
+fault_step file after true live fails = raw_faulted refl refl (rw live refl, (0, omega arith, fails))
+fault_step file after false live fails = raw_faulted refl refl (rw live refl, (0, omega arith, fails))
+
+starve_step : (file after : TextFile) (closes : Bool) → file.life ≡ life.Live → (after ≡ file) ⊎ ((file.can.writable ≡ true) × Fails file life.Failed file.bytes after) → TextFileStep file (Passing closes) (Refused fault.NoMemory) false false after
+starve_step file after true live (inl same) = out_of_memory refl (inl (rw live refl, same))
+starve_step file after true live (inr fails) = out_of_memory refl (inr (rw live refl, (fails.0, (0, omega arith, fails.1))))
+starve_step file after false live (inl same) = out_of_memory refl (inl (rw live refl, same))
+starve_step file after false live (inr fails) = out_of_memory refl (inr (rw live refl, (fails.0, (0, omega arith, fails.1))))
+
+pub passing_blocked : (old new : WrittenView) (closes : Bool) → Owes old → HandsOn old true false new → new.pending ≢ [] → new.life ≡ life.Live → IsBounded (state_of new true) → Answers (state_of old false) (Passing closes) (Refused (fault.WouldBlock 0)) (state_of new true)
+passing_blocked old new closes owes hands left lives bounded =
+    let current : new.life ≡ old.life = lives ∙ sym owes.live in
+    answers_work old (Passing closes) (Refused (fault.WouldBlock 0)) new true (ends_work old (Passing closes) (Refused (fault.WouldBlock 0)) new true owes (wait_ends closes) (passes_accepted (file_now old) closes owes.live) hands (λ is. left) (passing_waits closes old.life new.life current) bounded (wait_wants closes old.text.buffer)
+    (λ told. wait_step (file_now old) (file_now new) closes owes.live (handed_file old new true false hands current told)))
+
+pub passing_failed : (old new : WrittenView) (closes : Bool) → Owes old → HandsOn old false true new → new.life ≡ faulted_life closes → IsBounded (state_of new false) → Answers (state_of old false) (Passing closes) (Refused fault.RawFault) (state_of new false)
+passing_failed old new closes owes hands failed bounded =
+    answers_work old (Passing closes) (Refused fault.RawFault) new false (ends_work old (Passing closes) (Refused fault.RawFault) new false owes (passing_faults closes) (passes_accepted (file_now old) closes owes.live) hands (λ is. absurd (cc)) (passing_life closes old.life new.life failed) bounded (fault_wants closes old.text.buffer)
+    (λ told. fault_step (file_now old) (file_now new) closes owes.live (fails_still (file_now old) (file_now new) (faulted_life closes) failed (hands.bytes told) hands.calls.keeps.can hands.settings)))
+
+pub passing_starved : (old new : WrittenView) (closes : Bool) → Owes old → HandsOn old false false new → IsTrue old.text.buffer.raw.takes_memory → (new.life ≡ life.Live) ⊎ (new.life ≡ life.Failed) → IsBounded (state_of new false) → Answers (state_of old false) (Passing closes) (Refused fault.NoMemory) (state_of new false)
+passing_starved old new closes owes hands takes (inl lives) bounded =
+    let current : new.life ≡ old.life = lives ∙ sym owes.live in
+    answers_work old (Passing closes) (Refused fault.NoMemory) new false (ends_work old (Passing closes) (Refused fault.NoMemory) new false owes (passing_starves closes) (passes_accepted (file_now old) closes owes.live) hands (λ is. absurd (cc)) (inl current) bounded (wants_raw closes old.text.buffer takes)
+    (λ told. starve_step (file_now old) (file_now new) closes owes.live (inl (handed_file old new false false hands current told))))
+passing_starved old new closes owes hands takes (inr failed) bounded =
+    answers_work old (Passing closes) (Refused fault.NoMemory) new false (ends_work old (Passing closes) (Refused fault.NoMemory) new false owes (passing_starves closes) (passes_accepted (file_now old) closes owes.live) hands (λ is. absurd (cc)) (inr (refl, failed)) bounded (wants_raw closes old.text.buffer takes)
+    (λ told. starve_step (file_now old) (file_now new) closes owes.live (inr (owes.writes, fails_still (file_now old) (file_now new) life.Failed failed (hands.bytes told) hands.calls.keeps.can hands.settings))))
+
+-- By what stopped the handing on.
+
+starved_life : (old new : WrittenView) → TakesNothing old new ⊎ ((new.life ≡ life.Failed) × (old.text.buffer.can.writable ≡ true)) → (new.life ≡ life.Live) ⊎ (new.life ≡ life.Failed)
+starved_life old new (inl nothing) = inl nothing.lives
+starved_life old new (inr failed) = inr failed.0
+
+abbrev closed_of : WrittenView → WrittenView
+closed_of view = record view { life = life.Closed }
+
+pub read_stops : (old new : WrittenView) (asked : Wanted) (why : IoFault) → Owes old → old.text.buffer.can.readable ≡ true → asks_none asked ≡ false → SettleOutcome old (Err why) new → ((short : Bool) → IsBounded (state_of new short)) → Answers (state_of old false) (call_of asked) (stopped_reply why) (state_of new (says_wait (Refused why)))
+read_stops old new asked (fault.WouldBlock taken) owes can some outcome bounded = read_waits old new asked owes can some outcome.0 outcome.1 outcome.2 (bounded true)
+read_stops old new asked fault.RawFault owes can some outcome bounded = read_fails old new asked owes can some outcome.0 outcome.1 (bounded false)
+read_stops old new asked fault.NoMemory owes can some outcome bounded = read_starves old new asked owes can some outcome.0 (starved_life old new outcome.2) (bounded false)
+read_stops old new asked other owes can some outcome bounded = absurd outcome
+
+pub passing_stops : (old new : WrittenView) (closes : Bool) (why : IoFault) → Owes old → (closes ≡ true → says_fault (Refused why) ≡ false) → SettleOutcome old (Err why) new → ((short : Bool) → IsBounded (state_of new short)) → Answers (state_of old false) (Passing closes) (Refused (with_taken why 0)) (state_of new (says_wait (Refused (with_taken why 0))))
+passing_stops old new closes (fault.WouldBlock taken) owes sound outcome bounded = passing_blocked old new closes owes outcome.0 outcome.1 outcome.2 (bounded true)
+passing_stops old new true fault.RawFault owes sound outcome bounded = let never : true ≡ false = sound refl in absurd (cc)
+passing_stops old new false fault.RawFault owes sound outcome bounded = passing_failed old new false owes outcome.0 outcome.1 (bounded false)
+passing_stops old new closes fault.NoMemory owes sound outcome bounded = passing_starved old new closes owes outcome.0 outcome.1 (starved_life old new outcome.2) (bounded false)
+passing_stops old new closes other owes sound outcome bounded = absurd outcome
+
+-- a close whose handing on the raw failed
+pub close_fails : (old mid new : WrittenView) (why : IoFault) → Owes old → says_fault (Refused why) ≡ true → SettleOutcome old (Err why) mid → ((short : Bool) → IsBounded (state_of mid short)) → new ≡ record mid { life = life.Closed } → Answers (state_of old false) Close (Refused fault.RawFault) (state_of new false)
+close_fails old mid new fault.RawFault owes fails outcome bounded is =
+    subst (λ (view : WrittenView). Answers (state_of old false) Close (Refused fault.RawFault) (state_of view false)) (sym is)
+    (passing_failed old (closed_of mid) true owes (record { calls = outcome.0.calls; bytes = outcome.0.bytes; place = outcome.0.place; settings = outcome.0.settings }) refl (record { behind = (bounded false).behind; far = (bounded false).far }))
+close_fails old mid new why owes fails outcome bounded is = absurd (cc)
+
+-- a close that had to wait, or ran out of memory, before its buffer was asked to close
+pub close_stops : (old new : WrittenView) (why : IoFault) → Owes old → says_fault (Refused why) ≡ false → SettleOutcome old (Err why) new → ((short : Bool) → IsBounded (state_of new short)) → Answers (state_of old false) Close (Refused (with_taken why 0)) (state_of new (says_wait (Refused (with_taken why 0))))
+close_stops old new why owes sound outcome bounded = passing_stops old new true why owes (λ closes. sound) outcome bounded

@@ -1,6 +1,2 @@
-pub mod TextState
-pub mod Waiting
-pub mod Answers
-pub mod Knowing
-pub mod Reading
-pub mod Opening
+pub mod Written
+pub mod Working

@@ -1,15 +1,13 @@
-//! Text over any buffered stream: characters and lines, decoded as they are asked for.
+//! Text over any buffered stream: characters and lines that are decoded as they are asked for, and texts that are written.
 //!
-//! `TextIOWrapper` is seen as the text over what its buffer is seen as, and each of its calls has the one clause `Answers`. The text under
-//! it is a private part.
+//! `TextIOWrapper` is seen as the text over what its buffer is seen as, and each of its calls has the one clause `Answers`. The part that
+//! reads is `py_read_text`, what a text is written as `py_written_text`.
 #![tactic(auto)]
 
 mod laws;
-mod looking;
-mod opening;
-mod text;
 mod text_detached;
 mod text_io_wrapper;
+mod written_text;
 
 pub use laws::no_answer_hangs_on_the_chunk_size;
 pub use text_detached::TextDetached;

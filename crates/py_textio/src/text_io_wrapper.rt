@@ -1,21 +1,21 @@
 //! A text over any buffered stream: each call is refused by its life or an ability, or answered by the text below.
-ghost use Rattle.std.specs.Prelude.{◌≡◌, true, false, [], Some, None, if◌then◌else◌};
+ghost use Rattle.std.specs.Prelude.{◌≡◌, ◌-◌, true, false, Some, None, chars, length, if◌then◌else◌};
 ghost use Rattle.py_flat.specs.Calls.{Refused};
 ghost use Rattle.py_flat.specs.ExactStep.{is_closed};
-ghost use Rattle.py_plain_text.specs.TextCalls.{Read, ReadLine, SetChunkSize, Close, OtherKind};
+ghost use Rattle.py_plain_text.specs.TextCalls.{Read, ReadLine, WriteText, SetChunkSize, Flush, Close, OtherKind};
 ghost use Rattle.py_stream.specs.Kinds.{says_wait};
-ghost use Rattle.py_stream.specs.Replies.{done_reply};
-ghost use Rattle.py_textio.specs.Reading.{call_of};
-ghost use Rattle.py_flat.specs.Refusals.{is_unbuffered};
-ghost use Rattle.py_textio.specs.Opening.{WrapOutcome};
-ghost use Rattle.py_textio.specs.Answers.{Answers, text_reply};
+ghost use Rattle.py_stream.specs.Replies.{count_reply, done_reply};
+ghost use Rattle.py_stream.specs.Writing.{OwesUpTo};
+ghost use Rattle.py_read_text.specs.Reading.{call_of};
+ghost use Rattle.py_read_text.specs.Opening.{WrapOutcome};
+ghost use Rattle.py_read_text.specs.Answers.{Answers, text_reply};
 
 use crate::TextDetached;
-use crate::opening::{place_of, refusal};
-use crate::text::{Answer, Text};
+use crate::written_text::WrittenText;
 use py_flat::{IoFault, Life};
 use py_held_text::{Coder, Wanted};
 use py_plain::{Encoding, Handler, Newlines};
+use py_read_text::{Answer, ReadText, place_of, refusal};
 use py_stream::{BufferedStream, NewRefused};
 use py_text::TextSettings;
 use std::alloc::Global;
@@ -24,6 +24,13 @@ use std::marker::Model;
 /// Whether an answer says that the raw would have blocked.
 fn would_block(answer: &Result<(), IoFault>) -> bool
     ensures { result ≡ says_wait (done_reply answer.now) }
+{
+    matches!(answer, Err(IoFault::WouldBlock { .. }))
+}
+
+/// Whether an answer to a write says that the raw would have blocked.
+fn write_would_block(answer: &Result<usize, IoFault>) -> bool
+    ensures { result ≡ says_wait (count_reply answer.now) }
 {
     matches!(answer, Err(IoFault::WouldBlock { .. }))
 }
@@ -39,14 +46,14 @@ fn would_block(answer: &Result<(), IoFault>) -> bool
 /// stay, and the call may be made again.
 #[derive(Debug, Drop)]
 pub struct TextIOWrapper<B: BufferedStream> {
-    text: Text<B>,
+    text: WrittenText<B>,
     short: bool,
 }
 
 // A function's proof knows what the text is seen as where the function uses a field: so some begin with `let _ = &self.text;`.
 impl<B: BufferedStream> Model for TextIOWrapper<B> {
-    ghost use Rattle.py_textio.specs.TextState.{TextState};
-    ghost use Rattle.py_textio.specs.Knowing.{state_of};
+    ghost use Rattle.py_read_text.specs.TextState.{TextState};
+    ghost use Rattle.py_textio.specs.Written.{state_of};
 
     ghost Value = { TextState };
 
@@ -66,7 +73,7 @@ impl<B: BufferedStream> TextIOWrapper<B> {
         settings: TextSettings,
     ) -> Result<Self, NewRefused<B>>
         requires start { (B.shows buffer).can.seekable ≡ false → (B.shows buffer).place ≡ 0 }
-        requires buffered { is_unbuffered (B.shows buffer).buffering ≡ false }
+        requires owes { OwesUpTo (B.shows buffer).owed (B.shows buffer).place }
         ensures { WrapOutcome B.shows buffer coder settings result }
     {
         if let Some(fault) = refusal(&buffer, coder, settings) {
@@ -75,7 +82,7 @@ impl<B: BufferedStream> TextIOWrapper<B> {
         let mut buffer = buffer;
         let place = place_of(&mut buffer);
         Ok(TextIOWrapper {
-            text: Text::new(alloc, buffer, coder, settings, place),
+            text: WrittenText::new(alloc, ReadText::new(alloc, buffer, coder, settings, place)),
             short: false,
         })
     }
@@ -128,7 +135,53 @@ impl<B: BufferedStream> TextIOWrapper<B> {
         }
     }
 
-    /// Closes the buffer, which passes on what it owes; the text stays closed after `RawFault` too. A closed one may be closed again, which
+    /// Writes a text at the place, by the newline rule and the encoding, and answers how many characters it has. The text is written whole,
+    /// or not at all: until its buffer takes its bytes they are the text's own, fewer than a chunk after an answer, and none with write
+    /// through. With line buffering a text that has LF or CR is passed on by the buffer at once.
+    ///
+    /// `SeekFirst` where characters were read since the text was placed; `UnicodeEncodeError`, by places of the argument, where the handler
+    /// refuses a run of characters; `TooFar` where the bytes would end past 9223372036854775807: with all as it was, and no memory taken.
+    /// `WouldBlock` says how many bytes the text is written as: all are taken, and later calls pass them on. `RawFault`: the text is failed;
+    /// what its buffer hasn't of it is in `into_parts`. `NoMemory` leaves all as it was, but where the buffer ran out in the middle of it:
+    /// then the text is failed, too.
+    pub fn write(&mut self, alloc: Global, text: &str) -> Result<usize, IoFault>
+        ensures { Answers self.old (WriteText (chars text.now)) (count_reply result) self.new }
+    {
+        self.short = false;
+        match self.text.life() {
+            Life::Live if self.text.writable() => {
+                let written = self.text.write(alloc, text);
+                self.short = write_would_block(&written);
+                written
+            }
+            Life::Live => Err(IoFault::Unsupported),
+            Life::Failed => Err(IoFault::Failed),
+            Life::Closed => Err(IoFault::Closed),
+            Life::Detached => Err(IoFault::Detached),
+        }
+    }
+
+    /// Passes on all that was written: the raw has it then.
+    ///
+    /// `WouldBlock`: the raw would have blocked before all was passed on; what is left is owed still. `NoMemory` comes only of a raw that
+    /// takes memory.
+    pub fn flush(&mut self) -> Result<(), IoFault>
+        ensures { Answers self.old Flush (done_reply result) self.new }
+    {
+        self.short = false;
+        match self.text.life() {
+            Life::Live => {
+                let flushed = self.text.flush();
+                self.short = would_block(&flushed);
+                flushed
+            }
+            Life::Failed => Err(IoFault::Failed),
+            Life::Closed => Err(IoFault::Closed),
+            Life::Detached => Err(IoFault::Detached),
+        }
+    }
+
+    /// Passes on all that was written, and closes the buffer; the text stays closed after `RawFault` too. A closed one may be closed again, which
     /// calls no raw.
     ///
     /// `WouldBlock`: the raw would have blocked before all was passed on; `NoMemory` comes only of a raw that takes memory. Both leave the
@@ -241,23 +294,30 @@ impl<B: BufferedStream> TextIOWrapper<B> {
         self.text.settings().chunk_size
     }
 
-    /// Hands the buffer back, in every life, with nothing unwritten, and with the byte of the text place where it can seek: where the
-    /// text was made, or where a `read` of all came to the end; how many characters were taken since isn't told. The buffer isn't
-    /// moved: it stands behind the last chunk that was read. What was read and not taken is dropped. It takes no memory.
-    pub fn into_parts(self, alloc: Global) -> TextDetached<B>
+    /// Hands the buffer back, in every life, with the bytes that were written and that it hasn't, behind those that it owes itself; and,
+    /// where it can seek, with the place where they begin: without any the byte of the text place, where the text was made, or behind what
+    /// was written last, or where a `read` of all came to the end; how many characters were taken since isn't told. The buffer isn't moved:
+    /// it stands behind the last chunk that was read. What was read and not taken is dropped. It takes no memory.
+    pub fn into_parts(self) -> TextDetached<B>
         ensures buffer { B.shows result.buffer ≡ self.text.buffer }
-        ensures unwritten { result.unwritten.items ≡ [] }
-        ensures place { result.place ≡ (if self.text.buffer.can.seekable then Some self.text.place.at else None) }
+        ensures unwritten { result.unwritten.items ≡ self.text.owed }
+        ensures place { result.place ≡ (if self.text.buffer.can.seekable then Some (self.text.place.at - length self.text.owed) else None) }
     {
         let TextIOWrapper { text, short: _ } = self;
         let seekable = text.seekable();
-        let (buffer, at) = text.into_buffer();
-        let place = if seekable { Some(at) } else { None };
+        let (buffer, unwritten, at) = text.into_parts();
         TextDetached {
             buffer,
-            unwritten: Vec::new(alloc),
-            place,
+            unwritten,
+            place: if seekable { Some(at) } else { None },
         }
+    }
+
+    /// The buffer, lent.
+    pub fn buffer(&self) -> &B
+        ensures { B.shows result.now ≡ self.now.text.buffer }
+    {
+        self.text.buffer()
     }
 
     /// Takes what is wanted, unless the life refuses it, or the buffer can't be read.
@@ -280,7 +340,7 @@ impl<B: BufferedStream> TextIOWrapper<B> {
         requires reads { self.old.text.buffer.can.readable ≡ true }
         ensures { Answers self.old (call_of wanted) (text_reply result) self.new }
     {
-        match self.text.answer(alloc, wanted) {
+        match self.text.read(alloc, wanted) {
             Ok(Answer::Whole(text)) => Ok(Some(text)),
             Ok(Answer::Short(text)) => Ok(self.cut_short(Some(text))),
             Ok(Answer::NotReady) => Ok(self.cut_short(None)),

@@ -2,7 +2,7 @@ use Rattle.std.proofs.Common.{sym, subst}
 use Rattle.py_flat.specs.Calls.{FileReply, Refused}
 use Rattle.py_plain_text.specs.TextStep.{Read, ReadLine, Close, OtherKind}
 use Rattle.py_stream.specs.Replies.{done_reply}
-use Rattle.py_textio.specs.Answers as over
+use Rattle.py_read_text.specs.Answers as over
 use Rattle.py_text_reader.specs.TextState.{TextState}
 use Rattle.py_text_reader.specs.Seen.{seen}
 use Rattle.py_text_reader.specs.Answers.{Answers, text_reply}

@@ -1,0 +1,224 @@
+-- What the clause of buffered streams says of the bytes under a text.
+use Rattle.std.proofs.Common.{◌≡◌, ◌≢◌, ℕ, zero, suc, ◌+◌, ◌<◌, ◌≤◌, ◌⊎◌, inl, inr, IsSome, Bool, true, false, ◌&&◌, IsTrue, List, [], ◌∷◌, ◌++◌, length, take, drop, Option, Some, None, if◌then◌else◌, Result, Ok, Err, Vec, sym, ap, ◌∙◌, subst, refl, arith}
+use Rattle.std.proofs.lemmas.List.{append_assoc, take-append-drop, take_all, length-drop}
+use Rattle.std.specs.declared.alloc.Global.{Global}
+use Rattle.py_flat.specs.declared.fault.IoFault.{IoFault}
+use Rattle.py_flat.specs.declared.fault.IoFault.TheVariants as fault
+use Rattle.py_flat.specs.declared.life.Life.{Life}
+use Rattle.py_flat.specs.declared.life.Life.TheVariants as life
+use Rattle.py_flat.specs.Bytes.{left_at, lay}
+use Rattle.py_flat.specs.Calls.{FileReply, Bytes, NotReady, Refused, Read1}
+use Rattle.py_flat.specs.FlatFile.{FlatFile, Buffering, Unbuffered, Buffered, InMemory}
+use Rattle.py_flat.specs.Owed.{Owed}
+use Rattle.py_flat.specs.Refusals.{refusal, is_unbuffered}
+use Rattle.py_flat.specs.AllowedStep.{settled, waited_for, raw_faulted, out_of_memory}
+use Rattle.py_flat.specs.BinaryStep.{Transfers, BinaryStep, CarriedOut, SettledBy, if_over_raw, IsFrontOf}
+use Rattle.py_flat.specs.ExactStep.{gives, one_transfer}
+use Rattle.py_stream.specs.Stream.{nothing_owed}
+use Rattle.py_stream.specs.Replies.{bytes_reply}
+use Rattle.py_flat.specs.Causes.{counted}
+use Rattle.py_stream.specs.Kinds.{says_fault, says_given, asks_nothing}
+use Rattle.py_stream.specs.Writing.{OwesUpTo}
+use Rattle.py_stream.specs.Answers.{PlaceStarves}
+use Rattle.py_stream.specs.Buffer.{Buffer, WhereShown, flat_of, size_shown, refused_here, BufferIsCounted, GivesAsked, AnswersAsBuffer}
+use Rattle.py_read_text.specs.Reading.{Reads, ReadOutcome}
+
+-- a live buffer that reads refuses no `read1`
+pub accepts_read : (buffer : Buffer) (size : Option ℕ) → buffer.life ≡ life.Live → buffer.can.readable ≡ true → is_unbuffered buffer.buffering ≡ false → buffer.exported ≡ false → (refused_here buffer (Read1 size) ≡ None) × (refusal (flat_of buffer) (Read1 size) ≡ None)
+accepts_read buffer size live reads buffered kept = (rw kept (rw live (rw reads (rw buffered refl))), rw live (rw reads (rw buffered refl)))
+
+-- where a front that isn't asked to be empty is empty, there is nothing
+nothing_taken : (n : ℕ) (xs : List ℕ) → 0 < n → take n xs ≡ [] → xs ≡ []
+nothing_taken n [] some none = refl
+nothing_taken zero (x ∷ xs) some none = absurd (omega arith)
+nothing_taken (suc n) (x ∷ xs) some none = absurd (cc)
+
+-- what was given of a flat file, and what it leaves
+record GaveFlat (file : FlatFile) (part : List ℕ) (after : FlatFile) : Type 0 where
+  front : IsFrontOf part (left_at file.bytes file.place)
+  end : part ≡ [] → left_at file.bytes file.place ≡ []
+  bytes : after.bytes ≡ file.bytes
+
+gave_exact : (file : FlatFile) (size : ℕ) (part : List ℕ) (after : FlatFile) → 0 < size → ◌≡◌ {A = FileReply × FlatFile} (Bytes part, after) (gives file (take size (left_at file.bytes file.place))) → GaveFlat file part after
+gave_exact file size part after some exact =
+    let rest : List ℕ = left_at file.bytes file.place in
+    let same : part ≡ take size rest = let replies : Bytes part ≡ Bytes (take size rest) = ap (λ (outcome : FileReply × FlatFile). outcome.0) exact in cc in
+    record {
+      front = (drop size rest, ap (λ (xs : List ℕ). xs ++ drop size rest) same ∙ take-append-drop size rest);
+      end = λ none. nothing_taken size rest some (sym same ∙ none);
+      bytes = ap (λ (outcome : FileReply × FlatFile). outcome.1.bytes) exact;
+    }
+
+gave_part : (file : FlatFile) (size : ℕ) (part : List ℕ) (after : FlatFile) → 0 < size → Transfers file (Read1 (Some size)) (take size (left_at file.bytes file.place)) (Bytes part) after → GaveFlat file part after
+gave_part file size part after some moved =
+    let rest : List ℕ = left_at file.bytes file.place in
+    let same : part ≡ moved.part = let replies : Bytes part ≡ Bytes moved.part = ap (λ (outcome : FileReply × FlatFile). outcome.0) moved.outcome in cc in
+    record {
+      front = (
+        moved.front.0 ++ drop size rest,
+        sym (append_assoc part moved.front.0 (drop size rest)) ∙ (ap (λ (xs : List ℕ). (xs ++ moved.front.0) ++ drop size rest) same ∙ (ap (λ (xs : List ℕ). xs ++ drop size rest) moved.front.1 ∙ take-append-drop size rest)),
+      );
+      end = λ none. nothing_taken size rest some (moved.some (sym same ∙ none));
+      bytes = ap (λ (outcome : FileReply × FlatFile). outcome.1.bytes) moved.outcome;
+    }
+
+gave_by : (buffering : Buffering) (file : FlatFile) (size : ℕ) (part : List ℕ) (after : FlatFile) → file.buffering ≡ buffering → 0 < size → CarriedOut file (Read1 (Some size)) (if_over_raw buffering (take size (left_at file.bytes file.place))) (Bytes part) after → GaveFlat file part after
+gave_by InMemory file size part after is some carried = gave_exact file size part after some carried
+gave_by Unbuffered file size part after is some carried = gave_part file size part after some carried
+gave_by (Buffered holds) file size part after is some carried = gave_part file size part after some carried
+
+gave_told : (file : FlatFile) (size : ℕ) (part : List ℕ) (short faulted : Bool) (after : FlatFile) → 0 < size → refusal file (Read1 (Some size)) ≡ None → BinaryStep file (Read1 (Some size)) (Bytes part) short faulted after → GaveFlat file part after
+gave_told file size part short faulted after some accepted (settled by) =
+    gave_by file.buffering file size part after refl some (subst (λ (why : Option IoFault). SettledBy file (Read1 (Some size)) why (Bytes part) after) accepted by)
+gave_told file size part short faulted after some accepted (waited_for waited by) = absurd (let never = by.1.0 in cc)
+gave_told file size part short faulted after some accepted (raw_faulted faults says left) = absurd (cc)
+gave_told file size part short faulted after some accepted (out_of_memory says left) = absurd (cc)
+
+-- a reading that gives nothing leaves the flat bytes
+
+no_bytes_by : (wanted : Option (List ℕ)) (file : FlatFile) (size : ℕ) (reply : FileReply) (after : FlatFile) → ((part : List ℕ) → reply ≢ Bytes part) → CarriedOut file (Read1 (Some size)) wanted reply after → after.bytes ≡ file.bytes
+no_bytes_by None file size reply after never carried = absurd (never (one_transfer file.buffering (Some size) (left_at file.bytes file.place)) (ap (λ (outcome : FileReply × FlatFile). outcome.0) carried))
+no_bytes_by (Some wanted) file size reply after never moved = absurd (never moved.part (ap (λ (outcome : FileReply × FlatFile). outcome.0) moved.outcome))
+
+settled_leaves : (refused : Option IoFault) (file : FlatFile) (size : ℕ) (reply : FileReply) (after : FlatFile) → ((part : List ℕ) → reply ≢ Bytes part) → SettledBy file (Read1 (Some size)) refused reply after → after.bytes ≡ file.bytes
+settled_leaves (Some why) file size reply after never by = ap (λ (left : FlatFile). left.bytes) by.1
+settled_leaves None file size reply after never by = no_bytes_by (if_over_raw file.buffering (take size (left_at file.bytes file.place))) file size reply after never by
+
+nothing_told : (file : FlatFile) (size : ℕ) (reply : FileReply) (short faulted : Bool) (after : FlatFile) → ((part : List ℕ) → reply ≢ Bytes part) → BinaryStep file (Read1 (Some size)) reply short faulted after → after.bytes ≡ file.bytes
+nothing_told file size reply short faulted after never (settled by) = settled_leaves (refusal file (Read1 (Some size))) file size reply after never by
+nothing_told file size reply short faulted after never (waited_for waited by) = ap (λ (left : FlatFile). left.bytes) by.1.1
+nothing_told file size reply short faulted after never (raw_faulted faults says left) = left.1.2.bytes_are ∙ ap (lay file.bytes file.place) (take_all left.1.0 [] (omega arith))
+nothing_told file size reply short faulted after never (out_of_memory says left) = ap (λ (own : FlatFile). own.bytes) left.1
+
+-- Any reading of a live buffer.
+
+-- a buffer that is read from: live, with a buffer, and nothing lent out
+pub record IsRead (buffer : Buffer) : Type 0 where
+  pub live : buffer.life ≡ life.Live
+  pub reads : buffer.can.readable ≡ true
+  pub buffered : is_unbuffered buffer.buffering ≡ false
+  pub kept : buffer.exported ≡ false
+
+none_owed : (owed : Owed) (place : ℕ) → owed ≡ nothing_owed place → owed.bytes ≡ []
+none_owed owed place none = ap (λ (own : Owed). own.bytes) none
+
+-- there is nothing behind nothing
+pub drop_none : (count : ℕ) (bytes : List ℕ) → bytes ≡ [] → drop count bytes ≡ []
+drop_none zero bytes none = none
+drop_none (suc count) [] none = refl
+drop_none (suc count) (byte ∷ more) none = absurd (cc)
+
+-- where the place stays, or nothing is owed any more, what is owed goes on to end at the place
+pub rest_up_to : (was now : Owed) (from to passed : ℕ) → passed ≤ length was.bytes → now.bytes ≡ drop passed was.bytes → (now.bytes ≢ [] → now.place ≡ was.place + passed) → (to ≡ from) ⊎ (now.bytes ≡ []) → OwesUpTo was from → OwesUpTo now to
+rest_up_to was now from to passed most bytes place (inr none) ends = inl none
+rest_up_to was now from to passed most bytes place (inl still) (inl none) = inl (bytes ∙ drop_none passed was.bytes none)
+rest_up_to was now from to passed most bytes place (inl still) (inr ends) = by_bytes now.bytes refl
+  where
+    by_bytes : (left : List ℕ) → now.bytes ≡ left → OwesUpTo now to
+    by_bytes [] is = inl is
+    by_bytes (byte ∷ more) is =
+        let there : now.place ≡ was.place + passed = place (λ none. let never : byte ∷ more ≡ [] = sym is ∙ none in absurd (cc)) in
+        inr (omega (arith, there, still, ends, most, ap length bytes, length-drop passed was.bytes))
+
+shown_size : (buffering : Buffering) → IsSome (size_shown buffering)
+shown_size (Buffered holds) = refl
+shown_size Unbuffered = refl
+shown_size InMemory = refl
+
+asks_one : (size : ℕ) → 0 < size → asks_nothing (Read1 (Some size)) ≡ false
+asks_one zero some = absurd (omega arith)
+asks_one (suc size) some = refl
+
+-- what every reading tells of the buffer
+record Goes (before : Buffer) (size : ℕ) (reply : FileReply) (waited faulted : Bool) (after : Buffer) : Type 0 where
+  some : 0 < size
+  first : (after.place ≡ before.place) ⊎ IsTrue (says_given reply)
+  short : after.short ≡ waited
+  fails : says_fault reply ≡ faulted
+  life_is : after.life ≡ (if faulted then life.Failed else before.life)
+  forth : before.place ≤ after.place
+  bytes : WhereShown before ((flat_of after).bytes ≡ (flat_of before).bytes)
+
+reads_so : (before after : Buffer) (size : ℕ) (reply : FileReply) (waited faulted : Bool) → AnswersAsBuffer before (Read1 (Some size)) reply after → Goes before size reply waited faulted after → Reads before waited faulted after
+reads_so before after size reply waited faulted answers goes = record {
+  keeps = answers.keeps;
+  wait = λ waits. answers.causes.waits (goes.short ∙ waits);
+  fault = λ faults. answers.causes.faults (goes.fails ∙ faults);
+  waits = λ exact. waits_by waited before after goes.short (answers.counted exact);
+  faults = λ exact sound. (answers.counted exact).faults (goes.fails ∙ sound);
+  life_is = goes.life_is;
+  forth = goes.forth;
+  far = answers.moves.far;
+  bytes = goes.bytes;
+  spares = λ can none. let spared = answers.spares can none in record { bytes = spared.bytes; written = spared.written; owed = spared.owed };
+  shut = λ can none closed. answers.shut refl (none_owed after.owed after.place (answers.spares can none).owed) closed;
+  stands = λ stood. answers.stands;
+  owes = rest_up_to before.owed after.owed before.place after.place answers.owes.passed answers.owes.most answers.owes.bytes answers.owes.place first;
+  none = λ none. answers.owes.bytes ∙ drop_none answers.owes.passed before.owed.bytes none;
+  first = first;
+}
+  where
+    passed_first : (after.place ≡ before.place) ⊎ IsTrue (says_given reply) → (after.place ≡ before.place) ⊎ (after.owed.bytes ≡ [])
+    passed_first (inl same) = inl same
+    passed_first (inr gives) = inr (answers.passes_first (shown_size before.buffering) refl (asks_one size goes.some) gives tt)
+
+    first : (after.place ≡ before.place) ⊎ (after.owed.bytes ≡ [])
+    first = passed_first goes.first
+
+    waits_by : (waited : Bool) (before after : Buffer) → after.short ≡ waited → BufferIsCounted before (Read1 (Some size)) reply after → after.raw.waits ≡ (if waited then counted before.raw.waits 1 else before.raw.waits)
+    waits_by true before after short counts = counts.once short refl
+    waits_by false before after short counts = counts.waits short refl
+
+never_bytes : (why : IoFault) (part : List ℕ) → Refused why ≢ Bytes part
+never_bytes why part = λ same. absurd (cc)
+
+unready_bytes : (part : List ℕ) → NotReady ≢ Bytes part
+unready_bytes part = λ same. absurd (cc)
+
+writes_no_wait : (writes : Bool) → IsTrue (writes && false) → ⊥
+writes_no_wait true never = absurd (cc)
+writes_no_wait false never = absurd (cc)
+
+-- no more is given than is asked for
+fits_size : (buffering : Buffering) (size : ℕ) (part : List ℕ) → GivesAsked buffering (Read1 (Some size)) (Bytes part) → length part ≤ size
+fits_size (Buffered holds) size part within = within
+fits_size Unbuffered size part within = within
+fits_size InMemory size part within = within
+
+-- what a reading of a live buffer comes to
+pub reads_live : (before after : Buffer) (size : ℕ) (result : Result (Option (Vec ℕ Global)) IoFault) → IsRead before → 0 < size → AnswersAsBuffer before (Read1 (Some size)) (bytes_reply result) after → ReadOutcome before size result after
+reads_live before after size (Ok (Some part)) is some answers =
+    let accepted = accepts_read before (Some size) is.live is.reads is.buffered is.kept in
+    let gave : WhereShown before (GaveFlat (flat_of before) part.items (flat_of after)) = λ told. gave_told (flat_of before) size part.items after.short false (flat_of after) some accepted.1 (answers.told (rw is.kept refl) told) in
+    record {
+      reads = reads_so before after size (Bytes part.items) false false answers (record { some = some; first = inr refl; short = answers.shorts; fails = refl; life_is = answers.moves.life_is; forth = omega (arith, answers.moves.place); bytes = λ told. (gave told).bytes });
+      fits = fits_size before.buffering size part.items answers.moves.within;
+      place = answers.moves.place;
+      told = λ told. record { front = (gave told).front; end = (gave told).end };
+    }
+reads_live before after size (Ok None) is some answers =
+    let short : IsTrue after.short = answers.shorts in
+    record {
+      nothing = record {
+        reads = reads_so before after size NotReady true false answers (record { some = some; first = inl answers.moves.place; short = short; fails = refl; life_is = answers.moves.life_is; forth = omega (arith, answers.moves.place); bytes = λ told. nothing_told (flat_of before) size NotReady after.short false (flat_of after) unready_bytes (answers.told (rw is.kept refl) told) });
+        place = answers.moves.place;
+      };
+      empty = answers.hides short refl;
+    }
+reads_live before after size (Err fault.RawFault) is some answers = record {
+  reads = reads_so before after size (Refused fault.RawFault) false true answers (record { some = some; first = inl answers.moves.place; short = answers.shorts; fails = refl; life_is = answers.moves.life_is; forth = omega (arith, answers.moves.place); bytes = λ told. nothing_told (flat_of before) size (Refused fault.RawFault) after.short true (flat_of after) (never_bytes fault.RawFault) (answers.told (rw is.kept refl) told) });
+  place = answers.moves.place;
+}
+reads_live before after size (Err fault.NoMemory) is some answers =
+    let place : after.place ≡ before.place = subst (λ (current : Life). PlaceStarves current None before.place after.place) (answers.moves.life_is ∙ is.live) answers.moves.place in
+    record {
+      reads = reads_so before after size (Refused fault.NoMemory) false false answers (record { some = some; first = inl place; short = answers.shorts; fails = refl; life_is = answers.moves.life_is; forth = omega (arith, place); bytes = λ told. nothing_told (flat_of before) size (Refused fault.NoMemory) after.short false (flat_of after) (never_bytes fault.NoMemory) (answers.told (rw is.kept refl) told) });
+      place = place;
+    }
+reads_live before after size (Err (fault.WouldBlock taken)) is some answers = absurd (writes_no_wait before.can.writable (answers.answer (accepts_read before (Some size) is.live is.reads is.buffered is.kept).0))
+reads_live before after size (Err other) is some answers = absurd (answers.answer (accepts_read before (Some size) is.live is.reads is.buffered is.kept).0)
+
+-- One reading behind another.
+
+pub reads_on : (before mid after : Buffer) (waited faulted : Bool) → Reads before false false mid → Reads mid waited faulted after → Reads before waited faulted after
+reads_on before mid after waited faulted first second = grind arith

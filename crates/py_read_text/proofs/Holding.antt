@@ -1,0 +1,139 @@
+-- What holds of every text stays so.
+use Rattle.std.proofs.Common.{◌≡◌, ◌⊎◌, inl, inr, true, ℕ, ◌+◌, ◌-◌, ◌*◌, ◌≤◌, Bool, false, IsTrue, List, [], length, refl, sym, ap, subst, ◌∙◌, if◌then◌else◌, arith}
+use Rattle.std.proofs.lemmas.List.{length-append, length-drop}
+use Rattle.py_flat.specs.declared.life.Life.TheVariants as life
+use Rattle.py_flat.specs.Bytes.{left_at}
+use Rattle.py_flat.specs.FlatFile.{Abilities}
+use Rattle.py_flat.specs.Refusals.{is_unbuffered}
+use Rattle.py_flat.specs.BinaryStep.{IsFrontOf}
+use Rattle.py_plain_text.specs.TextFile.{TextSettings}
+use Rattle.py_raw.specs.RawStream.{tells}
+use Rattle.py_raw.proofs.Telling.{tells_still}
+use Rattle.py_stream.specs.Buffer.{Buffer, WhereShown, flat_of}
+use Rattle.py_held_text.specs.Held.{HeldView}
+use Rattle.py_read_text.specs.Knowing.{KnowsTold, IsText}
+use Rattle.py_read_text.specs.Reading.{Follows, Reads, GaveTold, IsAtEnd}
+use Rattle.py_read_text.proofs.Knowing.{knows_follows, knows_part, knows_given, knows_end, with_part, without_front}
+
+-- what is in hand was looked at
+pub text_follows : (buffer : Buffer) (old new : HeldView) (at taken : ℕ) (settings : TextSettings) (Behind : List ℕ → Type 0) → Follows Behind old new → WhereShown buffer ((more : List ℕ) → IsFrontOf more (left_at (flat_of buffer).bytes buffer.place) → Behind more) → IsText buffer old at taken settings → IsText buffer new at taken settings
+text_follows buffer old new at taken settings Behind follows may is = record {
+  reads_by = λ reads. record { encoding = follows.settings.encoding ∙ (is.reads_by reads).encoding; handler = follows.settings.handler ∙ (is.reads_by reads).handler; newline = follows.settings.newline ∙ (is.reads_by reads).newline };
+  asks = is.asks;
+  buffered = is.buffered;
+  kept = is.kept;
+  owes = is.owes;
+  ahead = is.ahead;
+  stands = follows.stands ∙ is.stands;
+  far = is.far;
+  forth = omega (arith, is.forth, follows.forth);
+  few = omega (arith, is.forth, is.few, follows.forth, follows.few);
+  told = λ told live reads. knows_follows settings (flat_of buffer).bytes buffer.place at taken Behind old new follows (may told) (is.told told live reads);
+}
+
+-- the room changes nothing
+in_room : (settings : TextSettings) (bytes : List ℕ) (far at taken : ℕ) (held : HeldView) (room : ℕ) → KnowsTold settings bytes far at taken held → KnowsTold settings bytes far at taken (record held { room = room })
+in_room settings bytes far at taken held room told = record { given = told.given; count = told.count; within = told.within; left = told.left; shows = told.shows; sound = told.sound }
+
+pub text_room : (buffer : Buffer) (held : HeldView) (at taken room : ℕ) (settings : TextSettings) → IsText buffer held at taken settings → IsText buffer (record held { room = room }) at taken settings
+text_room buffer held at taken room settings is = record {
+  reads_by = λ reads. let by = is.reads_by reads in record { encoding = by.encoding; handler = by.handler; newline = by.newline };
+  asks = is.asks;
+  buffered = is.buffered;
+  kept = is.kept;
+  owes = is.owes;
+  ahead = is.ahead;
+  stands = is.stands;
+  far = is.far;
+  forth = is.forth;
+  few = is.few;
+  told = λ told live reads. in_room settings (flat_of buffer).bytes buffer.place at taken held room (is.told told live reads);
+}
+
+-- a text that stood where its buffer stands, or whose buffer owed nothing, goes on so where no byte came
+ahead_still : (at : ℕ) (before after : Buffer) → {waited faulted : Bool} → Reads before waited faulted after → after.place ≡ before.place → (at ≡ before.place) ⊎ ((before.owed.bytes ≡ []) × (before.can.readable ≡ true)) → (at ≡ after.place) ⊎ ((after.owed.bytes ≡ []) × (after.can.readable ≡ true))
+ahead_still at before after reads place (inl there) = inl (there ∙ sym place)
+ahead_still at before after reads place (inr none) = inr (reads.none none.0, ap (λ (abilities : Abilities). abilities.readable) reads.keeps.can ∙ none.1)
+
+-- where bytes came nothing is owed
+ahead_now : (at : ℕ) (before after : Buffer) → {waited faulted : Bool} → Reads before waited faulted after → before.can.readable ≡ true → (at ≡ before.place) ⊎ ((before.owed.bytes ≡ []) × (before.can.readable ≡ true)) → (after.place ≡ before.place) ⊎ (after.owed.bytes ≡ []) → (at ≡ after.place) ⊎ ((after.owed.bytes ≡ []) × (after.can.readable ≡ true))
+ahead_now at before after reads can was (inl same) = ahead_still at before after reads same was
+ahead_now at before after reads can was (inr none) = inr (none, ap (λ (abilities : Abilities). abilities.readable) reads.keeps.can ∙ can)
+
+-- the buffer was read from, and no byte came
+pub text_read_nothing : (before after : Buffer) (held : HeldView) (at taken : ℕ) (settings : TextSettings) (waited faulted : Bool) → before.life ≡ life.Live → Reads before waited faulted after → after.place ≡ before.place → IsText before held at taken settings → IsText after held at taken settings
+text_read_nothing before after held at taken settings waited faulted live reads place is = record {
+  reads_by = λ can. is.reads_by (sym (ap (λ (abilities : Abilities). abilities.readable) reads.keeps.can) ∙ can);
+  asks = is.asks;
+  buffered = ap is_unbuffered reads.keeps.buffering ∙ is.buffered;
+  kept = reads.keeps.exported ∙ is.kept;
+  owes = reads.owes is.owes;
+  ahead = ahead_still at before after reads place is.ahead;
+  stands = is.stands ∙ sym place;
+  far = reads.far;
+  forth = is.forth;
+  few = is.few;
+  told = λ told lives can.
+      let was : IsTrue (tells before.raw) = sym (tells_still before.raw after.raw reads.keeps.raw) ∙ told in
+      let knows = is.told was live (sym (ap (λ (abilities : Abilities). abilities.readable) reads.keeps.can) ∙ can) in
+      subst (λ (bytes : List ℕ). KnowsTold settings bytes after.place at taken held) (sym (reads.bytes was)) (subst (λ (far : ℕ). KnowsTold settings (flat_of before).bytes far at taken held) (sym place) knows);
+}
+
+-- bytes came, and were put behind those in hand
+pub text_brought : (before after : Buffer) (held : HeldView) (part : List ℕ) (room at taken : ℕ) (settings : TextSettings) → before.life ≡ life.Live → before.can.readable ≡ true → Reads before false false after → after.place ≡ before.place + length part → WhereShown before (GaveTold before part) → IsText before held at taken settings → IsText after (with_part held part room) at taken settings
+text_brought before after held part room at taken settings live reading reads place gave is = record {
+  reads_by = λ can. let by = is.reads_by (sym (ap (λ (abilities : Abilities). abilities.readable) reads.keeps.can) ∙ can) in record { encoding = by.encoding; handler = by.handler; newline = by.newline };
+  asks = is.asks;
+  buffered = ap is_unbuffered reads.keeps.buffering ∙ is.buffered;
+  kept = reads.keeps.exported ∙ is.kept;
+  owes = reads.owes is.owes;
+  ahead = ahead_now at before after reads reading is.ahead reads.first;
+  stands = omega (arith, is.stands, place, length-append held.bytes part);
+  far = reads.far;
+  forth = is.forth;
+  few = is.few;
+  told = λ told lives can.
+      let was : IsTrue (tells before.raw) = sym (tells_still before.raw after.raw reads.keeps.raw) ∙ told in
+      let knows = is.told was live (sym (ap (λ (abilities : Abilities). abilities.readable) reads.keeps.can) ∙ can) in
+      let forth : at ≤ before.place = omega (arith, is.forth, is.stands) in
+      subst (λ (bytes : List ℕ). KnowsTold settings bytes after.place at taken (with_part held part room)) (sym (reads.bytes was))
+      (subst (λ (far : ℕ). KnowsTold settings (flat_of before).bytes far at taken (with_part held part room)) (sym place) (knows_part settings (flat_of before).bytes before.place at taken held part room forth (gave was).front knows));
+}
+
+-- characters were given
+pub text_given : (buffer : Buffer) (held : HeldView) (at taken count : ℕ) (settings : TextSettings) → count ≤ length held.known → IsText buffer held at taken settings → IsText buffer (without_front held count) at (taken + count) settings
+text_given buffer held at taken count settings within is = record {
+  reads_by = λ reads. let by = is.reads_by reads in record { encoding = by.encoding; handler = by.handler; newline = by.newline };
+  asks = is.asks;
+  buffered = is.buffered;
+  kept = is.kept;
+  owes = is.owes;
+  ahead = is.ahead;
+  stands = is.stands;
+  far = is.far;
+  forth = is.forth;
+  few = omega (arith, is.few, within, length-drop count held.known);
+  told = λ told live reads. knows_given settings (flat_of buffer).bytes buffer.place at taken held count within (is.told told live reads);
+}
+
+pub given_so : (buffer : Buffer) (held new : HeldView) (at taken count : ℕ) (settings : TextSettings) → count ≤ length held.known → new ≡ without_front held count → IsText buffer held at taken settings → IsText buffer new at (taken + count) settings
+given_so buffer held new at taken count settings within given is = subst (λ (own : HeldView). IsText buffer own at (taken + count) settings) (sym given) (text_given buffer held at taken count settings within is)
+
+-- all was given, at the end
+pub text_ended : (buffer : Buffer) (held : HeldView) (at taken : ℕ) (settings : TextSettings) → held.bytes ≡ [] → held.cr ≡ false → IsAtEnd buffer → IsText buffer held at taken settings → IsText buffer (record held { known = [] }) held.place 0 settings
+text_ended buffer held at taken settings none whole end is =
+    let there : buffer.place ≡ held.place = omega (arith, is.stands, ap length none) in
+    record {
+      reads_by = λ reads. let by = is.reads_by reads in record { encoding = by.encoding; handler = by.handler; newline = by.newline };
+      asks = is.asks;
+      buffered = is.buffered;
+      kept = is.kept;
+      owes = is.owes;
+      ahead = inl (sym there);
+      stands = is.stands;
+      far = is.far;
+      forth = omega arith;
+      few = subst (λ (cr : Bool). 0 + (0 + (if cr then 1 else 0)) ≤ 6 * (held.place - held.place)) (sym whole) (omega arith);
+      told = λ told live reads. subst (λ (far : ℕ). KnowsTold settings (flat_of buffer).bytes far held.place 0 (record held { known = [] })) (sym there)
+          (knows_end settings (flat_of buffer).bytes held.place (record held { known = [] }) refl whole none (is.reads_by reads).newline (subst (λ (far : ℕ). left_at (flat_of buffer).bytes far ≡ []) there (end told)));
+    }

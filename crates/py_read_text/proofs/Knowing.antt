@@ -1,0 +1,132 @@
+-- How what is known of a text stays tied to the bytes below.
+use Rattle.std.proofs.Common.{◌≡◌, ℕ, ◌+◌, ◌-◌, ◌≤◌, true, false, List, [], ◌∷◌, ◌++◌, length, take, drop, None, refl, sym, ap, subst, ◌∙◌, arith}
+use Rattle.std.proofs.lemmas.List.{append-nil, append_assoc, length-append, length-drop, length-take-le, take-append-drop, take_all, drop-drop}
+use Rattle.std.proofs.Math.Seq.{take-add, drop-append_seam, take-append_seam}
+use Rattle.py_flat.specs.Bytes.{left_at}
+use Rattle.py_flat.specs.BinaryStep.{IsFrontOf}
+use Rattle.py_plain.specs.Handlers.{treatment}
+use Rattle.py_plain.specs.Items.{Walk, characters_of, refusal_of}
+use Rattle.py_plain.specs.Pieces.{walk_at}
+use Rattle.py_plain.specs.NewlineRule.{read_so_far, read_all}
+use Rattle.py_plain_text.specs.TextFile.{TextSettings}
+use Rattle.py_plain_text.specs.Rest.{Rest}
+use Rattle.py_held_text.specs.Held.{HeldView, ahead, left_with, left_so_far}
+use Rattle.py_read_text.specs.Waiting.{bytes_between}
+use Rattle.py_read_text.specs.Knowing.{from_place, with_given, KnowsTold}
+use Rattle.py_read_text.specs.Reading.{Follows}
+use Rattle.py_read_text.proofs.Following.{so_far_none}
+
+-- a list is a front of itself
+itself : (xs : List ℕ) → IsFrontOf xs xs
+itself xs = ([], append-nil xs)
+
+-- What is in hand was looked at.
+
+pub knows_follows : (settings : TextSettings) (bytes : List ℕ) (far at taken : ℕ) (Behind : List ℕ → Type 0) (old new : HeldView) → Follows Behind old new → ((more : List ℕ) → IsFrontOf more (left_at bytes far) → Behind more) → KnowsTold settings bytes far at taken old → KnowsTold settings bytes far at taken new
+knows_follows settings bytes far at taken Behind old new follows may told =
+    let rest : List ℕ = left_at bytes far in
+    record {
+      given = told.given;
+      count = told.count;
+      within = told.within;
+      left = told.left ∙ ap (with_given told.given) (sym (follows.left rest (may rest (itself rest))));
+      shows = λ more front. omega (arith, told.shows more front, follows.shows more (may more front));
+      sound = λ more front none. told.sound more front (follows.sound more (may more front) none);
+    }
+
+-- nothing but nothing comes behind the end
+pub ends_behind : (bytes : List ℕ) (far : ℕ) → left_at bytes far ≡ [] → (more : List ℕ) → IsFrontOf more (left_at bytes far) → more ≡ []
+ends_behind bytes far end more front = nothing_before more front.0 (front.1 ∙ end)
+  where
+    nothing_before : (xs ys : List ℕ) → xs ++ ys ≡ [] → xs ≡ []
+    nothing_before [] ys none = refl
+    nothing_before (x ∷ xs) ys none = absurd (cc)
+
+-- Bytes were put behind those in hand.
+
+abbrev pub with_part : HeldView → List ℕ → ℕ → HeldView
+with_part held part room = record held { bytes = held.bytes ++ part; room = room }
+
+left_part : (held : HeldView) (part more : List ℕ) (room : ℕ) → left_with (with_part held part room) more ≡ left_with held (part ++ more)
+left_part held part more room =
+    ap (λ (all : List ℕ). let walk : Walk = walk_at held.encoding (treatment held.handler held.encoding) true held.order held.place all in let rest : Rest = record { characters = held.known ++ read_all held.newline held.cr (characters_of walk.items); refusal = refusal_of walk.ending } in rest) (append_assoc held.bytes part more)
+
+so_far_part : (held : HeldView) (part more : List ℕ) (room : ℕ) → left_so_far (with_part held part room) more ≡ left_so_far held (part ++ more)
+so_far_part held part more room =
+    ap (λ (all : List ℕ). let walk : Walk = walk_at held.encoding (treatment held.handler held.encoding) false held.order held.place all in let rest : Rest = record { characters = held.known ++ read_so_far held.newline held.cr (characters_of walk.items); refusal = refusal_of walk.ending } in rest) (append_assoc held.bytes part more)
+
+-- what is left behind a front of what is left
+behind_front : (bytes part : List ℕ) (far : ℕ) → (front : IsFrontOf part (left_at bytes far)) → left_at bytes (far + length part) ≡ front.0
+behind_front bytes part far front = sym (drop-drop (length part) far bytes) ∙ (ap (drop (length part)) (sym front.1) ∙ drop-append_seam part front.0)
+
+split_front : (bytes part : List ℕ) (far : ℕ) → (front : IsFrontOf part (left_at bytes far)) → left_at bytes far ≡ part ++ left_at bytes (far + length part)
+split_front bytes part far front = sym front.1 ∙ ap (λ (xs : List ℕ). part ++ xs) (sym (behind_front bytes part far front))
+
+-- the bytes taken since the text place, with those that came
+between_front : (bytes part : List ℕ) (at far : ℕ) → at ≤ far → IsFrontOf part (left_at bytes far) → bytes_between bytes at (far + length part) ≡ bytes_between bytes at far ++ part
+between_front bytes part at far forth front =
+    let from : List ℕ = left_at bytes at in
+    let count : ℕ = far - at in
+    let size : (far + length part) - at ≡ count + length part = omega (arith, forth) in
+    let rest : drop count from ≡ left_at bytes far = drop-drop count at bytes ∙ ap (λ (n : ℕ). drop n bytes) (omega (arith, forth)) in
+    ap (λ (n : ℕ). take n from) size
+    ∙ (take-add count (length part) from
+    ∙ ap (λ (xs : List ℕ). take count from ++ xs) (ap (take (length part)) (rest ∙ sym front.1) ∙ take-append_seam part front.0))
+
+pub knows_part : (settings : TextSettings) (bytes : List ℕ) (far at taken : ℕ) (held : HeldView) (part : List ℕ) (room : ℕ) → at ≤ far → IsFrontOf part (left_at bytes far) → KnowsTold settings bytes far at taken held → KnowsTold settings bytes (far + length part) at taken (with_part held part room)
+knows_part settings bytes far at taken held part room forth front told =
+    let behind : List ℕ = left_at bytes (far + length part) in
+    let split = split_front bytes part far front in
+    let longer : (more : List ℕ) → IsFrontOf more behind → IsFrontOf (part ++ more) (left_at bytes far) = λ more own. (own.0, append_assoc part more own.0 ∙ (ap (λ (xs : List ℕ). part ++ xs) own.1 ∙ sym split)) in
+    let taken_bytes : (more : List ℕ) → bytes_between bytes at (far + length part) ++ more ≡ bytes_between bytes at far ++ (part ++ more) = λ more. ap (λ (xs : List ℕ). xs ++ more) (between_front bytes part at far forth front) ∙ append_assoc (bytes_between bytes at far) part more in
+    record {
+      given = told.given;
+      count = told.count;
+      within = omega (arith, told.within, ap length front.1, length-append part front.0, length-drop far bytes);
+      left = told.left ∙ ap (with_given told.given) (ap (left_with held) split ∙ sym (left_part held part behind room));
+      shows = λ more own. subst (λ (all : List ℕ). length (left_so_far (from_place settings at) all).characters ≤ taken + length (left_so_far (with_part held part room) more).characters) (sym (taken_bytes more))
+          (subst (λ (rest : Rest). length (left_so_far (from_place settings at) (bytes_between bytes at far ++ (part ++ more))).characters ≤ taken + length rest.characters) (sym (so_far_part held part more room)) (told.shows (part ++ more) (longer more own)));
+      sound = λ more own none. subst (λ (all : List ℕ). (left_so_far (from_place settings at) all).refusal ≡ None) (sym (taken_bytes more))
+          (told.sound (part ++ more) (longer more own) (sym (ap (λ (rest : Rest). rest.refusal) (so_far_part held part more room)) ∙ none));
+    }
+
+-- Characters were given.
+
+abbrev pub without_front : HeldView → ℕ → HeldView
+without_front held count = record held { known = drop count held.known }
+
+given_characters : (given known behind : List ℕ) (count : ℕ) → given ++ (known ++ behind) ≡ (given ++ take count known) ++ (drop count known ++ behind)
+given_characters given known behind count =
+    sym (append_assoc given (take count known) (drop count known ++ behind)
+    ∙ ap (λ (xs : List ℕ). given ++ xs) (sym (append_assoc (take count known) (drop count known) behind) ∙ ap (λ (xs : List ℕ). xs ++ behind) (take-append-drop count known)))
+
+pub knows_given : (settings : TextSettings) (bytes : List ℕ) (far at taken : ℕ) (held : HeldView) (count : ℕ) → count ≤ length held.known → KnowsTold settings bytes far at taken held → KnowsTold settings bytes far at (taken + count) (without_front held count)
+knows_given settings bytes far at taken held count within told =
+    let rest : Rest = left_with held (left_at bytes far) in
+    let behind : List ℕ = read_all held.newline held.cr (characters_of (ahead held true (left_at bytes far)).items) in
+    let sizes : (more : List ℕ) → count + length (left_so_far (without_front held count) more).characters ≡ length (left_so_far held more).characters = λ more.
+    let sure : List ℕ = read_so_far held.newline held.cr (characters_of (ahead held false more).items) in
+    omega (arith, within, length-append held.known sure, length-append (drop count held.known) sure, length-drop count held.known) in
+    record {
+      given = told.given ++ take count held.known;
+      count = omega (arith, told.count, length-append told.given (take count held.known), length-take-le count held.known within);
+      within = told.within;
+      left = told.left ∙ ap (λ (cs : List ℕ). let all : Rest = record { characters = cs; refusal = rest.refusal } in all) (given_characters told.given held.known behind count);
+      shows = λ more front. omega (arith, told.shows more front, sizes more);
+      sound = λ more front none. told.sound more front none;
+    }
+
+-- nothing is in hand where nothing is left
+pub knows_end : (settings : TextSettings) (bytes : List ℕ) (place : ℕ) (held : HeldView) → held.known ≡ [] → held.cr ≡ false → held.bytes ≡ [] → held.newline ≡ settings.newline → left_at bytes place ≡ [] → KnowsTold settings bytes place place 0 held
+knows_end settings bytes place held known whole none rule end =
+    let between : bytes_between bytes place place ≡ [] = ap (take (place - place)) end ∙ take_all (place - place) [] (omega arith) in
+    let all : (more : List ℕ) → IsFrontOf more (left_at bytes place) → bytes_between bytes place place ++ more ≡ [] = λ more front. ap (λ (xs : List ℕ). xs ++ more) between ∙ ends_behind bytes place end more front in
+    let sure : (left_so_far (from_place settings place) []).characters ≡ [] = so_far_none settings.newline false in
+    record {
+      given = [];
+      count = refl;
+      within = omega arith;
+      left = rw (end, known, whole, none, rule) refl;
+      shows = λ more front. subst (λ (own : List ℕ). length (left_so_far (from_place settings place) own).characters ≤ 0 + length (left_so_far held more).characters) (sym (all more front)) (omega (arith, ap length sure));
+      sound = λ more front says. subst (λ (own : List ℕ). (left_so_far (from_place settings place) own).refusal ≡ None) (sym (all more front)) refl;
+    }

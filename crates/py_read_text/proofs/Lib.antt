@@ -1,0 +1,14 @@
+mod Lines
+mod Enough
+mod Following
+mod Knowing
+pub mod Steps
+mod Fetching
+mod Holding
+mod Answering
+mod Gathering
+pub mod Results
+mod Chunks
+mod Stopping
+mod Beginning
+pub mod Placing

@@ -1,0 +1,247 @@
+-- A text whose buffer was called without a byte read, or that was placed anew.
+use Rattle.std.proofs.Common.{◌≡◌, ℕ, ◌+◌, ◌≤◌, ◌⊎◌, inl, inr, ℤ, pos, to_z, w64, Bool, true, false, IsTrue, List, [], length, if◌then◌else◌, Option, Some, None, Result, Ok, Err, refl, sym, ap, ◌∙◌, subst, arith}
+use Rattle.std.proofs.lemmas.List.{take_all}
+use Rattle.std.proofs.lemmas.Bool.{le-ltb}
+use Rattle.std.proofs.lemmas.Int.{to_z_pos}
+use Rattle.py_flat.specs.declared.fault.IoFault.{IoFault}
+use Rattle.py_flat.specs.declared.fault.IoFault.TheVariants as fault
+use Rattle.py_flat.specs.declared.life.Life.{Life}
+use Rattle.py_flat.specs.declared.life.Life.TheVariants as life
+use Rattle.py_flat.specs.Limits.{greatest_place}
+use Rattle.py_flat.specs.Bytes.{lay}
+use Rattle.py_flat.specs.FlatFile.{Abilities, FlatFile}
+use Rattle.py_flat.specs.Calls.{FileReply, Place, Refused, Write, Seek, Flush, Close}
+use Rattle.py_flat.specs.Refusals.{refusal, is_unbuffered, too_far}
+use Rattle.py_flat.specs.AllowedStep.{settled, waited_for, raw_faulted, out_of_memory}
+use Rattle.py_flat.specs.BinaryStep.{SettledBy, BinaryStep}
+use Rattle.py_plain.specs.Units.{Unknown}
+use Rattle.py_plain_text.specs.TextFile.{TextSettings}
+use Rattle.py_raw.specs.RawStream.{tells}
+use Rattle.py_raw.proofs.Telling.{tells_still}
+use Rattle.py_stream.specs.Writing.{OwesUpTo, PassesFront, Takes}
+use Rattle.py_stream.specs.Kinds.{says_fault}
+use Rattle.py_stream.specs.Replies.{done_reply, place_reply}
+use Rattle.py_stream.specs.Answers.{LifeMoves, PlaceMoves, PlaceStarves}
+use Rattle.py_stream.specs.Buffer.{Buffer, WhereShown, flat_of, size_shown, stream_shown, refused_here, KeepsBuffer, AnswersAsBuffer}
+use Rattle.py_held_text.specs.Held.{HeldView}
+use Rattle.py_read_text.specs.Knowing.{TextView, from_place, KnowsTold, ReadsBy, IsText}
+use Rattle.py_read_text.specs.Writing.{unit_of, LeavesFlat, ReturnOutcome}
+use Rattle.py_read_text.proofs.Fetching.{rest_up_to, drop_none}
+use Rattle.py_read_text.proofs.Beginning.{knows_begun}
+
+-- The flat bytes.
+
+settled_flat : (file after : FlatFile) (reply : FileReply) (why : Option IoFault) → SettledBy file Flush why reply after → after.bytes ≡ file.bytes
+settled_flat file after reply (Some why) by = ap (λ (own : FlatFile). own.bytes) by.1
+settled_flat file after reply None by = ap (λ (outcome : FileReply × FlatFile). outcome.1.bytes) by
+
+-- a flush keeps the flat bytes
+pub flush_flat : (file after : FlatFile) (reply : FileReply) (short faulted : Bool) → BinaryStep file Flush reply short faulted after → after.bytes ≡ file.bytes
+flush_flat file after reply short faulted (settled by) = settled_flat file after reply (refusal file Flush) by
+flush_flat file after reply short faulted (waited_for waited by) = ap (λ (own : FlatFile). own.bytes) by.1.1
+flush_flat file after reply short faulted (raw_faulted faults says left) = left.1.2.bytes_are ∙ ap (lay file.bytes file.place) (take_all left.1.0 [] (omega arith))
+flush_flat file after reply short faulted (out_of_memory says left) = ap (λ (own : FlatFile). own.bytes) left.1
+
+-- The text.
+
+abbrev pub cleared : HeldView → (place room : ℕ) → HeldView
+cleared held place room = record held { known = []; cr = false; bytes = []; place = place; order = Unknown; room = room }
+
+cleared_so : (held : HeldView) (settings : TextSettings) (place room : ℕ) → ReadsBy settings held → record (from_place settings place) { room = room } ≡ cleared held place room
+cleared_so held settings place room by = rw (by.encoding, by.handler, by.newline) refl
+
+reading_still : (before after : Buffer) → KeepsBuffer before after → after.can.readable ≡ true → before.can.readable ≡ true
+reading_still before after keeps can = sym (ap (λ (abilities : Abilities). abilities.readable) keeps.can) ∙ can
+
+-- a text with nothing in hand, clean where its buffer stands
+pub text_cleared : (before after : Buffer) (held : HeldView) (at taken place room : ℕ) (settings : TextSettings) → KeepsBuffer before after → OwesUpTo after.owed after.place → after.place ≤ greatest_place → place ≡ after.place → IsText before held at taken settings → IsText after (cleared held place room) place 0 settings
+text_cleared before after held at taken place room settings keeps owes far there is = record {
+  reads_by = λ can. let by = is.reads_by (reading_still before after keeps can) in record { encoding = by.encoding; handler = by.handler; newline = by.newline };
+  asks = is.asks;
+  buffered = ap is_unbuffered keeps.buffering ∙ is.buffered;
+  kept = keeps.exported ∙ is.kept;
+  owes = owes;
+  ahead = inl there;
+  stands = omega (arith, there);
+  far = far;
+  forth = omega arith;
+  few = omega arith;
+  told = λ told lives can.
+      let by = is.reads_by (reading_still before after keeps can) in
+      subst (λ (own : ℕ). KnowsTold settings (flat_of after).bytes own place 0 (cleared held place room)) there
+      (subst (λ (own : HeldView). KnowsTold settings (flat_of after).bytes place place 0 own) (cleared_so held settings place room by) (knows_begun settings (flat_of after).bytes place room));
+}
+
+-- what is owed after a call that neither reads nor writes
+owes_still : (before after : Buffer) → PassesFront (stream_shown before) (stream_shown after) → after.place ≡ before.place → OwesUpTo before.owed before.place → OwesUpTo after.owed after.place
+owes_still before after passes place ends = rest_up_to before.owed after.owed before.place after.place passes.passed passes.most passes.bytes passes.place (inl place) ends
+
+none_still : (before after : Buffer) → PassesFront (stream_shown before) (stream_shown after) → before.owed.bytes ≡ [] → after.owed.bytes ≡ []
+none_still before after passes none = passes.bytes ∙ drop_none passes.passed before.owed.bytes none
+
+ahead_so : (at : ℕ) (before after : Buffer) → KeepsBuffer before after → PassesFront (stream_shown before) (stream_shown after) → after.place ≡ before.place → (at ≡ before.place) ⊎ ((before.owed.bytes ≡ []) × (before.can.readable ≡ true)) → (at ≡ after.place) ⊎ ((after.owed.bytes ≡ []) × (after.can.readable ≡ true))
+ahead_so at before after keeps passes place (inl there) = inl (there ∙ sym place)
+ahead_so at before after keeps passes place (inr none) = inr (none_still before after passes none.0, ap (λ (abilities : Abilities). abilities.readable) keeps.can ∙ none.1)
+
+-- the buffer was called, stands where it stood, and while it lives it has the flat bytes that it had
+pub text_called : (before after : Buffer) (held : HeldView) (at taken : ℕ) (settings : TextSettings) → before.life ≡ life.Live → KeepsBuffer before after → PassesFront (stream_shown before) (stream_shown after) → after.place ≡ before.place → WhereShown before (after.life ≡ life.Live → (flat_of after).bytes ≡ (flat_of before).bytes) → IsText before held at taken settings → IsText after held at taken settings
+text_called before after held at taken settings live keeps passes place flat is = record {
+  reads_by = λ can. is.reads_by (reading_still before after keeps can);
+  asks = is.asks;
+  buffered = ap is_unbuffered keeps.buffering ∙ is.buffered;
+  kept = keeps.exported ∙ is.kept;
+  owes = owes_still before after passes place is.owes;
+  ahead = ahead_so at before after keeps passes place is.ahead;
+  stands = is.stands ∙ sym place;
+  far = omega (arith, place, is.far);
+  forth = is.forth;
+  few = is.few;
+  told = λ told lives can.
+      let was : IsTrue (tells before.raw) = sym (tells_still before.raw after.raw keeps.raw) ∙ told in
+      let knows = is.told was live (reading_still before after keeps can) in
+      subst (λ (bytes : List ℕ). KnowsTold settings bytes after.place at taken held) (sym (flat was lives)) (subst (λ (far : ℕ). KnowsTold settings (flat_of before).bytes far at taken held) (sym place) knows);
+}
+
+-- Calls that are accepted.
+
+pub not_far : (place : ℕ) → place ≤ greatest_place → too_far place ≡ None
+not_far place within = rw (le-ltb greatest_place place within) refl
+
+-- a live buffer that can be moved refuses no seek to a place that a stream can have
+pub accepts_seek : (buffer : Buffer) (at : ℕ) → buffer.life ≡ life.Live → buffer.can.seekable ≡ true → buffer.can.appending ≡ false → buffer.exported ≡ false → at ≤ greatest_place → (refused_here buffer (Seek (pos at) (pos 0)) ≡ None) × (refusal (flat_of buffer) (Seek (pos at) (pos 0)) ≡ None)
+accepts_seek buffer at live can appends kept within =
+    let far : too_far (0 + at) ≡ None = not_far (0 + at) (omega (arith, within)) in
+    (rw kept (rw live (rw can (rw appends far))), rw live (rw can (rw appends far)))
+
+-- a live buffer that writes refuses no bytes that end where a stream can
+pub accepts_write : (buffer : Buffer) (bytes : List ℕ) → buffer.life ≡ life.Live → buffer.can.writable ≡ true → buffer.exported ≡ false → buffer.place + length bytes ≤ greatest_place → (refused_here buffer (Write bytes) ≡ None) × (refusal (flat_of buffer) (Write bytes) ≡ None)
+accepts_write buffer bytes live can kept within =
+    let far = not_far (buffer.place + length bytes) within in
+    (rw kept (rw live (rw can far)), rw live (rw can far))
+
+-- Where a buffer stands after a flush, and after a close.
+
+pub flush_place : (size : Option ℕ) (result : Result (Unit {0}) IoFault) (was current : Life) (before after : ℕ) → was ≡ life.Live → LifeMoves size Flush (done_reply result) was current → PlaceMoves size Flush (done_reply result) current before after → after ≡ before
+flush_place size (Ok done) was current before after live moves place = place
+flush_place size (Err fault.RawFault) was current before after live moves place = place
+flush_place size (Err fault.NoMemory) was current before after live moves place = subst (λ (own : Life). PlaceStarves own None before after) (moves ∙ live) place
+flush_place size (Err other) was current before after live moves place = place
+
+pub close_place : (size : Option ℕ) (result : Result (Unit {0}) IoFault) (was current : Life) (before after : ℕ) → was ≡ life.Live → LifeMoves size Close (done_reply result) was current → PlaceMoves size Close (done_reply result) current before after → after ≡ before
+close_place size (Ok done) was current before after live moves place = place
+close_place size (Err fault.RawFault) was current before after live moves place = place
+close_place size (Err fault.NoMemory) was current before after live moves place = subst (λ (own : Life). PlaceStarves own None before after) (moves ∙ live) place
+close_place size (Err other) was current before after live moves place = place
+
+settled_close : (file after : FlatFile) (reply : FileReply) (why : Option IoFault) → SettledBy file Close why reply after → after.bytes ≡ file.bytes
+settled_close file after reply (Some why) by = ap (λ (own : FlatFile). own.bytes) by.1
+settled_close file after reply None by = ap (λ (outcome : FileReply × FlatFile). outcome.1.bytes) by
+
+-- a close keeps the flat bytes
+pub close_flat : (file after : FlatFile) (reply : FileReply) (short faulted : Bool) → BinaryStep file Close reply short faulted after → after.bytes ≡ file.bytes
+close_flat file after reply short faulted (settled by) = settled_close file after reply (refusal file Close) by
+close_flat file after reply short faulted (waited_for waited by) = ap (λ (own : FlatFile). own.bytes) by.1.1
+close_flat file after reply short faulted (raw_faulted faults says left) = left.1.bytes_are
+close_flat file after reply short faulted (out_of_memory says left) = ap (λ (own : FlatFile). own.bytes) left.1
+
+-- the text after a flush, and after a close
+pub text_flushed : (before after : Buffer) (held : HeldView) (at taken : ℕ) (settings : TextSettings) (result : Result (Unit {0}) IoFault) → before.life ≡ life.Live → AnswersAsBuffer before Flush (done_reply result) after → IsText before held at taken settings → IsText after held at taken settings
+text_flushed before after held at taken settings result live answers is =
+    text_called before after held at taken settings live answers.keeps answers.owes (flush_place (size_shown before.buffering) result before.life after.life before.place after.place live answers.moves.life_is answers.moves.place)
+    (λ told lives. flush_flat (flat_of before) (flat_of after) (done_reply result) after.short (says_fault (done_reply result)) (answers.told (rw is.kept refl) told)) is
+
+pub text_closed : (before after : Buffer) (held : HeldView) (at taken : ℕ) (settings : TextSettings) (result : Result (Unit {0}) IoFault) → before.life ≡ life.Live → AnswersAsBuffer before Close (done_reply result) after → IsText before held at taken settings → IsText after held at taken settings
+text_closed before after held at taken settings result live answers is =
+    text_called before after held at taken settings live answers.keeps answers.owes (close_place (size_shown before.buffering) result before.life after.life before.place after.place live answers.moves.life_is answers.moves.place)
+    (λ told lives. close_flat (flat_of before) (flat_of after) (done_reply result) after.short (says_fault (done_reply result)) (answers.told (rw is.kept refl) told)) is
+
+-- the text after its buffer took bytes
+pub text_passed : (before after : Buffer) (held new : HeldView) (at taken place : ℕ) (bytes : List ℕ) (reply : FileReply) (settings : TextSettings) → AnswersAsBuffer before (Write bytes) reply after → Takes (stream_shown before) bytes (stream_shown after) → place ≡ after.place → new ≡ cleared held place new.room → IsText before held at taken settings → IsText after new place 0 settings
+text_passed before after held new at taken place bytes reply settings answers takes there is_new is =
+    subst (λ (own : HeldView). IsText after own place 0 settings) (sym is_new) (text_cleared before after held at taken place new.room settings answers.keeps takes.up_to answers.moves.far there is)
+
+-- Going back to the place.
+
+settled_seek : (file after : FlatFile) (at : ℕ) (reply : FileReply) (why : Option IoFault) → SettledBy file (Seek (pos at) (pos 0)) why reply after → after.bytes ≡ file.bytes
+settled_seek file after at reply (Some why) by = ap (λ (own : FlatFile). own.bytes) by.1
+settled_seek file after at reply None by = ap (λ (outcome : FileReply × FlatFile). outcome.1.bytes) by
+
+seek_flat : (file after : FlatFile) (at : ℕ) (reply : FileReply) (short faulted : Bool) → BinaryStep file (Seek (pos at) (pos 0)) reply short faulted after → after.bytes ≡ file.bytes
+seek_flat file after at reply short faulted (settled by) = settled_seek file after at reply (refusal file (Seek (pos at) (pos 0))) by
+seek_flat file after at reply short faulted (waited_for waited by) = ap (λ (own : FlatFile). own.bytes) by.1.1
+seek_flat file after at reply short faulted (raw_faulted faults says left) = left.1.2.bytes_are ∙ ap (lay file.bytes file.place) (take_all left.1.0 [] (omega arith))
+seek_flat file after at reply short faulted (out_of_memory says left) = ap (λ (own : FlatFile). own.bytes) left.1
+
+seek_place : (size : Option ℕ) (at : ℕ) (why : IoFault) (was current : Life) (before after : ℕ) → was ≡ life.Live → LifeMoves size (Seek (pos at) (pos 0)) (Refused why) was current → PlaceMoves size (Seek (pos at) (pos 0)) (Refused why) current before after → after ≡ before
+seek_place size at fault.RawFault was current before after live moves place = place
+seek_place size at fault.NoMemory was current before after live moves place = subst (λ (own : Life). PlaceStarves own None before after) (moves ∙ live) place
+seek_place size at other was current before after live moves place = place
+
+-- a live buffer that was read ahead of its text
+pub record IsAhead (buffer : Buffer) (at : ℕ) : Type 0 where
+  pub live : buffer.life ≡ life.Live
+  pub moves : buffer.can.seekable ≡ true
+  pub appends : buffer.can.appending ≡ false
+  pub kept : buffer.exported ≡ false
+  pub none : buffer.owed.bytes ≡ []
+  pub within : at ≤ greatest_place
+
+leaves_flat : (before after : Buffer) (at : ℕ) (reply : FileReply) → IsAhead before at → after.life ≡ (if says_fault reply then life.Failed else before.life) → AnswersAsBuffer before (Seek (pos at) (pos 0)) reply after → LeavesFlat before (says_fault reply) after
+leaves_flat before after at reply is current answers = record {
+  keeps = answers.keeps;
+  fault = answers.causes.faults;
+  faults = λ exact sound. (answers.counted exact).faults sound;
+  life_is = current;
+  bytes = λ told. seek_flat (flat_of before) (flat_of after) at reply after.short (says_fault reply) (answers.told (rw is.kept refl) told);
+  far = answers.moves.far;
+  stands = λ stood. answers.stands;
+  none = none_still before after answers.owes;
+}
+
+never_waits : (short : Bool) → short ≡ true → short ≡ false → ⊥
+never_waits true is not = absurd (cc)
+never_waits false is not = absurd (cc)
+
+-- the buffer went back, or the raw failed, or memory ran out
+pub returned : (old new : TextView) (result : Result ℕ IoFault) → IsAhead old.buffer old.at → new.at ≡ old.at → AnswersAsBuffer old.buffer (Seek (pos old.at) (pos 0)) (place_reply result) new.buffer → ReturnOutcome old (unit_of result) new
+returned old new (Ok place) is at answers =
+    let goes : Some (0 + old.at) ≡ Some place = answers.moves.place.1 in
+    let there : 0 + old.at ≡ place = cc in
+    (omega (arith, at, there, answers.moves.place.0), leaves_flat old.buffer new.buffer old.at (Place place) is answers.moves.life_is answers)
+returned old new (Err fault.RawFault) is at answers = (leaves_flat old.buffer new.buffer old.at (Refused fault.RawFault) is answers.moves.life_is answers, answers.moves.place)
+returned old new (Err fault.NoMemory) is at answers = (leaves_flat old.buffer new.buffer old.at (Refused fault.NoMemory) is answers.moves.life_is answers, seek_place (size_shown old.buffer.buffering) old.at fault.NoMemory old.buffer.life new.buffer.life old.buffer.place new.buffer.place is.live answers.moves.life_is answers.moves.place)
+returned old new (Err (fault.WouldBlock taken)) is at answers = absurd (never_waits new.buffer.short answers.shorts (answers.unwaited refl refl is.none))
+returned old new (Err other) is at answers = absurd (answers.answer (accepts_seek old.buffer old.at is.live is.moves is.appends is.kept is.within).0)
+
+-- a text whose buffer didn't go back
+pub text_unreturned : (before after : Buffer) (held : HeldView) (at taken : ℕ) (settings : TextSettings) (why : IoFault) → before.life ≡ life.Live → AnswersAsBuffer before (Seek (pos at) (pos 0)) (Refused why) after → IsText before held at taken settings → IsText after held at taken settings
+text_unreturned before after held at taken settings why live answers is =
+    text_called before after held at taken settings live answers.keeps answers.owes (seek_place (size_shown before.buffering) at why before.life after.life before.place after.place live answers.moves.life_is answers.moves.place)
+    (λ told lives. seek_flat (flat_of before) (flat_of after) at (Refused why) after.short (says_fault (Refused why)) (answers.told (rw is.kept refl) told)) is
+
+-- a text whose buffer doesn't stand at its place was read ahead
+pub is_ahead : (buffer : Buffer) (held : HeldView) (at taken : ℕ) (settings : TextSettings) → buffer.life ≡ life.Live → buffer.can.writable ≡ true → (buffer.can.readable ≡ true → buffer.can.writable ≡ true → (buffer.can.seekable ≡ true) × (buffer.can.appending ≡ false)) → (held.place + length held.bytes ≡ at → ⊥) → IsText buffer held at taken settings → IsAhead buffer at
+is_ahead buffer held at taken settings live writes moves differs is = by_place is.ahead
+  where
+    by_place : (at ≡ buffer.place) ⊎ ((buffer.owed.bytes ≡ []) × (buffer.can.readable ≡ true)) → IsAhead buffer at
+    by_place (inl there) = absurd (differs (is.stands ∙ sym there))
+    by_place (inr none) = record { live = live; moves = (moves none.1 writes).0; appends = (moves none.1 writes).1; kept = is.kept; none = none.0; within = omega (arith, is.forth, is.stands, is.far) }
+
+-- a text whose buffer went back to its place
+pub text_returned : (before after : Buffer) (held new : HeldView) (at taken place : ℕ) (settings : TextSettings) → IsAhead before at → AnswersAsBuffer before (Seek (pos at) (pos 0)) (Place place) after → taken ≡ 0 → new ≡ cleared held at new.room → IsText before held at taken settings → IsText after new at taken settings
+text_returned before after held new at taken place settings ahead answers none is_new is =
+    let goes : Some (0 + at) ≡ Some place = answers.moves.place.1 in
+    let there : 0 + at ≡ place = cc in
+    subst (λ (own : HeldView). IsText after own at taken settings) (sym is_new)
+    (subst (λ (count : ℕ). IsText after (cleared held at new.room) at count settings) (sym none)
+    (text_cleared before after held at taken at new.room settings answers.keeps (inl (none_still before after answers.owes ahead.none)) answers.moves.far (omega (arith, there, answers.moves.place.0)) is))
+
+-- the place as the offset of a seek
+pub offset_is : (buffer : Buffer) (held : HeldView) (at taken : ℕ) (settings : TextSettings) → IsText buffer held at taken settings → to_z w64 at ≡ pos at
+offset_is buffer held at taken settings is = to_z_pos w64 at (omega (arith, is.forth, is.stands, is.far))
+
+pub sought_at : (before after : Buffer) (held : HeldView) (at taken : ℕ) (settings : TextSettings) (reply : FileReply) → IsText before held at taken settings → AnswersAsBuffer before (Seek (to_z w64 at) (pos 0)) reply after → AnswersAsBuffer before (Seek (pos at) (pos 0)) reply after
+sought_at before after held at taken settings reply is answers = subst (λ (offset : ℤ). AnswersAsBuffer before (Seek offset (pos 0)) reply after) (offset_is before held at taken settings is) answers
+
+pub returned_so : (now old new : TextView) (why : IoFault) → old ≡ now → IsAhead old.buffer old.at → new.at ≡ old.at → AnswersAsBuffer old.buffer (Seek (pos old.at) (pos 0)) (Refused why) new.buffer → ReturnOutcome now (Err why) new
+returned_so now old new why same is at answers = subst (λ (view : TextView). ReturnOutcome view (Err why) new) same (returned old new (Err why) is at answers)

@@ -1,0 +1,33 @@
+use Rattle.std.proofs.Common.{sym, subst, false}
+use Rattle.std.proofs.lemmas.Result.{err_from_is_err_and}
+use Rattle.py_read_text.specs.Knowing.{TextView}
+use Rattle.py_read_text.specs.Reading.{IsAtEnd, Reads}
+use Rattle.py_read_text.proofs.Gathering.{gathers_more, holds_ended, asks_some, failed}
+use Rattle.py_read_text.proofs.read_text.ReadText.gather.Goals as goal
+
+pub loop-stop-preserved : goal.loop-stop-preserved
+loop-stop-preserved g c =
+    let looked = rw c.in_default.is at c.in_ok-stop.ensures.outcome in
+    let came = rw c.in-More.is at c.in_ok-fetch.ensures.outcome in
+    gathers_more _ _ _ _ _ c.args.wanted c.loop-stop.invariant c.self-in-loop-stop.view_is looked.0 came c.in_ok-fetch.ensures.keeps
+
+pub invariant_of-self-in-End : goal.invariant_of-self-in-End
+invariant_of-self-in-End g c =
+    let came = rw c.in-End.is at c.in_ok-fetch.ensures.outcome in
+    holds_ended _ _ _ _ _ _ (subst (λ (view : TextView). IsAtEnd view.buffer) (sym c.self-in-loop-stop-2.view_is) came.1) c.look_at_end.ensures.follows c.self-in-loop-stop-2.invariant
+
+pub returns-in-End-clause-nothing : goal.returns-in-End-clause-nothing
+returns-in-End-clause-nothing g c =
+    let looked = rw c.in_default.is at c.in_ok-stop.ensures.outcome in
+    λ none. asks_some c.args.wanted _ _ _ looked.0 none
+
+pub returns-in-Waits-clause-nothing : goal.returns-in-Waits-clause-nothing
+returns-in-Waits-clause-nothing g c =
+    let looked = rw c.in_default.is at c.in_ok-stop.ensures.outcome in
+    λ none. asks_some c.args.wanted _ _ _ looked.0 none
+
+pub returns-in_err-fetch-clause-outcome : goal.returns-in_err-fetch-clause-outcome
+returns-in_err-fetch-clause-outcome g c =
+    let left = err_from_is_err_and c.from_residual-in_err-fetch.result c.from_residual-in_err-fetch.ensures.1 in
+    let reads = subst (λ (view : TextView). Reads c.args.self.now.buffer false false view.buffer) (sym c.self-in-loop-stop.view_is) c.loop-stop.invariant.reads in
+    rw (left.1, left.2) (failed c.args.self.now _ c.fetch.new.self c.args.wanted c.in_err-fetch.field-0.0 reads c.in_err-fetch.ensures.outcome)

@@ -1,0 +1,16 @@
+use Rattle.std.proofs.Common.{ap, ◌∙◌, refl, arith}
+use Rattle.py_read_text.specs.Knowing.{TextView}
+use Rattle.py_read_text.proofs.Placing.{is_ahead, sought_at, text_unreturned, returned_so}
+use Rattle.py_read_text.proofs.read_text.ReadText.return_to_place.Goals as goal
+
+pub invariant_of-self-in-Err : goal.invariant_of-self-in-Err
+invariant_of-self-in-Err g c =
+    let live = ap (λ (view : TextView). view.buffer.life) c.self.view_is ∙ c.requires.live in
+    text_unreturned _ _ _ _ _ _ c.in-Err.fault live (sought_at _ _ _ _ _ _ _ c.self.invariant c.in-Err.ensures) c.self.invariant
+
+pub returns-in-Err-clause-outcome : goal.returns-in-Err-clause-outcome
+returns-in-Err-clause-outcome g c =
+    let live = ap (λ (view : TextView). view.buffer.life) c.self.view_is ∙ c.requires.live in
+    let writes = ap (λ (view : TextView). view.buffer.can.writable) c.self.view_is ∙ c.requires.writes in
+    let ahead = is_ahead _ c.self.inside.held c.self.inside.at _ _ live writes c.seekable.ensures.moves (λ same. c.if-place-undecoded.false (omega (arith, c.place.ensures.place, c.undecoded.ensures, same))) c.self.invariant in
+    returned_so _ _ _ c.in-Err.fault c.self.view_is ahead refl (sought_at _ _ c.self.inside.held c.self.inside.at _ _ _ c.self.invariant c.in-Err.ensures)

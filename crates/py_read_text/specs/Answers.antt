@@ -1,0 +1,285 @@
+-- The one clause of all calls of a text: what a call may answer and leave, over any buffered stream.
+use Rattle.std.specs.Prelude.{◌≡◌, ◌≢◌, ℕ, zero, ◌+◌, ◌<◌, ◌≤◌, ◌⊎◌, ◌||◌, nat_eq, Bool, true, false, IsTrue, List, [], ◌∷◌, length, Option, Some, None, String, Result, Ok, Err}
+use Rattle.std.specs.List.{list_any}
+use Rattle.std.specs.declared.alloc.Global.{Global}
+use Rattle.py_flat.specs.declared.fault.IoFault.{IoFault}
+use Rattle.py_flat.specs.declared.fault.IoFault.TheVariants as fault
+use Rattle.py_flat.specs.declared.life.Life.{Life}
+use Rattle.py_flat.specs.declared.life.Life.TheVariants as life
+use Rattle.py_flat.specs.Limits.{greatest_place}
+use Rattle.py_flat.specs.Lines.{lf, cr}
+use Rattle.py_flat.specs.Calls as binary
+use Rattle.py_flat.specs.Calls.{FileReply, Text, Count, Done, NotReady, Refused}
+use Rattle.py_flat.specs.Causes.{rose, counted}
+use Rattle.py_flat.specs.ExactStep.{is_closed}
+use Rattle.py_codec.specs.Answers.{text_of}
+use Rattle.py_plain_text.specs.TextFile.{TextPlace, clean_at, TextSettings}
+use Rattle.py_plain_text.specs.TextStep.{asks_any, place_taking}
+use Rattle.py_plain_text.specs.TextCalls.{TextFileCall, Read, ReadLine, WriteText, SetChunkSize, Flush, Close}
+use Rattle.py_plain_text.specs.TextRefusals.{refusal}
+use Rattle.py_plain_text.specs.TextAllowed.{TextFileStep}
+use Rattle.py_plain_text.specs.TextWriting.{written_bytes}
+use Rattle.py_raw.specs.RawStream.{KeepsBytes, AnswersFor}
+use Rattle.py_stream.specs.Stream.{nothing_owed}
+use Rattle.py_stream.specs.Kinds.{says_fault, says_no_memory}
+use Rattle.py_stream.specs.Answers.{HasCauses}
+use Rattle.py_stream.specs.Buffer.{Buffer, WhereShown, KeepsBuffer, IsClosedWithRaw, parts_when_closed, StandsAsCounted}
+use Rattle.py_read_text.specs.TextState.{TextState, file_of}
+use Rattle.py_read_text.specs.Waiting.{ShowsAll}
+
+-- what the answer of a reading says, in the model's words
+abbrev pub text_reply : Result (Option (String Global)) IoFault → FileReply
+text_reply (Ok (Some text)) = Text (text_of text)
+text_reply (Ok None) = NotReady
+text_reply (Err why) = Refused why
+
+-- Kinds of calls.
+
+-- whether a call gives characters
+abbrev pub gives_text : TextFileCall → Bool
+gives_text (Read size) = true
+gives_text (ReadLine limit) = true
+gives_text call = false
+
+-- whether a call asks for no character
+abbrev pub asks_nothing : TextFileCall → Bool
+asks_nothing (Read (Some zero)) = true
+asks_nothing (ReadLine (Some zero)) = true
+asks_nothing call = false
+
+-- whether a call hands the buffer bytes that the text took from its callers: a write, and each call of a text that owes some
+abbrev pub passes_on : (owed : List ℕ) → TextFileCall → Bool
+passes_on owed (WriteText text) = true
+passes_on [] call = false
+passes_on (byte ∷ more) call = true
+
+-- Which replies there are.
+
+-- the replies that an accepted call may have where nothing waits or fails; running out of memory is free
+abbrev pub IsAnswerTo : TextFileCall → FileReply → Type 0
+IsAnswerTo (Read size) (Text characters) = Unit {0}
+IsAnswerTo (Read size) (Refused (fault.UnicodeDecodeError start end)) = Unit {0}
+IsAnswerTo (ReadLine limit) (Text characters) = Unit {0}
+IsAnswerTo (ReadLine limit) (Refused (fault.UnicodeDecodeError start end)) = Unit {0}
+IsAnswerTo (WriteText text) (Count count) = count ≡ length text
+IsAnswerTo (SetChunkSize size) reply = reply ≡ Done
+IsAnswerTo Flush Done = Unit {0}
+IsAnswerTo Close Done = Unit {0}
+IsAnswerTo call (Refused fault.NoMemory) = Unit {0}
+IsAnswerTo call reply = ⊥
+
+-- the replies that an accepted call may have at all: one that passes on what was written has to wait only over a buffer that writes
+abbrev pub IsReplyTo : Bool → TextFileCall → FileReply → Type 0
+IsReplyTo writes (SetChunkSize size) reply = reply ≡ Done
+IsReplyTo writes (Read size) NotReady = Unit {0}
+IsReplyTo writes (ReadLine limit) NotReady = Unit {0}
+IsReplyTo writes (WriteText text) (Refused (fault.WouldBlock taken)) = IsTrue writes
+IsReplyTo writes Flush (Refused (fault.WouldBlock taken)) = IsTrue writes
+IsReplyTo writes Close (Refused (fault.WouldBlock taken)) = IsTrue writes
+IsReplyTo writes call (Refused fault.RawFault) = Unit {0}
+IsReplyTo writes call reply = IsAnswerTo call reply
+
+-- an accepted call in which no count rose is answered so, and whole
+pub record IsComplete (call : TextFileCall) (reply : FileReply) (short : Bool) : Type 0 where
+  pub answer : IsAnswerTo call reply
+  pub whole : short ≡ false
+
+-- what is short: some characters, never none; and each reply that says by itself that the raw would have blocked, always
+abbrev pub IsShort : FileReply → Bool → Type 0
+IsShort (Text characters) true = characters ≢ []
+IsShort NotReady short = short ≡ true
+IsShort (Refused (fault.WouldBlock taken)) short = short ≡ true
+IsShort reply short = short ≡ false
+
+-- Life, settings and place, whether the raw tells or not.
+
+abbrev pub life_after : TextFileCall → FileReply → Life → Life
+life_after Close Done current = life.Closed
+life_after Close (Refused fault.RawFault) current = life.Closed
+life_after call (Refused fault.RawFault) current = life.Failed
+life_after call reply current = current
+
+-- the life after a call: running out of memory leaves it, or fails a text that is written
+abbrev pub LifeMoves : (writes : Bool) → TextFileCall → FileReply → Life → Life → Type 0
+LifeMoves writes call (Refused fault.NoMemory) before after = (after ≡ before) ⊎ ((writes ≡ true) × (after ≡ life.Failed))
+LifeMoves writes call reply before after = after ≡ life_after call reply before
+
+abbrev pub settings_after : TextFileCall → FileReply → TextSettings → TextSettings
+settings_after (SetChunkSize size) Done settings = record settings { chunk_size = size }
+settings_after call reply settings = settings
+
+-- a whole read of all goes to where the buffer ends, clean
+pub record GoesToEnd (before : TextPlace) (end : ℕ) (after : TextPlace) : Type 0 where
+  pub clean : after ≡ clean_at end before.order
+  pub forth : before.at ≤ end
+
+-- n characters were taken, no more than asked for
+pub record TakesText (size : Option ℕ) (characters : List ℕ) (dirty : Bool) (before after : TextPlace) : Type 0 where
+  pub taken : after ≡ place_taking before (length characters) dirty
+  pub within : (limit : ℕ) → size ≡ Some limit → length characters ≤ limit
+
+-- the place after each reply of a call that writes nothing; a fault leaves it
+abbrev pub PlaceMoves : TextFileCall → Bool → FileReply → TextPlace → ℕ → TextPlace → Type 0
+PlaceMoves (Read None) false (Text characters) before end after = GoesToEnd before end after
+PlaceMoves (Read size) true (Text characters) before end after = TakesText size characters true before after
+PlaceMoves (Read size) false (Text characters) before end after = TakesText size characters (asks_any size) before after
+PlaceMoves (ReadLine limit) true (Text characters) before end after = TakesText limit characters true before after
+PlaceMoves (ReadLine limit) false (Text characters) before end after = TakesText limit characters (asks_any limit) before after
+PlaceMoves (WriteText text) short reply before end after = Unit {0}
+PlaceMoves call short reply before end after = after ≡ before
+
+-- a place n bytes further on
+abbrev pub further : TextPlace → ℕ → TextPlace
+further place count = record place { at = place.at + count }
+
+-- a call that failed left the place, or moved it behind n bytes
+abbrev pub MayMove : ℕ → TextPlace → TextPlace → Type 0
+MayMove count before after = (after ≡ before) ⊎ (after ≡ further before count)
+
+-- the place after a write: behind all its bytes, also where the raw would have blocked; after a fault, or out of memory, there or as it was
+abbrev pub WriteMoves : TextSettings → TextFileCall → FileReply → TextPlace → TextPlace → Type 0
+WriteMoves settings (WriteText text) (Count count) before after = after ≡ further before (length (written_bytes settings text))
+WriteMoves settings (WriteText text) (Refused (fault.WouldBlock taken)) before after = (taken ≡ length (written_bytes settings text)) × (after ≡ further before taken)
+WriteMoves settings (WriteText text) (Refused fault.RawFault) before after = MayMove (length (written_bytes settings text)) before after
+WriteMoves settings (WriteText text) (Refused fault.NoMemory) before after = MayMove (length (written_bytes settings text)) before after
+WriteMoves settings (WriteText text) reply before after = after ≡ before
+WriteMoves settings call reply before after = Unit {0}
+
+-- a text stands no further than its buffer and what it itself owes behind that, and that no further than a stream can
+pub record IsBounded (state : TextState) : Type 0 where
+  pub behind : state.text.place.at ≤ state.text.buffer.place + length state.text.owed
+  pub far : state.text.buffer.place + length state.text.owed ≤ greatest_place
+
+-- what a call moves
+pub record TextMoves (before : TextState) (call : TextFileCall) (reply : FileReply) (after : TextState) : Type 0 where
+  pub settings : after.text.settings ≡ settings_after call reply before.text.settings
+  pub life_is : LifeMoves before.text.buffer.can.writable call reply before.text.life after.text.life
+  pub place : PlaceMoves call after.short reply before.text.place after.text.buffer.place after.text.place
+  pub written : WriteMoves before.text.settings call reply before.text.place after.text.place
+  pub bounded : IsBounded after
+
+-- The one clause of every call.
+
+-- whether a call closes a text that is closed: Python's `close` of a closed stream does nothing
+abbrev pub closes_again : Life → TextFileCall → Bool
+closes_again current Close = is_closed current
+closes_again current call = false
+
+-- a call of a text that calls no raw and leaves all as it was, with this answer
+pub record LeavesText (before : TextState) (expected reply : FileReply) (after : TextState) : Type 0 where
+  pub says : reply ≡ expected
+  pub same : after ≡ record before { short = false }
+
+-- a wait ends the call: it is answered, but where what came by then can't be given for want of memory
+pub record WaitEnds (before : TextState) (reply : FileReply) (after : TextState) : Type 0 where
+  pub waits : after.short ≡ false → says_no_memory reply ≡ false → after.text.buffer.raw.waits ≡ before.text.buffer.raw.waits
+  pub once : IsTrue after.short → after.text.buffer.raw.waits ≡ counted before.text.buffer.raw.waits 1
+  pub most : (after.text.buffer.raw.waits ≡ before.text.buffer.raw.waits) ⊎ (after.text.buffer.raw.waits ≡ counted before.text.buffer.raw.waits 1)
+
+-- where the counts are exact: each fault is answered, and a wait ends the call, but where it hands the buffer bytes that were written,
+-- which may have room for them
+pub record IsCounted (before : TextState) (call : TextFileCall) (reply : FileReply) (after : TextState) : Type 0 where
+  pub faults : says_fault reply ≡ false → after.text.buffer.raw.faults ≡ before.text.buffer.raw.faults
+  pub ends : passes_on before.text.owed call ≡ false → WaitEnds before reply after
+
+-- the raw is closed exactly where the text is: of a close once nothing is owed, but where it failed to move the raw back to the buffer's
+-- place; of other calls over a buffer that can't write and owes nothing
+abbrev pub ClosesWithRaw : TextFileCall → Buffer → FileReply → Buffer → Type 0
+ClosesWithRaw Close before reply after = parts_when_closed before binary.Close reply after ≡ false → after.owed.bytes ≡ [] → IsClosedWithRaw before → IsClosedWithRaw after
+ClosesWithRaw call before reply after = before.can.writable ≡ false → before.owed ≡ nothing_owed before.place → IsClosedWithRaw before → IsClosedWithRaw after
+
+-- a flush and a close need no memory but their raw's
+abbrev pub WantsMemory : TextFileCall → FileReply → Buffer → Type 0
+WantsMemory Flush (Refused fault.NoMemory) buffer = IsTrue buffer.raw.takes_memory
+WantsMemory Close (Refused fault.NoMemory) buffer = IsTrue buffer.raw.takes_memory
+WantsMemory call reply buffer = Unit {0}
+
+-- a buffer that can't write and owes nothing: its raw's bytes stay, its writes answered for none, and nothing is owed after
+pub record SparesBytes (before after : Buffer) : Type 0 where
+  pub bytes : KeepsBytes before.raw after.raw
+  pub written : AnswersFor 0 before.raw after.raw
+  pub owed : after.owed ≡ nothing_owed after.place
+
+-- where a wait ended a reading nothing that was taken from the raw is held back: not by the buffer, and not by the text
+pub record HidesNothing (before after : TextState) : Type 0 where
+  pub empty : after.text.buffer.owed.bytes ≡ [] → after.text.buffer.raw_place ≡ after.text.buffer.place
+  pub shows : WhereShown before.text.buffer (ShowsAll (file_of after) after.text.buffer.place)
+
+-- over a buffer that doesn't write what the text itself owes stays as it was; and where its life is its buffer's, it stays so
+pub record KeepsTied (before after : TextState) : Type 0 where
+  pub owed : before.text.buffer.can.writable ≡ false → after.text.owed ≡ before.text.owed
+  pub life_is : before.text.buffer.can.writable ≡ false → before.text.buffer.life ≡ before.text.life → after.text.buffer.life ≡ after.text.life
+
+-- What a text that is written keeps, and what it passes on.
+
+-- whether a text has an end of a line, LF or CR: with line buffering its write is followed by a flush
+abbrev pub has_line_end : List ℕ → Bool
+has_line_end text = list_any (λ c. nat_eq c lf || nat_eq c cr) text
+
+-- nothing is owed any more, neither by the text nor by its buffer: so the raw's bytes are the flat ones, where it tells them
+pub record IsPassedOn (state : TextState) : Type 0 where
+  pub own : state.text.owed ≡ []
+  pub none : state.text.buffer.owed.bytes ≡ []
+  pub holds : WhereShown state.text.buffer (state.text.buffer.raw.bytes ≡ (file_of state).bytes)
+
+-- a done close of a live text passed all on that was owed, and a done flush, and an answered write of a text with a line end, with line
+-- buffering
+abbrev pub TextPasses : (before : TextState) → TextFileCall → FileReply → (after : TextState) → Type 0
+TextPasses before Flush Done after = IsPassedOn after
+TextPasses before Close Done after = before.text.life ≡ life.Live → IsPassedOn after
+TextPasses before (WriteText text) (Count count) after = before.text.settings.line_buffering ≡ true → has_line_end text ≡ true → IsPassedOn after
+TextPasses before call reply after = Unit {0}
+
+-- after an answered write the text itself owes fewer bytes than a chunk has, and nothing where it writes through
+pub record KeepsFew (state : TextState) : Type 0 where
+  pub few : length state.text.owed < state.text.settings.chunk_size
+  pub none : state.text.settings.write_through ≡ true → state.text.owed ≡ []
+
+abbrev pub TextKeeps : TextFileCall → FileReply → TextState → Type 0
+TextKeeps (WriteText text) (Count count) after = KeepsFew after
+TextKeeps call reply after = Unit {0}
+
+-- the raw of a live buffer stands where the buffer counts
+abbrev pub StandsWhileLive : Buffer → Type 0
+StandsWhileLive buffer = buffer.life ≡ life.Live → StandsAsCounted buffer
+
+-- One call of a text.
+pub record Answers (before : TextState) (call : TextFileCall) (reply : FileReply) (after : TextState) : Type 0 where
+  -- what the buffer and its raw can do and tell stays, and the raw's counts never fall
+  pub keeps : KeepsBuffer before.text.buffer after.text.buffer
+  -- what the life, an ability or an argument refuses is answered with that, and leaves all as it was
+  pub refused : (why : IoFault) → refusal (file_of before) call ≡ Some why → LeavesText before (Refused why) reply after
+  -- a close of a closed text is done, and leaves all as it was
+  pub again : closes_again before.text.life call ≡ true → LeavesText before Done reply after
+  -- a short answer comes only where the raw's waits rose in this call, RawFault only where its faults did
+  pub causes : HasCauses before.text.buffer.raw reply after.text.buffer.raw after.short
+  -- no fault goes unanswered, and a wait ends the call, over a raw that counts exactly
+  pub counted : IsTrue before.text.buffer.raw.counts_exactly → IsCounted before call reply after
+  -- which answers are short
+  pub shorts : IsShort reply after.short
+  -- a reading of no characters calls no raw
+  pub nothing : asks_nothing call ≡ true → after.text.buffer ≡ before.text.buffer
+  -- life, settings and place after the call
+  pub moves : TextMoves before call reply after
+  -- which replies may come of a call that isn't refused
+  pub answer : refusal (file_of before) call ≡ None → IsReplyTo before.text.buffer.can.writable call reply
+  -- where no count of the raw rose, a call that isn't refused is answered in full, or ran out of memory
+  pub complete : refusal (file_of before) call ≡ None → rose before.text.buffer.raw.waits after.text.buffer.raw.waits ≡ false → rose before.text.buffer.raw.faults after.text.buffer.raw.faults ≡ false → IsComplete call reply after.short
+  -- a flush and a close need no memory but their raw's
+  pub wants : WantsMemory call reply before.text.buffer
+  -- the raw is closed with its text, where this owed nothing
+  pub shut : before.text.owed ≡ [] → ClosesWithRaw call before.text.buffer reply after.text.buffer
+  -- a buffer that doesn't write leaves the raw's bytes, and owes nothing
+  pub spares : before.text.buffer.can.writable ≡ false → before.text.buffer.owed ≡ nothing_owed before.text.buffer.place → SparesBytes before.text.buffer after.text.buffer
+  -- over a buffer that doesn't write what the text itself owes stays, and its life goes on to be its buffer's
+  pub tied : KeepsTied before after
+  -- the raw of a live buffer goes on to stand where the buffer counts
+  pub stands : StandsWhileLive before.text.buffer → StandsWhileLive after.text.buffer
+  -- where the raw tells, the call is a step of the model
+  pub told : WhereShown before.text.buffer (TextFileStep (file_of before) call reply after.short (says_fault reply) (file_of after))
+  -- a wait hides nothing, where the text itself owes nothing
+  pub hides : IsTrue after.short → gives_text call ≡ true → after.text.owed ≡ [] → HidesNothing before after
+  -- what a call passed on
+  pub passes : TextPasses before call reply after
+  -- how little an answered write leaves with the text
+  pub kept : TextKeeps call reply after

@@ -1,0 +1,87 @@
+-- What a text knows of what is left of it: the characters and the bytes that it has in hand, and how they are tied to the bytes below.
+use Rattle.std.specs.Prelude.{◌≡◌, ◌⊎◌, ℕ, ◌+◌, ◌*◌, ◌-◌, ◌≤◌, ◌<◌, max, Bool, true, false, List, [], ◌++◌, length, None}
+use Rattle.py_flat.specs.declared.life.Life.TheVariants as life
+use Rattle.py_flat.specs.Limits.{greatest_place}
+use Rattle.py_flat.specs.Bytes.{left_at}
+use Rattle.py_flat.specs.BinaryStep.{IsFrontOf}
+use Rattle.py_flat.specs.Refusals.{is_unbuffered}
+use Rattle.py_plain.specs.Units.{Unknown}
+use Rattle.py_plain_text.specs.TextFile.{TextPlace, TextSettings, TextFile}
+use Rattle.py_plain_text.specs.Rest.{Rest}
+use Rattle.py_stream.specs.Writing.{OwesUpTo}
+use Rattle.py_stream.specs.Buffer.{Buffer, WhereShown, flat_of}
+use Rattle.py_held_text.specs.Held.{HeldView, left_with, left_so_far}
+use Rattle.py_held_text.specs.Decodes.{known_with_cr}
+use Rattle.py_read_text.specs.TextState.{TextState, file_of}
+use Rattle.py_read_text.specs.Waiting.{bytes_between}
+
+-- the buffer below; what is in hand; the byte of the text place, how many characters were taken since, and whether any were asked for;
+-- and the settings
+pub record TextView : Type 0 where
+  pub buffer : Buffer
+  pub held : HeldView
+  pub at : ℕ
+  pub taken : ℕ
+  pub dirty : Bool
+  pub settings : TextSettings
+
+abbrev pub place_of : TextView → TextPlace
+place_of text = record { front = None; at = text.at; order = Unknown; taken = text.taken; dirty = text.dirty }
+
+-- what a text is seen as, by its parts
+abbrev pub state_of : TextView → Bool → TextState
+state_of text short = record {
+  text = record { buffer = text.buffer; owed = []; place = place_of text; settings = text.settings; life = text.buffer.life };
+  short = short;
+}
+
+-- the text that it stands for
+abbrev pub shown_file : TextView → TextFile
+shown_file text = file_of (state_of text false)
+
+-- nothing in hand, at a byte from which nothing was decoded
+abbrev pub from_place : TextSettings → ℕ → HeldView
+from_place settings at = record { encoding = settings.encoding; handler = settings.handler; newline = settings.newline; known = []; cr = false; bytes = []; place = at; order = Unknown; room = 0 }
+
+-- some characters before what is left
+abbrev pub with_given : List ℕ → Rest → Rest
+with_given given rest = record { characters = given ++ rest.characters; refusal = rest.refusal }
+
+-- told, of bytes of which those up to a place were taken: what is left from the text place on is the characters taken, and then what is
+-- left of what is in hand and comes behind it. And of every front of what comes behind: what the bytes taken and that front surely give
+-- is no more than the characters taken and what is surely left of what is in hand and that front, and no refused range stands in them
+-- where none is left. No byte past the end was taken
+pub record KnowsTold (settings : TextSettings) (bytes : List ℕ) (far at taken : ℕ) (held : HeldView) : Type 0 where
+  pub given : List ℕ
+  pub count : length given ≡ taken
+  pub within : far ≤ max at (length bytes)
+  pub left : left_with (from_place settings at) (left_at bytes at) ≡ with_given given (left_with held (left_at bytes far))
+  pub shows : (more : List ℕ) → IsFrontOf more (left_at bytes far) → length (left_so_far (from_place settings at) (bytes_between bytes at far ++ more)).characters ≤ taken + length (left_so_far held more).characters
+  pub sound : (more : List ℕ) → IsFrontOf more (left_at bytes far) → (left_so_far held more).refusal ≡ None → (left_so_far (from_place settings at) (bytes_between bytes at far ++ more)).refusal ≡ None
+
+-- a text from which nothing was taken since it was placed
+pub record IsClean (text : TextView) : Type 0 where
+  pub taken : text.taken ≡ 0
+  pub dirty : text.dirty ≡ false
+
+-- what is in hand is read as the settings say
+pub record ReadsBy (settings : TextSettings) (held : HeldView) : Type 0 where
+  pub encoding : held.encoding ≡ settings.encoding
+  pub handler : held.handler ≡ settings.handler
+  pub newline : held.newline ≡ settings.newline
+
+-- what holds of every text: what its buffer owes ends at the buffer's place, and once bytes were read it owes nothing; the bytes in hand
+-- are the last that were taken from the buffer, and no more characters were taken and are known than the bytes used since the text place
+-- can give, six for each
+pub record IsText (buffer : Buffer) (held : HeldView) (at taken : ℕ) (settings : TextSettings) : Type 0 where
+  pub reads_by : buffer.can.readable ≡ true → ReadsBy settings held
+  pub asks : 0 < settings.chunk_size
+  pub buffered : is_unbuffered buffer.buffering ≡ false
+  pub kept : buffer.exported ≡ false
+  pub owes : OwesUpTo buffer.owed buffer.place
+  pub ahead : (at ≡ buffer.place) ⊎ ((buffer.owed.bytes ≡ []) × (buffer.can.readable ≡ true))
+  pub stands : held.place + length held.bytes ≡ buffer.place
+  pub far : buffer.place ≤ greatest_place
+  pub forth : at ≤ held.place
+  pub few : taken + known_with_cr held ≤ 6 * (held.place - at)
+  pub told : WhereShown buffer (buffer.life ≡ life.Live → buffer.can.readable ≡ true → KnowsTold settings (flat_of buffer).bytes buffer.place at taken held)

@@ -1,0 +1,7 @@
+pub mod TextState
+pub mod Waiting
+pub mod Answers
+pub mod Knowing
+pub mod Reading
+pub mod Opening
+pub mod Writing

@@ -1,0 +1,39 @@
+-- How a text that is written stands on the one that reads: what it hands its buffer, and how it goes back to its place.
+use Rattle.std.specs.Prelude.{◌≡◌, ℕ, ◌≤◌, Bool, true, false, IsTrue, [], Result, Ok, Err, if◌then◌else◌}
+use Rattle.py_flat.specs.declared.fault.IoFault.{IoFault}
+use Rattle.py_flat.specs.declared.fault.IoFault.TheVariants as fault
+use Rattle.py_flat.specs.declared.life.Life.TheVariants as life
+use Rattle.py_flat.specs.Limits.{greatest_place}
+use Rattle.py_flat.specs.Causes.{Rose}
+use Rattle.py_stream.specs.Buffer.{Buffer, WhereShown, flat_of, KeepsBuffer}
+use Rattle.py_read_text.specs.Answers.{StandsWhileLive}
+use Rattle.py_read_text.specs.Knowing.{TextView, IsClean}
+
+-- a text stands, clean, where its buffer stands; its settings are as they were
+pub record StandsBehind (old new : TextView) : Type 0 where
+  pub at : new.at ≡ new.buffer.place
+  pub clean : IsClean new
+  pub settings : new.settings ≡ old.settings
+
+-- the buffer was called, and no byte was read or written: its flat bytes stay; `faulted` says that the raw failed
+pub record LeavesFlat (before : Buffer) (faulted : Bool) (after : Buffer) : Type 0 where
+  pub keeps : KeepsBuffer before after
+  pub fault : IsTrue faulted → Rose before.raw.faults after.raw.faults
+  pub faults : IsTrue before.raw.counts_exactly → faulted ≡ false → after.raw.faults ≡ before.raw.faults
+  pub life_is : after.life ≡ (if faulted then life.Failed else before.life)
+  pub bytes : WhereShown before ((flat_of after).bytes ≡ (flat_of before).bytes)
+  pub far : after.place ≤ greatest_place
+  pub stands : StandsWhileLive before → StandsWhileLive after
+  pub none : before.owed.bytes ≡ [] → after.owed.bytes ≡ []
+
+-- what a call answers, without its number
+abbrev pub unit_of : Result ℕ IoFault → Result (Unit {0}) IoFault
+unit_of (Ok number) = Ok tt
+unit_of (Err why) = Err why
+
+-- a buffer was moved back to the place of its text, or stood there; or asking the raw failed, or memory ran out
+abbrev pub ReturnOutcome : TextView → Result (Unit {0}) IoFault → TextView → Type 0
+ReturnOutcome old (Ok done) new = (new.at ≡ new.buffer.place) × LeavesFlat old.buffer false new.buffer
+ReturnOutcome old (Err fault.RawFault) new = LeavesFlat old.buffer true new.buffer × (new.buffer.place ≡ old.buffer.place)
+ReturnOutcome old (Err fault.NoMemory) new = LeavesFlat old.buffer false new.buffer × (new.buffer.place ≡ old.buffer.place)
+ReturnOutcome old (Err other) new = ⊥

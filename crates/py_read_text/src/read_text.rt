@@ -1,0 +1,458 @@
+//! The text over a buffered stream: it asks for chunks, decodes what it has in hand, and answers from the characters that it knows. It never
+//! holds the whole stream.
+ghost use Rattle.std.specs.Prelude.{◌≡◌, Bool, ◌<◌, ◌≤◌, ◌+◌, ◌||◌, true, false, [], length, take, drop, OnErr, IfOk, IfErr, MatchResult};
+ghost use Rattle.py_flat.specs.Calls as binary;
+ghost use Rattle.py_flat.specs.Calls.{Write};
+ghost use Rattle.py_plain_text.specs.TextCalls.{Flush, Close};
+ghost use Rattle.py_stream.specs.Kinds.{says_wait};
+ghost use Rattle.py_stream.specs.Replies.{count_reply, done_reply};
+ghost use Rattle.py_flat.specs.Limits.{greatest_place};
+ghost use Rattle.py_plain.specs.Handlers.{reads_texts};
+ghost use Rattle.py_read_text.specs.TextState.{settings_of};
+ghost use Rattle.py_codec.specs.Answers.{text_of};
+ghost use Rattle.py_plain_text.specs.TextStep.{asks_any};
+ghost use Rattle.py_stream.specs.Writing.{OwesUpTo, Takes};
+ghost use Rattle.py_stream.specs.Buffer.{WhereShown, flat_of, stream_shown, AnswersAsBuffer};
+ghost use Rattle.py_held_text.specs.Finding.{IsFrontOf, answer_of};
+ghost use Rattle.py_read_text.specs.Reading.{size_of, asks_all, KeepsPlace, FetchOutcome, GatherOutcome, asks_none, GiveOutcome, GiveAllOutcome, GatheredAt, Finishes, OnlyWhereWaits, WaitsOrLacks, reply_of, call_of, waited_in};
+ghost use Rattle.py_read_text.specs.Knowing.{state_of, IsClean};
+ghost use Rattle.py_read_text.specs.Writing.{StandsBehind, ReturnOutcome};
+ghost use Rattle.py_read_text.specs.Answers.{IsBounded, Answers};
+
+use crate::looking::{Gathered, look, look_at_end};
+use crate::opening::reading_coder;
+use py_flat::{IoFault, Life};
+use py_held_text::{Coder, HeldFront, HeldText, Wanted};
+use py_stream::BufferedStream;
+use py_text::TextSettings;
+use std::alloc::Global;
+use std::fmt;
+use std::marker::Model;
+
+/// What a read of the buffer brought.
+#[derive(Clone, Copy)]
+pub(crate) enum Chunk {
+    /// Some bytes.
+    More,
+    /// Nothing, at the end.
+    End,
+    /// Nothing yet.
+    Waits,
+}
+
+/// What a call answers.
+pub enum Answer {
+    /// All that was asked for and is there.
+    Whole(String),
+    /// Some of it, since the raw would have blocked.
+    Short(String),
+    /// Nothing yet.
+    NotReady,
+}
+
+/// Whether all that is left is asked for.
+fn asks_all(wanted: Wanted) -> bool
+    ensures { result ≡ asks_all wanted }
+{
+    matches!(wanted, Wanted::Characters(None))
+}
+
+/// Whether anything is asked for.
+fn asks_any(wanted: Wanted) -> bool
+    ensures { result ≡ asks_any (size_of wanted) }
+{
+    match wanted {
+        Wanted::Characters(size) | Wanted::Line(size) => size != Some(0),
+    }
+}
+
+/// A text over a buffered stream, as far as it reads: a layer above sees to lives and abilities.
+///
+/// It is seen as what its buffer is seen as, what it has in hand, its place and its settings.
+#[derive(Drop)]
+pub struct ReadText<B: BufferedStream> {
+    buffer: B,
+    held: HeldText,
+    coder: Coder,
+    settings: TextSettings,
+    at: u64,
+    taken: u128,
+    dirty: bool,
+}
+
+impl<B: BufferedStream> Model for ReadText<B> {
+    ghost use Rattle.py_read_text.specs.TextState.{settings_of};
+    ghost use Rattle.py_read_text.specs.Knowing.{TextView, IsText};
+
+    ghost Value = { TextView };
+
+    ghost view = { λ t. record {
+      buffer = B.shows t.buffer;
+      held = t.held;
+      at = t.at;
+      taken = t.taken;
+      dirty = t.dirty;
+      settings = settings_of t.coder t.settings;
+    } };
+
+    ghost invariant = { λ t. IsText (B.shows t.buffer) t.held t.at t.taken (settings_of t.coder t.settings) };
+}
+
+// Only how much is in hand, and not what: thousands of characters would hide all else.
+impl<B: BufferedStream + fmt::Debug> fmt::Debug for ReadText<B> {
+    fn fmt<W: fmt::Write>(&self, f: &mut fmt::Formatter<W>) -> fmt::Result {
+        f.debug_struct("ReadText")
+            .field("buffer", &self.buffer)
+            .field("held", &self.held)
+            .field("coder", &self.coder)
+            .field("settings", &self.settings)
+            .field("at", &self.at)
+            .finish_non_exhaustive()
+    }
+}
+
+impl<B: BufferedStream> ReadText<B> {
+    /// A text over a buffer that stands at a place.
+    pub fn new(alloc: Global, buffer: B, coder: Coder, settings: TextSettings, place: u64) -> Self
+        requires reads { (B.shows buffer).can.readable ≡ true → reads_texts coder.errors ≡ true }
+        requires asks { 0 < settings.chunk_size }
+        requires kept { (B.shows buffer).exported ≡ false }
+        requires owes { OwesUpTo (B.shows buffer).owed (B.shows buffer).place }
+        requires stands { place ≡ (B.shows buffer).place }
+        requires far { place ≤ greatest_place }
+        ensures buffer { result.buffer ≡ B.shows buffer }
+        ensures at { result.at ≡ place }
+        ensures taken { result.taken ≡ 0 }
+        ensures dirty { result.dirty ≡ false }
+        ensures settings { result.settings ≡ settings_of coder settings }
+    {
+        // What holds of every buffered stream is known from here on.
+        let _ = buffer.buffer_size();
+        let reading = reading_coder(buffer.readable(), coder);
+        ReadText {
+            buffer,
+            held: HeldText::new(alloc, reading, settings.newline, place),
+            coder,
+            settings,
+            at: place,
+            taken: 0,
+            dirty: false,
+        }
+    }
+
+    /// What became of the buffer, and so of the text.
+    pub fn life(&self) -> Life
+        ensures life { result ≡ self.now.buffer.life }
+        ensures bounded { (short : Bool) → IsBounded (state_of self.now short) }
+    {
+        self.buffer.life()
+    }
+
+    /// Whether the buffer can be read.
+    pub fn readable(&self) -> bool
+        ensures { result ≡ self.now.buffer.can.readable }
+    {
+        self.buffer.readable()
+    }
+
+    /// Whether the buffer can be written.
+    pub fn writable(&self) -> bool
+        ensures { result ≡ self.now.buffer.can.writable }
+    {
+        self.buffer.writable()
+    }
+
+    /// Whether the buffer can be moved.
+    pub fn seekable(&self) -> bool
+        ensures { result ≡ self.now.buffer.can.seekable }
+    {
+        self.buffer.seekable()
+    }
+
+    /// The settings, but for the encoding and the handler.
+    pub fn settings(&self) -> TextSettings
+        ensures newline { result.newline ≡ self.now.settings.newline }
+        ensures lines { result.line_buffering ≡ self.now.settings.line_buffering }
+        ensures through { result.write_through ≡ self.now.settings.write_through }
+        ensures chunk { result.chunk_size ≡ self.now.settings.chunk_size }
+    {
+        self.settings
+    }
+
+    /// What the bytes are decoded by.
+    pub fn coder(&self) -> Coder
+        ensures encoding { result.encoding ≡ self.now.settings.encoding }
+        ensures errors { result.errors ≡ self.now.settings.handler }
+    {
+        self.coder
+    }
+
+    /// Asks for chunks of another size from here on.
+    pub fn set_chunksize(&mut self, size: usize)
+        requires { 0 < size }
+        ensures { self.new ≡ record self.old { settings = record self.old.settings { chunk_size = size } } }
+    {
+        self.settings.chunk_size = size;
+    }
+
+    /// Closes the live buffer.
+    pub fn close(&mut self) -> Result<(), IoFault>
+        requires { self.old.buffer.life ≡ Life.Live }
+        ensures { Answers (state_of self.old false) Close (done_reply result) (state_of self.new (says_wait (done_reply result))) }
+    {
+        // What holds of every text is known from here on.
+        let _ = &self.held;
+        self.buffer.close()
+    }
+
+    /// The buffer, lent.
+    pub fn buffer(&self) -> &B
+        ensures { B.shows result.now ≡ self.now.buffer }
+    {
+        &self.buffer
+    }
+
+    /// The byte of the text place.
+    pub fn at(&self) -> u64
+        ensures { result ≡ self.now.at }
+    {
+        self.at
+    }
+
+    /// Whether characters were asked for since the text was last placed.
+    pub fn is_dirty(&self) -> bool
+        ensures { result ≡ self.now.dirty }
+    {
+        self.dirty
+    }
+
+    /// How many bytes the buffer took of the last that were written to it.
+    pub fn taken(&self) -> u64
+        ensures { result ≡ self.now.buffer.taken }
+    {
+        self.buffer.taken()
+    }
+
+    /// Moves the buffer back to the place of a clean text, where bytes were read ahead of it. What is in hand is let go of then.
+    pub fn return_to_place(&mut self) -> Result<(), IoFault>
+        requires live { self.old.buffer.life ≡ Life.Live }
+        requires clean { IsClean self.old }
+        requires writes { self.old.buffer.can.writable ≡ true }
+        ensures keeps { KeepsPlace self.old self.new }
+        ensures outcome { ReturnOutcome self.old result self.new }
+    {
+        // What holds of every text is known from here on.
+        let _ = &self.held;
+        let _ = (self.buffer.buffer_size(), self.buffer.seekable());
+        if self.held.place() + self.held.undecoded() as u64 == self.at {
+            return Ok(());
+        }
+        match self.buffer.seek(self.at as i64, 0) {
+            Ok(_) => {
+                self.held.clear(self.at);
+                Ok(())
+            }
+            Err(fault) => Err(fault),
+        }
+    }
+
+    /// Writes bytes to the buffer at the place of a clean text, where the buffer stands; the text then stands, clean, behind those that were
+    /// taken, whatever it answers.
+    pub fn pass(&mut self, bytes: &[u8]) -> Result<usize, IoFault>
+        requires live { self.old.buffer.life ≡ Life.Live }
+        requires clean { IsClean self.old }
+        requires stands { self.old.at ≡ self.old.buffer.place }
+        ensures answers { AnswersAsBuffer self.old.buffer (Write bytes.now) (count_reply result) self.new.buffer }
+        ensures takes { Takes (stream_shown self.old.buffer) bytes.now (stream_shown self.new.buffer) }
+        ensures stands { StandsBehind self.old self.new }
+    {
+        let answer = self.buffer.write(bytes);
+        self.at += self.buffer.taken();
+        self.held.clear(self.at);
+        answer
+    }
+
+    /// Sees to it that the buffer passes on what it owes.
+    pub fn flush(&mut self) -> Result<(), IoFault>
+        requires live { self.old.buffer.life ≡ Life.Live }
+        ensures answers { AnswersAsBuffer self.old.buffer binary.Flush (done_reply result) self.new.buffer }
+        ensures keeps { KeepsPlace self.old self.new }
+        ensures text { Answers (state_of self.old false) Flush (done_reply result) (state_of self.new (says_wait (done_reply result))) }
+    {
+        // What holds of every text is known from here on.
+        let _ = &self.held;
+        self.buffer.flush()
+    }
+
+    /// The buffer, in every life, and the byte of the text place.
+    pub fn into_buffer(self) -> (B, u64)
+        ensures buffer { B.shows result.0 ≡ self.buffer }
+        ensures at { result.1 ≡ self.at }
+    {
+        let ReadText {
+            buffer,
+            held: _,
+            coder: _,
+            settings: _,
+            at,
+            taken: _,
+            dirty: _,
+        } = self;
+        (buffer, at)
+    }
+
+    /// Asks the buffer for a chunk, and puts it behind the bytes in hand. Space is taken before anything is read.
+    fn fetch(&mut self, alloc: Global) -> Result<Chunk, IoFault>
+        requires live { self.old.buffer.life ≡ Life.Live }
+        requires reads { self.old.buffer.can.readable ≡ true }
+        ensures keeps { KeepsPlace self.old self.new }
+        ensures outcome { FetchOutcome self.old result self.new }
+    {
+        let size = self.settings.chunk_size;
+        self.held.reserve(size)?;
+        match self.buffer.read1(alloc, Some(size)) {
+            Ok(Some(part)) => {
+                if part.is_empty() {
+                    return Ok(Chunk::End);
+                }
+                self.held.push(&part);
+                Ok(Chunk::More)
+            }
+            Ok(None) => Ok(Chunk::Waits),
+            Err(fault) => Err(fault),
+        }
+    }
+
+    /// Reads on until the known characters are enough, or all that come.
+    fn gather(&mut self, alloc: Global, wanted: Wanted) -> Result<Gathered, IoFault>
+        requires live { self.old.buffer.life ≡ Life.Live }
+        requires reads { self.old.buffer.can.readable ≡ true }
+        ensures keeps { KeepsPlace self.old self.new }
+        ensures outcome { GatherOutcome self.old wanted result self.new }
+        ensures nothing { asks_none wanted ≡ true → self.new.buffer ≡ self.old.buffer }
+    {
+        // What holds of every text is known from here on.
+        let _ = &self.held;
+        loop {
+            if let Some(stop) = look(&mut self.held, alloc, wanted)? {
+                return Ok(stop);
+            }
+            match self.fetch(alloc)? {
+                Chunk::More => {}
+                Chunk::End => return look_at_end(&mut self.held, alloc, wanted),
+                Chunk::Waits => return Ok(Gathered::Waits),
+            }
+        }
+    }
+
+    /// Gives a front of the known characters, which are taken then.
+    fn give(&mut self, alloc: Global, front: HeldFront, asks: bool) -> Result<String, IoFault>
+        requires { IsFrontOf self.old.held.known front }
+        ensures { GiveOutcome self.old front.chars asks result self.new }
+    {
+        let text = self.held.give(alloc, front)?;
+        self.taken += front.chars as u128;
+        self.dirty = self.dirty || asks;
+        Ok(text)
+    }
+
+    /// Gives all the known characters, which are the last, and stands clean at the end.
+    fn give_all(&mut self, alloc: Global) -> Result<String, IoFault>
+        requires empty { self.old.held.bytes ≡ [] }
+        requires whole { self.old.held.cr ≡ false }
+        requires end { WhereShown self.old.buffer (drop self.old.buffer.place (flat_of self.old.buffer).bytes ≡ []) }
+        ensures { GiveAllOutcome self.old result self.new }
+    {
+        let front = self.held.find_last(Wanted::Characters(None));
+        let text = self.held.give(alloc, front)?;
+        self.at = self.held.place();
+        self.taken = 0;
+        self.dirty = false;
+        Ok(text)
+    }
+
+    /// The answer where the bytes end.
+    fn finish_at_end(&mut self, alloc: Global, wanted: Wanted) -> Result<Answer, IoFault>
+        requires live { self.old.buffer.life ≡ Life.Live }
+        requires reads { self.old.buffer.can.readable ≡ true }
+        requires stands { GatheredAt self.old wanted Gathered.Ends }
+        ensures finishes { Finishes self.old wanted result self.new }
+        ensures waits { waited_in result ≡ false }
+    {
+        // What holds of every text is known from here on.
+        let _ = &self.held;
+        if asks_all(wanted) {
+            let text = self.give_all(alloc)?;
+            return Ok(Answer::Whole(text));
+        }
+        let front = self.held.find_last(wanted);
+        let text = self.give(alloc, front, asks_any(wanted))?;
+        Ok(Answer::Whole(text))
+    }
+
+    /// The answer where the raw would have blocked: all known characters, if there are any.
+    fn finish_short(&mut self, alloc: Global, wanted: Wanted) -> Result<Answer, IoFault>
+        requires live { self.old.buffer.life ≡ Life.Live }
+        requires reads { self.old.buffer.can.readable ≡ true }
+        requires stands { GatheredAt self.old wanted Gathered.Waits }
+        ensures finishes { Finishes self.old wanted result self.new }
+        ensures lacks { WaitsOrLacks Gathered.Waits result }
+    {
+        let front = self.held.find_last(Wanted::Characters(None));
+        if front.chars == 0 {
+            return Ok(Answer::NotReady);
+        }
+        let text = self.give(alloc, front, true)?;
+        Ok(Answer::Short(text))
+    }
+
+    /// The answer of what was gathered.
+    fn finish(
+        &mut self,
+        alloc: Global,
+        wanted: Wanted,
+        gathered: Gathered,
+    ) -> Result<Answer, IoFault>
+        requires live { self.old.buffer.life ≡ Life.Live }
+        requires reads { self.old.buffer.can.readable ≡ true }
+        requires stands { GatheredAt self.old wanted gathered }
+        ensures finishes { Finishes self.old wanted result self.new }
+        ensures waits { OnlyWhereWaits gathered (waited_in result) }
+        ensures lacks { WaitsOrLacks gathered result }
+    {
+        // What holds of every text is known from here on.
+        let _ = &self.held;
+        match gathered {
+            Gathered::Enough(front) => {
+                let text = self.give(alloc, front, asks_any(wanted))?;
+                Ok(Answer::Whole(text))
+            }
+            Gathered::Before(front) => {
+                let text = self.give(alloc, front, asks_any(wanted))?;
+                Ok(Answer::Whole(text))
+            }
+            Gathered::Refuses { start, end } => Err(IoFault::UnicodeDecodeError { start, end }),
+            Gathered::Ends => self.finish_at_end(alloc, wanted),
+            Gathered::Waits => self.finish_short(alloc, wanted),
+        }
+    }
+
+    /// The characters that were asked for, as far as they come. Where the raw would have blocked, all that came are given.
+    pub fn answer(&mut self, alloc: Global, wanted: Wanted) -> Result<Answer, IoFault>
+        requires live { self.old.buffer.life ≡ Life.Live }
+        requires reads { self.old.buffer.can.readable ≡ true }
+        ensures { Answers (state_of self.old false) (call_of wanted) (reply_of result) (state_of self.new (waited_in result)) }
+    {
+        let gathered = self.gather(alloc, wanted);
+        // What holds of every text is known from here on.
+        let _ = &self.held;
+        match gathered {
+            Ok(gathered) => {
+                let answer = self.finish(alloc, wanted, gathered);
+                let _ = &self.held;
+                answer
+            }
+            Err(fault) => Err(fault),
+        }
+    }
+}

@@ -1,0 +1,154 @@
+-- A call behind what handed on, as a call of the text before.
+use Rattle.std.proofs.Common.{◌≡◌, ◌≢◌, ℕ, ◌≤◌, Bool, true, false, List, [], ◌∷◌, None, Ok, refl, sym, ap, ◌∙◌, subst, arith}
+use Rattle.py_flat.specs.declared.life.Life.{Life}
+use Rattle.py_flat.specs.declared.life.Life.TheVariants as life
+use Rattle.py_flat.specs.FlatFile.{Abilities}
+use Rattle.py_flat.specs.Calls.{FileReply}
+use Rattle.py_flat.specs.Causes.{Rose, rose}
+use Rattle.py_plain_text.specs.TextFile.{TextFile, TextPlace, TextSettings}
+use Rattle.py_plain_text.specs.TextCalls.{TextFileCall, Flush, Close}
+use Rattle.py_plain_text.specs.TextRefusals.{refusal}
+use Rattle.py_plain_text.specs.TextAllowed.{TextFileStep}
+use Rattle.py_raw.proofs.Telling.{tells_still}
+use Rattle.py_stream.specs.Kinds.{says_fault}
+use Rattle.py_stream.specs.Buffer.{Buffer, WhereShown, KeepsBuffer}
+use Rattle.py_held_text.specs.declared.wanted.Wanted.{Wanted}
+use Rattle.py_held_text.specs.declared.wanted.Wanted.TheVariants.{Characters, Line}
+use Rattle.py_read_text.specs.Reading.{call_of, asks_none}
+use Rattle.py_read_text.proofs.Steps.{accepts}
+use Rattle.py_read_text.specs.TextState.{TextState}
+use Rattle.py_read_text.specs.Answers.{asks_nothing, passes_on, LifeMoves, PlaceMoves, WriteMoves, settings_after, IsReplyTo, WantsMemory, closes_again, TextPasses, Answers}
+use Rattle.py_textio.specs.Written.{WrittenView, place_now, state_of, file_now, CallsBuffer, HandsOn, SettleOutcome}
+use Rattle.py_textio.specs.Working.{Works}
+use Rattle.py_textio.proofs.Working.{answers_work}
+
+-- The buffer, called twice.
+
+pub keeps_on : (before mid after : Buffer) → KeepsBuffer before mid → KeepsBuffer mid after → KeepsBuffer before after
+keeps_on before mid after first second = grind arith
+
+pub rose_on : (before mid after : ℕ) → before ≤ mid → Rose mid after → Rose before after
+rose_on before mid after on is = grind arith
+
+pub rose_still : (before mid after : ℕ) → before ≤ mid → mid ≤ after → rose before after ≡ false → rose mid after ≡ false
+rose_still before mid after first second still = grind arith
+
+pub calls_on : (before mid after : Buffer) (waited faulted : Bool) → CallsBuffer before false false mid → CallsBuffer mid waited faulted after → CallsBuffer before waited faulted after
+calls_on before mid after waited faulted first second = record {
+  keeps = keeps_on before mid after first.keeps second.keeps;
+  wait = λ waits. rose_on before.raw.waits mid.raw.waits after.raw.waits first.keeps.raw.waits (second.wait waits);
+  fault = λ faults. rose_on before.raw.faults mid.raw.faults after.raw.faults first.keeps.raw.faults (second.fault faults);
+  faults = λ exact sound. second.faults (first.keeps.raw.counts_exactly ∙ exact) sound ∙ first.faults exact refl;
+  stands = λ stood. second.stands (first.stands stood);
+}
+
+-- The text, which stays.
+
+pub same_file : (old mid : WrittenView) → mid.text.buffer.can ≡ old.text.buffer.can → mid.life ≡ old.life → (file_now mid).bytes ≡ (file_now old).bytes → place_now mid ≡ place_now old → mid.text.settings ≡ old.text.settings → file_now mid ≡ file_now old
+same_file old mid can current bytes place settings =
+    ap (λ (own : List ℕ). let file : TextFile = record { bytes = own; place = place_now mid; can = mid.text.buffer.can; settings = mid.text.settings; life = mid.life } in file) bytes
+    ∙ (ap (λ (own : TextPlace). let file : TextFile = record { bytes = (file_now old).bytes; place = own; can = mid.text.buffer.can; settings = mid.text.settings; life = mid.life } in file) place
+    ∙ (ap (λ (own : Abilities). let file : TextFile = record { bytes = (file_now old).bytes; place = place_now old; can = own; settings = mid.text.settings; life = mid.life } in file) can
+    ∙ (ap (λ (own : TextSettings). let file : TextFile = record { bytes = (file_now old).bytes; place = place_now old; can = old.text.buffer.can; settings = own; life = mid.life } in file) settings
+    ∙ ap (λ (own : Life). let file : TextFile = record { bytes = (file_now old).bytes; place = place_now old; can = old.text.buffer.can; settings = old.text.settings; life = own } in file) current)))
+
+pub handed_file : (old mid : WrittenView) (waited faulted : Bool) → HandsOn old waited faulted mid → mid.life ≡ old.life → WhereShown old.text.buffer (file_now mid ≡ file_now old)
+handed_file old mid waited faulted hands current = λ told. same_file old mid hands.calls.keeps.can current (hands.bytes told) hands.place hands.settings
+
+same_writes : (old mid : WrittenView) → mid.text.buffer.can ≡ old.text.buffer.can → mid.text.buffer.can.writable ≡ old.text.buffer.can.writable
+same_writes old mid can = ap (λ (abilities : Abilities). abilities.writable) can
+
+-- a call behind what handed on of a text that owed something is a call of that text
+pub answers_over : (old mid : WrittenView) (call : TextFileCall) (reply : FileReply) (new : WrittenView) (short : Bool) → old.text.buffer.can.writable ≡ true → old.life ≡ life.Live → mid.life ≡ life.Live → HandsOn old false false mid → passes_on old.pending call ≡ true → old.pending ≢ [] → asks_nothing call ≡ false → closes_again life.Live call ≡ false → refusal (file_now old) call ≡ None → (refusal (file_now mid) call ≡ None) → WriteMoves old.text.settings call reply (place_now old) (place_now new) → TextPasses (state_of old false) call reply (state_of new short) → WantsMemory call reply old.text.buffer → Answers (state_of mid false) call reply (state_of new short) → Works old call reply new short
+answers_over old mid call reply new short writes live lives hands busy owes some once accepted still written passes wants answers =
+    let can : mid.text.buffer.can ≡ old.text.buffer.can = hands.calls.keeps.can in
+    let current : mid.life ≡ old.life = lives ∙ sym live in
+    let mid_writes : mid.text.buffer.can.writable ≡ true = same_writes old mid can ∙ writes in
+    record {
+      accepted = accepted;
+      once = ap (λ (own : Life). closes_again own call) live ∙ once;
+      some = some;
+      busy = busy;
+      writes = writes;
+      calls = calls_on old.text.buffer mid.text.buffer new.text.buffer short (says_fault reply) hands.calls (record {
+        keeps = answers.keeps;
+        wait = answers.causes.waits;
+        fault = answers.causes.faults;
+        faults = λ exact sound. (answers.counted exact).faults sound;
+        stands = answers.stands;
+      });
+      shorts = answers.shorts;
+      settings = subst (λ (own : TextSettings). new.text.settings ≡ settings_after call reply own) hands.settings answers.moves.settings;
+      life_is = subst (λ (own : Bool). LifeMoves own call reply old.life new.life) mid_writes (subst (λ (own : Life). LifeMoves mid.text.buffer.can.writable call reply own new.life) current answers.moves.life_is);
+      place = subst (λ (own : TextPlace). PlaceMoves call short reply own new.text.buffer.place (place_now new)) hands.place answers.moves.place;
+      written = written;
+      bounded = answers.moves.bounded;
+      answer = subst (λ (own : Bool). IsReplyTo own call reply) mid_writes (answers.answer still);
+      complete = λ calm sound. answers.complete still
+          (rose_still old.text.buffer.raw.waits mid.text.buffer.raw.waits new.text.buffer.raw.waits hands.calls.keeps.raw.waits answers.keeps.raw.waits calm)
+          (rose_still old.text.buffer.raw.faults mid.text.buffer.raw.faults new.text.buffer.raw.faults hands.calls.keeps.raw.faults answers.keeps.raw.faults sound);
+      wants = wants;
+      shut = λ none. absurd (owes none);
+      told = λ told. subst (λ (file : TextFile). TextFileStep file call reply short (says_fault reply) (file_now new)) (handed_file old mid false false hands current told) (answers.told (tells_still old.text.buffer.raw mid.text.buffer.raw hands.calls.keeps.raw ∙ told));
+      hides = λ is gives none. let hidden = answers.hides is gives none in record { empty = hidden.empty; shows = λ told. hidden.shows (tells_still old.text.buffer.raw mid.text.buffer.raw hands.calls.keeps.raw ∙ told) };
+      passes = passes;
+      kept = answers.kept;
+    }
+
+-- A call of a live text that owed something, behind what was handed on.
+
+unwritten_read : (asked : Wanted) (settings : TextSettings) (reply : FileReply) (before after : TextPlace) → WriteMoves settings (call_of asked) reply before after
+unwritten_read (Characters size) settings reply before after = tt
+unwritten_read (Line limit) settings reply before after = tt
+
+unpassed_read : (asked : Wanted) (before : TextState) (reply : FileReply) (after : TextState) → TextPasses before (call_of asked) reply after
+unpassed_read (Characters size) before reply after = tt
+unpassed_read (Line limit) before reply after = tt
+
+unwanted_read : (asked : Wanted) (reply : FileReply) (buffer : Buffer) → WantsMemory (call_of asked) reply buffer
+unwanted_read (Characters size) reply buffer = tt
+unwanted_read (Line limit) reply buffer = tt
+
+once_read : (asked : Wanted) → closes_again life.Live (call_of asked) ≡ false
+once_read (Characters size) = refl
+once_read (Line limit) = refl
+
+some_read : (asked : Wanted) → asks_none asked ≡ false → asks_nothing (call_of asked) ≡ false
+some_read asked some = grind arith
+
+busy_read : (owed : List ℕ) (asked : Wanted) → owed ≢ [] → passes_on owed (call_of asked) ≡ true
+busy_read [] asked some = absurd (some refl)
+busy_read (byte ∷ more) (Characters size) some = refl
+busy_read (byte ∷ more) (Line limit) some = refl
+
+pub read_over : (old mid new : WrittenView) (asked : Wanted) (reply : FileReply) (short : Bool) → old.text.buffer.can.writable ≡ true → old.life ≡ life.Live → old.pending ≢ [] → old.text.buffer.can.readable ≡ true → asks_none asked ≡ false → SettleOutcome old (Ok tt) mid → Answers (state_of mid false) (call_of asked) reply (state_of new short) → Answers (state_of old false) (call_of asked) reply (state_of new short)
+read_over old mid new asked reply short writes live owes can some outcome answers =
+    let hands = outcome.0 in
+    let still : mid.text.buffer.can.readable ≡ true = ap (λ (own : Abilities). own.readable) hands.calls.keeps.can ∙ can in
+    answers_work old (call_of asked) reply new short (answers_over old mid (call_of asked) reply new short writes live outcome.2 hands (busy_read old.pending asked owes) owes (some_read asked some) (once_read asked) (accepts (file_now old) asked live can) (accepts (file_now mid) asked outcome.2 still) (unwritten_read asked old.text.settings reply (place_now old) (place_now new)) (unpassed_read asked (state_of old false) reply (state_of new short)) (unwanted_read asked reply old.text.buffer) answers)
+
+busy_other : (owed : List ℕ) (call : TextFileCall) → owed ≢ [] → passes_on owed call ≡ true
+busy_other [] call some = absurd (some refl)
+busy_other (byte ∷ more) call some = grind arith
+
+wants_flush : (old mid : Buffer) (reply : FileReply) → KeepsBuffer old mid → WantsMemory Flush reply mid → WantsMemory Flush reply old
+wants_flush old mid reply keeps wants = grind arith
+
+wants_close : (old mid : Buffer) (reply : FileReply) → KeepsBuffer old mid → WantsMemory Close reply mid → WantsMemory Close reply old
+wants_close old mid reply keeps wants = grind arith
+
+passes_close : (old mid : TextState) (reply : FileReply) (after : TextState) → mid.text.life ≡ life.Live → TextPasses mid Close reply after → TextPasses old Close reply after
+passes_close old mid reply after lives passes = grind arith
+
+passes_flush : (old mid : TextState) (reply : FileReply) (after : TextState) → TextPasses mid Flush reply after → TextPasses old Flush reply after
+passes_flush old mid reply after passes = grind arith
+
+pub flush_over : (old mid new : WrittenView) (reply : FileReply) (short : Bool) → old.text.buffer.can.writable ≡ true → old.life ≡ life.Live → old.pending ≢ [] → SettleOutcome old (Ok tt) mid → Answers (state_of mid false) Flush reply (state_of new short) → Answers (state_of old false) Flush reply (state_of new short)
+flush_over old mid new reply short writes live owes outcome answers =
+    let hands = outcome.0 in
+    answers_work old Flush reply new short (answers_over old mid Flush reply new short writes live outcome.2 hands (busy_other old.pending Flush owes) owes refl refl (rw live refl) (rw outcome.2 refl) tt (passes_flush (state_of old false) (state_of mid false) reply (state_of new short) answers.passes) (wants_flush old.text.buffer mid.text.buffer reply hands.calls.keeps answers.wants) answers)
+
+pub close_over : (old mid new : WrittenView) (reply : FileReply) (short : Bool) → old.text.buffer.can.writable ≡ true → old.life ≡ life.Live → old.pending ≢ [] → SettleOutcome old (Ok tt) mid → Answers (state_of mid false) Close reply (state_of new short) → Answers (state_of old false) Close reply (state_of new short)
+close_over old mid new reply short writes live owes outcome answers =
+    let hands = outcome.0 in
+    answers_work old Close reply new short (answers_over old mid Close reply new short writes live outcome.2 hands (busy_other old.pending Close owes) owes refl refl (rw live refl) (rw outcome.2 refl) tt (passes_close (state_of old false) (state_of mid false) reply (state_of new short) outcome.2 answers.passes) (wants_close old.text.buffer mid.text.buffer reply hands.calls.keeps answers.wants) answers)

@@ -1,0 +1,347 @@
+-- What is owed is handed on, and the text stays as it is.
+use Rattle.std.proofs.Common.{◌≡◌, ◌≢◌, ℕ, ◌+◌, ◌<◌, ◌≤◌, inl, inr, ◌⊎◌, nat_eq, ◌&&◌, Bool, true, false, List, [], ◌∷◌, length, take, drop, Option, None, Some, Result, Ok, Err, refl, sym, ap, ◌∙◌, subst, arith}
+use Rattle.std.proofs.lemmas.List.{length-drop, drop_all}
+use Rattle.py_flat.specs.declared.fault.IoFault.{IoFault}
+use Rattle.py_flat.specs.declared.fault.IoFault.TheVariants as fault
+use Rattle.py_flat.specs.declared.life.Life.{Life}
+use Rattle.py_flat.specs.declared.life.Life.TheVariants as life
+use Rattle.py_flat.specs.Limits.{greatest_place}
+use Rattle.py_flat.specs.Bytes.{lay}
+use Rattle.py_flat.specs.FlatFile.{Abilities, FlatFile, Buffering, Unbuffered, Buffered, InMemory}
+use Rattle.py_flat.specs.Refusals.{refusal}
+use Rattle.py_flat.specs.AllowedStep.{settled, waited_for, raw_faulted, out_of_memory}
+use Rattle.py_flat.specs.BinaryStep.{SettledBy, FailsMidway, BinaryStep}
+use Rattle.py_flat.specs.Calls.{FileReply, Count, Done, Write, Flush, Refused}
+use Rattle.py_flat.proofs.Laying.{lay_resumes}
+use Rattle.py_plain.specs.Units.{Unknown}
+use Rattle.py_plain_text.specs.TextFile.{TextPlace, TextSettings, clean_at}
+use Rattle.py_plain_text.specs.TextWriting.{writes_texts}
+use Rattle.py_stream.specs.Kinds.{says_fault}
+use Rattle.py_stream.specs.Replies.{count_reply}
+use Rattle.py_stream.specs.Answers.{TakesOf, LifeMoves, PlaceStarves}
+use Rattle.py_stream.specs.Writing.{Takes}
+use Rattle.py_stream.specs.Buffer.{Buffer, WhereShown, flat_of, size_shown, stream_shown, AnswersAsBuffer}
+use Rattle.py_read_text.specs.Answers.{further, IsBounded}
+use Rattle.py_read_text.specs.Knowing.{TextView, place_of}
+use Rattle.py_read_text.specs.Reading.{KeepsPlace}
+use Rattle.py_read_text.specs.Writing.{unit_of, StandsBehind, LeavesFlat, ReturnOutcome}
+use Rattle.py_raw.proofs.Telling.{keeps_same, tells_still}
+use Rattle.py_read_text.proofs.Placing.{accepts_write, flush_flat}
+use Rattle.py_textio.proofs.Over.{calls_on}
+use Rattle.py_textio.specs.Written.{WrittenView, behind_owed, state_of, CallsBuffer, HandsOn, StandsToWrite, TakesNothing, IsWritten, SettleOutcome, BackOutcome, PassOutcome, HandOutcome}
+
+-- The place of a text that owes bytes.
+
+pub behind_so : (place : TextPlace) (owed : List ℕ) → behind_owed place owed ≡ further place (length owed)
+behind_so place [] =
+    let same : place.at ≡ place.at + 0 = omega arith in
+    ap (λ (at : ℕ). let own : TextPlace = record place { at = at } in own) same
+behind_so place (byte ∷ more) = refl
+
+pub clean_place : (text : TextView) (owed : List ℕ) → StandsToWrite text → behind_owed (place_of text) owed ≡ clean_at (text.buffer.place + length owed) Unknown
+clean_place text owed stands = behind_so (place_of text) owed ∙ rw (stands.0.taken, stands.0.dirty, stands.1) refl
+
+-- A write of what is owed.
+
+-- how many bytes the buffer took
+taken_so : (before after : Buffer) (bytes : List ℕ) (reply : FileReply) → AnswersAsBuffer before (Write bytes) reply after → (takes : Takes (stream_shown before) bytes (stream_shown after)) → after.taken ≡ takes.taken
+taken_so before after bytes reply answers takes = omega (arith, answers.taken, takes.place)
+
+-- the bytes of the text, with what is owed laid behind what the buffer has
+bytes_so : (before after : Buffer) (bytes : List ℕ) (reply : FileReply) → AnswersAsBuffer before (Write bytes) reply after → Takes (stream_shown before) bytes (stream_shown after) → WhereShown before (lay (flat_of after).bytes after.place (drop after.taken bytes) ≡ lay (flat_of before).bytes before.place bytes)
+bytes_so before after bytes reply answers takes = λ told.
+    let laid = takes.told told in
+    let taken : after.taken ≡ takes.taken = taken_so before after bytes reply answers takes in
+    ap (λ (all : List ℕ). lay all after.place (drop after.taken bytes)) laid.3
+    ∙ (ap (λ (at : ℕ). lay (lay (flat_of before).bytes before.place (take laid.0 bytes)) at (drop after.taken bytes)) takes.place
+    ∙ (ap (λ (count : ℕ). lay (lay (flat_of before).bytes before.place (take laid.0 bytes)) (before.place + takes.taken) (drop count bytes)) taken
+    ∙ lay_resumes (flat_of before).bytes before.place bytes takes.taken laid.0 laid.1 laid.2))
+
+pub calls_so : (before after : Buffer) (bytes : List ℕ) (reply : FileReply) → AnswersAsBuffer before (Write bytes) reply after → CallsBuffer before after.short (says_fault reply) after
+calls_so before after bytes reply answers = record {
+  keeps = answers.keeps;
+  wait = answers.causes.waits;
+  fault = answers.causes.faults;
+  faults = λ exact sound. (answers.counted exact).faults sound;
+  stands = λ stood. answers.stands;
+}
+
+pub hands_so : (old new : WrittenView) (reply : FileReply) → AnswersAsBuffer old.text.buffer (Write old.pending) reply new.text.buffer → Takes (stream_shown old.text.buffer) old.pending (stream_shown new.text.buffer) → StandsToWrite old.text → StandsBehind old.text new.text → new.pending ≡ drop new.text.buffer.taken old.pending → HandsOn old new.text.buffer.short (says_fault reply) new
+hands_so old new reply answers takes was stands left =
+    let taken = taken_so old.text.buffer new.text.buffer old.pending reply answers takes in
+    let size : new.text.buffer.place + length new.pending ≡ old.text.buffer.place + length old.pending = omega (arith, ap length left, length-drop new.text.buffer.taken old.pending, taken, takes.within, takes.place) in
+    record {
+      calls = calls_so old.text.buffer new.text.buffer old.pending reply answers;
+      bytes = λ told. ap (λ (owed : List ℕ). lay (flat_of new.text.buffer).bytes new.text.buffer.place owed) left ∙ bytes_so old.text.buffer new.text.buffer old.pending reply answers takes told;
+      place = clean_place new.text new.pending (stands.clean, stands.at) ∙ (ap (λ (at : ℕ). clean_at at Unknown) size ∙ sym (clean_place old.text old.pending was));
+      settings = stands.settings;
+    }
+
+-- What the buffer answered.
+
+-- a live buffer that is buffered takes all of a write that it answers
+takes_all : (buffering : Buffering) (bytes : List ℕ) (count : ℕ) → TakesOf (size_shown buffering) bytes count → count ≡ length bytes
+takes_all (Buffered holds) bytes count takes = takes
+takes_all Unbuffered bytes count takes = takes
+takes_all InMemory bytes count takes = takes
+
+drop_rest : (count : ℕ) (bytes : List ℕ) → length bytes ≤ count → drop count bytes ≡ []
+drop_rest count bytes most = drop_all count bytes most
+
+-- where the buffer answered, nothing is owed any more
+all_taken : (old new : WrittenView) (count : ℕ) → AnswersAsBuffer old.text.buffer (Write old.pending) (Count count) new.text.buffer → new.pending ≡ drop new.text.buffer.taken old.pending → new.pending ≡ []
+all_taken old new count answers left =
+    let all : count ≡ length old.pending = takes_all old.text.buffer.buffering old.pending count answers.moves.place.0 in
+    left ∙ drop_rest new.text.buffer.taken old.pending (omega (arith, all, answers.moves.place.1, answers.taken))
+
+some_left : (count : ℕ) (bytes : List ℕ) → count < length bytes → drop count bytes ≢ []
+some_left count bytes less none = absurd (omega (arith, ap length none, length-drop count bytes))
+
+never_memory : (file : FlatFile) (bytes : List ℕ) (why : IoFault) → refusal file (Write bytes) ≡ Some why → why ≡ fault.NoMemory → ⊥
+never_memory file bytes why is same = absurd (grind arith)
+
+memory_settled : (file after : FlatFile) (bytes : List ℕ) (refused : Option IoFault) → refusal file (Write bytes) ≡ refused → SettledBy file (Write bytes) refused (Refused fault.NoMemory) after → ⊥
+memory_settled file after bytes (Some why) is left = never_memory file bytes why is (let same : Refused fault.NoMemory ≡ Refused why = left.0 in cc)
+memory_settled file after bytes None is carried = absurd (grind arith)
+
+-- running out of memory left a live flat file as it was
+starves_flat : (file after : FlatFile) (bytes : List ℕ) (short : Bool) → after.life ≡ life.Live → BinaryStep file (Write bytes) (Refused fault.NoMemory) short false after → after.bytes ≡ file.bytes
+starves_flat file after bytes short lives (settled by) = absurd (memory_settled file after bytes (refusal file (Write bytes)) refl by)
+starves_flat file after bytes short lives (waited_for waited by) = absurd (grind arith)
+starves_flat file after bytes short lives (raw_faulted faults says left) = absurd (cc)
+starves_flat file after bytes short lives (out_of_memory says left) = by_life left.1
+  where
+    by_life : (after ≡ file) ⊎ FailsMidway file (Write bytes) after → after.bytes ≡ file.bytes
+    by_life (inl same) = ap (λ (own : FlatFile). own.bytes) same
+    by_life (inr fails) = let never : life.Live ≡ life.Failed = sym lives ∙ fails.3.life_is in absurd (cc)
+
+-- a write that ran out of memory left the life, or failed the stream
+starves_write : (buffering : Buffering) (bytes : List ℕ) (before after : Life) → LifeMoves (size_shown buffering) (Write bytes) (Refused fault.NoMemory) before after → (after ≡ before) ⊎ (after ≡ life.Failed)
+starves_write (Buffered holds) bytes before after moves = moves
+starves_write Unbuffered bytes before after moves = moves
+starves_write InMemory bytes before after moves = moves
+
+-- what was written is handed on, or what isn't taken is owed still
+pub settled_so : (old new : WrittenView) (result : Result ℕ IoFault) → old.life ≡ life.Live → AnswersAsBuffer old.text.buffer (Write old.pending) (count_reply result) new.text.buffer → Takes (stream_shown old.text.buffer) old.pending (stream_shown new.text.buffer) → StandsToWrite old.text → StandsBehind old.text new.text → new.pending ≡ drop new.text.buffer.taken old.pending → old.text.buffer.can.writable ≡ true → old.text.buffer.life ≡ life.Live → old.text.buffer.exported ≡ false → old.text.buffer.place + length old.pending ≤ greatest_place → new.life ≡ new.text.buffer.life → SettleOutcome old (unit_of result) new
+settled_so old new (Ok count) live answers takes was stands left writes lives kept far current =
+    let short : new.text.buffer.short ≡ false = answers.shorts in
+    (subst (λ (waited : Bool). HandsOn old waited false new) short (hands_so old new (Count count) answers takes was stands left), all_taken old new count answers left, current ∙ (answers.moves.life_is ∙ lives))
+settled_so old new (Err (fault.WouldBlock taken)) live answers takes was stands left writes lives kept far current =
+    let short : new.text.buffer.short ≡ true = answers.shorts in
+    let count : new.text.buffer.taken ≡ taken = omega (arith, answers.moves.place.1, answers.taken) in (
+      subst (λ (waited : Bool). HandsOn old waited false new) short (hands_so old new (Refused (fault.WouldBlock taken)) answers takes was stands left),
+      (λ none. some_left new.text.buffer.taken old.pending (omega (arith, count, answers.moves.place.0)) (sym left ∙ none)),
+      current ∙ (answers.moves.life_is ∙ lives),
+      writes,
+    )
+settled_so old new (Err fault.RawFault) live answers takes was stands left writes lives kept far current =
+    let short : new.text.buffer.short ≡ false = answers.shorts in
+    (subst (λ (waited : Bool). HandsOn old waited true new) short (hands_so old new (Refused fault.RawFault) answers takes was stands left), current ∙ answers.moves.life_is)
+settled_so old new (Err fault.NoMemory) live answers takes was stands left writes lives kept far current =
+    let short : new.text.buffer.short ≡ false = answers.shorts in
+    (subst (λ (waited : Bool). HandsOn old waited false new) short (hands_so old new (Refused fault.NoMemory) answers takes was stands left), answers.wants refl refl, starved (starves_write old.text.buffer.buffering old.pending old.text.buffer.life new.text.buffer.life answers.moves.life_is))
+  where
+    starved : (new.text.buffer.life ≡ old.text.buffer.life) ⊎ (new.text.buffer.life ≡ life.Failed) → TakesNothing old new ⊎ ((new.life ≡ life.Failed) × (old.text.buffer.can.writable ≡ true))
+    starved (inr failed) = inr (current ∙ failed, writes)
+    starved (inl same) =
+        let alive : new.text.buffer.life ≡ life.Live = same ∙ lives in
+        let place : new.text.buffer.place ≡ old.text.buffer.place = subst (λ (own : Life). PlaceStarves own (Some (length old.pending)) old.text.buffer.place new.text.buffer.place) alive answers.moves.place in
+        let none : new.text.buffer.taken ≡ 0 = omega (arith, place, answers.taken) in
+        inl (record {
+          lives = current ∙ alive;
+          stands = (stands.clean, stands.at);
+          pending = left ∙ ap (λ (count : ℕ). drop count old.pending) none;
+          place = place;
+          flat = λ told. starves_flat (flat_of old.text.buffer) (flat_of new.text.buffer) old.pending new.text.buffer.short alive (answers.told (rw kept refl) told);
+        })
+settled_so old new (Err other) live answers takes was stands left writes lives kept far current = absurd (answers.answer (accepts_write old.text.buffer old.pending lives writes kept far).0)
+
+-- What holds of every text, after its buffer took some of what it owed.
+
+pub some_pending : (size : ℕ) (pending : List ℕ) → size ≡ length pending → false ≡ nat_eq size 0 → pending ≢ []
+some_pending size [] is tested none = absurd (grind arith)
+some_pending size (byte ∷ more) is tested none = absurd (cc)
+
+pub stands_so : (text : TextView) (pending : List ℕ) (current : Life) → IsWritten text pending current → pending ≢ [] → StandsToWrite text
+stands_so text pending current is some = by_stands is.stands
+  where
+    by_stands : (pending ≡ []) ⊎ StandsToWrite text → StandsToWrite text
+    by_stands (inl none) = absurd (some none)
+    by_stands (inr stands) = stands
+
+pub writes_so : (text : TextView) (pending : List ℕ) (current : Life) → IsWritten text pending current → pending ≢ [] → text.buffer.can.writable ≡ true
+writes_so text pending current is some = by_writes text.buffer.can.writable refl
+  where
+    by_writes : (writes : Bool) → text.buffer.can.writable ≡ writes → text.buffer.can.writable ≡ true
+    by_writes true says = says
+    by_writes false says = absurd (some (is.unwritten says).0)
+
+pub written_passed : (old new : TextView) (pending left : List ℕ) (reply : FileReply) (before after : Life) → IsWritten old pending before → pending ≢ [] → AnswersAsBuffer old.buffer (Write pending) reply new.buffer → Takes (stream_shown old.buffer) pending (stream_shown new.buffer) → StandsBehind old new → left ≡ drop new.buffer.taken pending → (after ≡ life.Live → new.buffer.life ≡ life.Live) → IsWritten new left after
+written_passed old new pending left reply before after is some answers takes stands left_is lives =
+    let taken = taken_so old.buffer new.buffer pending reply answers takes in
+    let was = stands_so old pending before is some in
+    record {
+      kept = answers.keeps.exported ∙ is.kept;
+      asks = subst (λ (settings : TextSettings). 0 < settings.chunk_size) (sym stands.settings) is.asks;
+      clean = λ dirty. stands.clean.taken;
+      handler = λ writes. ap (λ (settings : TextSettings). writes_texts settings.handler) stands.settings ∙ is.handler (sym (ap (λ (can : Abilities). can.writable) answers.keeps.can) ∙ writes);
+      lives = lives;
+      stands = inr (stands.clean, stands.at);
+      behind = omega (arith, stands.at);
+      far = omega (arith, is.far, ap length left_is, length-drop new.buffer.taken pending, taken, takes.within, takes.place);
+      unwritten = λ never. absurd (some (is.unwritten (sym (ap (λ (can : Abilities). can.writable) answers.keeps.can) ∙ never)).0);
+    }
+
+abbrev view_of : TextView → List ℕ → ℕ → Life → WrittenView
+view_of text pending room current = record { text = text; pending = pending; room = room; life = current }
+
+pub settled_at : (now : WrittenView) (old new : TextView) (pending left : List ℕ) (room more : ℕ) (before after : Life) (result : Result ℕ IoFault) → view_of old pending room before ≡ now → IsWritten old pending before → pending ≢ [] → now.life ≡ life.Live → AnswersAsBuffer old.buffer (Write pending) (count_reply result) new.buffer → Takes (stream_shown old.buffer) pending (stream_shown new.buffer) → StandsBehind old new → left ≡ drop new.buffer.taken pending → after ≡ new.buffer.life → SettleOutcome now (unit_of result) (view_of new left more after)
+settled_at now old new pending left room more before after result same is some live answers takes stands left_is current =
+    let lives : before ≡ life.Live = ap (λ (view : WrittenView). view.life) same ∙ live in
+    subst (λ (view : WrittenView). SettleOutcome view (unit_of result) (view_of new left more after)) same
+    (settled_so (view_of old pending room before) (view_of new left more after) result lives answers takes (stands_so old pending before is some) stands left_is (writes_so old pending before is some) (is.lives lives) is.kept is.far current)
+
+-- a text stands no further than its buffer and what it owes
+pub bounded_of : (text : TextView) (pending : List ℕ) (room : ℕ) (current : Life) (short : Bool) → IsWritten text pending current → IsBounded (state_of (view_of text pending room current) short)
+bounded_of text [] room current short is = record { behind = omega (arith, is.behind); far = is.far }
+bounded_of text (byte ∷ more) room current short is = record { behind = omega (arith, is.behind); far = is.far }
+
+-- Going back to the place.
+
+kept_place : (old new : TextView) → KeepsPlace old new → place_of new ≡ place_of old
+kept_place old new place = rw (place.at, place.taken, place.dirty) refl
+
+back_bytes : (old new : TextView) (pending : List ℕ) (current : Life) → IsWritten old pending current → KeepsPlace old new → (new.at ≡ new.buffer.place) ⊎ (new.buffer.place ≡ old.buffer.place) → (flat_of new.buffer).bytes ≡ (flat_of old.buffer).bytes → lay (flat_of new.buffer).bytes new.buffer.place pending ≡ lay (flat_of old.buffer).bytes old.buffer.place pending
+back_bytes old new [] current is place there flat = flat
+back_bytes old new (byte ∷ more) current is place there flat =
+    let stands = stands_so old (byte ∷ more) current is (λ none. absurd (cc)) in
+    ap (λ (bytes : List ℕ). lay bytes new.buffer.place (byte ∷ more)) flat ∙ ap (λ (at : ℕ). lay (flat_of old.buffer).bytes at (byte ∷ more)) (same there stands.1)
+  where
+    same : (new.at ≡ new.buffer.place) ⊎ (new.buffer.place ≡ old.buffer.place) → old.at ≡ old.buffer.place → new.buffer.place ≡ old.buffer.place
+    same (inl now) was = omega (arith, now, was, place.at)
+    same (inr still) was = still
+
+pub hands_back : (old new : TextView) (pending : List ℕ) (room more : ℕ) (before after : Life) (faulted : Bool) → IsWritten old pending before → KeepsPlace old new → (new.at ≡ new.buffer.place) ⊎ (new.buffer.place ≡ old.buffer.place) → LeavesFlat old.buffer faulted new.buffer → HandsOn (view_of old pending room before) false faulted (view_of new pending more after)
+hands_back old new pending room more before after faulted is place there leaves = record {
+  calls = record { keeps = leaves.keeps; wait = λ waits. absurd (cc); fault = leaves.fault; faults = leaves.faults; stands = leaves.stands };
+  bytes = λ told. back_bytes old new pending before is place there (leaves.bytes told);
+  place = ap (λ (own : TextPlace). behind_owed own pending) (kept_place old new place);
+  settings = place.settings;
+}
+
+-- what holds of every text, after its buffer went back, or failed to
+pub written_back : (old new : TextView) (pending : List ℕ) (before after : Life) (faulted : Bool) → IsWritten old pending before → before ≡ life.Live → KeepsPlace old new → (new.at ≡ new.buffer.place) ⊎ (new.buffer.place ≡ old.buffer.place) → LeavesFlat old.buffer faulted new.buffer → old.buffer.can.writable ≡ true → after ≡ new.buffer.life → IsWritten new pending after
+written_back old new pending before after faulted is live place there leaves writes current = record {
+  kept = leaves.keeps.exported ∙ is.kept;
+  asks = subst (λ (settings : TextSettings). 0 < settings.chunk_size) (sym place.settings) is.asks;
+  clean = λ dirty. place.taken ∙ is.clean (sym place.dirty ∙ dirty);
+  handler = λ can. ap (λ (settings : TextSettings). writes_texts settings.handler) place.settings ∙ is.handler writes;
+  lives = λ lives. sym current ∙ lives;
+  stands = stood is.stands;
+  behind = omega (arith, least);
+  far = omega (arith, is.far, most is.stands);
+  unwritten = λ never. let not : true ≡ false = sym writes ∙ (sym (ap (λ (can : Abilities). can.writable) leaves.keeps.can) ∙ never) in absurd (cc);
+}
+  where
+    least : new.at ≤ new.buffer.place
+    least = at_least there
+      where
+        at_least : (new.at ≡ new.buffer.place) ⊎ (new.buffer.place ≡ old.buffer.place) → new.at ≤ new.buffer.place
+        at_least (inl now) = omega (arith, now)
+        at_least (inr still) = omega (arith, still, place.at, is.behind)
+
+    stood : (pending ≡ []) ⊎ StandsToWrite old → (pending ≡ []) ⊎ StandsToWrite new
+    stood (inl none) = inl none
+    stood (inr stands) = inr (record { taken = place.taken ∙ stands.0.taken; dirty = place.dirty ∙ stands.0.dirty }, omega (arith, at_place there stands.1))
+      where
+        at_place : (new.at ≡ new.buffer.place) ⊎ (new.buffer.place ≡ old.buffer.place) → old.at ≡ old.buffer.place → new.at ≡ new.buffer.place
+        at_place (inl now) was = now
+        at_place (inr still) was = omega (arith, still, place.at, was)
+
+    most : (pending ≡ []) ⊎ StandsToWrite old → new.buffer.place + length pending ≤ greatest_place
+    most (inl none) = omega (arith, ap length none, leaves.far)
+    most (inr stands) = omega (arith, is.far, near there, stands.1, place.at)
+      where
+        near : (new.at ≡ new.buffer.place) ⊎ (new.buffer.place ≡ old.buffer.place) → new.buffer.place ≡ old.buffer.place
+        near (inl now) = omega (arith, now, place.at, stands.1)
+        near (inr still) = still
+
+pub not_back : (now : WrittenView) (old new : TextView) (pending : List ℕ) (room more : ℕ) (before after : Life) (why : IoFault) → view_of old pending room before ≡ now → IsWritten old pending before → now.life ≡ life.Live → KeepsPlace old new → ReturnOutcome old (Err why) new → after ≡ new.buffer.life → BackOutcome now (Err why) (view_of new pending more after)
+not_back now old new pending room more before after fault.RawFault same is live place outcome current =
+    (subst (λ (view : WrittenView). HandsOn view false true (view_of new pending more after)) same (hands_back old new pending room more before after true is place (inr outcome.1) outcome.0), current ∙ outcome.0.life_is)
+not_back now old new pending room more before after fault.NoMemory same is live place outcome current =
+    (subst (λ (view : WrittenView). HandsOn view false false (view_of new pending more after)) same (hands_back old new pending room more before after false is place (inr outcome.1) outcome.0), current ∙ (outcome.0.life_is ∙ is.lives (ap (λ (view : WrittenView). view.life) same ∙ live)))
+not_back now old new pending room more before after other same is live place outcome current = absurd outcome
+
+pub unback_written : (old new : TextView) (pending : List ℕ) (before after : Life) (why : IoFault) → IsWritten old pending before → before ≡ life.Live → KeepsPlace old new → ReturnOutcome old (Err why) new → old.buffer.can.writable ≡ true → after ≡ new.buffer.life → IsWritten new pending after
+unback_written old new pending before after fault.RawFault is live place outcome writes current = written_back old new pending before after true is live place (inr outcome.1) outcome.0 writes current
+unback_written old new pending before after fault.NoMemory is live place outcome writes current = written_back old new pending before after false is live place (inr outcome.1) outcome.0 writes current
+unback_written old new pending before after other is live place outcome writes current = absurd outcome
+
+-- Passing on.
+
+pub hands_itself : (view : WrittenView) → HandsOn view false false view
+hands_itself view = record {
+  calls = record { keeps = record { raw = keeps_same view.text.buffer.raw; can = refl; buffering = refl; exported = refl }; wait = λ waits. absurd (cc); fault = λ faults. absurd (cc); faults = λ exact sound. refl; stands = λ stood. stood };
+  bytes = λ told. refl;
+  place = refl;
+  settings = refl;
+}
+
+pub passed_not : (now : WrittenView) (count : ℕ) (flushes : Bool) → flushes ≡ false → now.life ≡ life.Live → now.pending ≡ [] → 0 < now.text.settings.chunk_size → PassOutcome now count flushes (Ok tt) now
+passed_not now count flushes none live owes asks = (hands_itself now, live, record { few = omega (arith, ap length owes, asks); none = λ through. owes }, λ is. let never : true ≡ false = sym is ∙ none in absurd (cc))
+
+flush_calls : (before after : Buffer) (reply : FileReply) → AnswersAsBuffer before Flush reply after → CallsBuffer before after.short (says_fault reply) after
+flush_calls before after reply answers = record {
+  keeps = answers.keeps;
+  wait = answers.causes.waits;
+  fault = answers.causes.faults;
+  faults = λ exact sound. (answers.counted exact).faults sound;
+  stands = λ stood. answers.stands;
+}
+
+all_passed : (buffer : Buffer) → buffer.owed.bytes ≡ [] → buffer.raw.bytes ≡ (flat_of buffer).bytes
+all_passed buffer none = sym (ap (λ (owed : List ℕ). lay buffer.raw.bytes buffer.owed.place owed) none)
+
+hands_flush : (old new : TextView) (pending : List ℕ) (room more : ℕ) (before after : Life) (reply : FileReply) → pending ≡ [] → old.buffer.exported ≡ false → KeepsPlace old new → AnswersAsBuffer old.buffer Flush reply new.buffer → HandsOn (view_of old pending room before) new.buffer.short (says_fault reply) (view_of new pending more after)
+hands_flush old new pending room more before after reply none kept place answers = record {
+  calls = flush_calls old.buffer new.buffer reply answers;
+  bytes = λ told.
+      ap (λ (owed : List ℕ). lay (flat_of new.buffer).bytes new.buffer.place owed) none
+      ∙ (flush_flat (flat_of old.buffer) (flat_of new.buffer) reply new.buffer.short (says_fault reply) (answers.told (rw kept refl) told)
+      ∙ sym (ap (λ (owed : List ℕ). lay (flat_of old.buffer).bytes old.buffer.place owed) none));
+  place = ap (λ (own : TextPlace). behind_owed own pending) (kept_place old new place);
+  settings = place.settings;
+}
+
+pub passed_all : (now : WrittenView) (old new : TextView) (pending : List ℕ) (room more count : ℕ) (before after : Life) (flushes : Bool) → view_of old pending room before ≡ now → IsWritten old pending before → now.life ≡ life.Live → now.pending ≡ [] → KeepsPlace old new → AnswersAsBuffer old.buffer Flush Done new.buffer → after ≡ life.Live → PassOutcome now count flushes (Ok tt) (view_of new pending more after)
+passed_all now old new pending room more count before after flushes same is live owes place answers lives =
+    let none : pending ≡ [] = ap (λ (view : WrittenView). view.pending) same ∙ owes in
+    let short : new.buffer.short ≡ false = answers.shorts in
+    let asks : 0 < new.settings.chunk_size = subst (λ (settings : TextSettings). 0 < settings.chunk_size) (sym place.settings) is.asks in (
+      subst (λ (view : WrittenView). HandsOn view false false (view_of new pending more after)) same (subst (λ (waited : Bool). HandsOn (view_of old pending room before) waited false (view_of new pending more after)) short (hands_flush old new pending room more before after Done none is.kept place answers)),
+      lives,
+      record { few = omega (arith, ap length none, asks); none = λ through. none },
+      λ flushed. record { own = none; none = answers.passes.0.none; holds = λ told. all_passed new.buffer answers.passes.0.none ∙ sym (ap (λ (owed : List ℕ). lay (flat_of new.buffer).bytes new.buffer.place owed) none) },
+    )
+
+pub hands_on : (old mid new : WrittenView) (waited faulted : Bool) → HandsOn old false false mid → HandsOn mid waited faulted new → HandsOn old waited faulted new
+hands_on old mid new waited faulted first second = record {
+  calls = calls_on old.text.buffer mid.text.buffer new.text.buffer waited faulted first.calls second.calls;
+  bytes = λ told. second.bytes (tells_still old.text.buffer.raw mid.text.buffer.raw first.calls.keeps.raw ∙ told) ∙ first.bytes told;
+  place = second.place ∙ first.place;
+  settings = second.settings ∙ first.settings;
+}
+
+-- what was passed on of a text whose buffer took what it owed, or that owed nothing
+pub passed_behind : (old mid new : WrittenView) (count : ℕ) (flushes ends : Bool) (result : Result (Unit {0}) IoFault) → HandsOn old false false mid → PassOutcome mid count flushes result new → (old.text.settings.line_buffering ≡ true → ends ≡ true → flushes ≡ true) → HandOutcome old count ends result new
+passed_behind old mid new count flushes ends (Ok done) hands outcome so = (hands_on old mid new false false hands outcome.0, outcome.1, outcome.2, λ lines is. outcome.3 (so lines is))
+passed_behind old mid new count flushes ends (Err (fault.WouldBlock taken)) hands outcome so = (hands_on old mid new true false hands outcome.0, outcome.1, outcome.2)
+passed_behind old mid new count flushes ends (Err fault.RawFault) hands outcome so = (hands_on old mid new false true hands outcome.0, outcome.1)
+passed_behind old mid new count flushes ends (Err fault.NoMemory) hands outcome so = inl (hands_on old mid new false false hands outcome.0, outcome.1)
+passed_behind old mid new count flushes ends (Err other) hands outcome so = absurd outcome
+
+pub both_true : (lines ends : Bool) → lines ≡ true → ends ≡ true → (lines && ends) ≡ true
+both_true true true first second = refl
+both_true true false first second = absurd (cc)
+both_true false ends first second = absurd (cc)

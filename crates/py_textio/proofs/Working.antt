@@ -1,0 +1,36 @@
+-- A call for which the buffer was called meets the clause of all calls.
+use Rattle.std.proofs.Common.{Bool, false, sym, ◌∙◌, subst}
+use Rattle.py_flat.specs.Calls.{FileReply}
+use Rattle.py_plain_text.specs.TextCalls.{TextFileCall}
+use Rattle.py_read_text.specs.Answers.{LifeMoves, IsReplyTo, Answers}
+use Rattle.py_textio.specs.Written.{WrittenView, state_of}
+use Rattle.py_textio.specs.Working.{Works}
+
+pub answers_work : (old : WrittenView) (call : TextFileCall) (reply : FileReply) (new : WrittenView) (short : Bool) → Works old call reply new short → Answers (state_of old false) call reply (state_of new short)
+answers_work old call reply new short works = record {
+  keeps = works.calls.keeps;
+  refused = λ why is. let never = sym works.accepted ∙ is in absurd (cc);
+  again = λ closes. let never = sym works.once ∙ closes in absurd (cc);
+  causes = record { waits = works.calls.wait; faults = works.calls.fault };
+  counted = λ exact. record { faults = λ sound. works.calls.faults exact sound; ends = λ own. let never = sym works.busy ∙ own in absurd (cc) };
+  shorts = works.shorts;
+  nothing = λ none. let never = sym works.some ∙ none in absurd (cc);
+  moves = record {
+    settings = works.settings;
+    life_is = subst (λ (writes : Bool). LifeMoves writes call reply old.life new.life) (sym works.writes) works.life_is;
+    place = works.place;
+    written = works.written;
+    bounded = works.bounded;
+  };
+  answer = λ accepts. subst (λ (writes : Bool). IsReplyTo writes call reply) (sym works.writes) works.answer;
+  complete = λ accepts calm sound. works.complete calm sound;
+  wants = works.wants;
+  shut = works.shut;
+  spares = λ can none. let never = sym works.writes ∙ can in absurd (cc);
+  tied = record { owed = λ can. let never = sym works.writes ∙ can in absurd (cc); life_is = λ can was. let never = sym works.writes ∙ can in absurd (cc) };
+  stands = works.calls.stands;
+  told = works.told;
+  hides = λ is gives none. works.hides is gives none;
+  passes = works.passes;
+  kept = works.kept;
+}

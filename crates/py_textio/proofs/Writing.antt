@@ -1,0 +1,365 @@
+-- A text that is written: what each answer says of it.
+use Rattle.std.proofs.Common.{◌≡◌, ℕ, ◌+◌, ◌<◌, ◌≤◌, inl, inr, Bool, true, false, ◌&&◌, ◌||◌, IsTrue, List, [], ◌∷◌, ◌++◌, ◌-◌, length, take, Option, Some, None, Result, Ok, Err, is_none, refl, sym, ap, ◌∙◌, subst, arith}
+use Rattle.std.proofs.lemmas.List.{take_all, length-append, take-append-le}
+use Rattle.std.proofs.lemmas.Bool.{lt-ltb}
+use Rattle.py_flat.specs.declared.fault.IoFault.{IoFault}
+use Rattle.py_flat.specs.declared.fault.IoFault.TheVariants as fault
+use Rattle.py_flat.specs.declared.life.Life.{Life}
+use Rattle.py_flat.specs.declared.life.Life.TheVariants as life
+use Rattle.py_flat.specs.Bytes.{lay}
+use Rattle.py_flat.specs.FlatFile.{Abilities}
+use Rattle.py_flat.specs.AllowedStep.{settled, waited_for, raw_faulted, out_of_memory}
+use Rattle.py_flat.specs.Calls.{Count, Refused}
+use Rattle.py_flat.specs.BinaryStep.{is_live}
+use Rattle.py_plain_text.specs.TextFile.{TextFile, TextPlace, TextSettings, clean_at}
+use Rattle.py_plain_text.specs.TextCalls.{WriteText}
+use Rattle.py_flat.specs.Limits.{greatest_place}
+use Rattle.py_flat.specs.Refusals.{too_far}
+use Rattle.py_flat.proofs.Laying.{lay_behind}
+use Rattle.py_flat.proofs.Settling.{blames}
+use Rattle.py_plain.specs.Units.{Unknown}
+use Rattle.py_plain_text.specs.TextRefusals.{refusal, encode_error}
+use Rattle.py_plain_text.specs.TextWriting.{written_bytes, written_refusal}
+use Rattle.py_plain_text.specs.TextExact.{after_writing}
+use Rattle.py_plain_text.specs.TextAllowed.{SettledBy, Fails, does_work, reaches_raw, TextFileStep}
+use Rattle.py_raw.proofs.Telling.{tells_still}
+use Rattle.py_stream.specs.Kinds.{says_wait}
+use Rattle.py_stream.specs.Buffer.{WhereShown, flat_of}
+use Rattle.py_read_text.specs.Knowing.{place_of}
+use Rattle.py_read_text.proofs.Placing.{not_far}
+use Rattle.py_read_text.specs.Answers.{further, IsPassedOn, KeepsFew, IsBounded, has_line_end, Answers}
+use Rattle.py_textio.specs.Written.{WrittenView, behind_owed, place_now, state_of, file_now, HandsOn, TookText, GoesBack, BackOutcome, LetsGo, HandOutcome}
+use Rattle.py_textio.proofs.Refusing.{refused}
+use Rattle.py_textio.proofs.Settling.{clean_place}
+use Rattle.py_textio.proofs.Working.{answers_work}
+use Rattle.py_textio.proofs.Over.{calls_on, handed_file}
+use Rattle.py_textio.proofs.Stopping.{not_rose, fails_still}
+
+-- what written is handed on
+pub took_then : (old mid new : WrittenView) (bytes : List ℕ) (waited faulted : Bool) → TookText old bytes false false mid → HandsOn mid waited faulted new → TookText old bytes waited faulted new
+took_then old mid new bytes waited faulted took hands = record {
+  calls = calls_on old.text.buffer mid.text.buffer new.text.buffer waited faulted took.calls hands.calls;
+  bytes = λ told. hands.bytes (tells_still old.text.buffer.raw mid.text.buffer.raw took.calls.keeps.raw ∙ told) ∙ took.bytes told;
+  place = hands.place ∙ took.place;
+  settings = hands.settings ∙ took.settings;
+}
+
+-- a live text that may be written, by these characters
+pub record MayWrite (old : WrittenView) (text : List ℕ) : Type 0 where
+  pub live : old.life ≡ life.Live
+  pub writes : old.text.buffer.can.writable ≡ true
+  pub accepted : refusal (file_now old) (WriteText text) ≡ None
+
+abbrev pub own_bytes : WrittenView → List ℕ → List ℕ
+own_bytes old text = written_bytes old.text.settings text
+
+-- told: the text that written
+written_file : (old new : WrittenView) (bytes : List ℕ) (waited faulted : Bool) → TookText old bytes waited faulted new → new.life ≡ old.life → WhereShown old.text.buffer (file_now new ≡ after_writing (file_now old) bytes)
+written_file old new bytes waited faulted took current = λ told.
+    let file : TextFile = file_now old in
+    let laid : List ℕ = lay file.bytes file.place.at bytes in
+    let place : TextPlace = further (place_now old) (length bytes) in
+    ap (λ (own : List ℕ). let now : TextFile = record { bytes = own; place = place_now new; can = new.text.buffer.can; settings = new.text.settings; life = new.life } in now) (took.bytes told)
+    ∙ (ap (λ (own : TextPlace). let now : TextFile = record { bytes = laid; place = own; can = new.text.buffer.can; settings = new.text.settings; life = new.life } in now) took.place
+    ∙ (ap (λ (own : Abilities). let now : TextFile = record { bytes = laid; place = place; can = own; settings = new.text.settings; life = new.life } in now) took.calls.keeps.can
+    ∙ (ap (λ (own : TextSettings). let now : TextFile = record { bytes = laid; place = place; can = old.text.buffer.can; settings = own; life = new.life } in now) took.settings
+    ∙ ap (λ (own : Life). let now : TextFile = record { bytes = laid; place = place; can = old.text.buffer.can; settings = old.text.settings; life = own } in now) current)))
+
+works_writing : (file : TextFile) (text : List ℕ) → file.life ≡ life.Live → refusal file (WriteText text) ≡ None → IsTrue (does_work file (WriteText text))
+works_writing file text live accepted = both (is_live file.life) (is_none (refusal file (WriteText text))) (ap is_live live) (ap is_none accepted)
+  where
+    both : (lives none : Bool) → lives ≡ true → none ≡ true → lives && (none && true) ≡ true
+    both true true first second = refl
+    both true false first second = absurd (cc)
+    both false none first second = absurd (cc)
+
+reaches_writing : (file : TextFile) (text : List ℕ) → file.life ≡ life.Live → refusal file (WriteText text) ≡ None → IsTrue (reaches_raw file (WriteText text))
+reaches_writing file text live accepted = either (does_work file (WriteText text)) (works_writing file text live accepted)
+  where
+    either : (does : Bool) → does ≡ true → does || false ≡ true
+    either true first = refl
+    either false first = absurd (cc)
+
+count_step : (file after : TextFile) (text : List ℕ) (count : ℕ) → refusal file (WriteText text) ≡ None → count ≡ length text → after ≡ after_writing file (written_bytes file.settings text) → TextFileStep file (WriteText text) (Count count) false false after
+count_step file after text count accepted counts same =
+    settled (subst (λ (refused : Option IoFault). SettledBy file (WriteText text) refused (Count count) after) (sym accepted) (rw (counts, same) refl))
+
+-- the fields that every write has
+
+pub wrote : (old new : WrittenView) (text : List ℕ) (count : ℕ) → MayWrite old text → TookText old (own_bytes old text) false false new → new.life ≡ life.Live → IsBounded (state_of new false) → count ≡ length text → KeepsFew (state_of new false) → (old.text.settings.line_buffering ≡ true → has_line_end text ≡ true → IsPassedOn (state_of new false)) → Answers (state_of old false) (WriteText text) (Count count) (state_of new false)
+wrote old new text count may took lives bounded counts few passed =
+    let current : new.life ≡ old.life = lives ∙ sym may.live in
+    answers_work old (WriteText text) (Count count) new false (record {
+      accepted = may.accepted;
+      once = refl;
+      some = refl;
+      busy = refl;
+      writes = may.writes;
+      calls = took.calls;
+      shorts = refl;
+      settings = took.settings;
+      life_is = current;
+      place = tt;
+      written = took.place;
+      bounded = bounded;
+      answer = counts;
+      complete = λ calm sound. record { answer = counts; whole = refl };
+      wants = tt;
+      shut = λ none can. let never = sym may.writes ∙ can in absurd (cc);
+      told = λ told. count_step (file_now old) (file_now new) text count may.accepted counts (written_file old new (own_bytes old text) false false took current told);
+      hides = λ is. absurd (cc);
+      passes = passed;
+      kept = few;
+    })
+
+pub wrote_blocked : (old new : WrittenView) (text : List ℕ) (taken : ℕ) → MayWrite old text → TookText old (own_bytes old text) true false new → new.life ≡ life.Live → IsBounded (state_of new true) → taken ≡ length (own_bytes old text) → Answers (state_of old false) (WriteText text) (Refused (fault.WouldBlock taken)) (state_of new true)
+wrote_blocked old new text taken may took lives bounded counts =
+    let current : new.life ≡ old.life = lives ∙ sym may.live in
+    answers_work old (WriteText text) (Refused (fault.WouldBlock taken)) new true (record {
+      accepted = may.accepted;
+      once = refl;
+      some = refl;
+      busy = refl;
+      writes = may.writes;
+      calls = took.calls;
+      shorts = refl;
+      settings = took.settings;
+      life_is = current;
+      place = tt;
+      written = (counts, took.place ∙ ap (further (place_now old)) (sym counts));
+      bounded = bounded;
+      answer = refl;
+      complete = λ calm sound. absurd (not_rose old.text.buffer.raw.waits new.text.buffer.raw.waits (took.calls.wait refl) calm);
+      wants = tt;
+      shut = λ none can. let never = sym may.writes ∙ can in absurd (cc);
+      told = λ told. waited_for refl (works_writing (file_now old) text may.live may.accepted, (ap (λ (size : ℕ). Refused (fault.WouldBlock size)) counts, written_file old new (own_bytes old text) true false took current told));
+      hides = λ is gives. absurd (cc);
+      passes = tt;
+      kept = tt;
+    })
+
+pub wrote_failed : (old new : WrittenView) (text : List ℕ) → MayWrite old text → TookText old (own_bytes old text) false true new → new.life ≡ life.Failed → IsBounded (state_of new false) → Answers (state_of old false) (WriteText text) (Refused fault.RawFault) (state_of new false)
+wrote_failed old new text may took failed bounded =
+    let bytes : List ℕ = own_bytes old text in
+    answers_work old (WriteText text) (Refused fault.RawFault) new false (record {
+      accepted = may.accepted;
+      once = refl;
+      some = refl;
+      busy = refl;
+      writes = may.writes;
+      calls = took.calls;
+      shorts = refl;
+      settings = took.settings;
+      life_is = failed;
+      place = tt;
+      written = inr took.place;
+      bounded = bounded;
+      answer = tt;
+      complete = λ calm sound. absurd (not_rose old.text.buffer.raw.faults new.text.buffer.raw.faults (took.calls.fault refl) sound);
+      wants = tt;
+      shut = λ none can. let never = sym may.writes ∙ can in absurd (cc);
+      told = λ told. raw_faulted refl refl (reaches_writing (file_now old) text may.live may.accepted, (length bytes, omega arith, whole_fails old new bytes life.Failed failed (took.bytes told) took.calls.keeps.can took.settings));
+      hides = λ is. absurd (cc);
+      passes = tt;
+      kept = tt;
+    })
+  where
+    whole_fails : (old new : WrittenView) (bytes : List ℕ) (current : Life) → new.life ≡ current → (file_now new).bytes ≡ lay (file_now old).bytes (place_now old).at bytes → new.text.buffer.can ≡ old.text.buffer.can → new.text.settings ≡ old.text.settings → Fails (file_now old) current (lay (file_now old).bytes (place_now old).at (take (length bytes) bytes)) (file_now new)
+    whole_fails old new bytes current is laid can settings = record { life_is = is; bytes_are = laid ∙ ap (lay (file_now old).bytes (place_now old).at) (sym (take_all (length bytes) bytes (omega arith))); can = can; settings = settings }
+
+pub wrote_starved : (old new : WrittenView) (text : List ℕ) → MayWrite old text → TookText old (own_bytes old text) false false new → new.life ≡ life.Failed → IsBounded (state_of new false) → Answers (state_of old false) (WriteText text) (Refused fault.NoMemory) (state_of new false)
+wrote_starved old new text may took failed bounded =
+    let bytes : List ℕ = own_bytes old text in
+    answers_work old (WriteText text) (Refused fault.NoMemory) new false (record {
+      accepted = may.accepted;
+      once = refl;
+      some = refl;
+      busy = refl;
+      writes = may.writes;
+      calls = took.calls;
+      shorts = refl;
+      settings = took.settings;
+      life_is = inr (refl, failed);
+      place = tt;
+      written = inr took.place;
+      bounded = bounded;
+      answer = tt;
+      complete = λ calm sound. record { answer = tt; whole = refl };
+      wants = tt;
+      shut = λ none can. let never = sym may.writes ∙ can in absurd (cc);
+      told = λ told. out_of_memory refl (inr (reaches_writing (file_now old) text may.live may.accepted, (may.writes, (length bytes, omega arith, record { life_is = failed; bytes_are = took.bytes told ∙ ap (lay (file_now old).bytes (place_now old).at) (sym (take_all (length bytes) bytes (omega arith))); can = took.calls.keeps.can; settings = took.settings }))));
+      hides = λ is. absurd (cc);
+      passes = tt;
+      kept = tt;
+    })
+
+-- Nothing written.
+
+or_false : (own : Bool) → own ≡ true → own || false ≡ true
+or_false true is = refl
+or_false false is = absurd (cc)
+
+pub unwritten_failed : (old new : WrittenView) (text : List ℕ) → MayWrite old text → HandsOn old false true new → new.life ≡ life.Failed → IsBounded (state_of new false) → Answers (state_of old false) (WriteText text) (Refused fault.RawFault) (state_of new false)
+unwritten_failed old new text may hands failed bounded =
+    answers_work old (WriteText text) (Refused fault.RawFault) new false (record {
+      accepted = may.accepted;
+      once = refl;
+      some = refl;
+      busy = refl;
+      writes = may.writes;
+      calls = hands.calls;
+      shorts = refl;
+      settings = hands.settings;
+      life_is = failed;
+      place = tt;
+      written = inl hands.place;
+      bounded = bounded;
+      answer = tt;
+      complete = λ calm sound. absurd (not_rose old.text.buffer.raw.faults new.text.buffer.raw.faults (hands.calls.fault refl) sound);
+      wants = tt;
+      shut = λ none can. let never = sym may.writes ∙ can in absurd (cc);
+      told = λ told. raw_faulted refl refl (reaches_writing (file_now old) text may.live may.accepted, (0, omega arith, fails_still (file_now old) (file_now new) life.Failed failed (hands.bytes told) hands.calls.keeps.can hands.settings));
+      hides = λ is. absurd (cc);
+      passes = tt;
+      kept = tt;
+    })
+
+pub unwritten_starved : (old new : WrittenView) (text : List ℕ) → MayWrite old text → HandsOn old false false new → new.life ≡ life.Live → IsBounded (state_of new false) → Answers (state_of old false) (WriteText text) (Refused fault.NoMemory) (state_of new false)
+unwritten_starved old new text may hands lives bounded =
+    let current : new.life ≡ old.life = lives ∙ sym may.live in
+    answers_work old (WriteText text) (Refused fault.NoMemory) new false (record {
+      accepted = may.accepted;
+      once = refl;
+      some = refl;
+      busy = refl;
+      writes = may.writes;
+      calls = hands.calls;
+      shorts = refl;
+      settings = hands.settings;
+      life_is = inl current;
+      place = tt;
+      written = inl hands.place;
+      bounded = bounded;
+      answer = tt;
+      complete = λ calm sound. record { answer = tt; whole = refl };
+      wants = tt;
+      shut = λ none can. let never = sym may.writes ∙ can in absurd (cc);
+      told = λ told. out_of_memory refl (inl (or_false (reaches_raw (file_now old) (WriteText text)) (reaches_writing (file_now old) text may.live may.accepted), handed_file old new false false hands current told));
+      hides = λ is. absurd (cc);
+      passes = tt;
+      kept = tt;
+    })
+
+-- What refuses a write.
+
+blames_not : (run : Option (ℕ × ℕ)) (why : IoFault) → encode_error run ≡ Some why → blames why ≡ false
+blames_not None why is = absurd (cc)
+blames_not (Some run) why is = let same : fault.UnicodeEncodeError run.0 run.1 ≡ why = cc in ap blames (sym same)
+
+waits_not : (run : Option (ℕ × ℕ)) (why : IoFault) → encode_error run ≡ Some why → says_wait (Refused why) ≡ false
+waits_not None why is = absurd (cc)
+waits_not (Some run) why is = let same : fault.UnicodeEncodeError run.0 run.1 ≡ why = cc in ap (λ (own : IoFault). says_wait (Refused own)) (sym same)
+
+refuses_dirty : (file : TextFile) (text : List ℕ) → file.life ≡ life.Live → file.can.writable ≡ true → file.place.dirty ≡ true → refusal file (WriteText text) ≡ Some fault.SeekFirst
+refuses_dirty file text live writes dirty = rw live (rw writes (rw dirty refl))
+
+refuses_run : (file : TextFile) (text : List ℕ) (why : IoFault) → file.life ≡ life.Live → file.can.writable ≡ true → file.place.dirty ≡ false → encode_error (written_refusal file.settings text) ≡ Some why → refusal file (WriteText text) ≡ Some why
+refuses_run file text why live writes clean is = rw live (rw writes (rw clean (rw is refl)))
+
+write_refused : (file : TextFile) (text : List ℕ) → file.life ≡ life.Live → file.can.writable ≡ true → file.place.dirty ≡ false → written_refusal file.settings text ≡ None → refusal file (WriteText text) ≡ too_far (file.place.at + length (written_bytes file.settings text))
+write_refused file text live writes clean whole = rw live (rw writes (rw clean (rw whole refl)))
+
+pub write_dirty : (view : WrittenView) (text : List ℕ) → view.life ≡ life.Live → view.text.buffer.can.writable ≡ true → view.text.dirty ≡ true → ((short : Bool) → IsBounded (state_of view short)) → Answers (state_of view false) (WriteText text) (Refused fault.SeekFirst) (state_of view false)
+write_dirty view text live writes dirty bounded = refused view false (WriteText text) fault.SeekFirst (refuses_dirty (file_now view) text live writes (dirty_so view.pending dirty)) refl refl (bounded false)
+  where
+    dirty_so : (pending : List ℕ) → view.text.dirty ≡ true → (behind_owed (place_of view.text) pending).dirty ≡ true
+    dirty_so [] is = is
+    dirty_so (byte ∷ more) is = is
+
+clean_so : (view : WrittenView) (owed : List ℕ) → view.text.dirty ≡ false → (behind_owed (place_of view.text) owed).dirty ≡ false
+clean_so view [] is = is
+clean_so view (byte ∷ more) is = is
+
+pub write_run : (view : WrittenView) (text : List ℕ) (why : IoFault) → view.life ≡ life.Live → view.text.buffer.can.writable ≡ true → view.text.dirty ≡ false → encode_error (written_refusal view.text.settings text) ≡ Some why → ((short : Bool) → IsBounded (state_of view short)) → Answers (state_of view false) (WriteText text) (Refused why) (state_of view (says_wait (Refused why)))
+write_run view text why live writes clean is bounded = subst (λ (short : Bool). Answers (state_of view false) (WriteText text) (Refused why) (state_of view short)) (sym (waits_not (written_refusal view.text.settings text) why is)) (refused view false (WriteText text) why (refuses_run (file_now view) text why live writes (clean_so view view.pending clean) is) (blames_not (written_refusal view.text.settings text) why is) refl (bounded false))
+
+pub write_far : (view : WrittenView) (text : List ℕ) → view.life ≡ life.Live → view.text.buffer.can.writable ≡ true → view.text.dirty ≡ false → written_refusal view.text.settings text ≡ None → greatest_place < (place_now view).at + length (own_bytes view text) → ((short : Bool) → IsBounded (state_of view short)) → Answers (state_of view false) (WriteText text) (Refused fault.TooFar) (state_of view false)
+write_far view text live writes clean whole far bounded =
+    refused view false (WriteText text) fault.TooFar (write_refused (file_now view) text live writes (clean_so view view.pending clean) whole ∙ is_far) refl refl (bounded false)
+  where
+    is_far : too_far ((place_now view).at + length (own_bytes view text)) ≡ Some fault.TooFar
+    is_far = rw (lt-ltb greatest_place ((place_now view).at + length (own_bytes view text)) far) refl
+
+pub may_write : (view : WrittenView) (text : List ℕ) → view.life ≡ life.Live → view.text.buffer.can.writable ≡ true → view.text.dirty ≡ false → written_refusal view.text.settings text ≡ None → (place_now view).at + length (own_bytes view text) ≤ greatest_place → MayWrite view text
+may_write view text live writes clean whole near = record {
+  live = live;
+  writes = writes;
+  accepted = write_refused (file_now view) text live writes (clean_so view view.pending clean) whole ∙ not_far ((place_now view).at + length (own_bytes view text)) near;
+}
+
+-- What becomes of a write.
+
+-- a text with bytes put behind those that it owes
+abbrev pub with_bytes : WrittenView → List ℕ → ℕ → WrittenView
+with_bytes view bytes room = record view { pending = view.pending ++ bytes; room = room }
+
+put_bytes : (old mid : WrittenView) (bytes : List ℕ) (room : ℕ) → GoesBack old mid → TookText old bytes false false (with_bytes mid bytes room)
+put_bytes old mid bytes room back = record {
+  calls = back.hands.calls;
+  bytes = λ told.
+      let at : mid.text.buffer.place + length mid.pending ≡ (place_now old).at = sym (ap (λ (place : TextPlace). place.at) (clean_place mid.text mid.pending back.stands)) ∙ ap (λ (place : TextPlace). place.at) back.hands.place in
+      sym (lay_behind (flat_of mid.text.buffer).bytes mid.text.buffer.place mid.pending bytes)
+      ∙ (ap (λ (at : ℕ). lay (lay (flat_of mid.text.buffer).bytes mid.text.buffer.place mid.pending) at bytes) at
+      ∙ ap (λ (all : List ℕ). lay all (place_now old).at bytes) (back.hands.bytes told));
+  place =
+      let size : mid.text.buffer.place + length (mid.pending ++ bytes) ≡ (mid.text.buffer.place + length mid.pending) + length bytes = omega (arith, length-append mid.pending bytes) in
+      clean_place mid.text (mid.pending ++ bytes) back.stands
+      ∙ (ap (λ (at : ℕ). clean_at at Unknown) size
+      ∙ (ap (λ (place : TextPlace). further place (length bytes)) (sym (clean_place mid.text mid.pending back.stands)) ∙ ap (λ (place : TextPlace). further place (length bytes)) back.hands.place));
+  settings = back.hands.settings;
+}
+
+take_first : (first second : List ℕ) (count : ℕ) → count ≡ length second → take (length (first ++ second) - count) (first ++ second) ≡ first
+take_first first second count is = ap (λ (size : ℕ). take size (first ++ second)) (omega (arith, length-append first second, is)) ∙ (take-append-le (length first) first second (omega arith) ∙ take_all (length first) first (omega arith))
+
+let_go_so : (old mid new : WrittenView) (bytes : List ℕ) (room count : ℕ) → GoesBack old mid → count ≡ length bytes → LetsGo (with_bytes mid bytes room) count new → HandsOn old false false new
+let_go_so old mid new bytes room count back counts lets =
+    let pending : new.pending ≡ mid.pending = lets.pending ∙ take_first mid.pending bytes count counts in
+    record {
+      calls = calls_on old.text.buffer mid.text.buffer new.text.buffer false false back.hands.calls lets.calls;
+      bytes = λ told.
+          let still = tells_still old.text.buffer.raw mid.text.buffer.raw back.hands.calls.keeps.raw ∙ told in
+          ap (λ (owed : List ℕ). lay (flat_of new.text.buffer).bytes new.text.buffer.place owed) pending
+          ∙ (ap (λ (all : List ℕ). lay all new.text.buffer.place mid.pending) (lets.flat still)
+          ∙ (ap (λ (at : ℕ). lay (flat_of mid.text.buffer).bytes at mid.pending) lets.place ∙ back.hands.bytes told));
+      place =
+          let at : new.text.buffer.place + length new.pending ≡ mid.text.buffer.place + length mid.pending = omega (arith, lets.place, ap length pending) in
+          clean_place new.text new.pending lets.stands ∙ (ap (λ (at : ℕ). clean_at at Unknown) at ∙ (sym (clean_place mid.text mid.pending back.stands) ∙ back.hands.place));
+      settings = lets.settings ∙ back.hands.settings;
+    }
+
+pub written_on : (old mid new : WrittenView) (text : List ℕ) (room count : ℕ) (why : IoFault) → MayWrite old text → GoesBack old mid → count ≡ length (own_bytes old text) → HandOutcome (with_bytes mid (own_bytes old text) room) count (has_line_end text) (Err why) new → ((short : Bool) → IsBounded (state_of new short)) → Answers (state_of old false) (WriteText text) (Refused why) (state_of new (says_wait (Refused why)))
+written_on old mid new text room count (fault.WouldBlock taken) may back counts outcome bounded =
+    wrote_blocked old new text taken may (took_then old (with_bytes mid (own_bytes old text) room) new (own_bytes old text) true false (put_bytes old mid (own_bytes old text) room back) outcome.0) outcome.1 (bounded true) (outcome.2 ∙ counts)
+written_on old mid new text room count fault.RawFault may back counts outcome bounded =
+    wrote_failed old new text may (took_then old (with_bytes mid (own_bytes old text) room) new (own_bytes old text) false true (put_bytes old mid (own_bytes old text) room back) outcome.0) outcome.1 (bounded false)
+written_on old mid new text room count fault.NoMemory may back counts (inl outcome) bounded =
+    wrote_starved old new text may (took_then old (with_bytes mid (own_bytes old text) room) new (own_bytes old text) false false (put_bytes old mid (own_bytes old text) room back) outcome.0) outcome.1 (bounded false)
+written_on old mid new text room count fault.NoMemory may back counts (inr lets) bounded =
+    unwritten_starved old new text may (let_go_so old mid new (own_bytes old text) room count back counts lets) lets.lives (bounded false)
+written_on old mid new text room count other may back counts outcome bounded = absurd outcome
+
+pub written_all : (old mid new : WrittenView) (text : List ℕ) (room count chars : ℕ) → MayWrite old text → GoesBack old mid → chars ≡ length text → HandOutcome (with_bytes mid (own_bytes old text) room) count (has_line_end text) (Ok tt) new → ((short : Bool) → IsBounded (state_of new short)) → Answers (state_of old false) (WriteText text) (Count chars) (state_of new false)
+written_all old mid new text room count chars may back counts outcome bounded =
+    wrote old new text chars may (took_then old (with_bytes mid (own_bytes old text) room) new (own_bytes old text) false false (put_bytes old mid (own_bytes old text) room back) outcome.0) outcome.1 (bounded false) counts outcome.2 (λ lines ends. outcome.3 (ap (λ (settings : TextSettings). settings.line_buffering) back.hands.settings ∙ lines) ends)
+
+pub written_not : (old new : WrittenView) (text : List ℕ) (why : IoFault) → MayWrite old text → BackOutcome old (Err why) new → ((short : Bool) → IsBounded (state_of new short)) → Answers (state_of old false) (WriteText text) (Refused why) (state_of new (says_wait (Refused why)))
+written_not old new text fault.RawFault may outcome bounded = unwritten_failed old new text may outcome.0 outcome.1 (bounded false)
+written_not old new text fault.NoMemory may outcome bounded = unwritten_starved old new text may outcome.0 outcome.1 (bounded false)
+written_not old new text other may outcome bounded = absurd outcome
+
+pub put_is : (old mid put : WrittenView) (text : List ℕ) → GoesBack old mid → put ≡ record mid { pending = mid.pending ++ written_bytes mid.text.settings text; room = put.room } → put ≡ with_bytes mid (own_bytes old text) put.room
+put_is old mid put text back is = is ∙ ap (λ (settings : TextSettings). with_bytes mid (written_bytes settings text) put.room) back.hands.settings
+
+pub hand_at : (put other new : WrittenView) (count : ℕ) (ends line : Bool) (result : Result (Unit {0}) IoFault) → put ≡ other → ends ≡ line → HandOutcome put count ends result new → HandOutcome other count line result new
+hand_at put other new count ends line result same is outcome = subst (λ (view : WrittenView). HandOutcome view count line result new) same (subst (λ (own : Bool). HandOutcome put count own result new) is outcome)

@@ -1,9 +1,0 @@
-use Rattle.std.proofs.Common.{subst}
-use Rattle.py_textio.proofs.Answering.{Holds, behind_of}
-use Rattle.py_textio.proofs.Results.{finished}
-use Rattle.py_textio.proofs.text.Text.answer.Goals as goal
-
-pub returns-in-Ok : goal.returns-in-Ok
-returns-in-Ok g c =
-    let ensured = c.finish-answer.ensures in
-    finished _ _ _ c.args.wanted c.in-Ok.gathered c.finish-answer.result c.requires.live c.requires.reads (behind_of c.finish-answer.new.self (subst Holds c.self-in-Ok.view_is c.self-in-Ok.invariant)) c.in-Ok.ensures.keeps c.in-Ok.ensures.nothing c.in-Ok.ensures.outcome ensured.waits ensured.lacks ensured.finishes

@@ -1,0 +1,37 @@
+-- A call for which the buffer was called, of a text that is written: the parts of its clause.
+use Rattle.std.specs.Prelude.{◌≡◌, Bool, true, false, IsTrue, [], None}
+use Rattle.py_flat.specs.Calls.{FileReply}
+use Rattle.py_flat.specs.Causes.{rose}
+use Rattle.py_plain_text.specs.TextCalls.{TextFileCall}
+use Rattle.py_plain_text.specs.TextRefusals.{refusal}
+use Rattle.py_plain_text.specs.TextAllowed.{TextFileStep}
+use Rattle.py_stream.specs.Kinds.{says_fault}
+use Rattle.py_stream.specs.Buffer.{WhereShown}
+use Rattle.py_read_text.specs.Answers.{asks_nothing, passes_on, gives_text, IsReplyTo, IsComplete, IsShort, PlaceMoves, WriteMoves, LifeMoves, settings_after, closes_again, WantsMemory, ClosesWithRaw, IsBounded, HidesNothing, TextPasses, TextKeeps}
+use Rattle.py_textio.specs.Written.{WrittenView, place_now, state_of, file_now, CallsBuffer}
+
+pub record Works (old : WrittenView) (call : TextFileCall) (reply : FileReply) (new : WrittenView) (short : Bool) : Type 0 where
+  -- the call is accepted, and asks for something that only the buffer has
+  pub accepted : refusal (file_now old) call ≡ None
+  pub once : closes_again old.life call ≡ false
+  pub some : asks_nothing call ≡ false
+  pub busy : passes_on old.pending call ≡ true
+  pub writes : old.text.buffer.can.writable ≡ true
+  -- the buffer was called
+  pub calls : CallsBuffer old.text.buffer short (says_fault reply) new.text.buffer
+  pub shorts : IsShort reply short
+  -- what moved
+  pub settings : new.text.settings ≡ settings_after call reply old.text.settings
+  pub life_is : LifeMoves true call reply old.life new.life
+  pub place : PlaceMoves call short reply (place_now old) new.text.buffer.place (place_now new)
+  pub written : WriteMoves old.text.settings call reply (place_now old) (place_now new)
+  pub bounded : IsBounded (state_of new short)
+  -- what was answered
+  pub answer : IsReplyTo true call reply
+  pub complete : rose old.text.buffer.raw.waits new.text.buffer.raw.waits ≡ false → rose old.text.buffer.raw.faults new.text.buffer.raw.faults ≡ false → IsComplete call reply short
+  pub wants : WantsMemory call reply old.text.buffer
+  pub shut : old.pending ≡ [] → ClosesWithRaw call old.text.buffer reply new.text.buffer
+  pub told : WhereShown old.text.buffer (TextFileStep (file_now old) call reply short (says_fault reply) (file_now new))
+  pub hides : IsTrue short → gives_text call ≡ true → new.pending ≡ [] → HidesNothing (state_of old false) (state_of new short)
+  pub passes : TextPasses (state_of old false) call reply (state_of new short)
+  pub kept : TextKeeps call reply (state_of new short)

@@ -1,0 +1,160 @@
+-- A text that is written: what it owes its buffer, and the steps of its calls.
+use Rattle.std.specs.Prelude.{◌≡◌, ◌≢◌, ℕ, ◌+◌, ◌-◌, ◌<◌, ◌≤◌, ◌⊎◌, Bool, true, false, IsTrue, List, [], ◌∷◌, length, take, Option, Some, None, Result, Ok, Err}
+use Rattle.py_flat.specs.declared.fault.IoFault.{IoFault}
+use Rattle.py_flat.specs.declared.fault.IoFault.TheVariants as fault
+use Rattle.py_flat.specs.declared.life.Life.{Life}
+use Rattle.py_flat.specs.declared.life.Life.TheVariants as life
+use Rattle.py_flat.specs.Bytes.{lay}
+use Rattle.py_flat.specs.Limits.{greatest_place}
+use Rattle.py_flat.specs.Calls.{FileReply, NotReady, Refused}
+use Rattle.py_flat.specs.Causes.{Rose}
+use Rattle.py_plain_text.specs.TextFile.{TextPlace, TextFile}
+use Rattle.py_plain_text.specs.TextWriting.{writes_texts}
+use Rattle.py_stream.specs.Buffer.{Buffer, WhereShown, flat_of, KeepsBuffer}
+use Rattle.py_read_text.specs.TextState.{TextState, file_of}
+use Rattle.py_read_text.specs.Knowing.{TextView, place_of, IsClean}
+use Rattle.py_read_text.specs.Answers.{further, StandsWhileLive, IsPassedOn, KeepsFew}
+
+-- the text that reads; the bytes that were written and that its buffer hasn't, with room for more; and its life
+pub record WrittenView : Type 0 where
+  pub text : TextView
+  pub pending : List ℕ
+  pub room : ℕ
+  pub life : Life
+
+-- the place of a text behind the bytes that it owes its buffer, which begin where the buffer stands
+abbrev pub behind_owed : TextPlace → List ℕ → TextPlace
+behind_owed place [] = place
+behind_owed place (byte ∷ more) = further place (length (byte ∷ more))
+
+abbrev pub place_now : WrittenView → TextPlace
+place_now view = behind_owed (place_of view.text) view.pending
+
+-- what a text is seen as, by its parts
+abbrev pub state_of : WrittenView → Bool → TextState
+state_of view short = record {
+  text = record { buffer = view.text.buffer; owed = view.pending; place = place_now view; settings = view.text.settings; life = view.life };
+  short = short;
+}
+
+-- the text that it stands for
+abbrev pub file_now : WrittenView → TextFile
+file_now view = file_of (state_of view false)
+
+-- a text that owes bytes stands, clean, where its buffer stands
+abbrev pub StandsToWrite : TextView → Type 0
+StandsToWrite text = IsClean text × (text.at ≡ text.buffer.place)
+
+-- what holds of every text: no bytes of its buffer are lent out, and its chunks have some; where no character was asked for none was taken; its handler is one of those that texts are written with, where
+-- it writes; while it lives so does its buffer; what it owes begins where the buffer stands, and ends no further than a
+-- stream can; over a buffer that doesn't write it owes nothing, and its life is its buffer's
+pub record IsWritten (text : TextView) (pending : List ℕ) (current : Life) : Type 0 where
+  pub kept : text.buffer.exported ≡ false
+  pub asks : 0 < text.settings.chunk_size
+  pub clean : text.dirty ≡ false → text.taken ≡ 0
+  pub handler : text.buffer.can.writable ≡ true → writes_texts text.settings.handler ≡ true
+  pub lives : current ≡ life.Live → text.buffer.life ≡ life.Live
+  pub stands : (pending ≡ []) ⊎ StandsToWrite text
+  pub behind : text.at ≤ text.buffer.place
+  pub far : text.buffer.place + length pending ≤ greatest_place
+  pub unwritten : text.buffer.can.writable ≡ false → (pending ≡ []) × (current ≡ text.buffer.life)
+
+-- Handing on what is owed.
+
+-- the buffer was called: `waited` says that the raw would have blocked, `faulted` that it failed
+pub record CallsBuffer (before : Buffer) (waited faulted : Bool) (after : Buffer) : Type 0 where
+  pub keeps : KeepsBuffer before after
+  pub wait : IsTrue waited → Rose before.raw.waits after.raw.waits
+  pub fault : IsTrue faulted → Rose before.raw.faults after.raw.faults
+  pub faults : IsTrue before.raw.counts_exactly → faulted ≡ false → after.raw.faults ≡ before.raw.faults
+  pub stands : StandsWhileLive before → StandsWhileLive after
+
+-- the buffer was called, and the text stays as it is
+pub record HandsOn (old : WrittenView) (waited faulted : Bool) (new : WrittenView) : Type 0 where
+  pub calls : CallsBuffer old.text.buffer waited faulted new.text.buffer
+  pub bytes : WhereShown old.text.buffer ((file_now new).bytes ≡ (file_now old).bytes)
+  pub place : place_now new ≡ place_now old
+  pub settings : new.text.settings ≡ old.text.settings
+
+-- the buffer took nothing: its flat bytes and its place stay, and so does what the text owes
+pub record TakesNothing (old new : WrittenView) : Type 0 where
+  pub lives : new.life ≡ life.Live
+  pub stands : StandsToWrite new.text
+  pub pending : new.pending ≡ old.pending
+  pub place : new.text.buffer.place ≡ old.text.buffer.place
+  pub flat : WhereShown old.text.buffer ((flat_of new.text.buffer).bytes ≡ (flat_of old.text.buffer).bytes)
+
+-- the buffer took all that the text owed; or the raw would have blocked, or failed, or memory ran out: what wasn't taken is owed still. Out
+-- of memory nothing was taken, but of a text that failed
+abbrev pub SettleOutcome : WrittenView → Result (Unit {0}) IoFault → WrittenView → Type 0
+SettleOutcome old (Ok done) new = HandsOn old false false new × (new.pending ≡ []) × (new.life ≡ life.Live)
+SettleOutcome old (Err (fault.WouldBlock taken)) new = HandsOn old true false new × (new.pending ≢ []) × (new.life ≡ life.Live) × (old.text.buffer.can.writable ≡ true)
+SettleOutcome old (Err fault.RawFault) new = HandsOn old false true new × (new.life ≡ life.Failed)
+SettleOutcome old (Err fault.NoMemory) new = HandsOn old false false new × IsTrue old.text.buffer.raw.takes_memory × (TakesNothing old new ⊎ ((new.life ≡ life.Failed) × (old.text.buffer.can.writable ≡ true)))
+SettleOutcome old (Err other) new = ⊥
+
+-- what a reading answers where what is owed couldn't be handed on
+abbrev pub stopped_reply : IoFault → FileReply
+stopped_reply (fault.WouldBlock taken) = NotReady
+stopped_reply why = Refused why
+
+-- a refusal, which counts so many bytes as taken where the raw would have blocked
+abbrev pub with_taken : IoFault → ℕ → IoFault
+with_taken (fault.WouldBlock taken) count = fault.WouldBlock count
+with_taken why count = why
+
+-- Writing.
+
+-- a text was written: its bytes are laid at the place, and the text stands behind them, whether its buffer has them or not
+pub record TookText (old : WrittenView) (written : List ℕ) (waited faulted : Bool) (new : WrittenView) : Type 0 where
+  pub calls : CallsBuffer old.text.buffer waited faulted new.text.buffer
+  pub bytes : WhereShown old.text.buffer ((file_now new).bytes ≡ lay (file_now old).bytes (place_now old).at written)
+  pub place : place_now new ≡ further (place_now old) (length written)
+  pub settings : new.text.settings ≡ old.text.settings
+
+-- how many bytes there are, where they end no further than a stream can
+abbrev pub RoomFor : WrittenView → ℕ → Option ℕ → Type 0
+RoomFor view bytes (Some count) = (count ≡ bytes) × ((place_now view).at + bytes ≤ greatest_place)
+RoomFor view bytes None = greatest_place < (place_now view).at + bytes
+
+-- the buffer stands where what is owed begins, and the text stays as it is
+pub record GoesBack (old new : WrittenView) : Type 0 where
+  pub hands : HandsOn old false false new
+  pub lives : new.life ≡ life.Live
+  pub pending : new.pending ≡ old.pending
+  pub stands : StandsToWrite new.text
+
+-- the buffer of a clean text goes back to where what is owed begins; or the raw failed, or memory ran out, and the text stays as it is
+abbrev pub BackOutcome : WrittenView → Result (Unit {0}) IoFault → WrittenView → Type 0
+BackOutcome old (Ok done) new = GoesBack old new
+BackOutcome old (Err fault.RawFault) new = HandsOn old false true new × (new.life ≡ life.Failed)
+BackOutcome old (Err fault.NoMemory) new = HandsOn old false false new × (new.life ≡ life.Live)
+BackOutcome old (Err other) new = ⊥
+
+-- the last n of the bytes that were owed are let go of: the buffer took nothing, for want of memory
+pub record LetsGo (old : WrittenView) (count : ℕ) (new : WrittenView) : Type 0 where
+  pub calls : CallsBuffer old.text.buffer false false new.text.buffer
+  pub lives : new.life ≡ life.Live
+  pub stands : StandsToWrite new.text
+  pub pending : new.pending ≡ take (length old.pending - count) old.pending
+  pub place : new.text.buffer.place ≡ old.text.buffer.place
+  pub settings : new.text.settings ≡ old.text.settings
+  pub flat : WhereShown old.text.buffer ((flat_of new.text.buffer).bytes ≡ (flat_of old.text.buffer).bytes)
+
+-- the buffer passed on all, where it was to; or the raw would have blocked, which counts all n bytes as taken; or it failed, or memory ran
+-- out, which fails the text
+abbrev pub PassOutcome : WrittenView → (count : ℕ) → (flushes : Bool) → Result (Unit {0}) IoFault → WrittenView → Type 0
+PassOutcome old count flushes (Ok done) new = HandsOn old false false new × (new.life ≡ life.Live) × KeepsFew (state_of new false) × (flushes ≡ true → IsPassedOn (state_of new false))
+PassOutcome old count flushes (Err (fault.WouldBlock taken)) new = HandsOn old true false new × (new.life ≡ life.Live) × (taken ≡ count)
+PassOutcome old count flushes (Err fault.RawFault) new = HandsOn old false true new × (new.life ≡ life.Failed)
+PassOutcome old count flushes (Err fault.NoMemory) new = HandsOn old false false new × (new.life ≡ life.Failed)
+PassOutcome old count flushes (Err other) new = ⊥
+
+-- what is owed is handed on where it has to be, and with line buffering behind a line end passed on by the buffer; where memory ran out the
+-- text failed, or the n bytes are let go of
+abbrev pub HandOutcome : WrittenView → (count : ℕ) → (ends : Bool) → Result (Unit {0}) IoFault → WrittenView → Type 0
+HandOutcome old count ends (Ok done) new = HandsOn old false false new × (new.life ≡ life.Live) × KeepsFew (state_of new false) × (old.text.settings.line_buffering ≡ true → ends ≡ true → IsPassedOn (state_of new false))
+HandOutcome old count ends (Err (fault.WouldBlock taken)) new = HandsOn old true false new × (new.life ≡ life.Live) × (taken ≡ count)
+HandOutcome old count ends (Err fault.RawFault) new = HandsOn old false true new × (new.life ≡ life.Failed)
+HandOutcome old count ends (Err fault.NoMemory) new = (HandsOn old false false new × (new.life ≡ life.Failed)) ⊎ LetsGo old count new
+HandOutcome old count ends (Err other) new = ⊥

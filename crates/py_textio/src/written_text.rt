@@ -1,0 +1,508 @@
+//! The text under a user's: it reads, and keeps what was written until its buffer takes it. Its calls are for a live text.
+ghost use Rattle.std.specs.Prelude.{◌≡◌, ◌≢◌, ◌+◌, ◌-◌, ◌<◌, ◌≤◌, ◌&&◌, Bool, true, false, None, [], ◌++◌, length, take, chars, OnOk, OnErr, IfErr};
+ghost use Rattle.py_flat.specs.Limits.{greatest_place};
+ghost use Rattle.py_plain_text.specs.TextCalls.{WriteText, Flush, Close};
+ghost use Rattle.py_plain_text.specs.TextWriting.{writes_texts, written_bytes, written_refusal};
+ghost use Rattle.py_flat.specs.Calls.{Refused};
+ghost use Rattle.py_stream.specs.Kinds.{says_wait, says_fault};
+ghost use Rattle.py_stream.specs.Replies.{count_reply, done_reply};
+ghost use Rattle.py_read_text.specs.Reading.{call_of, asks_none, reply_of, waited_in};
+ghost use Rattle.py_read_text.specs.Answers.{IsBounded, Answers};
+ghost use Rattle.py_textio.specs.Written.{state_of, place_now, StandsToWrite, SettleOutcome, stopped_reply, with_taken, RoomFor, BackOutcome, PassOutcome, HandOutcome};
+
+use py_flat::{IoFault, Life};
+use py_held_text::{Coder, Wanted, drop_front};
+use py_raw::GREATEST_PLACE;
+use py_read_text::{Answer, ReadText};
+use py_stream::BufferedStream;
+use py_text::TextSettings;
+use py_written_text::{WrittenSize, has_line_end, push_written_text, written_size};
+use std::alloc::Global;
+use std::marker::Model;
+
+/// Whether no character is asked for.
+fn asks_none(wanted: Wanted) -> bool
+    ensures { result ≡ asks_none wanted }
+{
+    matches!(wanted, Wanted::Characters(Some(0)) | Wanted::Line(Some(0)))
+}
+
+/// What a reading answers where what is owed couldn't be handed on.
+fn unready(fault: IoFault) -> Result<Answer, IoFault>
+    ensures reply { reply_of result ≡ stopped_reply fault }
+    ensures waits { waited_in result ≡ says_wait (Refused fault) }
+{
+    match fault {
+        IoFault::WouldBlock { .. } => Ok(Answer::NotReady),
+        other => Err(other),
+    }
+}
+
+/// A refusal, which counts so many bytes as taken where the raw would have blocked.
+fn with_taken(fault: IoFault, taken: u64) -> IoFault
+    ensures { result ≡ with_taken fault taken }
+{
+    match fault {
+        IoFault::WouldBlock { .. } => IoFault::WouldBlock { taken },
+        other => other,
+    }
+}
+
+/// Whether the raw failed.
+fn is_raw_fault(fault: IoFault) -> bool
+    ensures { result ≡ says_fault (Refused fault) }
+{
+    matches!(fault, IoFault::RawFault)
+}
+
+/// A text that reads, with the bytes that were written and that its buffer hasn't taken: they begin where the buffer stands.
+#[derive(Debug, Drop)]
+pub(crate) struct WrittenText<B: BufferedStream> {
+    text: ReadText<B>,
+    pending: Vec<u8>,
+    life: Life,
+}
+
+impl<B: BufferedStream> Model for WrittenText<B> {
+    ghost use Rattle.std.specs.Prelude.{◌-◌, vec_len, vec_capacity};
+    ghost use Rattle.py_textio.specs.Written.{WrittenView, IsWritten};
+
+    ghost Value = { WrittenView };
+
+    ghost view = { λ w. record { text = w.text; pending = w.pending.items; room = vec_capacity w.pending - vec_len w.pending; life = w.life } };
+
+    ghost invariant = { λ w. IsWritten w.text w.pending.items w.life };
+}
+
+impl<B: BufferedStream> WrittenText<B> {
+    /// What became of the text.
+    pub fn life(&self) -> Life
+        ensures life { result ≡ self.now.life }
+        ensures bounded { (short : Bool) → IsBounded (state_of self.now short) }
+    {
+        self.life
+    }
+
+    /// A live text that was written nothing.
+    pub fn new(alloc: Global, text: ReadText<B>) -> Self
+        requires live { text.buffer.life ≡ Life.Live }
+        requires kept { text.buffer.exported ≡ false }
+        requires asks { 0 < text.settings.chunk_size }
+        requires clean { text.taken ≡ 0 }
+        requires handler { text.buffer.can.writable ≡ true → writes_texts text.settings.handler ≡ true }
+        requires behind { text.at ≤ text.buffer.place }
+        requires far { text.buffer.place ≤ greatest_place }
+        ensures text { result.text ≡ text }
+        ensures pending { result.pending ≡ [] }
+        ensures life { result.life ≡ Life.Live }
+    {
+        WrittenText {
+            text,
+            pending: Vec::new(alloc),
+            life: Life::Live,
+        }
+    }
+
+    /// Whether the buffer can be read.
+    pub fn readable(&self) -> bool
+        ensures { result ≡ self.now.text.buffer.can.readable }
+    {
+        self.text.readable()
+    }
+
+    /// Whether the buffer can be written.
+    pub fn writable(&self) -> bool
+        ensures { result ≡ self.now.text.buffer.can.writable }
+    {
+        self.text.writable()
+    }
+
+    /// Whether the buffer can be moved.
+    pub fn seekable(&self) -> bool
+        ensures { result ≡ self.now.text.buffer.can.seekable }
+    {
+        self.text.seekable()
+    }
+
+    /// The settings, but for the encoding and the handler.
+    pub fn settings(&self) -> TextSettings
+        ensures newline { result.newline ≡ self.now.text.settings.newline }
+        ensures lines { result.line_buffering ≡ self.now.text.settings.line_buffering }
+        ensures through { result.write_through ≡ self.now.text.settings.write_through }
+        ensures chunk { result.chunk_size ≡ self.now.text.settings.chunk_size }
+    {
+        self.text.settings()
+    }
+
+    /// What the bytes are decoded and encoded by.
+    pub fn coder(&self) -> Coder
+        ensures encoding { result.encoding ≡ self.now.text.settings.encoding }
+        ensures errors { result.errors ≡ self.now.text.settings.handler }
+    {
+        self.text.coder()
+    }
+
+    /// The buffer, lent.
+    pub fn buffer(&self) -> &B
+        ensures { B.shows result.now ≡ self.now.text.buffer }
+    {
+        self.text.buffer()
+    }
+
+    /// Asks for chunks of another size from here on.
+    pub fn set_chunksize(&mut self, size: usize)
+        requires { 0 < size }
+        ensures { self.new ≡ record self.old { text = record self.old.text { settings = record self.old.text.settings { chunk_size = size } } } }
+    {
+        self.text.set_chunksize(size);
+    }
+
+    /// The buffer, the bytes that it hasn't taken, and the place where they begin: without any, the byte of the text place.
+    pub fn into_parts(self) -> (B, Vec<u8>, u64)
+        ensures buffer { B.shows result.0 ≡ self.text.buffer }
+        ensures unwritten { result.1.items ≡ self.pending }
+        ensures place { result.2 ≡ self.text.at }
+    {
+        let WrittenText {
+            text,
+            pending,
+            life: _,
+        } = self;
+        let (buffer, at) = text.into_buffer();
+        (buffer, pending, at)
+    }
+
+    /// Hands the buffer the bytes that the text owes it. What it didn't take is owed still.
+    fn settle(&mut self) -> Result<(), IoFault>
+        requires live { self.old.life ≡ Life.Live }
+        requires owes { self.old.pending ≢ [] }
+        ensures outcome { SettleOutcome self.old result self.new }
+        ensures bounded { (short : Bool) → IsBounded (state_of self.new short) }
+        ensures writes { self.old.text.buffer.can.writable ≡ true }
+    {
+        // What holds of every text is known from here on.
+        let _ = &self.life;
+        let answer = self.text.pass(&self.pending);
+        drop_front(&mut self.pending, self.text.taken() as usize);
+        match answer {
+            Ok(_) => Ok(()),
+            Err(fault) => {
+                self.life = self.text.life();
+                Err(fault)
+            }
+        }
+    }
+
+    /// The characters that were asked for. What the text owes is handed to the buffer first.
+    pub fn read(&mut self, alloc: Global, wanted: Wanted) -> Result<Answer, IoFault>
+        requires live { self.old.life ≡ Life.Live }
+        requires reads { self.old.text.buffer.can.readable ≡ true }
+        ensures { Answers (state_of self.old false) (call_of wanted) (reply_of result) (state_of self.new (waited_in result)) }
+    {
+        // What holds of every text is known from here on.
+        let _ = self.life();
+        if self.pending.is_empty() {
+            return self.read_on(alloc, wanted);
+        }
+        if asks_none(wanted) {
+            return Ok(Answer::Whole(String::new(alloc)));
+        }
+        self.settle_and_read(alloc, wanted)
+    }
+
+    /// The characters that were asked for, once the buffer has taken what the text owes.
+    fn settle_and_read(&mut self, alloc: Global, wanted: Wanted) -> Result<Answer, IoFault>
+        requires live { self.old.life ≡ Life.Live }
+        requires reads { self.old.text.buffer.can.readable ≡ true }
+        requires owes { self.old.pending ≢ [] }
+        requires some { asks_none wanted ≡ false }
+        ensures { Answers (state_of self.old false) (call_of wanted) (reply_of result) (state_of self.new (waited_in result)) }
+    {
+        match self.settle() {
+            Ok(()) => self.read_on(alloc, wanted),
+            Err(fault) => unready(fault),
+        }
+    }
+
+    /// The characters that were asked for, of a text that owes nothing itself.
+    fn read_on(&mut self, alloc: Global, wanted: Wanted) -> Result<Answer, IoFault>
+        requires live { self.old.life ≡ Life.Live }
+        requires reads { self.old.text.buffer.can.readable ≡ true }
+        requires none { self.old.pending ≡ [] }
+        ensures { Answers (state_of self.old false) (call_of wanted) (reply_of result) (state_of self.new (waited_in result)) }
+    {
+        let answer = self.text.answer(alloc, wanted);
+        self.life = self.text.life();
+        answer
+    }
+
+    /// Hands the buffer what the text owes, and sees to it that the buffer passes on all.
+    pub fn flush(&mut self) -> Result<(), IoFault>
+        requires live { self.old.life ≡ Life.Live }
+        ensures { Answers (state_of self.old false) Flush (done_reply result) (state_of self.new (says_wait (done_reply result))) }
+    {
+        // What holds of every text is known from here on.
+        let _ = &self.life;
+        if self.pending.is_empty() {
+            return self.flush_on();
+        }
+        self.settle_and_flush()
+    }
+
+    /// Sees to it that the buffer passes on all, once it has taken what the text owes.
+    fn settle_and_flush(&mut self) -> Result<(), IoFault>
+        requires live { self.old.life ≡ Life.Live }
+        requires owes { self.old.pending ≢ [] }
+        ensures { Answers (state_of self.old false) Flush (done_reply result) (state_of self.new (says_wait (done_reply result))) }
+    {
+        match self.settle() {
+            Ok(()) => self.flush_on(),
+            Err(fault) => Err(with_taken(fault, 0)),
+        }
+    }
+
+    /// Sees to it that the buffer passes on all, of a text that owes nothing itself.
+    fn flush_on(&mut self) -> Result<(), IoFault>
+        requires live { self.old.life ≡ Life.Live }
+        requires none { self.old.pending ≡ [] }
+        ensures { Answers (state_of self.old false) Flush (done_reply result) (state_of self.new (says_wait (done_reply result))) }
+    {
+        let flushed = self.text.flush();
+        self.life = self.text.life();
+        flushed
+    }
+
+    /// Hands the buffer what the text owes, and closes the buffer.
+    pub fn close(&mut self) -> Result<(), IoFault>
+        requires live { self.old.life ≡ Life.Live }
+        ensures { Answers (state_of self.old false) Close (done_reply result) (state_of self.new (says_wait (done_reply result))) }
+    {
+        // What holds of every text is known from here on.
+        let _ = &self.life;
+        if self.pending.is_empty() {
+            return self.close_on();
+        }
+        self.settle_and_close()
+    }
+
+    /// Closes the buffer, once it has taken what the text owes. Where it failed it isn't asked to close.
+    fn settle_and_close(&mut self) -> Result<(), IoFault>
+        requires live { self.old.life ≡ Life.Live }
+        requires owes { self.old.pending ≢ [] }
+        ensures { Answers (state_of self.old false) Close (done_reply result) (state_of self.new (says_wait (done_reply result))) }
+    {
+        match self.settle() {
+            Ok(()) => self.close_on(),
+            Err(fault) => {
+                if is_raw_fault(fault) {
+                    self.end();
+                    return Err(IoFault::RawFault);
+                }
+                Err(with_taken(fault, 0))
+            }
+        }
+    }
+
+    /// Closes the text, whose buffer failed.
+    fn end(&mut self)
+        requires { self.old.text.buffer.can.writable ≡ true }
+        ensures { self.new ≡ record self.old { life = Life.Closed } }
+    {
+        self.life = Life::Closed;
+    }
+
+    /// Closes the buffer, of a text that owes nothing itself.
+    fn close_on(&mut self) -> Result<(), IoFault>
+        requires live { self.old.life ≡ Life.Live }
+        requires none { self.old.pending ≡ [] }
+        ensures { Answers (state_of self.old false) Close (done_reply result) (state_of self.new (says_wait (done_reply result))) }
+    {
+        let closed = self.text.close();
+        self.life = self.text.life();
+        closed
+    }
+
+    /// How many bytes there are, where they end no further than a stream can.
+    fn room_for(&self, bytes: u128) -> Option<usize>
+        ensures { RoomFor self.now bytes result }
+    {
+        // What holds of every text is known from here on.
+        let _ = &self.life;
+        let end = (self.text.at() as u128 + self.pending.len() as u128).checked_add(bytes)?;
+        if end <= u128::from(GREATEST_PLACE) {
+            Some(bytes as usize)
+        } else {
+            None
+        }
+    }
+
+    /// Moves the buffer of a clean text back to where what is owed begins, where bytes were read ahead of it.
+    fn go_back(&mut self) -> Result<(), IoFault>
+        requires live { self.old.life ≡ Life.Live }
+        requires writes { self.old.text.buffer.can.writable ≡ true }
+        requires clean { self.old.text.dirty ≡ false }
+        ensures outcome { BackOutcome self.old result self.new }
+        ensures bounded { (short : Bool) → IsBounded (state_of self.new short) }
+    {
+        // What holds of every text is known from here on.
+        let _ = &self.life;
+        match self.text.return_to_place() {
+            Ok(()) => Ok(()),
+            Err(fault) => {
+                self.life = self.text.life();
+                Err(fault)
+            }
+        }
+    }
+
+    /// Puts the bytes of a text behind those that are owed. There is room then for as many more as the buffer holds.
+    fn put(&mut self, alloc: Global, text: &str, bytes: usize) -> Result<(), IoFault>
+        requires live { self.old.life ≡ Life.Live }
+        requires stands { StandsToWrite self.old.text }
+        requires writes { self.old.text.buffer.can.writable ≡ true }
+        requires whole { written_refusal self.old.text.settings (chars text.now) ≡ None }
+        requires size { bytes ≡ length (written_bytes self.old.text.settings (chars text.now)) }
+        requires far { (place_now self.old).at + bytes ≤ greatest_place }
+        ensures put { OnOk result (self.new ≡ record self.old { pending = self.old.pending ++ written_bytes self.old.text.settings (chars text.now); room = self.new.room }) }
+        ensures memory { IfErr result (λ why. why ≡ IoFault.NoMemory) }
+        ensures same { OnErr result (self.new ≡ record self.old { room = self.new.room }) }
+    {
+        // What holds of every text is known from here on.
+        let _ = &self.life;
+        let Some(room) = bytes.checked_add(self.text.buffer().buffer_size()) else {
+            return Err(IoFault::NoMemory);
+        };
+        self.pending.reserve(room)?;
+        push_written_text(
+            alloc,
+            self.text.coder(),
+            self.text.settings().newline,
+            text,
+            &mut self.pending,
+        )
+    }
+
+    /// Lets go of the last n of the bytes that are owed.
+    fn let_go(&mut self, count: usize)
+        requires { count ≤ length self.old.pending }
+        ensures left { self.new ≡ record self.old { pending = take (length self.old.pending - count) self.old.pending; room = self.new.room } }
+        ensures bounded { (short : Bool) → IsBounded (state_of self.new short) }
+    {
+        // What holds of every text is known from here on.
+        let _ = &self.life;
+        self.pending.truncate(self.pending.len() - count);
+    }
+
+    /// Whether a text with a line end, or without, is passed on by the buffer once it is written.
+    fn flushes(&self, ends: bool) -> bool
+        ensures { result ≡ (self.now.text.settings.line_buffering && ends) }
+    {
+        self.text.settings().line_buffering && ends
+    }
+
+    /// Hands the buffer what is owed, where that has to be: with write through, from a chunk on, and behind a line end with line buffering,
+    /// where the buffer passes on all then. The last n bytes are the text's that is being written.
+    fn hand_on(&mut self, count: usize, ends: bool) -> Result<(), IoFault>
+        requires live { self.old.life ≡ Life.Live }
+        requires stands { StandsToWrite self.old.text }
+        requires writes { self.old.text.buffer.can.writable ≡ true }
+        requires count { count ≤ length self.old.pending }
+        ensures outcome { HandOutcome self.old count ends result self.new }
+        ensures bounded { (short : Bool) → IsBounded (state_of self.new short) }
+    {
+        // What holds of every text is known from here on.
+        let _ = self.life();
+        let settings = self.text.settings();
+        let flushes = self.flushes(ends);
+        if !flushes && !settings.write_through && self.pending.len() < settings.chunk_size {
+            return Ok(());
+        }
+        if self.pending.is_empty() {
+            return self.pass_on(count, flushes);
+        }
+        match self.settle() {
+            Ok(()) => self.pass_on(count, flushes),
+            Err(fault) => {
+                if matches!(fault, IoFault::NoMemory) && matches!(self.life, Life::Live) {
+                    self.let_go(count);
+                    return Err(IoFault::NoMemory);
+                }
+                Err(with_taken(fault, count as u64))
+            }
+        }
+    }
+
+    /// Sees to it that the buffer passes on all, where it is to, of a text that owes nothing itself.
+    fn pass_on(&mut self, count: usize, flushes: bool) -> Result<(), IoFault>
+        requires live { self.old.life ≡ Life.Live }
+        requires none { self.old.pending ≡ [] }
+        requires writes { self.old.text.buffer.can.writable ≡ true }
+        ensures outcome { PassOutcome self.old count flushes result self.new }
+        ensures bounded { (short : Bool) → IsBounded (state_of self.new short) }
+    {
+        // What holds of every text is known from here on.
+        let _ = self.life();
+        if !flushes {
+            return Ok(());
+        }
+        match self.text.flush() {
+            Ok(()) => Ok(()),
+            Err(IoFault::WouldBlock { .. }) => Err(IoFault::WouldBlock {
+                taken: count as u64,
+            }),
+            Err(fault) => {
+                self.life = Life::Failed;
+                Err(fault)
+            }
+        }
+    }
+
+    /// Writes a text: its bytes are the text's own, until its buffer takes them. With line buffering a text that has a line end is flushed.
+    pub fn write(&mut self, alloc: Global, text: &str) -> Result<usize, IoFault>
+        requires live { self.old.life ≡ Life.Live }
+        requires writes { self.old.text.buffer.can.writable ≡ true }
+        ensures { Answers (state_of self.old false) (WriteText (chars text.now)) (count_reply result) (state_of self.new (says_wait (count_reply result))) }
+    {
+        // What holds of every text is known from here on.
+        let _ = self.life();
+        if self.text.is_dirty() {
+            return Err(IoFault::SeekFirst);
+        }
+        match written_size(self.text.coder(), self.text.settings().newline, text) {
+            Ok(size) => self.write_sized(alloc, text, size),
+            Err(fault) => Err(fault),
+        }
+    }
+
+    /// Writes a text of a size, none of which is refused.
+    fn write_sized(
+        &mut self,
+        alloc: Global,
+        text: &str,
+        size: WrittenSize,
+    ) -> Result<usize, IoFault>
+        requires live { self.old.life ≡ Life.Live }
+        requires writes { self.old.text.buffer.can.writable ≡ true }
+        requires clean { self.old.text.dirty ≡ false }
+        requires whole { written_refusal self.old.text.settings (chars text.now) ≡ None }
+        requires chars { size.chars ≡ length (chars text.now) }
+        requires bytes { size.bytes ≡ length (written_bytes self.old.text.settings (chars text.now)) }
+        ensures { Answers (state_of self.old false) (WriteText (chars text.now)) (count_reply result) (state_of self.new (says_wait (count_reply result))) }
+    {
+        // What holds of every text is known from here on.
+        let _ = self.life();
+        let Some(bytes) = self.room_for(size.bytes) else {
+            return Err(IoFault::TooFar);
+        };
+        match self.go_back() {
+            Ok(()) => match self.put(alloc, text, bytes) {
+                Ok(()) => match self.hand_on(bytes, has_line_end(text)) {
+                    Ok(()) => Ok(size.chars),
+                    Err(fault) => Err(fault),
+                },
+                Err(fault) => Err(fault),
+            },
+            Err(fault) => Err(fault),
+        }
+    }
+}
