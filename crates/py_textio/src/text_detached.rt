@@ -7,7 +7,8 @@ pub struct TextDetached<B> {
     pub buffer: B,
     /// The bytes that were taken from callers and that the buffer hasn't.
     pub unwritten: Vec<u8>,
-    /// The byte of the text place, from the start of the stream: where the text was made, or where a `read` of all came to the end;
-    /// characters that were taken since stand behind it. `None` where the buffer can't seek.
+    /// The byte where `unwritten` begins, from the start of the stream; with nothing unwritten that of the text place: where the text was
+    /// made, where what was written last ends, or where a `read` of all came to the end. Characters that were read since stand behind it.
+    /// `None` where the buffer can't seek.
     pub place: Option<u64>,
 }

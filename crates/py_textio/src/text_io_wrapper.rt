@@ -43,7 +43,8 @@ fn write_would_block(answer: &Result<usize, IoFault>) -> bool
 /// Each call first answers by the life, with all as it was and the buffer not called: `Failed` after a fault, `Closed` after a `close`
 /// (which may be called again); then it is `Unsupported` where the buffer lacks what the call needs. Else, where the raw failed in the
 /// call, it is `RawFault`: the text is failed from then on; after `close` it is closed. `NoMemory` means out of memory: place and life
-/// stay, and the call may be made again.
+/// stay, and the call may be made again; but of a text that is written it may be failed, where memory ran out while its buffer took or
+/// passed on what was written.
 #[derive(Debug, Drop)]
 pub struct TextIOWrapper<B: BufferedStream> {
     text: WrittenText<B>,
@@ -139,11 +140,12 @@ impl<B: BufferedStream> TextIOWrapper<B> {
     /// or not at all: until its buffer takes its bytes they are the text's own, fewer than a chunk after an answer, and none with write
     /// through. With line buffering a text that has LF or CR is passed on by the buffer at once.
     ///
-    /// `SeekFirst` where characters were read since the text was placed; `UnicodeEncodeError`, by places of the argument, where the handler
-    /// refuses a run of characters; `TooFar` where the bytes would end past 9223372036854775807: with all as it was, and no memory taken.
-    /// `WouldBlock` says how many bytes the text is written as: all are taken, and later calls pass them on. `RawFault`: the text is failed;
-    /// what its buffer hasn't of it is in `into_parts`. `NoMemory` leaves all as it was, but where the buffer ran out in the middle of it:
-    /// then the text is failed, too.
+    /// `SeekFirst` where the text was read since it was placed or a `read` of all came to its end; `UnicodeEncodeError`, by places of the
+    /// argument, where the handler refuses a run of characters; `TooFar` where the bytes would end past 9223372036854775807: with all as it
+    /// was, and no memory taken. `WouldBlock` says how many bytes the text is written as: all are taken, and later calls pass them on.
+    /// `RawFault`: the text is failed; all of the argument is taken, and what the buffer hasn't is in `into_parts`, or none, where the raw
+    /// failed as a buffer that was read ahead went back. `NoMemory` leaves all as it was, but where the buffer ran out while it took bytes or
+    /// passed them on: then the text is failed, too.
     pub fn write(&mut self, alloc: Global, text: &str) -> Result<usize, IoFault>
         ensures { Answers self.old (WriteText (chars text.now)) (count_reply result) self.new }
     {
@@ -181,11 +183,11 @@ impl<B: BufferedStream> TextIOWrapper<B> {
         }
     }
 
-    /// Passes on all that was written, and closes the buffer; the text stays closed after `RawFault` too. A closed one may be closed again, which
-    /// calls no raw.
+    /// Passes on all that was written, and closes the buffer; the text stays closed after `RawFault` too. A closed one may be closed
+    /// again, which calls no raw.
     ///
-    /// `WouldBlock`: the raw would have blocked before all was passed on; `NoMemory` comes only of a raw that takes memory. Both leave the
-    /// text live.
+    /// `WouldBlock`: the raw would have blocked before all was passed on, and the text stays live. `NoMemory` comes only of a raw that
+    /// takes memory; the text stays live, or is failed where memory ran out while its buffer took what was written.
     pub fn close(&mut self) -> Result<(), IoFault>
         ensures { Answers self.old Close (done_reply result) self.new }
     {
@@ -244,7 +246,7 @@ impl<B: BufferedStream> TextIOWrapper<B> {
         matches!(self.text.life(), Life::Closed)
     }
 
-    /// What became of it: live at first, failed by a fault of the raw, or closed.
+    /// What became of it: live at first, failed by a fault of the raw or, of one that is written, by running out of memory, or closed.
     pub fn life(&self) -> Life
         ensures { result ≡ self.now.text.life }
     {
