@@ -1,9 +1,9 @@
 -- The newline rule over pieces, one after another.
-use Rattle.std.proofs.Common.{◌≡◌, ℕ, Bool, true, false, nat_eq, List, [], ◌∷◌, ◌++◌, refl, sym, ap, ◌∙◌, append_assoc, append-nil}
-use Rattle.py_flat.specs.Lines.{cr, joined}
+use Rattle.std.proofs.Common.{◌≡◌, ℕ, Bool, true, false, List, [], ◌∷◌, ◌++◌, refl, sym, ap, ◌∙◌, append_assoc, append-nil}
+use Rattle.py_flat.specs.Lines.{joined}
 use Rattle.py_plain.specs.declared.newlines.Newlines.{Newlines}
 use Rattle.py_plain.specs.declared.newlines.Newlines.TheVariants as rule
-use Rattle.py_plain.specs.NewlineRule.{released, passes, universal, ends_held, read_so_far, holds_after, translated}
+use Rattle.py_plain.specs.NewlineRule.{released, read_so_far, holds_after, translated}
 use Rattle.py_plain.proofs.LineEnds.{held_behind}
 use Rattle.py_plain_text.proofs.Translated.{universal_both}
 use Rattle.py_text.specs.NewlinePieces.{NewlineView, fresh, text_with, after_piece, after_pieces, texts_of}
