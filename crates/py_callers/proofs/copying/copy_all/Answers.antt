@@ -1,9 +1,10 @@
-use Rattle.std.proofs.Common.{rules, ◌≡◌, inl, inr, ℕ, Bool, true, false, not, List, length, Option, Some, None, Result, Ok, Err, refl, sym, subst}
+use Rattle.std.proofs.Common.{rules, ◌≡◌, inl, inr, ℕ, Bool, true, false, not, List, length, Option, Some, None, Result, Ok, Err, refl, sym, ◌∙◌, subst}
 use Rattle.py_flat.specs.declared.fault.IoFault.{IoFault}
 use Rattle.py_flat.specs.Calls.{Read, Write, Flush, Bytes, Count, Done, NotReady, Refused}
 use Rattle.py_stream.specs.Stream.{Stream}
 use Rattle.py_stream.specs.Answers.{Answers, TakesOf}
 use Rattle.py_callers.specs.Copying.{CopyOutcome}
+use Rattle.py_callers.proofs.ThreeCalls.{copied_as, not_true}
 use Rattle.py_callers.proofs.copying.copy_all.Goals as goal
 
 pub returns-in_err-bytes-clause-outcome : goal.returns-in_err-bytes-clause-outcome
@@ -46,3 +47,10 @@ pub returns-clause-outcome : goal.returns-clause-outcome
 returns-clause-outcome g c =
     let wrote = wrote_all c.args.writer.now.stream c.write.new.self.stream c.buffer_size.result c.in_ok-write.field-0 c.deref.result.now c.in-Some.bytes.items c.buffer_size.ensures c.deref.ensures.value c.in_ok-write.ensures.answers in
     copies_so c.short.result c.args.reader.now c.args.writer.now.stream c.read.new.self c.write.new.self.stream c.flush.new.self.stream c.in-Some.bytes.items (sym c.short.ensures) (rw c.in-Some.is at c.in_ok-bytes.ensures) wrote c.in_ok-flush.ensures.answers
+
+pub returns-clause-copied : goal.returns-clause-copied
+returns-clause-copied g c = λ is.
+    let whole : not c.short.result ≡ true = cc (is) in
+    let reads : Answers c.args.reader.now (Read None) (Bytes c.in-Some.bytes.items) c.read.new.self = rw c.in-Some.is at c.in_ok-bytes.ensures in
+    let wrote = wrote_all c.args.writer.now.stream c.write.new.self.stream c.buffer_size.result c.in_ok-write.field-0 c.deref.result.now c.in-Some.bytes.items c.buffer_size.ensures c.deref.ensures.value c.in_ok-write.ensures.answers in
+    copied_as c.args.reader.now c.read.new.self c.args.writer.now.stream c.write.new.self.stream c.flush.new.self.stream c.in-Some.bytes.items c.in-Some.bytes.items (length c.in-Some.bytes.items) refl refl reads (sym c.short.ensures ∙ not_true c.short.result whole) wrote c.in_ok-flush.ensures.answers
