@@ -62,6 +62,7 @@ starved_look old new part a = record {
   refused = λ why refused. let wrong : Bytes part ≡ Refused why = (a.refused why refused).says in absurd (cc);
   again = λ closes. absurd (cc);
   shut = a.shut;
+  parted = λ parts. absurd (cc);
   causes = record { waits = a.causes.waits; faults = λ faulted. absurd (cc) };
   counted = λ exact. record { faults = λ sound. (a.counted exact).faults refl; waits = (a.counted exact).waits; once = (a.counted exact).once };
   shorts = a.shorts;

@@ -50,6 +50,7 @@ starved_into stream size is live reads = record {
   refused = λ why refused. let wrong : None ≡ Some why = sym (accepts stream size live reads) ∙ refused in absurd (cc);
   again = λ closes. absurd (cc);
   shut = λ _ none closed. closed;
+  parted = λ _. refl;
   causes = record { waits = λ short. absurd (cc); faults = λ faulted. absurd (cc) };
   counted = λ exact. record { faults = λ sound. refl; waits = λ short goes. refl; once = λ short. absurd (cc) };
   shorts = refl;
@@ -66,6 +67,7 @@ starved_into stream size is live reads = record {
       stands = λ failed. let wrong : life.Live ≡ life.Failed = sym live ∙ failed in absurd (cc);
     };
     left = λ failed. let wrong : life.Live ≡ life.Failed = sym live ∙ failed in absurd (cc);
+    unread = λ lives tells. refl;
   };
   first = λ wanting takes. absurd (cc);
   nothing = λ asks. record { raw = refl; fault = refl };

@@ -1,16 +1,17 @@
 -- The calls that give nothing, or bytes, by what the stream is opened for: what holds when a call begins, and what its steps come to.
-use Rattle.std.proofs.Common.{◌≡◌, ℕ, [], length, Bool, true, false, Result, Ok, Err, IfOk, refl, sym, ap, ◌∙◌, subst, arith}
+use Rattle.std.proofs.Common.{◌≡◌, ◌≢◌, ℕ, [], length, Bool, true, false, Result, Ok, Err, IfOk, refl, sym, ap, ◌∙◌, subst, arith}
 use Rattle.py_flat.specs.declared.fault.IoFault.{IoFault}
+use Rattle.py_flat.specs.declared.fault.IoFault.TheVariants as fault
 use Rattle.py_flat.specs.declared.life.Life.TheVariants as life
 use Rattle.py_flat.specs.Calls.{Flush, Close, Refused}
 use Rattle.py_stream.specs.declared.access.Access.{Access}
 use Rattle.py_stream.specs.declared.access.Access.TheVariants as access
 use Rattle.py_stream.specs.Access.{can_of, is_written}
-use Rattle.py_stream.specs.Stream.{Span, nothing_owed, nothing_held}
+use Rattle.py_stream.specs.Stream.{Span, Stream, nothing_owed, nothing_held}
 use Rattle.py_stream.specs.Settling.{SettleOutcome}
 use Rattle.py_stream.specs.Writing.{StandsBare}
 use Rattle.py_stream.specs.Replies.{done_reply}
-use Rattle.py_stream.specs.Answers.{Answers}
+use Rattle.py_stream.specs.Answers.{Answers, moves_back}
 use Rattle.py_stream.specs.Moving.{Begins, keeps_pending, OwesBy, SettlesBy}
 use Rattle.py_stream.specs.Ending.{CloseRawOutcome}
 use Rattle.py_stream.specs.Taking.{MayTake, BeginsWriting}
@@ -81,9 +82,20 @@ pub closing_stops : (opened : Access) (old started new : EngineView) (why : IoFa
 closing_stops access.Read old started new why opened is began stops = let never : Err why ≡ Ok tt = stops.0 in absurd (cc)
 closing_stops other old started new why opened is began stops = close_stops (stream_of old) (stream_of started) (stream_of new) why (is_writing_live old is (ap is_written opened) began.0) (begins old started (Ok tt) began) stops
 
+-- a stream that is read alone doesn't move its raw back
+reads_stay : (engine : EngineView) → engine.access ≡ access.Read → moves_back (stream_of engine) ≡ false
+reads_stay engine opened = grind arith
+
+-- a passing on that doesn't fail is one for a closing
+pub passes_to_close : (opened : Access) (old : Stream) (new : EngineView) (result : Result (Unit {0}) IoFault) → PassesAll opened old result (stream_of new) → IfOk result (λ done. is_written opened ≡ true → new.raw_place ≡ place_of new.window) → result ≢ Err fault.RawFault → PassesToClose opened old result (stream_of new)
+passes_to_close access.Read old new result passed stands unfailed = passed
+passes_to_close other old new (Ok done) passed stands unfailed = (passed, λ _. stands refl)
+passes_to_close other old new (Err fault.RawFault) passed stands unfailed = absurd (unfailed refl)
+passes_to_close other old new (Err why) passed stands unfailed = passed
+
 -- a `close` that passed all on answers what the closing of the raw came to
 pub closes : (opened : Access) (old started mid new : EngineView) (result : Result (Unit {0}) IoFault) → old.access ≡ opened → Stands old → BeginOutcome old (Ok tt) started → PassesToClose opened (stream_of started) (Ok tt) (stream_of mid) → CloseRawOutcome (stream_of mid) result (stream_of new) → Answers (stream_of old) Close (done_reply result) (stream_of new)
-closes access.Read old started mid new result opened is began passed shut = grind (arith, close_answers_at_once, is_sound, stands_whole, reads_there, begins)
+closes access.Read old started mid new result opened is began passed shut = grind (arith, close_answers_at_once, is_sound, stands_whole, reads_there, reads_stay, begins)
 closes other old started mid new result opened is began passed shut =
     close_answers (stream_of old) (stream_of started) (stream_of mid) (stream_of new) result (is_writing_live old is (ap is_written opened) began.0) (begins old started (Ok tt) began) passed shut
 

@@ -8,14 +8,14 @@ use Rattle.py_flat.specs.Limits.{greatest_place}
 use Rattle.py_flat.specs.Bytes.{lay}
 use Rattle.py_flat.specs.Calls.{FileCall, Read1, Write, Seek, Flush, Close, FileReply, Bytes, Count, Place, Done, Refused}
 use Rattle.py_flat.specs.FlatFile.{FlatFile, InMemory}
-use Rattle.py_flat.specs.Refusals.{refusal, too_far, target_refusal, moved_by}
+use Rattle.py_flat.specs.Refusals.{refusal, is_close, too_far, target_refusal, moved_by}
 use Rattle.py_flat.specs.ExactStep.{is_closed, one_transfer, seek_target, carried_out}
 use Rattle.py_flat.specs.AllowedStep.{settled, out_of_memory}
 use Rattle.py_flat.specs.BinaryStep.{payload, SettledBy, BinaryStep}
 use Rattle.py_flat.proofs.Settling.{blames, may_blame, refusal_blames_nobody}
 use Rattle.py_stream.specs.Kinds.{is_reading, says_fault}
 use Rattle.py_stream.specs.Answers.{IsAnswerTo, IsReplyTo, IsShort, SeekGoes, Within, UnlessStopped}
-use Rattle.py_stream.specs.Buffer.{Buffer, taken_by, refusal_lent, refused_here, LeavesBuffer, is_close, BufferMoves, BufferPasses, BufferLays, BufferTakes, asks_for, closes_twice, GoesFromEnd, BufferSeeksFromEnd, BufferSeeksByEnd, BufferOwes, is_made, AnswersAsBuffer}
+use Rattle.py_stream.specs.Buffer.{Buffer, taken_by, refusal_lent, refused_here, LeavesBuffer, BufferMoves, BufferPasses, BufferLays, BufferTakes, asks_for, closes_twice, GoesFromEnd, BufferSeeksFromEnd, BufferSeeksByEnd, BufferOwes, is_made, AnswersAsBuffer}
 use Rattle.py_memio.specs.InMemory.{life_of, file_in_memory, refusal_in_memory, may_lack_memory, CarriedOutInMemory, AnswersWith, AnswersInMemory}
 use Rattle.py_memio.specs.BytesIO.{Exports, BytesView, has_some, is_lent, buffer_with, as_buffer}
 use Rattle.py_stream.specs.Stream.{nothing_owed}

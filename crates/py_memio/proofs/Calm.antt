@@ -1,5 +1,6 @@
 -- A call that neither waits nor fails of a stream in memory, as one of a buffered stream.
 use Rattle.std.proofs.Common.{◌≡◌, ℕ, ◌≤◌, max, Bool, true, false, IsTrue, List, length, Option, Some, None, refl, sym, ap, subst, arith}
+use Rattle.std.proofs.lemmas.Bool.Decides.{eqb_tells}
 use Rattle.py_flat.specs.declared.fault.IoFault.{IoFault}
 use Rattle.py_flat.specs.declared.fault.IoFault.TheVariants as fault
 use Rattle.py_flat.specs.declared.life.Life.{Life}
@@ -7,7 +8,7 @@ use Rattle.py_flat.specs.declared.life.Life.TheVariants as life
 use Rattle.py_flat.specs.Limits.{greatest_place}
 use Rattle.py_flat.specs.Calls.{FileCall, Read1, Write, Flush, Close, FileReply, Done, Refused}
 use Rattle.py_flat.specs.FlatFile.{Abilities, FlatFile, Buffering}
-use Rattle.py_flat.specs.Refusals.{refusal}
+use Rattle.py_flat.specs.Refusals.{refusal, is_close}
 use Rattle.py_flat.specs.AllowedStep.{settled}
 use Rattle.py_flat.specs.ExactStep.{is_closed}
 use Rattle.py_flat.specs.BinaryStep.{payload, SettledBy, BinaryStep}
@@ -18,7 +19,7 @@ use Rattle.py_stream.specs.Stream.{Stream}
 use Rattle.py_stream.specs.Writing.{LaysFrontOf, BlocksFull}
 use Rattle.py_stream.specs.Kinds.{is_reading, is_writing, says_fault}
 use Rattle.py_stream.specs.Answers.{IsAnswerTo, IsReplyTo, IsShort, LifeMoves, PlaceMoves}
-use Rattle.py_stream.specs.Buffer.{Buffer, size_shown, taken_by, refused_here, refused_lent, LeavesBuffer, closes_twice, is_close, GivesAsked, BufferMoves, BufferSeeksByEnd, stream_shown, BufferOwes, BufferPasses, BufferLays, BufferTakes, AnswersAsBuffer}
+use Rattle.py_stream.specs.Buffer.{Buffer, size_shown, taken_by, refused_here, refused_lent, LeavesBuffer, closes_twice, parts_when_closed, GivesAsked, BufferMoves, BufferSeeksByEnd, stream_shown, BufferOwes, BufferPasses, BufferLays, BufferTakes, AnswersAsBuffer}
 use Rattle.py_stream.proofs.Buffering.{owes_none_so}
 use Rattle.py_memio.specs.BytesIO.{raw_in_memory, buffer_with}
 
@@ -76,6 +77,10 @@ pub record Calmly (file : FlatFile) (lent : Bool) (was : ℕ) (call : FileCall) 
   pub passes : BufferPasses (buffer_with file lent was) call reply (buffer_with left lent taken)
   pub takes : BufferTakes call file.place left.place
 
+-- a stream in memory stands where its raw does, so that no close parts them
+never_parts : (file left : FlatFile) (lent : Bool) (was taken : ℕ) (call : FileCall) (reply : FileReply) → parts_when_closed (buffer_with file lent was) call reply (buffer_with left lent taken) ≡ false
+never_parts file left lent was taken call reply = grind (arith, eqb_tells)
+
 pub calm : (file : FlatFile) (lent : Bool) (was : ℕ) (call : FileCall) (reply : FileReply) (left : FlatFile) (taken : ℕ) → Calmly file lent was call reply left taken → AnswersAsBuffer (buffer_with file lent was) call reply (buffer_with left lent taken)
 calm file lent was call reply left taken calmly =
     let quiet = calmly.quiet in
@@ -84,6 +89,8 @@ calm file lent was call reply left taken calmly =
       refused = calmly.refused;
       again = calmly.again;
       shut = λ whole none closed. refl;
+      parted = λ parts. absurd (cc (parts, never_parts file left lent was taken call reply));
+      unclosed = λ some. absurd (some refl);
       stays = λ closes closed. calmly.stays closes;
       stands = λ live told. refl;
       causes = record { waits = λ short. absurd (cc); faults = λ fails. absurd (cc) };

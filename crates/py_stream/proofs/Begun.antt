@@ -113,6 +113,7 @@ module _ (short : Bool) where
     refused = λ why refuses. leaves before after (Refused why) reply (answers.refused why refuses);
     again = again before after call reply answers.again;
     shut = answers.shut;
+    parted = answers.parted;
     causes = answers.causes;
     counted = answers.counted;
     shorts = answers.shorts;
@@ -122,7 +123,7 @@ module _ (short : Bool) where
     wants = answers.wants;
     goes_on = λ reads ahead. answers.goes_on reads (ahead_as before ahead);
     goes_past = answers.goes_past;
-    starves = λ wanting reads. let starved = answers.starves wanting reads in record { ahead = λ was. let same = starved.ahead (ahead_as before was) in record { unmoved = same.unmoved; moved = same.moved; stands = same.stands }; left = starved.left };
+    starves = λ wanting reads. let starved = answers.starves wanting reads in record { ahead = λ was. let same = starved.ahead (ahead_as before was) in record { unmoved = same.unmoved; moved = same.moved; stands = same.stands }; left = starved.left; unread = starved.unread };
     first = answers.first;
     nothing = λ asks. let none = answers.nothing asks in record { raw = none.raw; fault = none.fault };
     idle = λ keeps. let still = answers.idle keeps in record { raw = still.raw; fault = still.fault; memory = still.memory };

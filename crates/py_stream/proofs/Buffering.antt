@@ -7,6 +7,7 @@ use Rattle.py_flat.specs.declared.life.Life.TheVariants as life
 use Rattle.py_flat.specs.Bytes.{lay}
 use Rattle.py_flat.specs.Owed.{Owed}
 use Rattle.py_flat.specs.Calls.{FileCall, Write, Seek, Close, FileReply, Done}
+use Rattle.py_flat.specs.Refusals.{is_close}
 use Rattle.py_flat.specs.ExactStep.{is_closed}
 use Rattle.py_flat.specs.BinaryStep.{payload}
 use Rattle.py_raw.specs.RawStream.{tells, WhereTold, AnswersFor, StaysOpen}
@@ -15,7 +16,8 @@ use Rattle.py_stream.specs.Stream.{Stream, buffering_of, nothing_owed}
 use Rattle.py_stream.specs.Kinds.{is_reading, is_writing, is_single, makes_one, moves_raw, says_no_memory}
 use Rattle.py_stream.specs.Writing.{OwesBehind, LaysTaken, Takes, OwesSome, PassesFront, PassedOn, OwesBoth, PassesOn, LaysInOrder, BlocksFull, TookOwn, Writes}
 use Rattle.py_stream.specs.Answers.{Answers, Leaves, ClosedWith, parts_at_close, LifeMoves, GivesWithin, IsReplyTo, IsShort, AtMostOne, FlushesFirst, PassesFirst, SparesBytes, SeeksTo, SeeksFromEnd, UnlessStopped, EndMoves, SeeksByEnd, closes_again, refused_by}
-use Rattle.py_stream.specs.Buffer.{Buffer, buffer_of, taken_by, size_shown, LeavesBuffer, closes_twice, is_close, stream_shown, GivesAsked, GoesFromEnd, BufferSeeksFromEnd, BufferSeeksByEnd, BufferOwes, BufferPasses, BufferLays, BufferTakes, OwesAsItCan, is_made, AnswersAsBuffer}
+use Rattle.py_stream.specs.Buffer.{Buffer, buffer_of, taken_by, size_shown, LeavesBuffer, closes_twice, stream_shown, GivesAsked, GoesFromEnd, BufferSeeksFromEnd, BufferSeeksByEnd, BufferOwes, BufferPasses, BufferLays, BufferTakes, OwesAsItCan, is_made, AnswersAsBuffer}
+use Rattle.py_stream.proofs.Closing.{parts_not}
 use Rattle.py_stream.proofs.LeftOwed.{none_or_some}
 
 -- the size that is shown is the stream's own
@@ -231,10 +233,6 @@ unwaited_by None before after taken call reply is reads gives made answers full 
 
 -- The raw's closing.
 
--- only a close parts a stream from its raw
-parts_not : (before after : Stream) (call : FileCall) (reply : FileReply) → is_close call ≡ false → parts_at_close before call reply after ≡ false
-parts_not before after call reply closes = grind arith
-
 -- a call that is let through is of a live stream
 lives_by : (before : Stream) (call : FileCall) → IsTrue (is_made call) → is_close call ≡ false → refused_by before call ≡ None → before.life ≡ life.Live
 lives_by before call made closes accepted = grind arith
@@ -258,6 +256,10 @@ owing_stays : (writes : Bool) (was : ℕ) (before after : Stream) (call : FileCa
 owing_stays true was before after call reply can owes answers some = (answers.writes can).unclosed some
 owing_stays false was before after call reply can owes answers some = absurd (some (ap (λ (owed : Owed). owed.bytes) (answers.spares can (owes can)).owed))
 
+-- a close parts a stream as it is shown just where it parts the stream
+parted_so : (was taken : ℕ) (before after : Stream) (call : FileCall) (reply : FileReply) → IsSome before.buffer → parts_at_close before call reply after ≡ parts_at_close (shown before was) call reply (shown after taken)
+parted_so was taken before after call reply some = grind (arith, size_is)
+
 -- Transfers.
 
 one_so : (buffer : Option ℕ) (call : FileCall) → IsSome buffer → IsTrue (is_single call) → IsTrue (makes_one buffer call)
@@ -275,7 +277,9 @@ answers_as_buffer before was call reply after taken answers counts made buffered
     let own : Option ℕ = size_shown (buffering_of before.buffer) in
     let passing : Passing (buffer_of before was) call reply (buffer_of after taken) = passing_of was taken before.can.writable before after call reply refl made owes answers in
     let unwaited : is_reading call ≡ false → is_writing call ≡ false → before.owed.bytes ≡ [] → after.short ≡ false = λ reads gives none. unwaited_by (refused_by before call) before after taken call reply refl reads gives made answers passing.full (left_none (buffer_of before was) (buffer_of after taken) call gives none passing.owes) in
-    let stays : is_close call ≡ false → ClosedWith before.life before.raw → StaysOpen before.raw after.raw = λ closes closed. stays_by (refused_by before call) before after call reply refl made closes answers (owing_stays before.can.writable was before after call reply refl owes answers) closed in
+    let unclosed : after.owed.bytes ≢ [] → StaysOpen before.raw after.raw = owing_stays before.can.writable was before after call reply refl owes answers in
+    let stays : is_close call ≡ false → ClosedWith before.life before.raw → StaysOpen before.raw after.raw = λ closes closed. stays_by (refused_by before call) before after call reply refl made closes answers unclosed closed in
+    let parted : parts_at_close (shown before was) call reply (shown after taken) ≡ true → StaysOpen before.raw after.raw = λ parts. answers.parted (parted_so was taken before after call reply buffered ∙ parts) in
     let single : IsTrue (is_single call) → before.owed.bytes ≡ [] → AtMostOne (shown before was) (shown after taken) = λ one none. answers.single (one_so before.buffer call buffered one) none in
     let first : PassesFirst (shown before was) call reply (shown after taken) = λ some single asks given first. answers.passes_first buffered single asks given (flushes_so before call made single) in
     let spares : before.can.writable ≡ false → before.owed ≡ nothing_owed before.place → SparesBytes (shown before was) call (shown after taken) = λ can none. spares_so was taken before after call (answers.spares can none) in

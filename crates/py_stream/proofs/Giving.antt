@@ -134,6 +134,7 @@ answers_coming old new call reply short may comes =
       keeps = record { buffer = comes.kept.buffer; can = comes.kept.can; raw = comes.kept.raw; bare = λ bare _. comes.kept.sound.bare (comes.kept.buffer ∙ bare) };
       refused = λ why refuses. absurd (let wrong : None ≡ Some why = sym unrefused ∙ refuses in cc);
       again = λ closes. absurd (cc (giving.closes old));
+      parted = λ _. comes.kept.stays;
       shut = λ _ none closed. comes.kept.stays ∙ closed ∙ ap is_closed may.live ∙ sym comes.is_open;
       causes = comes.causes;
       counted = comes.counted;

@@ -15,12 +15,12 @@ use Rattle.py_flat.specs.Refusals.{lacks}
 use Rattle.py_flat.specs.ExactStep.{is_closed, rest}
 use Rattle.py_flat.specs.AllowedStep.{settled, waited_for, raw_faulted, out_of_memory}
 use Rattle.py_flat.specs.BinaryStep.{IsFrontOf, BinaryStep, SettledBy, Accepted, WaitedBy, StarvedBy, does_work}
-use Rattle.py_raw.specs.RawStream.{WhereTold, WhereTransfers}
+use Rattle.py_raw.specs.RawStream.{StaysOpen, WhereTold, WhereTransfers}
 use Rattle.py_raw.proofs.Telling.{keeps_same}
 use Rattle.py_stream.specs.Stream.{Stream, size_of, file_of, nothing_owed}
 use Rattle.py_stream.specs.Kinds.{is_reading, is_single, asks_nothing, reads_on, by_several, makes_one, asks_none, has_room, says_fault, says_no_memory, says_given}
 use Rattle.py_stream.specs.Writing.{NoneAtPlace, LaysFront, LaysInOrder, BlocksFull, Writes}
-use Rattle.py_stream.specs.Answers.{Answers, KeepsStream, ClosedWith, HasCauses, IsCounted, IsShort, LifeMoves, PlaceMoves, GivesWithin, WantsMemory, Starves, StarvesReading, StarvesFirst, AsksNothing, AtMostOne, FlushesFirst, PassesFirst, CameByReads, InHand, StaysHeld, IsAhead, GoesPast, AsksNoMore, SparesBytes, IsReplyTo, IsNear, refused_by, ahead}
+use Rattle.py_stream.specs.Answers.{Answers, KeepsStream, ClosedWith, parts_at_close, HasCauses, IsCounted, IsShort, LifeMoves, PlaceMoves, GivesWithin, WantsMemory, Starves, StarvesReading, StarvesFirst, AsksNothing, AtMostOne, FlushesFirst, PassesFirst, CameByReads, InHand, StaysHeld, IsAhead, GoesPast, AsksNoMore, SparesBytes, IsReplyTo, IsNear, refused_by, ahead}
 use Rattle.py_stream.specs.Keeping.{IsSound}
 use Rattle.py_stream.specs.Settling.{PassesSome, LivesOn, SettleOutcome}
 use Rattle.py_stream.specs.Reading.{Reaches, ComesNext, wanted_by, reply_by}
@@ -90,6 +90,7 @@ pub shows_reading : (before after : Stream) (call : FileCall) (reply : FileReply
 shows_reading before after call reply reads held shows =
     let is : IsReadingCall call = reading_call call reads in
     let unrefused : refused_by before call ≡ None = refused_alone before call (is.unended (file_of before)) ∙ accepted before call reads (reading_suits before call reads held) held.live in
+    let parted : parts_at_close before call reply after ≡ true → StaysOpen before.raw after.raw = λ parts. absurd (cc (parts, is.parts before reply after)) in
     search (rules, completes)
 
 -- What stops a passing on before a reading.
@@ -165,7 +166,7 @@ stops_reading before mid call reply short may stops =
       wants = λ wanting _. stops.wants wanting;
       goes_on = λ ahead. absurd (stops.behind ahead);
       goes_past = λ given. absurd (cc (stops.ungiven));
-      starves = λ wanting _. record { ahead = λ was. absurd (stops.behind was); left = λ failed. absurd (stops.unfailed wanting failed) };
+      starves = λ wanting _. record { ahead = λ was. absurd (stops.behind was); left = λ failed. absurd (stops.unfailed wanting failed); unread = λ _. passes.kept.reads };
       first = λ wanting _ takes_none. absurd (let takes = stops.wants wanting in cc);
       nothing = λ asks. absurd (cc (may.some));
       single = λ _ none. stops.single none;
@@ -493,7 +494,7 @@ reading_lacks before call reads room held =
       wants = λ wanting has. absurd (cc (room));
       goes_on = λ ahead. ahead;
       goes_past = λ given. absurd (cc);
-      starves = λ _ _. record { ahead = λ _. starves_same before held; left = λ failed. absurd (let live = held.live in cc) };
+      starves = λ _ _. record { ahead = λ _. starves_same before held; left = λ failed. absurd (let live = held.live in cc); unread = λ _ tells. refl };
       first = λ _ _ _. (starves_same before held).unmoved held.live;
       nothing = λ _. idle;
       single = λ _ _ tells. omega arith;

@@ -92,6 +92,7 @@ answers_left before new call reply short may left =
       keeps = record { buffer = left.kept.buffer; can = left.kept.can; raw = left.kept.raw; bare = λ bare _. left.kept.sound.bare (left.kept.buffer ∙ bare) };
       refused = λ why refuses. absurd (let wrong : None ≡ Some why = sym accepts ∙ refuses in cc);
       again = λ closes. absurd (cc (giving.closes before));
+      parted = λ _. left.kept.stays;
       shut = λ _ none closed. left.kept.stays ∙ closed ∙ ap is_closed may.live ∙ sym left.is_open;
       causes = left.causes;
       counted = left.counted;

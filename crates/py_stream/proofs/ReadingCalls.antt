@@ -14,7 +14,7 @@ use Rattle.py_flat.specs.BinaryStep.{asks_end, is_tell, Fails, FaultedBy, Starve
 use Rattle.py_stream.specs.Stream.{Stream}
 use Rattle.py_stream.specs.Kinds.{is_reading, reads_on, goes_on, by_several, makes_one, is_writing, asks_none, calls_none, waits_unready, says_fault, says_no_memory}
 use Rattle.py_stream.specs.Writing.{LaysInOrder, PassesOn, OwesNoneOfIts}
-use Rattle.py_stream.specs.Answers.{IsReplyTo, IsShort, LifeMoves, PlaceMoves, PlaceFails, PlaceStarves, moves_most, StarvesTo, SeeksByEnd, SeekStands, HasAllHeld, ahead, InHandOf, IsWhole, closes_again}
+use Rattle.py_stream.specs.Answers.{IsReplyTo, IsShort, LifeMoves, PlaceMoves, PlaceFails, PlaceStarves, moves_most, StarvesTo, SeeksByEnd, SeekStands, HasAllHeld, ahead, InHandOf, IsWhole, closes_again, parts_at_close}
 use Rattle.py_stream.specs.Reading.{wanted_by, reply_by, ComesHeld, WantsHeld}
 
 -- What holds of every call that reads.
@@ -25,6 +25,7 @@ pub record IsReadingCall (call : FileCall) : Type 0 where
   pub tells : (is_getter call || is_tell call) ≡ false
   pub other : is_other_getter call ≡ false
   pub closes : is_close call ≡ false
+  pub parts : (before : Stream) (reply : FileReply) (after : Stream) → parts_at_close before call reply after ≡ false
   pub detaches : is_detach call ≡ false
   pub writing : is_writing call ≡ false
   pub unready : (buffer : Option ℕ) → waits_unready buffer call ≡ true

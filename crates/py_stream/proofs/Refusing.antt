@@ -80,6 +80,7 @@ refused_with before after call why is refuses alone own first same =
       refused = refused;
       again = λ closes. absurd (cc (first));
       shut = λ _ none closed. closed;
+      parted = λ _. refl;
       causes = record { waits = λ short. absurd (cc); faults = λ faulted. absurd (cc (idle.fault)) };
       counted = λ exact. record { faults = λ sound. refl; waits = λ short goes. refl; once = λ short. absurd (cc) };
       shorts = never_short call why own;

@@ -142,6 +142,7 @@ then_answers before mid after call reply moves settled answers own =
       refused = λ why refuses. absurd (not_refused before call why settled.accepted refuses);
       again = λ closes. absurd (cc (is.closes before));
       shut = λ _ none closed. answers.shut (is.parts (settled_as before mid) reply after) none (passes.kept.stays ∙ closed);
+      parted = λ parts. absurd (cc (parts, is.parts before reply after));
       causes = causes;
       counted = λ exact. let counts = answers.counted (kept.counts_exactly ∙ exact) in record { faults = λ none. counts.faults none ∙ goes.no_fault exact; waits = λ whole ends. counts.waits whole ends ∙ settled.settled_by.1 exact; once = λ short ends. cc (counts.once short ends, settled.settled_by.1 exact) };
       shorts = answers.shorts;
@@ -236,6 +237,7 @@ reading_own before mid after call reply reads is answers =
     let kept : KeepsOn before mid = is.settled.settled_by.0.passes.kept in
     let starves : IsTrue (says_no_memory reply) → IsTrue (reads_on call) → StarvesReading before after = λ wanting on. record {
       ahead = λ was. absurd (is.apart was);
+      unread = λ lives tells. (answers.starves wanting on).unread lives (kept.raw.tells_transfers ∙ tells) ∙ kept.reads tells;
       left = λ failed tells. subst (λ (reads : Reads). Rose reads.brought after.raw.reads.brought) (kept.reads tells) ((answers.starves wanting on).left failed (kept.raw.tells_transfers ∙ tells));
     } in
     search (rules, reading_writes)

@@ -7,7 +7,7 @@ use Rattle.py_flat.specs.Limits.{greatest_place}
 use Rattle.py_flat.specs.FlatFile.{FlatFile}
 use Rattle.py_flat.specs.Calls.{FileCall, Seek, Flush, Close, Detach, FileReply, Done, Unwritten, Refused}
 use Rattle.py_flat.specs.BinaryStep.{BinaryStep, reaches_raw, does_work, is_tell, WaitedBy, StarvedBy}
-use Rattle.py_raw.specs.RawStream.{WhereTold, KeepsReads}
+use Rattle.py_raw.specs.RawStream.{StaysOpen, WhereTold, KeepsReads}
 use Rattle.py_stream.specs.Stream.{Stream, file_of, nothing_owed}
 use Rattle.py_stream.specs.Kinds.{is_reading, is_writing, calls_none, makes_one, says_fault, says_no_memory}
 use Rattle.py_stream.specs.Writing.{OwesBehind, NoneAtPlace, PassesFront, LaysFront, LaysInOrder, PassesOn, BlocksFull, Writes}
@@ -44,6 +44,7 @@ pub record Shows (before : Stream) (call : FileCall) (reply : FileReply) (after 
   pub passes : refused_by before call ≡ None
   pub again : closes_again before call ≡ true → Leaves before Done reply after
   pub shut : parts_at_close before call reply after ≡ false → after.owed.bytes ≡ [] → ClosedWith before.life before.raw → ClosedWith after.life after.raw
+  pub parted : parts_at_close before call reply after ≡ true → StaysOpen before.raw after.raw
   pub causes : HasCauses before.raw reply after.raw after.short
   pub counted : IsTrue before.raw.counts_exactly → IsCounted before.buffer before.raw call reply after.raw after.short
   pub shorts : IsShort call reply after.short

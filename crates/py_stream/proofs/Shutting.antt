@@ -21,7 +21,7 @@ use Rattle.py_stream.specs.Stream.{Stream, file_of, nothing_owed, nothing_held}
 use Rattle.py_stream.specs.Kinds.{says_fault, says_no_memory}
 use Rattle.py_stream.specs.Replies.{done_reply}
 use Rattle.py_stream.specs.Writing.{NoneAtPlace, PassesFront, LaysFront, PassedOn, PassesOn, BlocksFull, Writes}
-use Rattle.py_stream.specs.Answers.{Answers, KeepsStream, HasCauses, IsCounted, IsShort, LifeMoves, PlaceMoves, SeekStands, IsReplyTo, SparesBytes, parts_at_close}
+use Rattle.py_stream.specs.Answers.{Answers, KeepsStream, HasCauses, IsCounted, IsShort, LifeMoves, PlaceMoves, SeekStands, IsReplyTo, SparesBytes, moves_back, parts_at_close}
 use Rattle.py_stream.specs.Settling.{PassesSome, LivesOn, FailsBack, SettleOutcome}
 use Rattle.py_stream.specs.Ending.{ClosingOutcome, ClosesRaw, CloseRawOutcome}
 use Rattle.py_stream.proofs.Begun.{answers_whole}
@@ -99,6 +99,7 @@ record ReadyToClose (old mid : Stream) : Type 0 where
   pub goes : LivesOn old mid
   pub none : mid.owed.bytes ≡ []
   pub no_wait : NoWait old.raw mid.raw
+  pub stands : moves_back old ≡ true → mid.raw_place ≡ mid.place
   pub spares : old.can.writable ≡ false → SparesBytes old Close mid
 
 -- a stream whose raw was closed once nothing was owed
@@ -110,6 +111,7 @@ record ShutsDown (old new : Stream) : Type 0 where
   pub none : new.owed.bytes ≡ []
   pub at : NoneAtPlace old → new.owed.place ≡ new.place
   pub place : new.place ≡ old.place
+  pub stands : moves_back old ≡ true → new.raw_place ≡ new.place
   pub far : new.place ≤ greatest_place
   pub short : new.short ≡ false
   pub reads : KeepsReads old.raw new.raw
@@ -130,6 +132,7 @@ shuts_down old mid new ready closes =
     let lays : WhereTold old.raw (LaysFront old [] new.raw.bytes) = λ tells. subst (LaysFront old []) (sym (bytes tells)) (passes.lays tells) in
     let holds : WhereTold old.raw (new.raw.bytes ≡ flat_of old) = λ tells. bytes tells ∙ passed_all old mid passes ready.none tells in
     let reads : KeepsReads old.raw new.raw = λ tells. closes.reads (kept.raw.tells_transfers ∙ tells) ∙ kept.reads tells in
+    let stands : moves_back old ≡ true → new.raw_place ≡ new.place = λ back. closes.raw_place ∙ ready.stands back ∙ sym closes.place in
     let spares : old.can.writable ≡ false → SparesBytes old Close new = λ reads. let spared : SparesBytes old Close mid = ready.spares reads in grind (arith, answers_still) in
     search (rules, no_wait_then)
 
@@ -163,6 +166,10 @@ done_shuts = record { shorts = λ short whole. whole; life_is = λ buffer curren
 fault_shuts : IsShutting (Refused fault.RawFault)
 fault_shuts = record { shorts = λ short whole. whole; life_is = λ buffer current. refl; place = λ buffer current place. fails_there buffer Close current place; no_want = refl; passes = λ before after passed. tt; full = λ after. tt; seeks = λ before after. tt; answer = λ buffer writes. tt }
 
+-- a raw that was moved back to the place, where it had to be, isn't parted from its stream
+closed_there : (old new : Stream) (reply : FileReply) → ShutsDown old new → parts_at_close old Close reply new ≡ false
+closed_there old new reply shuts = grind (arith, eqb_tells)
+
 shut_answers : (old new : Stream) (reply : FileReply) → Asked old Close → IsShutting reply → ShutsDown old new → ClosesWith old new reply → Answers old Close reply new
 shut_answers old new reply asked shutting shuts closes =
     let writes : Writes old Close reply new = passing_writes old Close reply new asked.none (record {
@@ -180,6 +187,7 @@ shut_answers old new reply asked shutting shuts closes =
       passes = asked.passes;
       again = λ closes_twice. absurd (cc (asked.again));
       shut = λ _ _ _. shuts.closed ∙ sym (ap is_closed shuts.life_is);
+      parted = λ parts. absurd (cc (parts, closed_there old new reply shuts));
       causes = closes.causes;
       counted = closes.counted;
       shorts = shutting.shorts new.short shuts.short;
@@ -221,17 +229,17 @@ closes_raw old mid new (Err why) ready never = absurd never
 pub close_stops : (old started new : Stream) (why : IoFault) → IsWriting (begun old) → Begins old (Ok tt) started → ClosingOutcome started (Err why) new → Answers old Close (Refused why) new
 close_stops old started new why is begins stops = answers_whole old new Close (Refused why) (closing_refuses (begun old) new why is (subst (λ (stream : Stream). ClosingOutcome stream (Err why) new) begins.1 stops))
 
-ready_writing : (old mid : Stream) → IsWriting old → SettleOutcome old (Ok tt) mid → ReadyToClose old mid
-ready_writing old mid is passed = record { asked = (close_asked old is.sound is.live is.whole).asked; goes = passed.0; none = passed.2; no_wait = passed.1; spares = λ reads. absurd (cc (is.writes)) }
+ready_writing : (old mid : Stream) → IsWriting old → ClosingOutcome old (Ok tt) mid → ReadyToClose old mid
+ready_writing old mid is passed = record { asked = (close_asked old is.sound is.live is.whole).asked; goes = passed.0.0; none = passed.0.2; no_wait = passed.0.1; stands = passed.1; spares = λ reads. absurd (cc (is.writes)) }
 
 -- a `close` is answered by the closing of the raw, once all was passed on
 pub close_answers : (old started mid new : Stream) (result : Result (Unit {0}) IoFault) → IsWriting (begun old) → Begins old (Ok tt) started → ClosingOutcome started (Ok tt) mid → CloseRawOutcome mid result new → Answers old Close (done_reply result) new
-close_answers old started mid new result is begins passed closes = answers_whole old new Close (done_reply result) (closes_raw (begun old) mid new result (ready_writing (begun old) mid is (subst (λ (stream : Stream). SettleOutcome stream (Ok tt) mid) begins.1 passed)) closes)
+close_answers old started mid new result is begins passed closes = answers_whole old new Close (done_reply result) (closes_raw (begun old) mid new result (ready_writing (begun old) mid is (subst (λ (stream : Stream). ClosingOutcome stream (Ok tt) mid) begins.1 passed)) closes)
 
-ready_at_once : (old : Stream) → IsSound old → old.life ≡ life.Live → old.short ≡ false → old.owed ≡ nothing_owed old.place → ReadyToClose old old
-ready_at_once old sound live whole none = grind arith
+ready_at_once : (old : Stream) → IsSound old → old.life ≡ life.Live → old.short ≡ false → old.owed ≡ nothing_owed old.place → moves_back old ≡ false → ReadyToClose old old
+ready_at_once old sound live whole none stays = grind arith
 
--- a `close` of a stream that owes nothing is answered by the closing of the raw
-pub close_answers_at_once : (old started new : Stream) (result : Result (Unit {0}) IoFault) → IsSound (begun old) → old.owed ≡ nothing_owed old.place → Begins old (Ok tt) started → CloseRawOutcome started result new → Answers old Close (done_reply result) new
-close_answers_at_once old started new result sound none begins closes =
-    answers_whole old new Close (done_reply result) (closes_raw (begun old) (begun old) new result (ready_at_once (begun old) sound begins.0 refl none) (subst (λ (stream : Stream). CloseRawOutcome stream result new) begins.1 closes))
+-- a `close` of a stream that owes nothing, and whose raw needn't be moved back, is answered by the closing of the raw
+pub close_answers_at_once : (old started new : Stream) (result : Result (Unit {0}) IoFault) → IsSound (begun old) → old.owed ≡ nothing_owed old.place → moves_back old ≡ false → Begins old (Ok tt) started → CloseRawOutcome started result new → Answers old Close (done_reply result) new
+close_answers_at_once old started new result sound none stays begins closes =
+    answers_whole old new Close (done_reply result) (closes_raw (begun old) (begun old) new result (ready_at_once (begun old) sound begins.0 refl none stays) (subst (λ (stream : Stream). CloseRawOutcome stream result new) begins.1 closes))

@@ -260,6 +260,7 @@ size_fails old mid new size within asks fails =
       passes = asked.passes;
       again = λ closes. absurd (cc);
       shut = λ _ none closed. keeps.stays ∙ stays_open old new.life may.live (ap is_closed fails.failed) closed;
+      parted = λ _. keeps.stays;
       causes = record { waits = λ waited. absurd (cc); faults = λ _. faulted_then old.raw mid.raw new.raw asks.settled_by.0.passes.kept.raw fails.cause };
       counted = λ exact. record { faults = λ sound. absurd (cc); waits = λ _ _. no_wait old mid new asks exact; once = λ waited. absurd (cc) };
       shorts = short;

@@ -12,7 +12,7 @@ use Rattle.py_flat.specs.Calls.{FileCall, Read, Read1, ReadLine, ReadLines, Peek
 use Rattle.py_flat.specs.Refusals.{is_getter, is_other_getter, lets_through, lacks, refusal, moved_by, target_refusal}
 use Rattle.py_flat.specs.ExactStep.{rest, is_closed}
 use Rattle.py_flat.specs.BinaryStep.{asks_end, BinaryStep}
-use Rattle.py_raw.specs.RawStream.{Raw, tells, Keeps, WhereTold, WherePlace, WhereTransfers, KeepsBytes, AnswersFor, KeepsReads, ReadsInAll}
+use Rattle.py_raw.specs.RawStream.{Raw, tells, Keeps, StaysOpen, WhereTold, WherePlace, WhereTransfers, KeepsBytes, AnswersFor, KeepsReads, ReadsInAll}
 use Rattle.py_stream.specs.Stream.{Span, Stream, size_of, buffering_of, file_of, nothing_owed}
 use Rattle.py_stream.specs.Kinds.{profile, is_reading, is_single, asks_nothing, moves_raw, reads_on, by_several, has_room, takes_space_first, calls_none, says_wait, says_fault, says_no_memory, says_given}
 use Rattle.py_stream.specs.Writing.{IsEndOf, GoesAway, StandsBare, Writes}
@@ -299,11 +299,12 @@ pub record Starves (before after : Stream) : Type 0 where
 abbrev pub BringsSome : Stream → Stream → Type 0
 BringsSome before after = WhereTransfers before.raw (Rose before.raw.reads.brought after.raw.reads.brought)
 
--- running out of memory fails a reading that may make several transfers only where bytes left the raw in this call, also where it had to
--- pass on first; one that goes on from the bytes held it leaves as it was else
+-- running out of memory fails a reading that may make several transfers exactly where bytes left the raw in this call, also where it had
+-- to pass on first; one that goes on from the bytes held it leaves as it was else
 pub record StarvesReading (before after : Stream) : Type 0 where
   pub ahead : IsAhead before → Starves before after
   pub left : after.life ≡ life.Failed → BringsSome before after
+  pub unread : after.life ≡ life.Live → KeepsReads before.raw after.raw
 
 -- where the space is taken first, the call's own running out of memory leaves all as it was
 abbrev pub StarvesFirst : Stream → FileCall → FileReply → Stream → Type 0
@@ -448,6 +449,8 @@ pub record AnswersWith (room : FileCall → Bool) (before : Stream) (call : File
   pub again : closes_again before call ≡ true → Leaves before Done reply after
   -- the raw is closed exactly where the stream is, once nothing is owed, but where it failed to move back
   pub shut : parts_at_close before call reply after ≡ false → after.owed.bytes ≡ [] → ClosedWith before.life before.raw → ClosedWith after.life after.raw
+  -- a close that failed to move the raw back doesn't close it
+  pub parted : parts_at_close before call reply after ≡ true → StaysOpen before.raw after.raw
   -- a short answer comes only where the raw's waits rose in this call, RawFault only where its faults did
   pub causes : HasCauses before.raw reply after.raw after.short
   -- no fault and no wait of a raw that counts exactly goes unanswered
@@ -467,7 +470,7 @@ pub record AnswersWith (room : FileCall → Bool) (before : Stream) (call : File
   pub goes_on : IsTrue (is_reading call) → IsAhead before → IsAhead after
   -- so does one that gave bytes and went past those that were held
   pub goes_past : IsTrue (is_reading call) → IsTrue (says_given reply) → GoesPast before after → IsAhead after
-  -- running out of memory fails a reading only once bytes left the raw, and leaves one that goes on from the bytes held as it was else
+  -- running out of memory fails a reading exactly where bytes left the raw, and leaves one that goes on from the bytes held as it was else
   pub starves : IsTrue (says_no_memory reply) → IsTrue (reads_on call) → StarvesReading before after
   -- a call that takes its space first leaves all as it was where there is none
   pub first : StarvesFirst before call reply after

@@ -1,6 +1,6 @@
 -- The one contract of buffered streams for the layer above them: what such a stream shows, over a raw stream or in memory, and what a
 -- call of it may answer and leave.
-use Rattle.std.specs.Prelude.{◌≡◌, ℕ, ◌+◌, ◌-◌, ◌≤◌, ℤ, pos, suc, zero, Bool, true, false, ◌&&◌, IsTrue, List, [], length, max, Option, Some, None, Result, Ok, Err, if◌then◌else◌}
+use Rattle.std.specs.Prelude.{◌≡◌, ◌≢◌, ℕ, ◌+◌, ◌-◌, ◌≤◌, ℤ, pos, suc, zero, Bool, true, false, ◌&&◌, IsTrue, List, [], length, max, Option, Some, None, Result, Ok, Err, if◌then◌else◌}
 use Rattle.py_flat.specs.declared.fault.IoFault.{IoFault}
 use Rattle.py_flat.specs.declared.fault.IoFault.TheVariants as fault
 use Rattle.py_flat.specs.declared.life.Life.{Life}
@@ -11,10 +11,10 @@ use Rattle.py_flat.specs.Owed.{Owed}
 use Rattle.py_flat.specs.Causes.{Rose, rose, counted}
 use Rattle.py_flat.specs.FlatFile.{Abilities, Buffering, Buffered, FlatFile}
 use Rattle.py_flat.specs.Calls.{FileCall, Read1, Write, WriteLines, Seek, Tell, Truncate, Flush, Close, FileReply, Bytes, Place, Done, Refused}
-use Rattle.py_flat.specs.Refusals.{refusal, life_refusal, lacks, or_else, refused_if, moved_by, target_refusal}
+use Rattle.py_flat.specs.Refusals.{refusal, life_refusal, is_close, lacks, or_else, refused_if, moved_by, target_refusal}
 use Rattle.py_flat.specs.ExactStep.{is_closed}
 use Rattle.py_flat.specs.BinaryStep.{asks_end, payload, BinaryStep}
-use Rattle.py_raw.specs.RawStream.{Raw, tells, Keeps, StaysOpen, WherePlace, KeepsBytes, AnswersFor, NoFault, NoWait}
+use Rattle.py_raw.specs.RawStream.{Raw, tells, Keeps, StaysOpen, WherePlace, KeepsBytes, KeepsReads, AnswersFor, NoFault, NoWait}
 use Rattle.py_stream.specs.Stream.{Stream, buffering_of, nothing_owed, nothing_held}
 use Rattle.py_stream.specs.Kinds.{is_reading, is_writing, is_single, has_room, outlasts, says_fault, says_no_memory}
 use Rattle.py_stream.specs.Writing.{OwesUpTo, OwesWithin, OwesBoth, Takes, PassesFront, PassedOn, LaysFrontOf, BlocksFull, TookOwn}
@@ -117,11 +117,6 @@ pub record LeavesBuffer (before : Buffer) (call : FileCall) (expected reply : Fi
 abbrev pub closes_twice : Buffer → FileCall → Bool
 closes_twice buffer Close = is_closed buffer.life
 closes_twice buffer call = false
-
--- closing calls
-abbrev pub is_close : FileCall → Bool
-is_close Close = true
-is_close call = false
 
 -- What becomes of the raw.
 
@@ -266,6 +261,10 @@ pub record AnswersAsBuffer (before : Buffer) (call : FileCall) (reply : FileRepl
   pub again : closes_twice before call ≡ true → LeavesBuffer before call Done reply after
   -- the raw is closed exactly where the stream is, once nothing is owed, but where a close failed to move it back
   pub shut : parts_when_closed before call reply after ≡ false → after.owed.bytes ≡ [] → IsClosedWithRaw before → IsClosedWithRaw after
+  -- a close that failed to move the raw back doesn't close it
+  pub parted : parts_when_closed before call reply after ≡ true → StaysOpen before.raw after.raw
+  -- nor does one that leaves bytes owed
+  pub unclosed : after.owed.bytes ≢ [] → StaysOpen before.raw after.raw
   -- no call but a close closes the raw of a stream whose raw is closed where it is
   pub stays : is_close call ≡ false → IsClosedWithRaw before → StaysOpen before.raw after.raw
   -- the raw of a live stream stands where the stream counts
@@ -329,23 +328,26 @@ pub record TellsPlace (before : Buffer) (result : Result ℕ IoFault) (after : B
   pub far : before.place ≤ greatest_place
   pub same : after ≡ record before { short = false }
 
--- the end was asked: all is as it was but for the raw, which keeps its bytes, where they are told, answered for no write, and wasn't closed;
--- its counts rise by no wait or fault that isn't answered
+-- the end was asked: all is as it was but for the raw, which keeps its bytes, where they are told, answered for no write, brought no byte
+-- and wasn't closed; its counts rise by no wait or fault that isn't answered
 pub record AsksForEnd (before after : Buffer) : Type 0 where
   pub same : after ≡ record before { raw = after.raw; short = false; life = after.life }
   pub raw : Keeps before.raw after.raw
   pub stays : StaysOpen before.raw after.raw
   pub bytes : KeepsBytes before.raw after.raw
   pub written : AnswersFor 0 before.raw after.raw
+  pub reads : KeepsReads before.raw after.raw
   pub no_wait : NoWait before.raw after.raw
 
--- the end is that of the flat bytes, where the stream tells them, and one that a stream can have; it isn't before that of what is owed
+-- the end is that of the flat bytes, where the stream tells them, and one that a stream can have; it isn't before that of what is owed; the
+-- raw of a live stream stands where the stream counts
 pub record SaysEnd (before : Buffer) (end : ℕ) (after : Buffer) : Type 0 where
   pub asks : AsksForEnd before after
   pub life_is : after.life ≡ before.life
   pub within : end ≤ greatest_place
   pub owed : OwesWithin before.owed end
   pub told : WhereShown before (end ≡ length (flat_of before).bytes)
+  pub stands : after.life ≡ life.Live → StandsAsCounted after
   pub no_fault : NoFault before.raw after.raw
 
 -- asking for the end failed, which fails the stream

@@ -8,10 +8,13 @@ use Rattle.py_flat.specs.Limits.{greatest_place}
 use Rattle.py_flat.specs.Causes.{Rose}
 use Rattle.py_raw.specs.RawStream.{Keeps, KeepsBytes, NoFault, NoWait, AnswersFor, KeepsReads}
 use Rattle.py_stream.specs.Stream.{Stream}
+use Rattle.py_stream.specs.Answers.{moves_back}
 use Rattle.py_stream.specs.Settling.{SettleOutcome}
 
--- all that is owed is passed on for a closing: a fault leaves the stream closed, and its raw open
+-- all that is owed is passed on for a closing, and the raw then stands at the place, if it had to be moved back; a fault leaves the stream
+-- closed, and its raw open
 abbrev pub ClosingOutcome : Stream → Result (Unit {0}) IoFault → Stream → Type 0
+ClosingOutcome old (Ok done) new = SettleOutcome old (Ok done) new × (moves_back old ≡ true → new.raw_place ≡ new.place)
 ClosingOutcome old (Err fault.RawFault) new = (failed : Stream) × SettleOutcome old (Err fault.RawFault) failed × (new ≡ record failed { life = life.Closed })
 ClosingOutcome old result new = SettleOutcome old result new
 
