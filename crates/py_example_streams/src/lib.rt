@@ -93,13 +93,12 @@ pub fn three_lines(alloc: Global) -> Result<Lines, AllocError> {
     Ok(lines)
 }
 
-/// The bytes of an answer, to be compared where they stand; none where it isn't ready.
+/// Whether an answer of a reading gives these bytes; not where it isn't ready or refused.
 ///
 /// A `?` would drop all that its function holds, which is proved anew for each: the calls of an example are compared as they are.
-pub fn shown(answer: &Result<Option<Vec<u8>>, IoFault>) -> Result<Option<&[u8]>, IoFault> {
+pub fn gives(answer: &Result<Option<Vec<u8>>, IoFault>, bytes: &[u8]) -> bool {
     match answer {
-        Ok(Some(bytes)) => Ok(Some(bytes.as_slice())),
-        Ok(None) => Ok(None),
-        Err(fault) => Err(*fault),
+        Ok(Some(given)) => given.as_slice() == bytes,
+        _ => false,
     }
 }

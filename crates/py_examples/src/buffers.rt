@@ -45,9 +45,9 @@ fn front_columns(
 fn front_columns_of_a_matrix_are_joined(rt: HostRuntime) -> Result<(), Fail> {
     let alloc = rt.alloc();
     let front = front_columns(alloc, b"abcdef", 2, 3, 2)?;
-    assert_eq!(rt; front.as_slice(), &b"abde"[..]);
+    assert!(rt; front.as_slice() == &b"abde"[..]);
     let outside = front_columns(alloc, b"abcde", 3, 3, 2); // the third row would begin after the last byte
-    assert_eq!(rt; outside.err(), Some(IoFault::BadArgument));
+    assert!(rt; outside.err() == Some(IoFault::BadArgument));
     Ok(())
 }
 
@@ -55,10 +55,10 @@ fn front_columns_of_a_matrix_are_joined(rt: HostRuntime) -> Result<(), Fail> {
 fn the_first_byte_of_a_stream_is_edited_in_place(rt: HostRuntime) -> Result<(), Fail> {
     let alloc = rt.alloc();
     let mut stream = BytesIO::new(alloc, b"abc".to_vec(alloc)?);
-    assert_eq!(rt; mark_first(&mut stream, b'x'), Ok(()));
+    assert!(rt; mark_first(&mut stream, b'x') == Ok(()));
     let bytes = stream.getvalue(alloc)?;
-    assert_eq!(rt; bytes.as_slice(), &b"xbc"[..]);
-    assert_eq!(rt; stream.write(b"yz"), Ok(2)); // the bytes are lent no more
+    assert!(rt; bytes.as_slice() == &b"xbc"[..]);
+    assert!(rt; stream.write(b"yz") == Ok(2)); // the bytes are lent no more
     Ok(())
 }
 
@@ -69,9 +69,9 @@ fn lent_bytes_of_a_stream_are_a_buffer(rt: HostRuntime) -> Result<(), Fail> {
     let export = stream.getbuffer()?;
     let mut bytes = Vec::new(alloc);
     buffer_of_stream(alloc, &stream, export)?.append_to(&mut bytes)?;
-    assert_eq!(rt; bytes.as_slice(), &b"abc"[..]);
+    assert!(rt; bytes.as_slice() == &b"abc"[..]);
     stream.release(export)?;
     let refused = buffer_of_stream(alloc, &stream, export); // that number isn't out any more
-    assert_eq!(rt; refused.err(), Some(IoFault::BadArgument));
+    assert!(rt; refused.err() == Some(IoFault::BadArgument));
     Ok(())
 }

@@ -1,6 +1,6 @@
 //! Buffered streams over a real file.
 use py_buffered::{BufferedReader, BufferedWriter};
-use py_example_streams::shown;
+use py_example_streams::gives;
 use py_raw::Opener;
 use py_raw_files::FileOpener;
 use std::path::PathBuf;
@@ -22,7 +22,7 @@ fn a_line_of_a_file_is_read(rt: HostRuntime) -> Result<(), Fail> {
     let raw = opener.open_raw(alloc, path, "rb")?;
     let mut reader = BufferedReader::new(alloc, raw, 8192)?; // refused: the fault, and the raw with nothing read
     let line = reader.readline(alloc, None); // none where it isn't ready; an empty one at the end
-    assert_eq!(rt; shown(&line), Ok(Some(b"one line\n".as_slice())));
+    assert!(rt; gives(&line, b"one line\n"));
     fs::remove_file(&rt, path)?;
     Ok(())
 }
@@ -34,9 +34,9 @@ fn a_line_is_written_to_a_file(rt: HostRuntime) -> Result<(), Fail> {
     let mut opener = FileOpener::new(&rt);
     let raw = opener.open_raw(alloc, path, "wb")?;
     let mut writer = BufferedWriter::new(alloc, raw, 8192)?; // refused: the fault, and the raw with nothing written
-    assert_eq!(rt; writer.write(b"one line\n"), Ok(9));
-    assert_eq!(rt; writer.flush(), Ok(())); // the file has it
-    assert_eq!(rt; fs::read(&rt, path)?.as_slice(), b"one line\n".as_slice());
+    assert!(rt; writer.write(b"one line\n") == Ok(9));
+    assert!(rt; writer.flush() == Ok(())); // the file has it
+    assert!(rt; fs::read(&rt, path)?.as_slice() == b"one line\n".as_slice());
     fs::remove_file(&rt, path)?;
     Ok(())
 }

@@ -56,12 +56,9 @@ fn one_fault_stands_for_all_that_may_go_wrong(rt: HostRuntime) -> Result<(), Fai
     opener.put(alloc, "held", b"one\ntwo".to_vec(alloc)?)?;
     let line = first_line(alloc, &mut opener, "held")?;
     assert!(rt; line.is_some_and(|line| line.as_slice() == b"one\n".as_slice()));
-    assert_eq!(rt;
-        first_line(alloc, &mut opener, "missing").err(),
-        Some(IoFault::RawFault)
-    );
-    assert_eq!(rt; open_by(alloc, "rb"), Ok(()));
-    assert_eq!(rt; open_by(alloc, "wb"), Err(IoFault::Unsupported));
+    assert!(rt; first_line(alloc, &mut opener, "missing").err() == Some(IoFault::RawFault));
+    assert!(rt; open_by(alloc, "rb") == Ok(()));
+    assert!(rt; open_by(alloc, "wb") == Err(IoFault::Unsupported));
     Ok(())
 }
 
@@ -72,23 +69,20 @@ fn an_error_of_io_has_the_message_and_the_kind(rt: HostRuntime) -> Result<(), Fa
     let missing = print_first_line(&rt, &mut opener, "missing")
         .err()
         .ok_or("it was opened")?;
-    assert_eq!(rt; missing.to_string(alloc)?.as_str(), "the opener failed");
+    assert!(rt; missing.to_string(alloc)?.as_str() == "the opener failed");
     let refused = io::Error::from(IoFault::UnicodeDecodeError { start: 2, end: 5 });
-    assert_eq!(rt; refused.kind(), io::ErrorKind::InvalidData);
-    assert_eq!(rt;
-        refused.to_string(alloc)?.as_str(),
-        "can't decode bytes in position 2-4"
-    );
+    assert!(rt; refused.kind() == io::ErrorKind::InvalidData);
+    assert!(rt; refused.to_string(alloc)?.as_str() == "can't decode bytes in position 2-4");
     Ok(())
 }
 
 #[test]
 fn a_refused_reader_is_shown_as_its_fault(rt: HostRuntime) -> Result<(), Fail> {
     let alloc = rt.alloc();
-    assert_eq!(rt; buffer_of(alloc, b"one", 16)?, 16);
+    assert!(rt; buffer_of(alloc, b"one", 16)? == 16);
     let refused = buffer_of(alloc, b"one", 0)
         .err()
         .ok_or("a buffer of 0 bytes was taken")?;
-    assert_eq!(rt; refused.to_string(alloc)?.as_str(), "invalid argument");
+    assert!(rt; refused.to_string(alloc)?.as_str() == "invalid argument");
     Ok(())
 }

@@ -18,13 +18,10 @@ fn a_text_is_read_by_a_line_and_then_to_its_end(rt: HostRuntime) -> Result<(), F
     let run = run_session(alloc, raw, "r", args, &calls)?; // refused: the fault, and the raw with nothing read
     let line = Reply::Text(Chars::from_text(alloc, "é\n")?);
     let rest = Reply::Text(Chars::from_text(alloc, "x")?);
-    assert_eq!(rt;
-        run.replies.as_slice(),
-        [line, rest, Reply::Done].as_slice()
-    );
+    assert!(rt; run.replies.as_slice() == [line, rest, Reply::Done].as_slice());
     let handed = run.session.finish(); // the raw again
     assert!(rt; handed.raw.closed());
-    assert_eq!(rt; handed.raw.bytes_of(), [0xC3, 0xA9, 0x0A, 0x78].as_slice());
+    assert!(rt; handed.raw.bytes_of() == [0xC3, 0xA9, 0x0A, 0x78].as_slice());
     Ok(())
 }
 
@@ -39,12 +36,9 @@ fn bytes_are_written_and_passed_on(rt: HostRuntime) -> Result<(), Fail> {
         Call::Close,
     ];
     let run = run_session(alloc, raw, "wb", OpenArgs::default(), &calls)?;
-    assert_eq!(rt;
-        run.replies.as_slice(),
-        [Reply::Count(2), Reply::Done, Reply::Done].as_slice()
-    );
+    assert!(rt; run.replies.as_slice() == [Reply::Count(2), Reply::Done, Reply::Done].as_slice());
     let handed = run.session.finish(); // the raw, and what it hasn't got
-    assert_eq!(rt; handed.raw.bytes_of(), &b"a\n"[..]);
+    assert!(rt; handed.raw.bytes_of() == &b"a\n"[..]);
     assert!(rt; handed.unwritten.is_empty());
     Ok(())
 }
@@ -69,7 +63,7 @@ fn a_session_goes_on_call_by_call(rt: HostRuntime) -> Result<(), Fail> {
     assert!(rt; session.call(alloc, &Call::Read(None)) == rest);
     assert!(rt; !session.short());
     assert!(rt; session.call(alloc, &Call::Close) == Reply::Done);
-    assert_eq!(rt; session.life(), Life::Closed);
+    assert!(rt; session.life() == Life::Closed);
     Ok(())
 }
 

@@ -29,7 +29,7 @@ fn lines_of_a_text_come_one_by_one(rt: HostRuntime) -> Result<(), Fail> {
             joined.push('|')?;
         }
     }
-    assert_eq!(rt; joined.as_str(), "é\n|\n|x|");
+    assert!(rt; joined.as_str() == "é\n|\n|x|");
     Ok(())
 }
 
@@ -43,7 +43,7 @@ fn lines_of_a_text_end_after_a_refused_range(rt: HostRuntime) -> Result<(), Fail
         .next()
         .ok_or("there is no line")??
         .ok_or("the text waits")?;
-    assert_eq!(rt; first.as_str(), "a\n");
+    assert!(rt; first.as_str() == "a\n");
     assert!(rt; lines.next() == Some(Err(refused)));
     assert!(rt; lines.next() == None);
     // the text stands where it stood, so the same line is refused again

@@ -1,6 +1,6 @@
 //! A buffered stream that is read and written: the example of docs/BUFFERED.md.
 use py_buffered_random::BufferedRandom;
-use py_example_streams::{random_over, shown};
+use py_example_streams::{gives, random_over};
 use py_raw::{IoFault, RawFlags};
 use py_raw_memory::MemRaw;
 use std::test::Fail;
@@ -10,38 +10,20 @@ fn a_record_is_changed_in_its_middle(rt: HostRuntime) -> Result<(), Fail> {
     let alloc = rt.alloc();
     // three records of eight bytes
     let mut stream = random_over(alloc, b"ann:03;\nbob:07;\ncyd:12;\n", &[], &[], 8192)?;
-    assert_eq!(rt;
-        shown(&stream.read(alloc, Some(8))),
-        Ok(Some(&b"ann:03;\n"[..]))
-    );
-    assert_eq!(rt;
-        shown(&stream.read(alloc, Some(8))),
-        Ok(Some(&b"bob:07;\n"[..]))
-    );
+    assert!(rt; gives(&stream.read(alloc, Some(8)), b"ann:03;\n"));
+    assert!(rt; gives(&stream.read(alloc, Some(8)), b"bob:07;\n"));
     // two bytes in the middle of the second record
-    assert_eq!(rt; stream.seek(12, 0), Ok(12));
-    assert_eq!(rt; stream.write(b"08"), Ok(2));
+    assert!(rt; stream.seek(12, 0) == Ok(12));
+    assert!(rt; stream.write(b"08") == Ok(2));
     // on to the third, and back: the change is read
-    assert_eq!(rt; stream.seek(16, 0), Ok(16));
-    assert_eq!(rt;
-        shown(&stream.read(alloc, Some(8))),
-        Ok(Some(&b"cyd:12;\n"[..]))
-    );
-    assert_eq!(rt; stream.seek(8, 0), Ok(8));
-    assert_eq!(rt;
-        shown(&stream.read(alloc, Some(8))),
-        Ok(Some(&b"bob:08;\n"[..]))
-    );
+    assert!(rt; stream.seek(16, 0) == Ok(16));
+    assert!(rt; gives(&stream.read(alloc, Some(8)), b"cyd:12;\n"));
+    assert!(rt; stream.seek(8, 0) == Ok(8));
+    assert!(rt; gives(&stream.read(alloc, Some(8)), b"bob:08;\n"));
     // the raw has it after a flush
-    assert_eq!(rt;
-        stream.raw().map(MemRaw::bytes_of),
-        Some(&b"ann:03;\nbob:07;\ncyd:12;\n"[..])
-    );
-    assert_eq!(rt; stream.flush(), Ok(()));
-    assert_eq!(rt;
-        stream.raw().map(MemRaw::bytes_of),
-        Some(&b"ann:03;\nbob:08;\ncyd:12;\n"[..])
-    );
+    assert!(rt; stream.raw().map(MemRaw::bytes_of) == Some(&b"ann:03;\nbob:07;\ncyd:12;\n"[..]));
+    assert!(rt; stream.flush() == Ok(()));
+    assert!(rt; stream.raw().map(MemRaw::bytes_of) == Some(&b"ann:03;\nbob:08;\ncyd:12;\n"[..]));
     Ok(())
 }
 
@@ -49,13 +31,13 @@ fn a_record_is_changed_in_its_middle(rt: HostRuntime) -> Result<(), Fail> {
 fn what_was_written_at_the_end_is_read_and_cut(rt: HostRuntime) -> Result<(), Fail> {
     let alloc = rt.alloc();
     let mut stream = random_over(alloc, b"ab", &[], &[], 8)?;
-    assert_eq!(rt; stream.seek(2, 0), Ok(2));
-    assert_eq!(rt; stream.write(b"cdef"), Ok(4));
-    assert_eq!(rt; stream.seek(2, 0), Ok(2));
-    assert_eq!(rt; shown(&stream.read(alloc, Some(4))), Ok(Some(&b"cdef"[..])));
-    assert_eq!(rt; stream.truncate(Some(3)), Ok(3));
-    assert_eq!(rt; stream.seek(0, 0), Ok(0));
-    assert_eq!(rt; shown(&stream.read(alloc, None)), Ok(Some(&b"abc"[..])));
+    assert!(rt; stream.seek(2, 0) == Ok(2));
+    assert!(rt; stream.write(b"cdef") == Ok(4));
+    assert!(rt; stream.seek(2, 0) == Ok(2));
+    assert!(rt; gives(&stream.read(alloc, Some(4)), b"cdef"));
+    assert!(rt; stream.truncate(Some(3)) == Ok(3));
+    assert!(rt; stream.seek(0, 0) == Ok(0));
+    assert!(rt; gives(&stream.read(alloc, None), b"abc"));
     Ok(())
 }
 
@@ -68,8 +50,8 @@ fn a_raw_that_cant_be_written_to_is_handed_back(rt: HostRuntime) -> Result<(), F
     let Err(refused) = BufferedRandom::new(alloc, raw, 8) else {
         return Err(Fail::from("not refused"));
     };
-    assert_eq!(rt; refused.fault, IoFault::Unsupported);
-    assert_eq!(rt; refused.raw.bytes_of(), &b"abc"[..]);
+    assert!(rt; refused.fault == IoFault::Unsupported);
+    assert!(rt; refused.raw.bytes_of() == &b"abc"[..]);
     Ok(())
 }
 
@@ -82,7 +64,7 @@ fn a_buffer_of_no_bytes_is_refused(rt: HostRuntime) -> Result<(), Fail> {
     let Err(refused) = BufferedRandom::new(alloc, raw, 0) else {
         return Err(Fail::from("not refused"));
     };
-    assert_eq!(rt; refused.fault, IoFault::BadArgument);
-    assert_eq!(rt; refused.raw.bytes_of(), &b"abc"[..]);
+    assert!(rt; refused.fault == IoFault::BadArgument);
+    assert!(rt; refused.raw.bytes_of() == &b"abc"[..]);
     Ok(())
 }

@@ -107,7 +107,7 @@ fn broken(alloc: Global, count: usize) -> Result<Vec<Cut>, Fail> {
 #[test]
 fn no_byte_is_lost_whichever_call_of_the_raw_fails(rt: HostRuntime) -> Result<(), Fail> {
     for fault in 1..30 {
-        assert_eq!(rt; made(rt.alloc(), &[], &[fault])?.as_slice(), MADE);
+        assert!(rt; made(rt.alloc(), &[], &[fault])?.as_slice() == MADE);
     }
     Ok(())
 }
@@ -116,7 +116,7 @@ fn no_byte_is_lost_whichever_call_of_the_raw_fails(rt: HostRuntime) -> Result<()
 fn no_byte_is_lost_wherever_a_transfer_breaks_off(rt: HostRuntime) -> Result<(), Fail> {
     for count in 0..40 {
         let plan = broken(rt.alloc(), count)?;
-        assert_eq!(rt; made(rt.alloc(), &plan, &[])?.as_slice(), MADE);
+        assert!(rt; made(rt.alloc(), &plan, &[])?.as_slice() == MADE);
     }
     Ok(())
 }

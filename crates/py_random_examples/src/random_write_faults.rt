@@ -1,5 +1,5 @@
 //! Faults of the writes, the truncation and the closing of a buffered stream that is read and written: examples of docs/FAULTS.md.
-use py_example_streams::{random_over, shown, three_lines, written_back};
+use py_example_streams::{gives, random_over, three_lines, written_back};
 use py_raw::{IoFault, Life, RawStream};
 use py_raw_memory::{Cut, MemRaw};
 use std::test::Fail;
@@ -9,18 +9,18 @@ fn a_write_that_has_no_room_is_made_again_where_it_began(rt: HostRuntime) -> Res
     let alloc = rt.alloc();
     // the raw takes one byte, and then fails
     let mut stream = random_over(alloc, b"0123456789", &[Cut::Take(1), Cut::Break(0)], &[], 4)?;
-    assert_eq!(rt; stream.write(b"abc"), Ok(3));
-    assert_eq!(rt; stream.seek(1, 0), Ok(1)); // where the next write begins
-    assert_eq!(rt; stream.write(b"wxyz"), Err(IoFault::RawFault)); // there was no room, and the raw failed
-    assert_eq!(rt; stream.taken(), 0); // none of `wxyz` was taken
+    assert!(rt; stream.write(b"abc") == Ok(3));
+    assert!(rt; stream.seek(1, 0) == Ok(1)); // where the next write begins
+    assert!(rt; stream.write(b"wxyz") == Err(IoFault::RawFault)); // there was no room, and the raw failed
+    assert!(rt; stream.taken() == 0); // none of `wxyz` was taken
     let detached = stream.detach()?;
-    assert_eq!(rt; detached.unwritten.as_slice(), &b"bc"[..]);
-    assert_eq!(rt; detached.place, Some(1));
+    assert!(rt; detached.unwritten.as_slice() == &b"bc"[..]);
+    assert!(rt; detached.place == Some(1));
     let mut stream = written_back(alloc, detached, 4)?;
-    assert_eq!(rt; stream.seek(1, 0), Ok(1)); // 1 and 0: it stood behind `bc`
-    assert_eq!(rt; stream.write(b"wxyz"), Ok(4));
+    assert!(rt; stream.seek(1, 0) == Ok(1)); // 1 and 0: it stood behind `bc`
+    assert!(rt; stream.write(b"wxyz") == Ok(4));
     let detached = stream.detach()?;
-    assert_eq!(rt; detached.raw.bytes_of(), &b"awxyz56789"[..]);
+    assert!(rt; detached.raw.bytes_of() == &b"awxyz56789"[..]);
     Ok(())
 }
 
@@ -29,16 +29,16 @@ fn a_large_write_that_fails_goes_on_behind_what_was_taken(rt: HostRuntime) -> Re
     let alloc = rt.alloc();
     // the raw takes four bytes, and then fails
     let mut stream = random_over(alloc, b"0123456789", &[Cut::Take(4), Cut::Break(0)], &[], 4)?;
-    assert_eq!(rt; stream.write(b"abcdefghi"), Err(IoFault::RawFault));
-    assert_eq!(rt; stream.life(), Life::Failed);
-    assert_eq!(rt; stream.taken(), 4); // the raw has them
+    assert!(rt; stream.write(b"abcdefghi") == Err(IoFault::RawFault));
+    assert!(rt; stream.life() == Life::Failed);
+    assert!(rt; stream.taken() == 4); // the raw has them
     let detached = stream.detach()?;
     assert!(rt; detached.unwritten.is_empty());
-    assert_eq!(rt; detached.place, Some(4));
+    assert!(rt; detached.place == Some(4));
     let mut stream = written_back(alloc, detached, 4)?;
-    assert_eq!(rt; stream.write(b"efghi"), Ok(5)); // from the fifth byte on
+    assert!(rt; stream.write(b"efghi") == Ok(5)); // from the fifth byte on
     let detached = stream.detach()?;
-    assert_eq!(rt; detached.raw.bytes_of(), &b"abcdefghi9"[..]);
+    assert!(rt; detached.raw.bytes_of() == &b"abcdefghi9"[..]);
     Ok(())
 }
 
@@ -49,17 +49,17 @@ fn lines_that_fail_go_on_behind_what_was_taken(rt: HostRuntime) -> Result<(), Fa
     let plan = [Cut::Take(4), Cut::Take(3), Cut::Break(0)];
     let mut stream = random_over(alloc, b"0123456789", &plan, &[], 4)?;
     let lines = three_lines(alloc)?;
-    assert_eq!(rt; shown(&stream.read(alloc, Some(2))), Ok(Some(&b"01"[..])));
-    assert_eq!(rt; stream.writelines(&lines), Err(IoFault::RawFault)); // three lines of four bytes, from place 2
-    assert_eq!(rt; stream.taken(), 4); // the first line
+    assert!(rt; gives(&stream.read(alloc, Some(2)), b"01"));
+    assert!(rt; stream.writelines(&lines) == Err(IoFault::RawFault)); // three lines of four bytes, from place 2
+    assert!(rt; stream.taken() == 4); // the first line
     let detached = stream.detach()?;
-    assert_eq!(rt; detached.unwritten.as_slice(), &b"\n"[..]); // its end; the raw has `abc`
-    assert_eq!(rt; detached.place, Some(5));
+    assert!(rt; detached.unwritten.as_slice() == &b"\n"[..]); // its end; the raw has `abc`
+    assert!(rt; detached.place == Some(5));
     let mut stream = written_back(alloc, detached, 4)?;
-    assert_eq!(rt; stream.seek(6, 0), Ok(6)); // 2 and 4
-    assert_eq!(rt; stream.write(b"def\nghi\n"), Ok(8)); // what is left of the lines joined
+    assert!(rt; stream.seek(6, 0) == Ok(6)); // 2 and 4
+    assert!(rt; stream.write(b"def\nghi\n") == Ok(8)); // what is left of the lines joined
     let detached = stream.detach()?;
-    assert_eq!(rt; detached.raw.bytes_of(), &b"01abc\ndef\nghi\n"[..]);
+    assert!(rt; detached.raw.bytes_of() == &b"01abc\ndef\nghi\n"[..]);
     Ok(())
 }
 
@@ -68,17 +68,17 @@ fn a_truncate_that_fails_to_pass_on_is_made_again(rt: HostRuntime) -> Result<(),
     let alloc = rt.alloc();
     // the raw takes one byte, and then fails
     let mut stream = random_over(alloc, b"0123456789", &[Cut::Take(1), Cut::Break(0)], &[], 4)?;
-    assert_eq!(rt; stream.write(b"abc"), Ok(3));
-    assert_eq!(rt; stream.truncate(Some(5)), Err(IoFault::RawFault));
-    assert_eq!(rt; stream.life(), Life::Failed);
+    assert!(rt; stream.write(b"abc") == Ok(3));
+    assert!(rt; stream.truncate(Some(5)) == Err(IoFault::RawFault));
+    assert!(rt; stream.life() == Life::Failed);
     let detached = stream.detach()?;
-    assert_eq!(rt; detached.raw.bytes_of(), &b"a123456789"[..]); // nothing was cut
-    assert_eq!(rt; detached.unwritten.as_slice(), &b"bc"[..]);
-    assert_eq!(rt; detached.place, Some(1));
+    assert!(rt; detached.raw.bytes_of() == &b"a123456789"[..]); // nothing was cut
+    assert!(rt; detached.unwritten.as_slice() == &b"bc"[..]);
+    assert!(rt; detached.place == Some(1));
     let mut stream = written_back(alloc, detached, 4)?;
-    assert_eq!(rt; stream.truncate(Some(5)), Ok(5));
+    assert!(rt; stream.truncate(Some(5)) == Ok(5));
     let detached = stream.detach()?;
-    assert_eq!(rt; detached.raw.bytes_of(), &b"abc34"[..]);
+    assert!(rt; detached.raw.bytes_of() == &b"abc34"[..]);
     Ok(())
 }
 
@@ -87,16 +87,16 @@ fn a_raw_that_fails_to_take_a_size_has_what_was_written(rt: HostRuntime) -> Resu
     let alloc = rt.alloc();
     // the third call of the raw fails: it was asked where it stands, then written to, then given the size
     let mut stream = random_over(alloc, b"0123456789", &[], &[2], 4)?;
-    assert_eq!(rt; stream.write(b"abc"), Ok(3));
-    assert_eq!(rt; stream.truncate(Some(5)), Err(IoFault::RawFault));
+    assert!(rt; stream.write(b"abc") == Ok(3));
+    assert!(rt; stream.truncate(Some(5)) == Err(IoFault::RawFault));
     let detached = stream.detach()?;
     assert!(rt; detached.unwritten.is_empty());
-    assert_eq!(rt; detached.place, Some(3)); // the stream's own
-    assert_eq!(rt; detached.raw.bytes_of(), &b"abc3456789"[..]); // of another raw they might be cut
+    assert!(rt; detached.place == Some(3)); // the stream's own
+    assert!(rt; detached.raw.bytes_of() == &b"abc3456789"[..]); // of another raw they might be cut
     let mut stream = written_back(alloc, detached, 4)?;
-    assert_eq!(rt; stream.truncate(Some(5)), Ok(5));
+    assert!(rt; stream.truncate(Some(5)) == Ok(5));
     let detached = stream.detach()?;
-    assert_eq!(rt; detached.raw.bytes_of(), &b"abc34"[..]);
+    assert!(rt; detached.raw.bytes_of() == &b"abc34"[..]);
     Ok(())
 }
 
@@ -105,21 +105,18 @@ fn a_close_that_fails_to_pass_on_is_made_again(rt: HostRuntime) -> Result<(), Fa
     let alloc = rt.alloc();
     // the raw takes one byte, and then fails
     let mut stream = random_over(alloc, b"0123456789", &[Cut::Take(1), Cut::Break(0)], &[], 4)?;
-    assert_eq!(rt; stream.write(b"abc"), Ok(3));
-    assert_eq!(rt; stream.close(), Err(IoFault::RawFault));
-    assert_eq!(rt; stream.life(), Life::Closed);
+    assert!(rt; stream.write(b"abc") == Ok(3));
+    assert!(rt; stream.close() == Err(IoFault::RawFault));
+    assert!(rt; stream.life() == Life::Closed);
     let Some(parts) = stream.into_parts() else {
         return Err(Fail::from("detached"));
     };
     assert!(rt; !parts.raw.closed()); // the raw wasn't asked to close
-    assert_eq!(rt; parts.unwritten.as_slice(), &b"bc"[..]);
-    assert_eq!(rt; parts.place, Some(1));
+    assert!(rt; parts.unwritten.as_slice() == &b"bc"[..]);
+    assert!(rt; parts.place == Some(1));
     let mut stream = written_back(alloc, parts, 4)?;
-    assert_eq!(rt; stream.close(), Ok(()));
-    assert_eq!(rt;
-        stream.raw().map(MemRaw::bytes_of),
-        Some(&b"abc3456789"[..])
-    );
+    assert!(rt; stream.close() == Ok(()));
+    assert!(rt; stream.raw().map(MemRaw::bytes_of) == Some(&b"abc3456789"[..]));
     Ok(())
 }
 
@@ -128,16 +125,16 @@ fn a_raw_that_fails_to_be_moved_back_stays_open(rt: HostRuntime) -> Result<(), F
     let alloc = rt.alloc();
     // the third call of the raw fails: it was asked where it stands, then written to, then moved back to the place
     let mut stream = random_over(alloc, b"0123456789", &[], &[2], 4)?;
-    assert_eq!(rt; stream.write(b"abc"), Ok(3));
-    assert_eq!(rt; stream.seek(1, 0), Ok(1)); // among the bytes held: no raw is called
-    assert_eq!(rt; stream.close(), Err(IoFault::RawFault));
-    assert_eq!(rt; stream.life(), Life::Closed);
+    assert!(rt; stream.write(b"abc") == Ok(3));
+    assert!(rt; stream.seek(1, 0) == Ok(1)); // among the bytes held: no raw is called
+    assert!(rt; stream.close() == Err(IoFault::RawFault));
+    assert!(rt; stream.life() == Life::Closed);
     let Some(mut parts) = stream.into_parts() else {
         return Err(Fail::from("detached"));
     };
-    assert_eq!(rt; parts.raw.bytes_of(), &b"abc3456789"[..]); // it has every byte
+    assert!(rt; parts.raw.bytes_of() == &b"abc3456789"[..]); // it has every byte
     assert!(rt; parts.unwritten.is_empty());
-    assert_eq!(rt; parts.place, Some(1));
+    assert!(rt; parts.place == Some(1));
     assert!(rt; !parts.raw.closed()); // it wasn't asked to close
     assert!(rt; parts.raw.close().is_ok());
     Ok(())
@@ -150,14 +147,14 @@ fn a_raw_that_is_read_and_written_and_fails_to_close_is_closed(
     let alloc = rt.alloc();
     // the third call of the raw fails: it was asked where it stands, then written to, then closed
     let mut stream = random_over(alloc, b"0123456789", &[], &[2], 4)?;
-    assert_eq!(rt; stream.write(b"abc"), Ok(3));
-    assert_eq!(rt; stream.close(), Err(IoFault::RawFault));
-    assert_eq!(rt; stream.life(), Life::Closed);
+    assert!(rt; stream.write(b"abc") == Ok(3));
+    assert!(rt; stream.close() == Err(IoFault::RawFault));
+    assert!(rt; stream.life() == Life::Closed);
     let Some(parts) = stream.into_parts() else {
         return Err(Fail::from("detached"));
     };
     assert!(rt; parts.raw.closed()); // closed it is, though it said that it failed
     assert!(rt; parts.unwritten.is_empty());
-    assert_eq!(rt; parts.raw.bytes_of(), &b"abc3456789"[..]);
+    assert!(rt; parts.raw.bytes_of() == &b"abc3456789"[..]);
     Ok(())
 }

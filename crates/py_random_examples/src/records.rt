@@ -1,6 +1,6 @@
 //! A store of records that are changed in place, over a raw that fails in the middle: the example of docs/FAULTS.md.
 use py_buffered_random::{BufferedRandom, Whence};
-use py_example_streams::{random_over, shown, written_back};
+use py_example_streams::{gives, random_over, written_back};
 use py_raw::{IoFault, RawStream};
 use py_raw_memory::MemRaw;
 use std::alloc::Global;
@@ -81,10 +81,7 @@ fn all_counted(alloc: Global, fault: u64) -> Result<Option<Vec<u8>>, Fail> {
 #[test]
 fn no_record_is_lost_where_the_raw_fails(rt: HostRuntime) -> Result<(), Fail> {
     for fault in 1..40 {
-        assert_eq!(rt;
-            shown(&Ok(all_counted(rt.alloc(), fault)?)),
-            Ok(Some(COUNTED_UP))
-        );
+        assert!(rt; gives(&Ok(all_counted(rt.alloc(), fault)?), COUNTED_UP));
     }
     Ok(())
 }
