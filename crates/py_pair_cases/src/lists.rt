@@ -25,14 +25,14 @@ fn raw_of(alloc: Global, bytes: &[u8], reads: bool, plan: &[Cut], faults: &[u64]
     ))
 }
 
-/// A pair over three bytes to be read and a writer that goes by a plan; the calls with these numbers fail.
+/// A pair over two bytes to be read and a writer that goes by a plan; the calls with these numbers fail.
 fn pair_of(
     alloc: Global,
     plan: &[Cut],
     reader_faults: &[u64],
     writer_faults: &[u64],
 ) -> Result<BufferedRWPair<MemRaw, MemRaw>> {
-    let reader = raw_of(alloc, b"xyz", true, &[], reader_faults)?;
+    let reader = raw_of(alloc, b"xy", true, &[], reader_faults)?;
     let writer = raw_of(alloc, b"", false, plan, writer_faults)?;
     match BufferedRWPair::new(alloc, reader, writer, BUFFER) {
         Ok(pair) => Ok(pair),
