@@ -36,8 +36,8 @@ fn write_letter<R: RawStream>(rt: &impl Abort, raw: &mut R, behind: bool)
     let end = raw.end().expect(rt, "an end");
     let place = if behind { end } else { 0 };
     assert!(rt; place < 100);
-    assert_eq!(rt; raw.seek(place), Ok(()));
-    assert_eq!(rt; raw.write(b"N"), Ok(Some(1)));
+    assert!(rt; raw.seek(place) == Ok(()));
+    assert!(rt; raw.write(b"N") == Ok(Some(1)));
 }
 
 /// Opens a path by a mode, writes a letter where it can be written, and puts it away. Whether it opened: else the opener
@@ -52,16 +52,16 @@ fn opens<O: Opener>(
     assert!(rt; is_raw_mode(mode));
     match opener.open_raw(alloc, path, mode) {
         Ok(mut raw) => {
-            assert_eq!(rt; raw.readable(), mode.contains('r') || mode.contains('+'));
+            assert!(rt; raw.readable() == (mode.contains('r') || mode.contains('+')));
             assert!(rt; raw.seekable());
             if raw.writable() {
                 write_letter(rt, &mut raw, mode.contains('a'));
             }
-            assert_eq!(rt; opener.done(path, raw), Ok(()));
+            assert!(rt; opener.done(path, raw) == Ok(()));
             true
         }
         Err(error) => {
-            assert_eq!(rt; error, OpenError::Fault);
+            assert!(rt; error == OpenError::Fault);
             false
         }
     }
@@ -90,11 +90,11 @@ fn each_mode_opens_a_real_file_as_it_should(rt: HostRuntime) -> Result<(), Fail>
     let mut opener = FileOpener::new(&rt);
     for (mode, missing, existing) in EACH_MODE {
         let made = opens(&rt, alloc, &mut opener, path, mode);
-        assert_eq!(rt; made, missing.is_some(), "{mode} of a missing path");
+        assert!(rt; made == missing.is_some(), "{mode} of a missing path");
         assert_holds(&rt, path, missing, mode);
         fs::write(&rt, path, "old")?;
         let opened = opens(&rt, alloc, &mut opener, path, mode);
-        assert_eq!(rt; opened, existing.is_some(), "{mode} of a file");
+        assert!(rt; opened == existing.is_some(), "{mode} of a file");
         assert_holds(&rt, path, existing.or(Some("old")), mode);
         fs::remove_file(&rt, path)?;
         assert!(rt;
@@ -110,13 +110,13 @@ fn the_last_error_is_what_the_system_said_of_a_path(rt: HostRuntime) -> Result<(
     let alloc = rt.alloc();
     let folder = env::temp_dir(&rt)?;
     let mut opener = FileOpener::new(&rt);
-    assert_eq!(rt; opener.last_error(), None);
+    assert!(rt; opener.last_error() == None);
     for (path, kind) in [
         (folder.as_str(), ErrorKind::IsADirectory),
         ("py_adapter_tests, missing", ErrorKind::NotFound),
     ] {
         assert!(rt; !opens(&rt, alloc, &mut opener, path, "rb"));
-        assert_eq!(rt; opener.last_error(), Some(kind));
+        assert!(rt; opener.last_error() == Some(kind));
     }
     Ok(())
 }
@@ -163,7 +163,7 @@ fn assert_rb_alone_opens<O: Opener>(
 ) -> Result<(), Fail> {
     let held = fs::read(rt, path)?;
     let opened = opens(rt, alloc, opener, path, mode);
-    assert_eq!(rt; opened, mode == "rb", "at {mode}");
+    assert!(rt; opened == (mode == "rb"), "at {mode}");
     assert!(rt; fs::read(rt, path)? == held, "at {mode}");
     Ok(())
 }
@@ -197,19 +197,19 @@ fn passes_a_byte<O: Opener, R: Read, W: Write>(
     assert!(rt; !raw.seekable());
     let mut buf = [0; 4];
     if raw.writable() {
-        assert_eq!(rt; raw.write(b"w").ok(), Some(Some(1)));
-        assert_eq!(rt; reader.read(&mut buf).ok(), Some(1));
-        assert_eq!(rt; buf[0], b'w');
+        assert!(rt; raw.write(b"w").ok() == Some(Some(1)));
+        assert!(rt; reader.read(&mut buf).ok() == Some(1));
+        assert!(rt; buf[0] == b'w');
     }
     if raw.readable() {
-        assert_eq!(rt; writer.write(b"r").ok(), Some(1));
-        assert_eq!(rt; raw.readinto(&mut buf), Ok(Some(1)));
-        assert_eq!(rt; buf[0], b'r');
+        assert!(rt; writer.write(b"r").ok() == Some(1));
+        assert!(rt; raw.readinto(&mut buf) == Ok(Some(1)));
+        assert!(rt; buf[0] == b'r');
     }
-    assert_eq!(rt; raw.seek(0), Err(RawError::Fault));
-    assert_eq!(rt; raw.tell(), Err(RawError::Fault));
-    assert_eq!(rt; raw.end(), Err(RawError::Fault));
-    assert_eq!(rt; opener.done(path, raw), Ok(()));
+    assert!(rt; raw.seek(0) == Err(RawError::Fault));
+    assert!(rt; raw.tell() == Err(RawError::Fault));
+    assert!(rt; raw.end() == Err(RawError::Fault));
+    assert!(rt; opener.done(path, raw) == Ok(()));
     true
 }
 
@@ -222,7 +222,7 @@ fn each_mode_opens_a_pipe_but_those_that_make_a_file(rt: HostRuntime) -> Result<
     for (mode, _, _) in EACH_MODE {
         let ends = (&mut reader, &mut writer);
         let opened = passes_a_byte(&rt, alloc, &mut opener, ends, path.as_str(), mode);
-        assert_eq!(rt; opened, !mode.contains('x'), "at {mode}");
+        assert!(rt; opened == !mode.contains('x'), "at {mode}");
     }
     Ok(())
 }
@@ -246,7 +246,7 @@ fn only_one_error_says_that_a_file_can_t_seek(rt: HostRuntime) -> Result<(), Fai
             Ok(raw) => assert!(rt; last_error.is_none() && !raw.seekable()),
             Err(error) => assert!(rt; last_error.is_some() && error == OpenError::Fault),
         }
-        assert_eq!(rt; opener.last_error(), last_error);
+        assert!(rt; opener.last_error() == last_error);
     }
     Ok(())
 }

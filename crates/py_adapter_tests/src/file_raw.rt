@@ -20,13 +20,10 @@ fn would_block_and_interrupted_are_waits_and_the_rest_are_faults(rt: HostRuntime
     ];
     for (step, answer, faults, waits) in table {
         let mut raw = FileRaw::new(Fake { step, stands: 0 }, true, true, false);
-        assert_eq!(rt; raw.readinto(&mut [0; 3]), answer);
-        assert_eq!(rt; (raw.counts().faults, raw.counts().waits), (faults, waits));
-        assert_eq!(rt; raw.write(b"abc"), answer);
-        assert_eq!(rt;
-            (raw.counts().faults, raw.counts().waits),
-            (2 * faults, 2 * waits)
-        );
+        assert!(rt; raw.readinto(&mut [0; 3]) == answer);
+        assert!(rt; (raw.counts().faults, raw.counts().waits) == (faults, waits));
+        assert!(rt; raw.write(b"abc") == answer);
+        assert!(rt; (raw.counts().faults, raw.counts().waits) == (2 * faults, 2 * waits));
     }
 }
 
@@ -37,10 +34,10 @@ fn a_write_that_takes_nothing_is_a_fault(rt: HostRuntime) {
         stands: 0,
     };
     let mut raw = FileRaw::new(file, false, true, false);
-    assert_eq!(rt; raw.write(b""), Ok(Some(0)));
-    assert_eq!(rt; raw.counts().faults, 0);
-    assert_eq!(rt; raw.write(b"abc"), Ok(Some(0)));
-    assert_eq!(rt; raw.counts().faults, 1);
+    assert!(rt; raw.write(b"") == Ok(Some(0)));
+    assert!(rt; raw.counts().faults == 0);
+    assert!(rt; raw.write(b"abc") == Ok(Some(0)));
+    assert!(rt; raw.counts().faults == 1);
 }
 
 #[test]
@@ -50,14 +47,14 @@ fn a_device_that_stands_elsewhere_than_asked_fails_the_seek(rt: HostRuntime) {
         stands: 3,
     };
     let mut raw = FileRaw::new(file, true, true, true);
-    assert_eq!(rt; raw.seek(3), Ok(()));
-    assert_eq!(rt; raw.seek(5), Err(RawError::Fault));
-    assert_eq!(rt; raw.tell(), Ok(3));
-    assert_eq!(rt; raw.end(), Ok(3)); // it moves to the end and back
-    assert_eq!(rt; raw.truncate(1), Err(RawError::Fault));
-    assert_eq!(rt; raw.close(), Ok(()));
+    assert!(rt; raw.seek(3) == Ok(()));
+    assert!(rt; raw.seek(5) == Err(RawError::Fault));
+    assert!(rt; raw.tell() == Ok(3));
+    assert!(rt; raw.end() == Ok(3)); // it moves to the end and back
+    assert!(rt; raw.truncate(1) == Err(RawError::Fault));
+    assert!(rt; raw.close() == Ok(()));
     assert!(rt; raw.closed());
-    assert_eq!(rt; raw.counts().faults, 2);
+    assert!(rt; raw.counts().faults == 2);
 }
 
 #[test]
@@ -67,9 +64,9 @@ fn a_place_that_no_file_has_is_a_fault(rt: HostRuntime) {
         stands: 1 << 63,
     };
     let mut raw = FileRaw::new(file, true, true, true);
-    assert_eq!(rt; raw.tell(), Err(RawError::Fault));
-    assert_eq!(rt; raw.end(), Err(RawError::Fault));
-    assert_eq!(rt; raw.counts().faults, 2);
+    assert!(rt; raw.tell() == Err(RawError::Fault));
+    assert!(rt; raw.end() == Err(RawError::Fault));
+    assert!(rt; raw.counts().faults == 2);
 }
 
 #[test]
@@ -79,13 +76,13 @@ fn the_last_error_is_what_the_system_said_of_the_last_fault(rt: HostRuntime) {
         stands: 0,
     };
     let mut raw = FileRaw::new(file, false, true, true);
-    assert_eq!(rt; raw.last_error(), None);
-    assert_eq!(rt; raw.write(b"abc"), Err(RawError::Fault));
-    assert_eq!(rt; raw.last_error(), Some(ErrorKind::StorageFull));
-    assert_eq!(rt; raw.seek(0), Ok(())); // what doesn't fail leaves it
-    assert_eq!(rt; raw.last_error(), Some(ErrorKind::StorageFull));
-    assert_eq!(rt; raw.seek(5), Err(RawError::Fault)); // the system saw no fault in this one
-    assert_eq!(rt; raw.last_error(), None);
+    assert!(rt; raw.last_error() == None);
+    assert!(rt; raw.write(b"abc") == Err(RawError::Fault));
+    assert!(rt; raw.last_error() == Some(ErrorKind::StorageFull));
+    assert!(rt; raw.seek(0) == Ok(())); // what doesn't fail leaves it
+    assert!(rt; raw.last_error() == Some(ErrorKind::StorageFull));
+    assert!(rt; raw.seek(5) == Err(RawError::Fault)); // the system saw no fault in this one
+    assert!(rt; raw.last_error() == None);
 }
 
 #[test]
@@ -98,25 +95,25 @@ fn a_real_file_keeps_what_is_written(rt: HostRuntime) -> Result<(), Fail> {
         .create_new(true)
         .open(&rt, path.as_path())?;
     let mut raw = FileRaw::new(file, true, true, true);
-    assert_eq!(rt; raw.write(b"abcdef"), Ok(Some(6)));
-    assert_eq!(rt; raw.tell(), Ok(6));
-    assert_eq!(rt; raw.seek(4), Ok(()));
+    assert!(rt; raw.write(b"abcdef") == Ok(Some(6)));
+    assert!(rt; raw.tell() == Ok(6));
+    assert!(rt; raw.seek(4) == Ok(()));
     let mut buf = [0; 4];
-    assert_eq!(rt; raw.readinto(&mut buf), Ok(Some(2)));
-    assert_eq!(rt; &buf, b"ef\0\0");
-    assert_eq!(rt; raw.readinto(&mut buf), Ok(Some(0)));
-    assert_eq!(rt; raw.truncate(3), Ok(()));
-    assert_eq!(rt; (raw.end(), raw.end_hint()), (Ok(3), Some(3)));
-    assert_eq!(rt; raw.tell(), Ok(6));
-    assert_eq!(rt; raw.write(b"g"), Ok(Some(1)));
-    assert_eq!(rt; raw.seek(2), Ok(()));
-    assert_eq!(rt; raw.readinto(&mut buf), Ok(Some(4)));
-    assert_eq!(rt; &buf, b"c\0\0\0");
-    assert_eq!(rt; raw.truncate(0), Ok(()));
-    assert_eq!(rt; (raw.end(), raw.tell()), (Ok(0), Ok(6)));
-    assert_eq!(rt; raw.end_hint(), Some(0));
-    assert_eq!(rt; raw.close(), Ok(()));
-    assert_eq!(rt; raw.end_hint(), None);
+    assert!(rt; raw.readinto(&mut buf) == Ok(Some(2)));
+    assert!(rt; &buf == b"ef\0\0");
+    assert!(rt; raw.readinto(&mut buf) == Ok(Some(0)));
+    assert!(rt; raw.truncate(3) == Ok(()));
+    assert!(rt; (raw.end(), raw.end_hint()) == (Ok(3), Some(3)));
+    assert!(rt; raw.tell() == Ok(6));
+    assert!(rt; raw.write(b"g") == Ok(Some(1)));
+    assert!(rt; raw.seek(2) == Ok(()));
+    assert!(rt; raw.readinto(&mut buf) == Ok(Some(4)));
+    assert!(rt; &buf == b"c\0\0\0");
+    assert!(rt; raw.truncate(0) == Ok(()));
+    assert!(rt; (raw.end(), raw.tell()) == (Ok(0), Ok(6)));
+    assert!(rt; raw.end_hint() == Some(0));
+    assert!(rt; raw.close() == Ok(()));
+    assert!(rt; raw.end_hint() == None);
     fs::remove_file(&rt, path.as_path())?;
     Ok(())
 }
@@ -128,12 +125,12 @@ fn an_end_that_the_system_can_t_move_to_is_a_fault(rt: HostRuntime) -> Result<()
     // The metadata of this file says that it is empty.
     let mut raw = opener.open_raw(alloc, "/proc/version", "rb")?;
     let mut buf = [0; 5];
-    assert_eq!(rt; raw.readinto(&mut buf), Ok(Some(5)));
-    assert_eq!(rt; &buf, b"Linux");
-    assert_eq!(rt; raw.end_hint(), Some(0));
-    assert_eq!(rt; raw.end(), Err(RawError::Fault));
-    assert_eq!(rt; raw.last_error(), Some(ErrorKind::InvalidInput));
-    assert_eq!(rt; raw.tell(), Ok(5));
+    assert!(rt; raw.readinto(&mut buf) == Ok(Some(5)));
+    assert!(rt; &buf == b"Linux");
+    assert!(rt; raw.end_hint() == Some(0));
+    assert!(rt; raw.end() == Err(RawError::Fault));
+    assert!(rt; raw.last_error() == Some(ErrorKind::InvalidInput));
+    assert!(rt; raw.tell() == Ok(5));
     Ok(())
 }
 
@@ -155,9 +152,9 @@ fn closed_streams_leave_no_file_open(rt: HostRuntime) -> Result<(), Fail> {
     let mut closed = Vec::new(alloc);
     for _ in 0..10_000 {
         let mut raw = opener.open_raw(alloc, "/dev/null", "rb")?;
-        assert_eq!(rt; raw.close(), Ok(()));
+        assert!(rt; raw.close() == Ok(()));
         closed.push(raw)?;
     }
-    assert_eq!(rt; open_files(&rt)?, before);
+    assert!(rt; open_files(&rt)? == before);
     Ok(())
 }

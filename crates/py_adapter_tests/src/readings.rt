@@ -54,10 +54,10 @@ fn a_single_reading_gives_what_one_transfer_does(rt: HostRuntime) -> Result<(), 
         let mut raw = raw_over(alloc, b"abc", plan, faults)?;
         match read_once(&rt, &mut raw, alloc, n) {
             Ok(Some(bytes)) => assert_eq!(rt; Ok(Some(bytes.as_slice())), answer, "at {n}"),
-            Ok(None) => assert_eq!(rt; answer, Ok(None), "at {n}"),
-            Err(error) => assert_eq!(rt; answer, Err(error), "at {n}"),
+            Ok(None) => assert!(rt; answer == Ok(None), "at {n}"),
+            Err(error) => assert!(rt; answer == Err(error), "at {n}"),
         }
-        assert_eq!(rt; raw.place_of(), stands, "at {n}");
+        assert!(rt; raw.place_of() == stands, "at {n}");
     }
     Ok(())
 }
@@ -78,8 +78,8 @@ fn a_reading_up_to_the_end_keeps_what_came_before_a_fault(rt: HostRuntime) -> Re
     for (plan, faults, answer, held) in table {
         let mut raw = raw_over(alloc, b"abcde", plan, faults)?;
         let mut out = b".".to_vec(alloc)?;
-        assert_eq!(rt; read_all(&rt, &mut raw, &mut out), answer);
-        assert_eq!(rt; out.as_slice(), held);
+        assert!(rt; read_all(&rt, &mut raw, &mut out) == answer);
+        assert!(rt; out.as_slice() == held);
     }
     Ok(())
 }
@@ -98,8 +98,8 @@ fn a_reading_up_to_the_end_goes_on_where_the_stream_asked_to_wait(
         (Ok(Some(0)), b"abc"),
     ];
     for (answer, held) in table {
-        assert_eq!(rt; read_all(&rt, &mut raw, &mut out), answer);
-        assert_eq!(rt; out.as_slice(), held);
+        assert!(rt; read_all(&rt, &mut raw, &mut out) == answer);
+        assert!(rt; out.as_slice() == held);
     }
     Ok(())
 }
@@ -111,8 +111,8 @@ fn a_reading_up_to_the_end_asks_for_more_each_time(rt: HostRuntime) -> Result<()
     long.resize(20000, b'x')?;
     let mut raw = raw_over(alloc, long.as_slice(), &[], &[])?;
     let mut out = Vec::new(alloc);
-    assert_eq!(rt; read_all(&rt, &mut raw, &mut out), Ok(Some(20000)));
+    assert!(rt; read_all(&rt, &mut raw, &mut out) == Ok(Some(20000)));
     assert!(rt; out == long);
-    assert_eq!(rt; raw.transfer_count(), 4);
+    assert!(rt; raw.transfer_count() == 4);
     Ok(())
 }

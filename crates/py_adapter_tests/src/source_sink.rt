@@ -32,16 +32,16 @@ fn reads_what_the_reader_gives_and_fails_where_it_fails(rt: HostRuntime) -> Resu
     let mut source = ReadSource::new(Cursor::new(Vec::from_slice(rt.alloc(), b"abcdef")?));
     let pieces: [&[u8]; 3] = [b"abcd", b"ef", b""];
     for piece in pieces {
-        assert_eq!(rt; source.read(&mut buf), Ok(piece.len()));
+        assert!(rt; source.read(&mut buf) == Ok(piece.len()));
         assert!(rt; &buf[..piece.len()] == piece);
     }
     let why = ErrorKind::WouldBlock;
     let mut failing = ReadSource::new(FailsFirst { fails: 1, why });
-    assert_eq!(rt; failing.read(&mut buf), Err(Failed));
-    assert_eq!(rt; failing.read(&mut buf), Ok(1));
+    assert!(rt; failing.read(&mut buf) == Err(Failed));
+    assert!(rt; failing.read(&mut buf) == Ok(1));
     let why = ErrorKind::Interrupted; // read again, as `write_all` of a sink writes again
     let mut interrupted = ReadSource::new(FailsFirst { fails: 2, why });
-    assert_eq!(rt; interrupted.read(&mut buf), Ok(1));
+    assert!(rt; interrupted.read(&mut buf) == Ok(1));
     Ok(())
 }
 
@@ -73,13 +73,13 @@ impl Write for Narrow {
 fn writes_all_and_fails_where_the_writer_fails(rt: HostRuntime) -> Result<(), AllocError> {
     let mut bytes = Vec::new(rt.alloc());
     let mut sink = WriteSink::new(&mut bytes);
-    assert_eq!(rt; sink.write(b"ab"), Ok(()));
-    assert_eq!(rt; sink.write(b"c"), Ok(()));
+    assert!(rt; sink.write(b"ab") == Ok(()));
+    assert!(rt; sink.write(b"c") == Ok(()));
     assert!(rt; bytes.as_slice() == b"abc".as_slice());
     let mut narrow = WriteSink::new(Narrow { taken: 0 });
-    assert_eq!(rt; narrow.write(b"ab"), Ok(()));
-    assert_eq!(rt; narrow.write(b"c"), Err(Failed));
-    assert_eq!(rt; narrow.write(b"d"), Err(Failed));
+    assert!(rt; narrow.write(b"ab") == Ok(()));
+    assert!(rt; narrow.write(b"c") == Err(Failed));
+    assert!(rt; narrow.write(b"d") == Err(Failed));
     Ok(())
 }
 
@@ -89,10 +89,10 @@ fn a_flush_that_was_interrupted_is_made_again_and_one_that_would_block_fails(rt:
     let errors = [again, again];
     let mut writer = Holding::new(&errors);
     let mut sink = WriteSink::new(&mut writer);
-    assert_eq!(rt; sink.write(b"abc"), Ok(()));
-    assert_eq!(rt; (sink.write(b"de"), sink.write(b"f")), (Ok(()), Ok(())));
-    assert_eq!(rt; (writer.flushes, writer.passed), (5, 6));
+    assert!(rt; sink.write(b"abc") == Ok(()));
+    assert!(rt; (sink.write(b"de"), sink.write(b"f")) == (Ok(()), Ok(())));
+    assert!(rt; (writer.flushes, writer.passed) == (5, 6));
     let errors = [ErrorKind::WouldBlock];
     let mut sink = WriteSink::new(Holding::new(&errors));
-    assert_eq!(rt; sink.write(b"abc"), Err(Failed));
+    assert!(rt; sink.write(b"abc") == Err(Failed));
 }
