@@ -177,8 +177,8 @@ fn decodes_to<H: ErrorHandler>(
     expected: Result<(&str, usize), IoFault>,
 ) {
     match utf_8_decode(alloc, bytes, HandlerRef::Custom(handler), true) {
-        Ok((text, used)) => assert_eq!(rt; Ok((text.as_str(), used)), expected, "of {bytes:?}"),
-        Err(fault) => assert_eq!(rt; Err(fault), expected, "of {bytes:?}"),
+        Ok((text, used)) => assert!(rt; Ok((text.as_str(), used)) == expected, "of {bytes:?}"),
+        Err(fault) => assert!(rt; Err(fault) == expected, "of {bytes:?}"),
     }
 }
 
@@ -191,8 +191,8 @@ fn encodes_to<H: ErrorHandler>(
     expected: Result<(&[u8], usize), IoFault>,
 ) {
     match latin_1_encode(alloc, text, HandlerRef::Custom(handler)) {
-        Ok((bytes, count)) => assert_eq!(rt; Ok((bytes.as_slice(), count)), expected, "of {text}"),
-        Err(fault) => assert_eq!(rt; Err(fault), expected, "of {text}"),
+        Ok((bytes, count)) => assert!(rt; Ok((bytes.as_slice(), count)) == expected, "of {text}"),
+        Err(fault) => assert!(rt; Err(fault) == expected, "of {text}"),
     }
 }
 
@@ -292,10 +292,10 @@ fn a_handler_of_ones_own_serves_other_encodings(rt: HostRuntime) -> Result<(), F
     let alloc = rt.alloc();
     let marks = HandlerRef::Custom(gives("<>", 2));
     let (text, used) = utf_16_le_decode(alloc, b"\x00\xDCa\x00\x3D", marks, false)?;
-    assert_eq!(rt; (text.as_str(), used), ("<>a", 4));
+    assert!(rt; (text.as_str(), used) == ("<>a", 4));
     let (text, used) = ascii_decode(alloc, b"a\x80b", marks)?;
-    assert_eq!(rt; (text.as_str(), used), ("a<>b", 3));
+    assert!(rt; (text.as_str(), used) == ("a<>b", 3));
     let (bytes, count) = ascii_encode(alloc, "a\u{E9}b", marks)?;
-    assert_eq!(rt; (bytes.as_slice(), count), (&b"a<>b"[..], 3));
+    assert!(rt; (bytes.as_slice(), count) == (&b"a<>b"[..], 3));
     Ok(())
 }
