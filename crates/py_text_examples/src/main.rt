@@ -7,6 +7,7 @@ mod making;
 mod reading;
 mod shown;
 mod stopping;
+mod writers;
 mod writing;
 
 use anyhow::Result;
@@ -32,5 +33,6 @@ fn main(rt: HostRuntime) -> Result<()> {
     print(&rt, line_ends::found(alloc))?;
     print(&rt, lines::of_both(alloc))?;
     print(&rt, writing::written(alloc))?;
-    print(&rt, writing::by_lines(alloc))
+    print(&rt, writing::by_lines(alloc))?;
+    print(&rt, writers::of_all(alloc))
 }
