@@ -36,10 +36,6 @@ use Rattle.py_read_text.proofs.Steps.{Tied, step_enough, step_before, step_refus
 abbrev pub Holds : TextView → Type 0
 Holds text = IsText text.buffer text.held text.at text.taken text.settings
 
--- a text stands no further than its buffer
-pub behind_of : (text : TextView) → Holds text → text.at ≤ text.buffer.place
-behind_of text is = omega (arith, is.forth, is.stands)
-
 -- a live text that reads is tied to the bytes below, where its buffer tells
 pub tied_of : (text : TextView) → text.buffer.life ≡ life.Live → text.buffer.can.readable ≡ true → IsText text.buffer text.held text.at text.taken text.settings → WhereShown text.buffer (Tied text)
 tied_of text live reads is = λ told. record { live = live; reads = reads; rule = (is.reads_by reads).newline; knows = is.told told live reads }

@@ -14,7 +14,6 @@ use Rattle.py_flat.specs.Refusals.{refusal, is_unbuffered}
 use Rattle.py_flat.specs.AllowedStep.{settled, waited_for, raw_faulted, out_of_memory}
 use Rattle.py_flat.specs.BinaryStep.{Transfers, BinaryStep, CarriedOut, SettledBy, if_over_raw, IsFrontOf}
 use Rattle.py_flat.specs.ExactStep.{gives, one_transfer}
-use Rattle.py_stream.specs.Stream.{nothing_owed}
 use Rattle.py_stream.specs.Replies.{bytes_reply}
 use Rattle.py_flat.specs.Causes.{counted}
 use Rattle.py_stream.specs.Kinds.{says_fault, says_given, asks_nothing}
@@ -22,6 +21,7 @@ use Rattle.py_stream.specs.Writing.{OwesUpTo}
 use Rattle.py_stream.specs.Answers.{PlaceStarves}
 use Rattle.py_stream.specs.Buffer.{Buffer, WhereShown, flat_of, size_shown, refused_here, BufferIsCounted, GivesAsked, AnswersAsBuffer}
 use Rattle.py_read_text.specs.Reading.{Reads, ReadOutcome}
+use Rattle.py_read_text.proofs.Owing.{front_passes, passes_then}
 
 -- a live buffer that reads refuses no `read1`
 pub accepts_read : (buffer : Buffer) (size : Option ℕ) → buffer.life ≡ life.Live → buffer.can.readable ≡ true → is_unbuffered buffer.buffering ≡ false → buffer.exported ≡ false → (refused_here buffer (Read1 size) ≡ None) × (refusal (flat_of buffer) (Read1 size) ≡ None)
@@ -99,9 +99,6 @@ pub record IsRead (buffer : Buffer) : Type 0 where
   pub buffered : is_unbuffered buffer.buffering ≡ false
   pub kept : buffer.exported ≡ false
 
-none_owed : (owed : Owed) (place : ℕ) → owed ≡ nothing_owed place → owed.bytes ≡ []
-none_owed owed place none = ap (λ (own : Owed). own.bytes) none
-
 -- there is nothing behind nothing
 pub drop_none : (count : ℕ) (bytes : List ℕ) → bytes ≡ [] → drop count bytes ≡ []
 drop_none zero bytes none = none
@@ -151,7 +148,8 @@ reads_so before after size reply waited faulted answers goes = record {
   far = answers.moves.far;
   bytes = goes.bytes;
   spares = λ can none. let spared = answers.spares can none in record { bytes = spared.bytes; written = spared.written; owed = spared.owed };
-  shut = λ can none closed. answers.shut refl (none_owed after.owed after.place (answers.spares can none).owed) closed;
+  stays = answers.stays refl;
+  passes = front_passes before after answers.owes;
   stands = λ stood. answers.stands;
   owes = rest_up_to before.owed after.owed before.place after.place answers.owes.passed answers.owes.most answers.owes.bytes answers.owes.place first;
   none = λ none. answers.owes.bytes ∙ drop_none answers.owes.passed before.owed.bytes none;
@@ -221,4 +219,21 @@ reads_live before after size (Err other) is some answers = absurd (answers.answe
 -- One reading behind another.
 
 pub reads_on : (before mid after : Buffer) (waited faulted : Bool) → Reads before false false mid → Reads mid waited faulted after → Reads before waited faulted after
-reads_on before mid after waited faulted first second = grind arith
+reads_on before mid after waited faulted first second = record {
+  keeps = grind arith;
+  wait = grind arith;
+  fault = grind arith;
+  waits = grind arith;
+  faults = grind arith;
+  life_is = second.life_is ∙ ap (λ (current : Life). if faulted then life.Failed else current) first.life_is;
+  forth = omega (arith, first.forth, second.forth);
+  far = second.far;
+  bytes = grind arith;
+  spares = grind arith;
+  stays = grind arith;
+  passes = passes_then before.raw mid.raw after.raw before.owed.bytes mid.owed.bytes after.owed.bytes first.keeps.raw first.passes second.passes;
+  stands = λ stood. second.stands (first.stands stood);
+  owes = λ ends. second.owes (first.owes ends);
+  none = λ none. second.none (first.none none);
+  first = grind arith;
+}

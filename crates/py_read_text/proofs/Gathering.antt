@@ -20,6 +20,7 @@ use Rattle.py_read_text.specs.declared.read_text.Chunk.TheVariants as chunk
 use Rattle.py_read_text.specs.Knowing.{TextView, IsText}
 use Rattle.py_read_text.specs.Reading.{Coming, Follows, Reads, HeldAt, IsTold, IsReady, IsAtEnd, GatheredAt, gathers_wait, GatherOutcome, StopOutcome, FetchOutcome, asks_none, KeepsPlace, Gathers}
 use Rattle.py_read_text.proofs.Fetching.{reads_on}
+use Rattle.py_read_text.proofs.Owing.{passes_none}
 use Rattle.py_read_text.proofs.Answering.{last_at_range}
 use Rattle.py_read_text.proofs.Knowing.{ends_behind}
 use Rattle.py_read_text.proofs.Holding.{text_follows}
@@ -37,7 +38,8 @@ reads_itself buffer far = record {
   far = far;
   bytes = λ told. refl;
   spares = λ can none. record { bytes = λ told. refl; written = λ told. refl; owed = none };
-  shut = λ can none closed. closed;
+  stays = λ closed. refl;
+  passes = passes_none buffer.raw buffer.owed.bytes;
   stands = λ stood. stood;
   owes = λ ends. ends;
   none = λ none. none;

@@ -12,3 +12,5 @@ mod Chunks
 mod Stopping
 mod Beginning
 pub mod Placing
+pub mod Owing
+pub mod Calling

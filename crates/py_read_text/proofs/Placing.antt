@@ -16,7 +16,7 @@ use Rattle.py_flat.specs.AllowedStep.{settled, waited_for, raw_faulted, out_of_m
 use Rattle.py_flat.specs.BinaryStep.{SettledBy, BinaryStep}
 use Rattle.py_plain.specs.Units.{Unknown}
 use Rattle.py_plain_text.specs.TextFile.{TextSettings}
-use Rattle.py_raw.specs.RawStream.{tells}
+use Rattle.py_raw.specs.RawStream.{tells, AnswersFor}
 use Rattle.py_raw.proofs.Telling.{tells_still}
 use Rattle.py_stream.specs.Writing.{OwesUpTo, PassesFront, Takes}
 use Rattle.py_stream.specs.Kinds.{says_fault}
@@ -195,7 +195,9 @@ leaves_flat before after at reply is current answers = record {
   bytes = λ told. seek_flat (flat_of before) (flat_of after) at reply after.short (says_fault reply) (answers.told (rw is.kept refl) told);
   far = answers.moves.far;
   stands = λ stood. answers.stands;
-  none = none_still before after answers.owes;
+  stays = answers.stays refl;
+  owed = none_still before after answers.owes is.none ∙ sym is.none;
+  answered = subst (λ (count : ℕ). AnswersFor count before.raw after.raw) (omega (arith, answers.owes.most, ap length is.none)) answers.owes.answered;
 }
 
 never_waits : (short : Bool) → short ≡ true → short ≡ false → ⊥

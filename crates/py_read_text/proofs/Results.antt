@@ -1,5 +1,5 @@
 -- A call of a text that reads, from its parts.
-use Rattle.std.proofs.Common.{◌≡◌, ℕ, ◌≤◌, inl, inr, ◌⊎◌, Bool, true, false, IsTrue, List, Some, None, Result, Ok, Err, if◌then◌else◌, refl, sym, ap, ◌∙◌, subst, arith}
+use Rattle.std.proofs.Common.{◌≡◌, ℕ, inl, inr, ◌⊎◌, Bool, true, false, IsTrue, List, [], Some, None, Result, Ok, Err, if◌then◌else◌, refl, sym, ap, ◌∙◌, subst, arith}
 use Rattle.py_flat.specs.declared.fault.IoFault.{IoFault}
 use Rattle.py_flat.specs.declared.fault.IoFault.TheVariants as fault
 use Rattle.py_flat.specs.declared.life.Life.{Life}
@@ -10,6 +10,7 @@ use Rattle.py_flat.specs.Calls.{FileReply, Refused}
 use Rattle.py_flat.specs.AllowedStep.{raw_faulted, out_of_memory}
 use Rattle.py_plain.specs.Units.{Unknown}
 use Rattle.py_plain_text.specs.TextFile.{TextFile, TextPlace, TextSettings}
+use Rattle.py_plain_text.specs.TextCalls.{Read, ReadLine}
 use Rattle.py_plain_text.specs.TextRefusals.{refusal}
 use Rattle.py_plain_text.specs.TextAllowed.{reaches_raw, TextFileStep}
 use Rattle.py_raw.proofs.Telling.{tells_still}
@@ -22,17 +23,19 @@ use Rattle.py_read_text.specs.declared.looking.Gathered.TheVariants as gathered
 use Rattle.py_read_text.specs.declared.read_text.Answer.{Answer}
 use Rattle.py_read_text.specs.Waiting.{ShowsAll}
 use Rattle.py_read_text.specs.TextState.{TextState}
-use Rattle.py_read_text.specs.Answers.{asks_nothing, IsReplyTo, IsComplete, IsShort, PlaceMoves, WriteMoves, LifeMoves, settings_after, closes_again, WantsMemory, ClosesWithRaw, TextPasses, TextKeeps, Answers}
-use Rattle.py_read_text.specs.Knowing.{TextView, place_of, state_of, shown_file}
+use Rattle.py_read_text.specs.Owing.{IsJoined, WriteMovesBy, Starves, Closes}
+use Rattle.py_read_text.specs.Answers.{calls_nothing, gives_text, IsReplyTo, IsComplete, IsShort, PlaceMoves, WriteMoves, LifeMoves, settings_after, closes_again, WantsMemory, ClosesWithRaw, TextPasses, TextKeeps, Answers}
+use Rattle.py_read_text.specs.Knowing.{TextView, place_of, over_of, state_of, shown_file}
 use Rattle.py_read_text.specs.Reading.{call_of, asks_none, Reads, KeepsPlace, HoldsNothing, gathers_wait, GatherOutcome, Finishes, OnlyWhereWaits, WaitsOrLacks, reply_of, waited_in}
 use Rattle.py_read_text.proofs.Steps.{accepts}
+use Rattle.py_read_text.proofs.Owing.{passes_behind, owes_none, open_called}
 
 -- The same text.
 
 abbrev file_at : List ℕ → (at taken : ℕ) → Bool → Abilities → TextSettings → Life → TextFile
 file_at bytes at taken dirty can settings current = record { bytes = bytes; place = record { front = None; at = at; order = Unknown; taken = taken; dirty = dirty }; can = can; settings = settings; life = current }
 
-same_file : (old new : TextView) → (flat_of new.buffer).bytes ≡ (flat_of old.buffer).bytes → new.buffer.can ≡ old.buffer.can → new.buffer.life ≡ old.buffer.life → KeepsPlace old new → shown_file new ≡ shown_file old
+pub same_file : (old new : TextView) → (flat_of new.buffer).bytes ≡ (flat_of old.buffer).bytes → new.buffer.can ≡ old.buffer.can → new.buffer.life ≡ old.buffer.life → KeepsPlace old new → shown_file new ≡ shown_file old
 same_file old new bytes can current place =
     let was : List ℕ = (flat_of old.buffer).bytes in
     ap (λ (own : List ℕ). file_at own new.at new.taken new.dirty new.buffer.can new.settings new.buffer.life) bytes
@@ -43,7 +46,7 @@ same_file old new bytes can current place =
     ∙ (ap (λ (own : TextSettings). file_at was old.at old.taken old.dirty old.buffer.can own new.buffer.life) place.settings
     ∙ ap (λ (own : Life). file_at was old.at old.taken old.dirty old.buffer.can old.settings own) current)))))
 
-same_place : (old new : TextView) → KeepsPlace old new → place_of new ≡ place_of old
+pub same_place : (old new : TextView) → KeepsPlace old new → place_of new ≡ place_of old
 same_place old new place = rw (place.at, place.taken, place.dirty) refl
 
 -- What every reading of a live text has.
@@ -52,16 +55,24 @@ never_again : (asked : Wanted) (current : Life) → closes_again current (call_o
 never_again (Characters size) current = refl
 never_again (Line limit) current = refl
 
-asks_so : (asked : Wanted) → asks_nothing (call_of asked) ≡ asks_none asked
+asks_so : (asked : Wanted) → calls_nothing (call_of asked) ≡ asks_none asked
 asks_so asked = grind arith
 
 wants_none : (asked : Wanted) (reply : FileReply) (buffer : Buffer) → WantsMemory (call_of asked) reply buffer
 wants_none (Characters size) reply buffer = tt
 wants_none (Line limit) reply buffer = tt
 
-shut_so : (asked : Wanted) (before after : Buffer) (reply : FileReply) (waited faulted : Bool) → Reads before waited faulted after → ClosesWithRaw (call_of asked) before reply after
-shut_so (Characters size) before after reply waited faulted reads = reads.shut
-shut_so (Line limit) before after reply waited faulted reads = reads.shut
+never_closes : (asked : Wanted) (current : Life) (before after : Buffer) (reply : FileReply) → ClosesWithRaw (call_of asked) before reply after × Closes current (call_of asked) before reply after
+never_closes (Characters size) current before after reply = (tt, tt)
+never_closes (Line limit) current before after reply = (tt, tt)
+
+writes_no_place : (asked : Wanted) (from to : ℕ) → WriteMovesBy (call_of asked) 0 from to
+writes_no_place (Characters size) from to = tt
+writes_no_place (Line limit) from to = tt
+
+gives_some : (asked : Wanted) → gives_text (call_of asked) ≡ true
+gives_some (Characters size) = refl
+gives_some (Line limit) = refl
 
 settings_so : (asked : Wanted) (reply : FileReply) (settings : TextSettings) → settings_after (call_of asked) reply settings ≡ settings
 settings_so (Characters size) reply settings = refl
@@ -97,9 +108,18 @@ pub record Parts (old : TextView) (asked : Wanted) (waited short : Bool) (reply 
   pub answer : (writes : Bool) → IsReplyTo writes (call_of asked) reply
   pub shorts : IsShort reply short
   pub place : PlaceMoves (call_of asked) short reply (place_of old) new.buffer.place (place_of new)
-  pub behind : new.at ≤ new.buffer.place
+  pub joined : IsJoined (over_of new)
   pub told : WhereShown old.buffer (TextFileStep (shown_file old) (call_of asked) reply short (says_fault reply) (shown_file new))
   pub hides : IsTrue short → HoldsNothing new.buffer × WhereShown old.buffer (ShowsAll (shown_file new) new.buffer.place)
+
+starved_place : (asked : Wanted) (short : Bool) (before after : TextPlace) (end : ℕ) → short ≡ false → PlaceMoves (call_of asked) short (Refused fault.NoMemory) before end after → after ≡ before
+starved_place (Characters None) short before after end whole place = (subst (λ (own : Bool). PlaceMoves (Read None) own (Refused fault.NoMemory) before end after) whole place)
+starved_place (Characters (Some size)) short before after end whole place = (subst (λ (own : Bool). PlaceMoves (Read (Some size)) own (Refused fault.NoMemory) before end after) whole place)
+starved_place (Line limit) short before after end whole place = (subst (λ (own : Bool). PlaceMoves (ReadLine limit) own (Refused fault.NoMemory) before end after) whole place)
+
+starves_so : (old new : TextView) (asked : Wanted) (waited short : Bool) (reply : FileReply) → Parts old asked waited short reply new → Starves (over_of old) reply (over_of new)
+starves_so old new asked waited short (Refused fault.NoMemory) parts = inl (record { life_is = parts.reads.life_is; settings = parts.settings; place = starved_place asked short (place_of old) (place_of new) new.buffer.place parts.shorts parts.place })
+starves_so old new asked waited short reply parts = tt
 
 counts_most : (waited : Bool) (old new : ℕ) → new ≡ (if waited then counted old 1 else old) → (new ≡ old) ⊎ (new ≡ counted old 1)
 counts_most true old new is = inr is
@@ -131,17 +151,22 @@ answers old new asked waited short reply live can parts =
         life_is = lives_so old.buffer.can.writable asked reply old.buffer.life new.buffer.life parts.reads.life_is;
         place = parts.place;
         written = writes_none old.settings asked reply (place_of old) (place_of new);
-        bounded = record { behind = omega (arith, parts.behind); far = omega (arith, parts.reads.far) };
       };
       answer = λ accepts. parts.answer old.buffer.can.writable;
       complete = λ accepts calm sound. completes asked reply short old.buffer new.buffer old.buffer.can.writable (parts.answer old.buffer.can.writable) parts.shorts causes_wait parts.reads.fault calm sound;
       wants = wants_none asked reply old.buffer;
-      shut = λ own. shut_so asked old.buffer new.buffer reply waited (says_fault reply) parts.reads;
+      joined = parts.joined;
+      owes = owes_none (over_of old) (call_of asked) (over_of new) (writes_no_place asked old.at new.at) (passes_behind old.buffer.raw new.buffer.raw old.buffer.owed.bytes new.buffer.owed.bytes [] parts.reads.passes);
+      starves = starves_so old new asked waited short reply parts;
+      closes = (never_closes asked old.buffer.life old.buffer new.buffer reply).1;
+      stays = λ is. open_called old.buffer new.buffer (says_fault reply) live parts.reads.life_is parts.reads.stays;
+      shut = λ own. (never_closes asked old.buffer.life old.buffer new.buffer reply).0;
       spares = parts.reads.spares;
       tied = record { owed = λ can. refl; life_is = λ can was. refl };
       stands = parts.reads.stands;
       told = parts.told;
       hides = λ is gives own. let hidden = parts.hides is in record { empty = hidden.0; shows = hidden.1 };
+      stops = λ is. record { full = λ some. absurd (some refl); some = λ none own. let never = sym (gives_some asked) ∙ none in absurd (cc) };
       passes = passes_none (state_of old false) asked reply (state_of new short);
       kept = keeps_any asked reply (state_of new short);
     }
@@ -173,8 +198,8 @@ pub starves_step : (file after : TextFile) (asked : Wanted) → file.life ≡ li
 starves_step file after (Characters size) live can same = out_of_memory refl (inl (rw live (rw can refl), same))
 starves_step file after (Line limit) live can same = out_of_memory refl (inl (rw live (rw can refl), same))
 
-pub stopped : (old new : TextView) (asked : Wanted) (why : IoFault) → old.buffer.life ≡ life.Live → old.buffer.can.readable ≡ true → new.at ≤ new.buffer.place → KeepsPlace old new → (asks_none asked ≡ true → new.buffer ≡ old.buffer) → GatherOutcome old asked (Err why) new → Answers (state_of old false) (call_of asked) (Refused why) (state_of new false)
-stopped old new asked fault.RawFault live can behind place nothing outcome =
+pub stopped : (old new : TextView) (asked : Wanted) (why : IoFault) → old.buffer.life ≡ life.Live → old.buffer.can.readable ≡ true → IsJoined (over_of new) → KeepsPlace old new → (asks_none asked ≡ true → new.buffer ≡ old.buffer) → GatherOutcome old asked (Err why) new → Answers (state_of old false) (call_of asked) (Refused why) (state_of new false)
+stopped old new asked fault.RawFault live can joined place nothing outcome =
     let reads = outcome.0 in
     answers old new asked false false (Refused fault.RawFault) live can (record {
       reads = reads;
@@ -185,11 +210,11 @@ stopped old new asked fault.RawFault live can behind place nothing outcome =
       answer = faults_reply asked;
       shorts = refl;
       place = stops_place asked fault.RawFault old new new.buffer.place place;
-      behind = behind;
+      joined = joined;
       told = λ told. faults_step (shown_file old) (shown_file new) asked live can reads.life_is (reads.bytes told) reads.keeps.can place.settings;
       hides = λ is. absurd (cc);
     })
-stopped old new asked fault.NoMemory live can behind place nothing outcome =
+stopped old new asked fault.NoMemory live can joined place nothing outcome =
     let reads = outcome.0 in
     answers old new asked false false (Refused fault.NoMemory) live can (record {
       reads = reads;
@@ -200,11 +225,11 @@ stopped old new asked fault.NoMemory live can behind place nothing outcome =
       answer = starves_reply asked;
       shorts = refl;
       place = stops_place asked fault.NoMemory old new new.buffer.place place;
-      behind = behind;
+      joined = joined;
       told = λ told. starves_step (shown_file old) (shown_file new) asked live can (same_file old new (reads.bytes told) reads.keeps.can reads.life_is place);
       hides = λ is. absurd (cc);
     })
-stopped old new asked other live can behind place nothing outcome = absurd outcome.1
+stopped old new asked other live can joined place nothing outcome = absurd outcome.1
 
 -- A call that was answered.
 
@@ -222,8 +247,8 @@ quiet_so (gathered.Before front) result lacks whole has = refl
 quiet_so (gathered.Refuses start end) result lacks whole has = refl
 quiet_so gathered.Ends result lacks whole has = refl
 
-pub finished : (old mid new : TextView) (asked : Wanted) (stop : Gathered) (result : Result Answer IoFault) → old.buffer.life ≡ life.Live → old.buffer.can.readable ≡ true → new.at ≤ new.buffer.place → KeepsPlace old mid → (asks_none asked ≡ true → mid.buffer ≡ old.buffer) → GatherOutcome old asked (Ok stop) mid → OnlyWhereWaits stop (waited_in result) → WaitsOrLacks stop result → Finishes mid asked result new → Answers (state_of old false) (call_of asked) (reply_of result) (state_of new (waited_in result))
-finished old mid new asked stop result live can behind place nothing outcome only lacks done =
+pub finished : (old mid new : TextView) (asked : Wanted) (stop : Gathered) (result : Result Answer IoFault) → old.buffer.life ≡ life.Live → old.buffer.can.readable ≡ true → IsJoined (over_of new) → KeepsPlace old mid → (asks_none asked ≡ true → mid.buffer ≡ old.buffer) → GatherOutcome old asked (Ok stop) mid → OnlyWhereWaits stop (waited_in result) → WaitsOrLacks stop result → Finishes mid asked result new → Answers (state_of old false) (call_of asked) (reply_of result) (state_of new (waited_in result))
+finished old mid new asked stop result live can joined place nothing outcome only lacks done =
     let reads : Reads old.buffer (gathers_wait (Ok stop)) false new.buffer = subst (Reads old.buffer (gathers_wait (Ok stop)) false) (sym done.buffer) outcome.0 in
     let same : WhereShown old.buffer (shown_file mid ≡ shown_file old) = λ told. same_file old mid (outcome.0.bytes told) outcome.0.keeps.can outcome.0.life_is place in
     let tells_mid = tells_still old.buffer.raw mid.buffer.raw outcome.0.keeps.raw in
@@ -237,7 +262,7 @@ finished old mid new asked stop result live can behind place nothing outcome onl
       shorts = done.shorts;
       place = subst (λ (own : TextPlace). PlaceMoves (call_of asked) (waited_in result) (reply_of result) own new.buffer.place (place_of new)) (same_place old mid place)
           (subst (λ (buffer : Buffer). PlaceMoves (call_of asked) (waited_in result) (reply_of result) (place_of mid) buffer.place (place_of new)) (sym done.buffer) done.place);
-      behind = behind;
+      joined = joined;
       told = λ told. subst (λ (faulted : Bool). TextFileStep (shown_file old) (call_of asked) (reply_of result) (waited_in result) faulted (shown_file new)) (sym done.sound)
           (subst (λ (file : TextFile). TextFileStep file (call_of asked) (reply_of result) (waited_in result) false (shown_file new)) (same told) (done.told (tells_mid ∙ told)));
       hides = λ is. let hidden = done.hides is in (hidden.0, λ told. hidden.1 (tells_mid ∙ told));

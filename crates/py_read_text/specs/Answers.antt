@@ -6,7 +6,6 @@ use Rattle.py_flat.specs.declared.fault.IoFault.{IoFault}
 use Rattle.py_flat.specs.declared.fault.IoFault.TheVariants as fault
 use Rattle.py_flat.specs.declared.life.Life.{Life}
 use Rattle.py_flat.specs.declared.life.Life.TheVariants as life
-use Rattle.py_flat.specs.Limits.{greatest_place}
 use Rattle.py_flat.specs.Lines.{lf, cr}
 use Rattle.py_flat.specs.Calls as binary
 use Rattle.py_flat.specs.Calls.{FileReply, Text, Count, Done, NotReady, Refused}
@@ -15,7 +14,7 @@ use Rattle.py_flat.specs.ExactStep.{is_closed}
 use Rattle.py_codec.specs.Answers.{text_of}
 use Rattle.py_plain_text.specs.TextFile.{TextPlace, clean_at, TextSettings}
 use Rattle.py_plain_text.specs.TextStep.{asks_any, place_taking}
-use Rattle.py_plain_text.specs.TextCalls.{TextFileCall, Read, ReadLine, WriteText, SetChunkSize, Flush, Close}
+use Rattle.py_plain_text.specs.TextCalls.{TextFileCall, Read, ReadLine, WriteText, SetChunkSize, Flush, Close, OtherKind, is_close}
 use Rattle.py_plain_text.specs.TextRefusals.{refusal}
 use Rattle.py_plain_text.specs.TextAllowed.{TextFileStep}
 use Rattle.py_plain_text.specs.TextWriting.{written_bytes}
@@ -26,6 +25,7 @@ use Rattle.py_stream.specs.Answers.{HasCauses}
 use Rattle.py_stream.specs.Buffer.{Buffer, WhereShown, KeepsBuffer, IsClosedWithRaw, parts_when_closed, StandsAsCounted}
 use Rattle.py_read_text.specs.TextState.{TextState, file_of}
 use Rattle.py_read_text.specs.Waiting.{ShowsAll}
+use Rattle.py_read_text.specs.Owing.{IsJoined, OwesOn, Starves, StopsOwing, KeepsOpen, Closes}
 
 -- what the answer of a reading says, in the model's words
 abbrev pub text_reply : Result (Option (String Global)) IoFault → FileReply
@@ -41,11 +41,14 @@ gives_text (Read size) = true
 gives_text (ReadLine limit) = true
 gives_text call = false
 
--- whether a call asks for no character
-abbrev pub asks_nothing : TextFileCall → Bool
-asks_nothing (Read (Some zero)) = true
-asks_nothing (ReadLine (Some zero)) = true
-asks_nothing call = false
+-- whether a call calls no buffer: it asks for no character, only says how many bytes the buffer is asked for at once, or is one that texts
+-- don't have
+abbrev pub calls_nothing : TextFileCall → Bool
+calls_nothing (Read (Some zero)) = true
+calls_nothing (ReadLine (Some zero)) = true
+calls_nothing (SetChunkSize size) = true
+calls_nothing OtherKind = true
+calls_nothing call = false
 
 -- whether a call hands the buffer bytes that the text took from its callers: a write, and each call of a text that owes some
 abbrev pub passes_on : (owed : List ℕ) → TextFileCall → Bool
@@ -145,18 +148,12 @@ WriteMoves settings (WriteText text) (Refused fault.NoMemory) before after = May
 WriteMoves settings (WriteText text) reply before after = after ≡ before
 WriteMoves settings call reply before after = Unit {0}
 
--- a text stands no further than its buffer and what it itself owes behind that, and that no further than a stream can
-pub record IsBounded (state : TextState) : Type 0 where
-  pub behind : state.text.place.at ≤ state.text.buffer.place + length state.text.owed
-  pub far : state.text.buffer.place + length state.text.owed ≤ greatest_place
-
 -- what a call moves
 pub record TextMoves (before : TextState) (call : TextFileCall) (reply : FileReply) (after : TextState) : Type 0 where
   pub settings : after.text.settings ≡ settings_after call reply before.text.settings
   pub life_is : LifeMoves before.text.buffer.can.writable call reply before.text.life after.text.life
   pub place : PlaceMoves call after.short reply before.text.place after.text.buffer.place after.text.place
   pub written : WriteMoves before.text.settings call reply before.text.place after.text.place
-  pub bounded : IsBounded after
 
 -- The one clause of every call.
 
@@ -182,11 +179,11 @@ pub record IsCounted (before : TextState) (call : TextFileCall) (reply : FileRep
   pub faults : says_fault reply ≡ false → after.text.buffer.raw.faults ≡ before.text.buffer.raw.faults
   pub ends : passes_on before.text.owed call ≡ false → WaitEnds before reply after
 
--- the raw is closed exactly where the text is: of a close once nothing is owed, but where it failed to move the raw back to the buffer's
--- place; of other calls over a buffer that can't write and owes nothing
+-- a close leaves the raw closed exactly where the buffer is, once nothing is owed, but where it failed to move the raw back to the buffer's
+-- place
 abbrev pub ClosesWithRaw : TextFileCall → Buffer → FileReply → Buffer → Type 0
 ClosesWithRaw Close before reply after = parts_when_closed before binary.Close reply after ≡ false → after.owed.bytes ≡ [] → IsClosedWithRaw before → IsClosedWithRaw after
-ClosesWithRaw call before reply after = before.can.writable ≡ false → before.owed ≡ nothing_owed before.place → IsClosedWithRaw before → IsClosedWithRaw after
+ClosesWithRaw call before reply after = Unit {0}
 
 -- a flush and a close need no memory but their raw's
 abbrev pub WantsMemory : TextFileCall → FileReply → Buffer → Type 0
@@ -257,17 +254,27 @@ pub record Answers (before : TextState) (call : TextFileCall) (reply : FileReply
   pub counted : IsTrue before.text.buffer.raw.counts_exactly → IsCounted before call reply after
   -- which answers are short
   pub shorts : IsShort reply after.short
-  -- a reading of no characters calls no raw
-  pub nothing : asks_nothing call ≡ true → after.text.buffer ≡ before.text.buffer
+  -- a reading of no characters, a change of the chunk size and a call that texts lack leave the buffer and its raw as they were
+  pub nothing : calls_nothing call ≡ true → after.text.buffer ≡ before.text.buffer
   -- life, settings and place after the call
   pub moves : TextMoves before call reply after
+  -- what the buffer owes and what the text itself does stand one behind the other
+  pub joined : IsJoined after.text
+  -- no byte is lost and none doubled: what is owed is what was and what the call gave, without what the raw answered for
+  pub owes : OwesOn before.text call after.text
+  -- running out of memory fails a text only once bytes of its own went on
+  pub starves : Starves before.text reply after.text
   -- which replies may come of a call that isn't refused
   pub answer : refusal (file_of before) call ≡ None → IsReplyTo before.text.buffer.can.writable call reply
   -- where no count of the raw rose, a call that isn't refused is answered in full, or ran out of memory
   pub complete : refusal (file_of before) call ≡ None → rose before.text.buffer.raw.waits after.text.buffer.raw.waits ≡ false → rose before.text.buffer.raw.faults after.text.buffer.raw.faults ≡ false → IsComplete call reply after.short
   -- a flush and a close need no memory but their raw's
   pub wants : WantsMemory call reply before.text.buffer
-  -- the raw is closed with its text, where this owed nothing
+  -- a done close closes the buffer and its raw
+  pub closes : Closes before.text.life call before.text.buffer reply after.text.buffer
+  -- no other call closes the raw
+  pub stays : is_close call ≡ false → KeepsOpen before.text.buffer after.text.buffer
+  -- a close of a text that itself owed nothing leaves the raw closed where the buffer is
   pub shut : before.text.owed ≡ [] → ClosesWithRaw call before.text.buffer reply after.text.buffer
   -- a buffer that doesn't write leaves the raw's bytes, and owes nothing
   pub spares : before.text.buffer.can.writable ≡ false → before.text.buffer.owed ≡ nothing_owed before.text.buffer.place → SparesBytes before.text.buffer after.text.buffer
@@ -279,6 +286,8 @@ pub record Answers (before : TextState) (call : TextFileCall) (reply : FileReply
   pub told : WhereShown before.text.buffer (TextFileStep (file_of before) call reply after.short (says_fault reply) (file_of after))
   -- a wait hides nothing, where the text itself owes nothing
   pub hides : IsTrue after.short → gives_text call ≡ true → after.text.owed ≡ [] → HidesNothing before after
+  -- what a wait leaves that ended a call which hands bytes on
+  pub stops : IsTrue after.short → StopsOwing (gives_text call) after.text
   -- what a call passed on
   pub passes : TextPasses before call reply after
   -- how little an answered write leaves with the text

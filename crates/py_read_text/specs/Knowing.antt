@@ -7,6 +7,7 @@ use Rattle.py_flat.specs.BinaryStep.{IsFrontOf}
 use Rattle.py_flat.specs.Refusals.{is_unbuffered}
 use Rattle.py_plain.specs.Units.{Unknown}
 use Rattle.py_plain_text.specs.TextFile.{TextPlace, TextSettings, TextFile}
+use Rattle.py_plain_text.specs.TextOver.{TextOver}
 use Rattle.py_plain_text.specs.Rest.{Rest}
 use Rattle.py_stream.specs.Writing.{OwesUpTo}
 use Rattle.py_stream.specs.Buffer.{Buffer, WhereShown, flat_of}
@@ -28,12 +29,12 @@ pub record TextView : Type 0 where
 abbrev pub place_of : TextView → TextPlace
 place_of text = record { front = None; at = text.at; order = Unknown; taken = text.taken; dirty = text.dirty }
 
--- what a text is seen as, by its parts
+-- what a text is seen as, by its parts: it owes nothing itself
+abbrev pub over_of : TextView → TextOver Buffer
+over_of text = record { buffer = text.buffer; owed = []; place = place_of text; settings = text.settings; life = text.buffer.life }
+
 abbrev pub state_of : TextView → Bool → TextState
-state_of text short = record {
-  text = record { buffer = text.buffer; owed = []; place = place_of text; settings = text.settings; life = text.buffer.life };
-  short = short;
-}
+state_of text short = record { text = over_of text; short = short }
 
 -- the text that it stands for
 abbrev pub shown_file : TextView → TextFile

@@ -13,6 +13,7 @@ use Rattle.py_stream.specs.Buffer.{Buffer}
 use Rattle.py_text.specs.declared.coder.Coder.{Coder}
 use Rattle.py_text.specs.declared.text_settings.TextSettings as declared
 use Rattle.py_read_text.specs.TextState.{TextState, settings_of}
+use Rattle.py_read_text.specs.Owing.{IsJoined}
 
 -- what refuses a text over a buffer: by the buffer's life, a chunk of no bytes, bytes that are lent out, a handler that isn't one of the
 -- buffer's directions
@@ -25,11 +26,12 @@ pub record CountsPlace (old : Buffer) (place : ℕ) (new : Buffer) : Type 0 wher
   pub far : old.place ≤ greatest_place
   pub same : new ≡ record old { short = new.short }
 
--- a text that was opened stands clean where its buffer stands, of which nothing was read
+-- a text that was opened stands clean where its buffer stands, of which nothing was read, and what the buffer owes ends there
 pub record Wraps (buffer : Buffer) (coder : Coder) (settings : declared.TextSettings) (state : TextState) : Type 0 where
   pub accepted : opening_refusal buffer coder settings ≡ None
   pub same : state.text.buffer ≡ record buffer { short = state.text.buffer.short }
   pub text : state.text ≡ record { buffer = state.text.buffer; owed = []; place = clean_at buffer.place Unknown; settings = settings_of coder settings; life = life.Live }
+  pub joined : IsJoined state.text
   pub whole : state.short ≡ false
 
 abbrev pub WrapOutcome : {B : Type 0} → (B → Buffer) → B → Coder → declared.TextSettings → Result TextState (NewRefused B) → Type 0

@@ -13,6 +13,7 @@ use Rattle.py_plain.specs.declared.newlines.Newlines.{Newlines}
 use Rattle.py_plain.specs.NewlineRule.{line_end}
 use Rattle.py_plain_text.specs.TextStep.{asks_past}
 use Rattle.py_plain_text.specs.TextCalls.{TextFileCall, Read, ReadLine}
+use Rattle.py_raw.specs.RawStream.{StaysOpen}
 use Rattle.py_stream.specs.Stream.{nothing_owed}
 use Rattle.py_stream.specs.Writing.{OwesUpTo}
 use Rattle.py_stream.specs.Buffer.{Buffer, WhereShown, flat_of, KeepsBuffer, IsClosedWithRaw}
@@ -36,6 +37,7 @@ use Rattle.py_stream.specs.Kinds.{says_fault, says_no_memory}
 use Rattle.py_read_text.specs.declared.read_text.Answer.{Answer}
 use Rattle.py_read_text.specs.declared.read_text.Answer.TheVariants as answer
 use Rattle.py_read_text.specs.Waiting.{ShowsAll}
+use Rattle.py_read_text.specs.Owing.{PassesOwed}
 use Rattle.py_read_text.specs.Answers.{SparesBytes, StandsWhileLive, IsReplyTo, IsShort, PlaceMoves}
 
 -- the call that some wanted characters answer
@@ -71,8 +73,8 @@ passes (Line limit) rule cs = not (is_ended (line_end rule) limit cs)
 
 -- Reading the buffer.
 
--- the buffer was read from: `waited` says that the raw would have blocked, `faulted` that it failed. The flat bytes stay; a buffer that
--- can't write and owes nothing leaves its raw's bytes, and is closed with it
+-- the buffer was read from: `waited` says that the raw would have blocked, `faulted` that it failed. The flat bytes stay, and the raw isn't
+-- closed; a buffer that can't write and owes nothing leaves its raw's bytes
 pub record Reads (before : Buffer) (waited faulted : Bool) (after : Buffer) : Type 0 where
   pub keeps : KeepsBuffer before after
   pub wait : IsTrue waited → Rose before.raw.waits after.raw.waits
@@ -84,7 +86,8 @@ pub record Reads (before : Buffer) (waited faulted : Bool) (after : Buffer) : Ty
   pub far : after.place ≤ greatest_place
   pub bytes : WhereShown before ((flat_of after).bytes ≡ (flat_of before).bytes)
   pub spares : before.can.writable ≡ false → before.owed ≡ nothing_owed before.place → SparesBytes before after
-  pub shut : before.can.writable ≡ false → before.owed ≡ nothing_owed before.place → IsClosedWithRaw before → IsClosedWithRaw after
+  pub stays : IsClosedWithRaw before → StaysOpen before.raw after.raw
+  pub passes : PassesOwed before.raw before.owed.bytes after.raw after.owed.bytes
   pub stands : StandsWhileLive before → StandsWhileLive after
   pub owes : OwesUpTo before.owed before.place → OwesUpTo after.owed after.place
   pub none : before.owed.bytes ≡ [] → after.owed.bytes ≡ []

@@ -1,11 +1,12 @@
 -- How a text that is written stands on the one that reads: what it hands its buffer, and how it goes back to its place.
-use Rattle.std.specs.Prelude.{◌≡◌, ℕ, ◌≤◌, Bool, true, false, IsTrue, [], Result, Ok, Err, if◌then◌else◌}
+use Rattle.std.specs.Prelude.{◌≡◌, ℕ, ◌≤◌, Bool, true, false, IsTrue, Result, Ok, Err, if◌then◌else◌}
 use Rattle.py_flat.specs.declared.fault.IoFault.{IoFault}
 use Rattle.py_flat.specs.declared.fault.IoFault.TheVariants as fault
 use Rattle.py_flat.specs.declared.life.Life.TheVariants as life
 use Rattle.py_flat.specs.Limits.{greatest_place}
 use Rattle.py_flat.specs.Causes.{Rose}
-use Rattle.py_stream.specs.Buffer.{Buffer, WhereShown, flat_of, KeepsBuffer}
+use Rattle.py_raw.specs.RawStream.{StaysOpen, AnswersFor}
+use Rattle.py_stream.specs.Buffer.{Buffer, WhereShown, flat_of, KeepsBuffer, IsClosedWithRaw}
 use Rattle.py_read_text.specs.Answers.{StandsWhileLive}
 use Rattle.py_read_text.specs.Knowing.{TextView, IsClean}
 
@@ -15,7 +16,8 @@ pub record StandsBehind (old new : TextView) : Type 0 where
   pub clean : IsClean new
   pub settings : new.settings ≡ old.settings
 
--- the buffer was called, and no byte was read or written: its flat bytes stay; `faulted` says that the raw failed
+-- the buffer was called, and no byte was read or written: its flat bytes and what it owes stay, and the raw answered for none and isn't
+-- closed; `faulted` says that the raw failed
 pub record LeavesFlat (before : Buffer) (faulted : Bool) (after : Buffer) : Type 0 where
   pub keeps : KeepsBuffer before after
   pub fault : IsTrue faulted → Rose before.raw.faults after.raw.faults
@@ -24,7 +26,9 @@ pub record LeavesFlat (before : Buffer) (faulted : Bool) (after : Buffer) : Type
   pub bytes : WhereShown before ((flat_of after).bytes ≡ (flat_of before).bytes)
   pub far : after.place ≤ greatest_place
   pub stands : StandsWhileLive before → StandsWhileLive after
-  pub none : before.owed.bytes ≡ [] → after.owed.bytes ≡ []
+  pub stays : IsClosedWithRaw before → StaysOpen before.raw after.raw
+  pub owed : after.owed.bytes ≡ before.owed.bytes
+  pub answered : AnswersFor 0 before.raw after.raw
 
 -- what a call answers, without its number
 abbrev pub unit_of : Result ℕ IoFault → Result (Unit {0}) IoFault

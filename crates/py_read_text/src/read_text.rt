@@ -15,9 +15,10 @@ ghost use Rattle.py_stream.specs.Writing.{OwesUpTo, Takes};
 ghost use Rattle.py_stream.specs.Buffer.{WhereShown, flat_of, stream_shown, AnswersAsBuffer};
 ghost use Rattle.py_held_text.specs.Finding.{IsFrontOf, answer_of};
 ghost use Rattle.py_read_text.specs.Reading.{size_of, asks_all, KeepsPlace, FetchOutcome, GatherOutcome, asks_none, GiveOutcome, GiveAllOutcome, GatheredAt, Finishes, OnlyWhereWaits, WaitsOrLacks, reply_of, call_of, waited_in};
-ghost use Rattle.py_read_text.specs.Knowing.{state_of, IsClean};
+ghost use Rattle.py_read_text.specs.Knowing.{over_of, state_of, IsClean};
 ghost use Rattle.py_read_text.specs.Writing.{StandsBehind, ReturnOutcome};
-ghost use Rattle.py_read_text.specs.Answers.{IsBounded, Answers};
+ghost use Rattle.py_read_text.specs.Owing.{IsJoined};
+ghost use Rattle.py_read_text.specs.Answers.{Answers};
 
 use crate::looking::{Gathered, look, look_at_end};
 use crate::opening::reading_coder;
@@ -125,6 +126,7 @@ impl<B: BufferedStream> ReadText<B> {
         ensures taken { result.taken ≡ 0 }
         ensures dirty { result.dirty ≡ false }
         ensures settings { result.settings ≡ settings_of coder settings }
+        ensures joined { IsJoined (over_of result) }
     {
         // What holds of every buffered stream is known from here on.
         let _ = buffer.buffer_size();
@@ -143,7 +145,7 @@ impl<B: BufferedStream> ReadText<B> {
     /// What became of the buffer, and so of the text.
     pub fn life(&self) -> Life
         ensures life { result ≡ self.now.buffer.life }
-        ensures bounded { (short : Bool) → IsBounded (state_of self.now short) }
+        ensures joined { IsJoined (over_of self.now) }
     {
         self.buffer.life()
     }
@@ -239,6 +241,7 @@ impl<B: BufferedStream> ReadText<B> {
         requires clean { IsClean self.old }
         requires writes { self.old.buffer.can.writable ≡ true }
         ensures keeps { KeepsPlace self.old self.new }
+        ensures joined { IsJoined (over_of self.new) }
         ensures outcome { ReturnOutcome self.old result self.new }
     {
         // What holds of every text is known from here on.
@@ -265,6 +268,7 @@ impl<B: BufferedStream> ReadText<B> {
         ensures answers { AnswersAsBuffer self.old.buffer (Write bytes.now) (count_reply result) self.new.buffer }
         ensures takes { Takes (stream_shown self.old.buffer) bytes.now (stream_shown self.new.buffer) }
         ensures stands { StandsBehind self.old self.new }
+        ensures joined { IsJoined (over_of self.new) }
     {
         let answer = self.buffer.write(bytes);
         self.at += self.buffer.taken();

@@ -6,3 +6,4 @@ mod Stopping
 mod Nothing
 mod Writing
 mod Sizes
+mod Ended

@@ -13,10 +13,12 @@ use Rattle.py_plain_text.specs.TextAllowed.{SettledBy, TextFileStep}
 use Rattle.py_raw.proofs.Telling.{keeps_same}
 use Rattle.py_held_text.specs.declared.wanted.Wanted.{Wanted}
 use Rattle.py_held_text.specs.declared.wanted.Wanted.TheVariants.{Characters, Line}
-use Rattle.py_read_text.specs.Answers.{PlaceMoves, IsBounded, Answers}
+use Rattle.py_read_text.specs.Owing.{all_owed, IsJoined}
+use Rattle.py_read_text.specs.Answers.{PlaceMoves, Answers}
 use Rattle.py_read_text.specs.Reading.{call_of, asks_none}
 use Rattle.py_read_text.proofs.Steps.{accepts}
-use Rattle.py_textio.specs.Written.{WrittenView, place_now, state_of, file_now}
+use Rattle.py_read_text.proofs.Owing.{passes_none, owes_none, open_still}
+use Rattle.py_textio.specs.Written.{WrittenView, place_now, over_of, state_of, file_now}
 
 no_more : (count : ℕ) → nat_lt count 0 ≡ false
 no_more count = le-ltb count 0 (omega arith)
@@ -66,8 +68,8 @@ none_moves (Line None) place end none = absurd (cc)
 none_moves (Line (Some zero)) place end none = record { taken = takes_none place; within = λ limit is. omega arith }
 none_moves (Line (Some (suc size))) place end none = absurd (cc)
 
-none_answers : (asked : Wanted) (old : WrittenView) (was : Bool) → old.life ≡ life.Live → old.text.buffer.can.readable ≡ true → asks_none asked ≡ true → IsBounded (state_of old false) → Answers (state_of old was) (call_of asked) (Text []) (state_of old false)
-none_answers (Characters size) old was live can none bounded = record {
+none_answers : (asked : Wanted) (old : WrittenView) (was : Bool) → old.life ≡ life.Live → old.text.buffer.can.readable ≡ true → asks_none asked ≡ true → IsJoined (over_of old) → Answers (state_of old was) (call_of asked) (Text []) (state_of old false)
+none_answers (Characters size) old was live can none joined = record {
   keeps = record { raw = keeps_same old.text.buffer.raw; can = refl; buffering = refl; exported = refl };
   refused = λ why is. let never = sym (accepts (file_now old) (Characters size) live can) ∙ is in absurd (cc);
   again = λ closes. absurd (cc);
@@ -75,11 +77,17 @@ none_answers (Characters size) old was live can none bounded = record {
   counted = λ exact. record { faults = λ sound. refl; ends = λ own. record { waits = λ whole has. refl; once = λ short. absurd (cc); most = inl refl } };
   shorts = refl;
   nothing = λ is. refl;
-  moves = record { settings = refl; life_is = refl; place = none_moves (Characters size) (place_now old) old.text.buffer.place none; written = tt; bounded = bounded };
+  moves = record { settings = refl; life_is = refl; place = none_moves (Characters size) (place_now old) old.text.buffer.place none; written = tt };
+  joined = joined;
+  owes = owes_none (over_of old) (call_of (Characters size)) (over_of old) tt (passes_none old.text.buffer.raw (all_owed (over_of old)));
+  starves = tt;
+  closes = tt;
+  stays = λ is. open_still old.text.buffer;
+  stops = λ short. absurd (cc);
   answer = λ accepts. tt;
   complete = λ accepts calm sound. record { answer = tt; whole = refl };
   wants = tt;
-  shut = λ own can none closed. closed;
+  shut = λ own. tt;
   spares = λ can none. record { bytes = λ told. refl; written = λ told. refl; owed = none };
   tied = record { owed = λ can. refl; life_is = λ can was. was };
   stands = λ stood. stood;
@@ -88,7 +96,7 @@ none_answers (Characters size) old was live can none bounded = record {
   passes = tt;
   kept = tt;
 }
-none_answers (Line limit) old was live can none bounded = record {
+none_answers (Line limit) old was live can none joined = record {
   keeps = record { raw = keeps_same old.text.buffer.raw; can = refl; buffering = refl; exported = refl };
   refused = λ why is. let never = sym (accepts (file_now old) (Line limit) live can) ∙ is in absurd (cc);
   again = λ closes. absurd (cc);
@@ -96,11 +104,17 @@ none_answers (Line limit) old was live can none bounded = record {
   counted = λ exact. record { faults = λ sound. refl; ends = λ own. record { waits = λ whole has. refl; once = λ short. absurd (cc); most = inl refl } };
   shorts = refl;
   nothing = λ is. refl;
-  moves = record { settings = refl; life_is = refl; place = none_moves (Line limit) (place_now old) old.text.buffer.place none; written = tt; bounded = bounded };
+  moves = record { settings = refl; life_is = refl; place = none_moves (Line limit) (place_now old) old.text.buffer.place none; written = tt };
+  joined = joined;
+  owes = owes_none (over_of old) (call_of (Line limit)) (over_of old) tt (passes_none old.text.buffer.raw (all_owed (over_of old)));
+  starves = tt;
+  closes = tt;
+  stays = λ is. open_still old.text.buffer;
+  stops = λ short. absurd (cc);
   answer = λ accepts. tt;
   complete = λ accepts calm sound. record { answer = tt; whole = refl };
   wants = tt;
-  shut = λ own can none closed. closed;
+  shut = λ own. tt;
   spares = λ can none. record { bytes = λ told. refl; written = λ told. refl; owed = none };
   tied = record { owed = λ can. refl; life_is = λ can was. was };
   stands = λ stood. stood;
@@ -111,5 +125,5 @@ none_answers (Line limit) old was live can none bounded = record {
 }
 
 -- a reading of no characters of a text, however it is seen
-pub reads_none : (now : WrittenView) (asked : Wanted) (reply : FileReply) (was : Bool) → now.life ≡ life.Live → now.text.buffer.can.readable ≡ true → asks_none asked ≡ true → reply ≡ Text [] → IsBounded (state_of now false) → Answers (state_of now was) (call_of asked) reply (state_of now false)
-reads_none now asked reply was live can none says bounded = subst (λ (own : FileReply). Answers (state_of now was) (call_of asked) own (state_of now false)) (sym says) (none_answers asked now was live can none bounded)
+pub reads_none : (now : WrittenView) (asked : Wanted) (reply : FileReply) (was : Bool) → now.life ≡ life.Live → now.text.buffer.can.readable ≡ true → asks_none asked ≡ true → reply ≡ Text [] → IsJoined (over_of now) → Answers (state_of now was) (call_of asked) reply (state_of now false)
+reads_none now asked reply was live can none says joined = subst (λ (own : FileReply). Answers (state_of now was) (call_of asked) own (state_of now false)) (sym says) (none_answers asked now was live can none joined)

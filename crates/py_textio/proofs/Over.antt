@@ -1,14 +1,18 @@
 -- A call behind what handed on, as a call of the text before.
-use Rattle.std.proofs.Common.{◌≡◌, ◌≢◌, ℕ, ◌≤◌, Bool, true, false, List, [], ◌∷◌, None, Ok, refl, sym, ap, ◌∙◌, subst, arith}
+use Rattle.std.proofs.Common.{◌≡◌, ◌≢◌, ℕ, ◌+◌, ◌≤◌, inl, inr, ◌⊎◌, Bool, true, false, List, [], ◌∷◌, ◌++◌, length, None, Ok, refl, sym, ap, ◌∙◌, subst, arith}
+use Rattle.std.proofs.lemmas.List.{length-append, length-drop}
 use Rattle.py_flat.specs.declared.life.Life.{Life}
 use Rattle.py_flat.specs.declared.life.Life.TheVariants as life
 use Rattle.py_flat.specs.FlatFile.{Abilities}
-use Rattle.py_flat.specs.Calls.{FileReply}
+use Rattle.py_flat.specs.declared.fault.IoFault.TheVariants as fault
+use Rattle.py_flat.specs.Calls.{FileReply, Done, Refused}
 use Rattle.py_flat.specs.Causes.{Rose, rose}
 use Rattle.py_plain_text.specs.TextFile.{TextFile, TextPlace, TextSettings}
+use Rattle.py_plain_text.specs.TextOver.{TextOver}
 use Rattle.py_plain_text.specs.TextCalls.{TextFileCall, Flush, Close}
 use Rattle.py_plain_text.specs.TextRefusals.{refusal}
 use Rattle.py_plain_text.specs.TextAllowed.{TextFileStep}
+use Rattle.py_raw.specs.RawStream.{Keeps}
 use Rattle.py_raw.proofs.Telling.{tells_still}
 use Rattle.py_stream.specs.Kinds.{says_fault}
 use Rattle.py_stream.specs.Buffer.{Buffer, WhereShown, KeepsBuffer}
@@ -17,8 +21,10 @@ use Rattle.py_held_text.specs.declared.wanted.Wanted.TheVariants.{Characters, Li
 use Rattle.py_read_text.specs.Reading.{call_of, asks_none}
 use Rattle.py_read_text.proofs.Steps.{accepts}
 use Rattle.py_read_text.specs.TextState.{TextState}
-use Rattle.py_read_text.specs.Answers.{asks_nothing, passes_on, LifeMoves, PlaceMoves, WriteMoves, settings_after, IsReplyTo, WantsMemory, closes_again, TextPasses, Answers}
-use Rattle.py_textio.specs.Written.{WrittenView, place_now, state_of, file_now, CallsBuffer, HandsOn, SettleOutcome}
+use Rattle.py_read_text.specs.Owing.{all_owed, PassesOwed, given_by, WriteMovesBy, OwesOn, own_from, GaveOwn, Starves, KeepsOpen, Closes}
+use Rattle.py_read_text.proofs.Owing.{passes_then, passes_behind, open_then}
+use Rattle.py_read_text.specs.Answers.{calls_nothing, passes_on, LifeMoves, PlaceMoves, WriteMoves, settings_after, IsReplyTo, WantsMemory, closes_again, TextPasses, Answers}
+use Rattle.py_textio.specs.Written.{WrittenView, place_now, over_of, state_of, file_now, CallsBuffer, HandsOn, SettleOutcome}
 use Rattle.py_textio.specs.Working.{Works}
 use Rattle.py_textio.proofs.Working.{answers_work}
 
@@ -59,8 +65,46 @@ same_writes : (old mid : WrittenView) → mid.text.buffer.can ≡ old.text.buffe
 same_writes old mid can = ap (λ (abilities : Abilities). abilities.writable) can
 
 -- a call behind what handed on of a text that owed something is a call of that text
-pub answers_over : (old mid : WrittenView) (call : TextFileCall) (reply : FileReply) (new : WrittenView) (short : Bool) → old.text.buffer.can.writable ≡ true → old.life ≡ life.Live → mid.life ≡ life.Live → HandsOn old false false mid → passes_on old.pending call ≡ true → old.pending ≢ [] → asks_nothing call ≡ false → closes_again life.Live call ≡ false → refusal (file_now old) call ≡ None → (refusal (file_now mid) call ≡ None) → WriteMoves old.text.settings call reply (place_now old) (place_now new) → TextPasses (state_of old false) call reply (state_of new short) → WantsMemory call reply old.text.buffer → Answers (state_of mid false) call reply (state_of new short) → Works old call reply new short
-answers_over old mid call reply new short writes live lives hands busy owes some once accepted still written passes wants answers =
+-- What is owed, by two calls.
+
+-- of a call that gives no bytes, the settings being as they were
+owes_behind : (old mid new : TextOver Buffer) (call : TextFileCall) → Keeps old.buffer.raw mid.buffer.raw → PassesOwed old.buffer.raw (all_owed old) mid.buffer.raw (all_owed mid) → mid.settings ≡ old.settings → mid.place ≡ old.place → OwesOn mid call new → OwesOn old call new
+owes_behind old mid new call keeps first settings place second = record {
+  taken = second.taken;
+  whole = subst (λ (own : TextSettings). (second.taken ≡ []) ⊎ (second.taken ≡ given_by own call)) settings second.whole;
+  place = subst (λ (own : TextPlace). WriteMovesBy call (length second.taken) own.at new.place.at) place second.place;
+  passes = passes_then old.buffer.raw mid.buffer.raw new.buffer.raw (all_owed old ++ second.taken) (all_owed mid ++ second.taken) (all_owed new) keeps (passes_behind old.buffer.raw mid.buffer.raw (all_owed old) (all_owed mid) second.taken first) second.passes;
+}
+
+-- bytes that went on of a text whose buffer had taken all that it owed
+gave_behind : (old mid : WrittenView) (new : TextOver Buffer) → HandsOn old false false mid → mid.pending ≡ [] → GaveOwn (over_of mid) new → GaveOwn (over_of old) new
+gave_behind old mid new hands none gave = by_gave gave
+  where
+    at : (place_now mid).at ≡ (place_now old).at
+    at = ap (λ (place : TextPlace). place.at) hands.place
+
+    from : own_from (over_of old) ≤ own_from (over_of mid)
+    from = omega (arith, at, ap length none)
+
+    -- no more bytes are left with the buffer than both owed
+    left : length mid.text.buffer.owed.bytes + hands.owes.passed ≡ length old.text.buffer.owed.bytes + length old.pending
+    left = omega (arith, hands.owes.most, ap length hands.owes.rest, length-drop hands.owes.passed (all_owed (over_of old)), length-append mid.text.buffer.owed.bytes mid.pending, length-append old.text.buffer.owed.bytes old.pending, ap length none)
+
+    by_gave : GaveOwn (over_of mid) new → GaveOwn (over_of old) new
+    by_gave (inl further) = inl (omega (arith, further, from))
+    by_gave (inr took) = inr (record {
+      further = omega (arith, took.further, from);
+      stands = λ tells. omega (arith, took.stands (hands.calls.keeps.raw.tells_place ∙ tells), from);
+      answered = λ tells. omega (arith, took.answered (hands.calls.keeps.raw.tells_transfers ∙ tells), hands.owes.answered tells, left);
+    })
+
+starves_behind : (old mid : WrittenView) (reply : FileReply) (new : TextOver Buffer) → HandsOn old false false mid → mid.pending ≡ [] → mid.life ≡ old.life → Starves (over_of mid) reply new → Starves (over_of old) reply new
+starves_behind old mid (Refused fault.NoMemory) new hands none current (inl stays) = inl (record { life_is = stays.life_is ∙ current; settings = stays.settings ∙ hands.settings; place = stays.place ∙ hands.place })
+starves_behind old mid (Refused fault.NoMemory) new hands none current (inr failed) = inr (failed.0, gave_behind old mid new hands none failed.1)
+starves_behind old mid reply new hands none current starves = tt
+
+pub answers_over : (old mid : WrittenView) (call : TextFileCall) (reply : FileReply) (new : WrittenView) (short : Bool) → old.text.buffer.can.writable ≡ true → old.life ≡ life.Live → mid.life ≡ life.Live → HandsOn old false false mid → mid.pending ≡ [] → passes_on old.pending call ≡ true → old.pending ≢ [] → calls_nothing call ≡ false → closes_again life.Live call ≡ false → refusal (file_now old) call ≡ None → (refusal (file_now mid) call ≡ None) → WriteMoves old.text.settings call reply (place_now old) (place_now new) → TextPasses (state_of old false) call reply (state_of new short) → WantsMemory call reply old.text.buffer → Closes old.life call old.text.buffer reply new.text.buffer → Answers (state_of mid false) call reply (state_of new short) → Works old call reply new short
+answers_over old mid call reply new short writes live lives hands none busy owes some once accepted still written passes wants closes answers =
     let can : mid.text.buffer.can ≡ old.text.buffer.can = hands.calls.keeps.can in
     let current : mid.life ≡ old.life = lives ∙ sym live in
     let mid_writes : mid.text.buffer.can.writable ≡ true = same_writes old mid can ∙ writes in
@@ -82,7 +126,12 @@ answers_over old mid call reply new short writes live lives hands busy owes some
       life_is = subst (λ (own : Bool). LifeMoves own call reply old.life new.life) mid_writes (subst (λ (own : Life). LifeMoves mid.text.buffer.can.writable call reply own new.life) current answers.moves.life_is);
       place = subst (λ (own : TextPlace). PlaceMoves call short reply own new.text.buffer.place (place_now new)) hands.place answers.moves.place;
       written = written;
-      bounded = answers.moves.bounded;
+      joined = answers.joined;
+      owes = owes_behind (over_of old) (over_of mid) (over_of new) call hands.calls.keeps.raw hands.owes hands.settings hands.place answers.owes;
+      starves = starves_behind old mid reply (over_of new) hands none current answers.starves;
+      closes = closes;
+      stays = λ is. open_then old.text.buffer mid.text.buffer new.text.buffer hands.stays (answers.stays is);
+      stops = answers.stops;
       answer = subst (λ (own : Bool). IsReplyTo own call reply) mid_writes (answers.answer still);
       complete = λ calm sound. answers.complete still
           (rose_still old.text.buffer.raw.waits mid.text.buffer.raw.waits new.text.buffer.raw.waits hands.calls.keeps.raw.waits answers.keeps.raw.waits calm)
@@ -109,11 +158,15 @@ unwanted_read : (asked : Wanted) (reply : FileReply) (buffer : Buffer) → Wants
 unwanted_read (Characters size) reply buffer = tt
 unwanted_read (Line limit) reply buffer = tt
 
+unclosed_read : (asked : Wanted) (current : Life) (before : Buffer) (reply : FileReply) (after : Buffer) → Closes current (call_of asked) before reply after
+unclosed_read (Characters size) current before reply after = tt
+unclosed_read (Line limit) current before reply after = tt
+
 once_read : (asked : Wanted) → closes_again life.Live (call_of asked) ≡ false
 once_read (Characters size) = refl
 once_read (Line limit) = refl
 
-some_read : (asked : Wanted) → asks_none asked ≡ false → asks_nothing (call_of asked) ≡ false
+some_read : (asked : Wanted) → asks_none asked ≡ false → calls_nothing (call_of asked) ≡ false
 some_read asked some = grind arith
 
 busy_read : (owed : List ℕ) (asked : Wanted) → owed ≢ [] → passes_on owed (call_of asked) ≡ true
@@ -125,7 +178,7 @@ pub read_over : (old mid new : WrittenView) (asked : Wanted) (reply : FileReply)
 read_over old mid new asked reply short writes live owes can some outcome answers =
     let hands = outcome.0 in
     let still : mid.text.buffer.can.readable ≡ true = ap (λ (own : Abilities). own.readable) hands.calls.keeps.can ∙ can in
-    answers_work old (call_of asked) reply new short (answers_over old mid (call_of asked) reply new short writes live outcome.2 hands (busy_read old.pending asked owes) owes (some_read asked some) (once_read asked) (accepts (file_now old) asked live can) (accepts (file_now mid) asked outcome.2 still) (unwritten_read asked old.text.settings reply (place_now old) (place_now new)) (unpassed_read asked (state_of old false) reply (state_of new short)) (unwanted_read asked reply old.text.buffer) answers)
+    answers_work old (call_of asked) reply new short (answers_over old mid (call_of asked) reply new short writes live outcome.2 hands outcome.1 (busy_read old.pending asked owes) owes (some_read asked some) (once_read asked) (accepts (file_now old) asked live can) (accepts (file_now mid) asked outcome.2 still) (unwritten_read asked old.text.settings reply (place_now old) (place_now new)) (unpassed_read asked (state_of old false) reply (state_of new short)) (unwanted_read asked reply old.text.buffer) (unclosed_read asked old.life old.text.buffer reply new.text.buffer) answers)
 
 busy_other : (owed : List ℕ) (call : TextFileCall) → owed ≢ [] → passes_on owed call ≡ true
 busy_other [] call some = absurd (some refl)
@@ -137,6 +190,10 @@ wants_flush old mid reply keeps wants = grind arith
 wants_close : (old mid : Buffer) (reply : FileReply) → KeepsBuffer old mid → WantsMemory Close reply mid → WantsMemory Close reply old
 wants_close old mid reply keeps wants = grind arith
 
+closes_behind : (was current : Life) (reply : FileReply) (before mid after : Buffer) → was ≡ life.Live → KeepsOpen before mid → Closes was Close mid reply after → Closes current Close before reply after
+closes_behind was current Done before mid after live stays closes = λ lives. ((closes live).0, λ closed. (closes live).1 (stays closed).1)
+closes_behind was current reply before mid after live stays closes = tt
+
 passes_close : (old mid : TextState) (reply : FileReply) (after : TextState) → mid.text.life ≡ life.Live → TextPasses mid Close reply after → TextPasses old Close reply after
 passes_close old mid reply after lives passes = grind arith
 
@@ -146,9 +203,9 @@ passes_flush old mid reply after passes = grind arith
 pub flush_over : (old mid new : WrittenView) (reply : FileReply) (short : Bool) → old.text.buffer.can.writable ≡ true → old.life ≡ life.Live → old.pending ≢ [] → SettleOutcome old (Ok tt) mid → Answers (state_of mid false) Flush reply (state_of new short) → Answers (state_of old false) Flush reply (state_of new short)
 flush_over old mid new reply short writes live owes outcome answers =
     let hands = outcome.0 in
-    answers_work old Flush reply new short (answers_over old mid Flush reply new short writes live outcome.2 hands (busy_other old.pending Flush owes) owes refl refl (rw live refl) (rw outcome.2 refl) tt (passes_flush (state_of old false) (state_of mid false) reply (state_of new short) answers.passes) (wants_flush old.text.buffer mid.text.buffer reply hands.calls.keeps answers.wants) answers)
+    answers_work old Flush reply new short (answers_over old mid Flush reply new short writes live outcome.2 hands outcome.1 (busy_other old.pending Flush owes) owes refl refl (rw live refl) (rw outcome.2 refl) tt (passes_flush (state_of old false) (state_of mid false) reply (state_of new short) answers.passes) (wants_flush old.text.buffer mid.text.buffer reply hands.calls.keeps answers.wants) tt answers)
 
 pub close_over : (old mid new : WrittenView) (reply : FileReply) (short : Bool) → old.text.buffer.can.writable ≡ true → old.life ≡ life.Live → old.pending ≢ [] → SettleOutcome old (Ok tt) mid → Answers (state_of mid false) Close reply (state_of new short) → Answers (state_of old false) Close reply (state_of new short)
 close_over old mid new reply short writes live owes outcome answers =
     let hands = outcome.0 in
-    answers_work old Close reply new short (answers_over old mid Close reply new short writes live outcome.2 hands (busy_other old.pending Close owes) owes refl refl (rw live refl) (rw outcome.2 refl) tt (passes_close (state_of old false) (state_of mid false) reply (state_of new short) outcome.2 answers.passes) (wants_close old.text.buffer mid.text.buffer reply hands.calls.keeps answers.wants) answers)
+    answers_work old Close reply new short (answers_over old mid Close reply new short writes live outcome.2 hands outcome.1 (busy_other old.pending Close owes) owes refl refl (rw live refl) (rw outcome.2 refl) tt (passes_close (state_of old false) (state_of mid false) reply (state_of new short) outcome.2 answers.passes) (wants_close old.text.buffer mid.text.buffer reply hands.calls.keeps answers.wants) (closes_behind mid.life old.life reply old.text.buffer mid.text.buffer new.text.buffer outcome.2 hands.stays answers.closes) answers)

@@ -1,5 +1,5 @@
 -- A call of a text that is refused leaves all as it was.
-use Rattle.std.proofs.Common.{◌≡◌, ◌≢◌, zero, suc, true, nat_eq, ℕ, inl, Bool, false, List, Option, Some, None, refl, sym, ap, ◌∙◌, subst, arith}
+use Rattle.std.proofs.Common.{◌≡◌, ◌≢◌, zero, suc, true, nat_eq, ℕ, inl, Bool, false, List, Option, Some, None, Result, Ok, Err, refl, sym, ap, ◌∙◌, subst, arith}
 use Rattle.std.proofs.lemmas.Bool.Decides.{nat_tests}
 use Rattle.py_flat.specs.declared.fault.IoFault.{IoFault}
 use Rattle.py_flat.specs.declared.fault.IoFault.TheVariants as fault
@@ -10,19 +10,23 @@ use Rattle.py_flat.specs.Refusals.{life_fault}
 use Rattle.py_flat.specs.AllowedStep.{settled}
 use Rattle.py_flat.proofs.Settling.{blames}
 use Rattle.py_plain_text.specs.TextFile.{TextFile, TextPlace, TextSettings}
+use Rattle.py_plain_text.specs.TextOver.{TextOver}
 use Rattle.py_plain_text.specs.TextCalls.{TextFileCall, Read, ReadLine, WriteText, SetChunkSize, Flush, Close, OtherKind}
 use Rattle.py_plain_text.specs.TextRefusals.{refusal}
 use Rattle.py_plain_text.specs.TextExact.{with_chunk_size}
 use Rattle.py_plain_text.specs.TextAllowed.{SettledBy, TextFileStep}
 use Rattle.py_raw.proofs.Telling.{keeps_same}
 use Rattle.py_stream.specs.Kinds.{says_fault}
+use Rattle.py_stream.specs.Replies.{count_reply}
 use Rattle.py_stream.specs.Buffer.{Buffer}
 use Rattle.py_held_text.specs.declared.wanted.Wanted.{Wanted}
 use Rattle.py_held_text.specs.declared.wanted.Wanted.TheVariants.{Characters, Line}
 use Rattle.py_read_text.specs.TextState.{TextState}
-use Rattle.py_read_text.specs.Answers.{IsShort, PlaceMoves, WriteMoves, LifeMoves, settings_after, closes_again, WantsMemory, ClosesWithRaw, IsBounded, TextPasses, TextKeeps, Answers}
+use Rattle.py_read_text.specs.Owing.{all_owed, IsJoined, Starves, Closes}
+use Rattle.py_read_text.specs.Answers.{IsShort, PlaceMoves, WriteMoves, LifeMoves, settings_after, closes_again, WantsMemory, ClosesWithRaw, TextPasses, TextKeeps, Answers}
 use Rattle.py_read_text.specs.Reading.{call_of}
-use Rattle.py_textio.specs.Written.{WrittenView, place_now, state_of, file_now}
+use Rattle.py_read_text.proofs.Owing.{passes_none, moves_none, owes_none, open_still}
+use Rattle.py_textio.specs.Written.{WrittenView, place_now, over_of, state_of, file_now}
 
 whole_refused : (why : IoFault) → blames why ≡ false → IsShort (Refused why) false
 whole_refused (fault.WouldBlock taken) own = absurd (cc)
@@ -75,14 +79,22 @@ wants_refused call why buffer own = tt
 
 shut_refused : (call : TextFileCall) (why : IoFault) (buffer : Buffer) → ClosesWithRaw call buffer (Refused why) buffer
 shut_refused Close why buffer = λ whole none closed. closed
-shut_refused call why buffer = λ can none closed. closed
+shut_refused call why buffer = tt
+
+starves_refused : (text : TextOver Buffer) (why : IoFault) → Starves text (Refused why) text
+starves_refused text fault.NoMemory = inl (record { life_is = refl; settings = refl; place = refl })
+starves_refused text why = tt
+
+closes_refused : (current : Life) (call : TextFileCall) (why : IoFault) (buffer : Buffer) → Closes current call buffer (Refused why) buffer
+closes_refused current Close why buffer = tt
+closes_refused current call why buffer = tt
 
 step_refused : (file : TextFile) (call : TextFileCall) (why : IoFault) → refusal file call ≡ Some why → TextFileStep file call (Refused why) false false file
 step_refused file call why is = settled (subst (λ (refused : Option IoFault). SettledBy file call refused (Refused why) file) (sym is) (refl, refl))
 
 -- a call that is refused
-pub refused : (text : WrittenView) (was : Bool) (call : TextFileCall) (why : IoFault) → refusal (file_now text) call ≡ Some why → blames why ≡ false → closes_again text.life call ≡ false → IsBounded (state_of text false) → Answers (state_of text was) call (Refused why) (state_of text false)
-refused text was call why is own once bounded =
+pub refused : (text : WrittenView) (was : Bool) (call : TextFileCall) (why : IoFault) → refusal (file_now text) call ≡ Some why → blames why ≡ false → closes_again text.life call ≡ false → IsJoined (over_of text) → Answers (state_of text was) call (Refused why) (state_of text false)
+refused text was call why is own once joined =
     let quiet = quiet_refused why own in
     record {
       keeps = record { raw = keeps_same text.text.buffer.raw; can = refl; buffering = refl; exported = refl };
@@ -92,7 +104,13 @@ refused text was call why is own once bounded =
       counted = λ exact. record { faults = λ sound. refl; ends = λ own. record { waits = λ whole has. refl; once = λ short. absurd (cc); most = inl refl } };
       shorts = whole_refused why own;
       nothing = λ none. refl;
-      moves = record { settings = settings_refused call why text.text.settings; life_is = life_refused text.text.buffer.can.writable call why text.life own; place = place_refused call why (place_now text) text.text.buffer.place; written = written_refused text.text.settings call why (place_now text) own; bounded = bounded };
+      moves = record { settings = settings_refused call why text.text.settings; life_is = life_refused text.text.buffer.can.writable call why text.life own; place = place_refused call why (place_now text) text.text.buffer.place; written = written_refused text.text.settings call why (place_now text) own };
+      joined = joined;
+      owes = owes_none (over_of text) call (over_of text) (moves_none call (place_now text).at) (passes_none text.text.buffer.raw (all_owed (over_of text)));
+      starves = starves_refused (over_of text) why;
+      closes = closes_refused text.life call why text.text.buffer;
+      stays = λ is. open_still text.text.buffer;
+      stops = λ short. absurd (cc);
       answer = λ accepts. let never = sym is ∙ accepts in absurd (cc);
       complete = λ accepts calm sound. let never = sym is ∙ accepts in absurd (cc);
       wants = wants_refused call why text.text.buffer own;
@@ -132,16 +150,16 @@ own_life life.Closed why is = let same : fault.Closed ≡ why = cc in ap blames 
 own_life life.Detached why is = let same : fault.Detached ≡ why = cc in ap blames (sym same)
 
 -- a reading that the life refuses
-pub refused_by_life : (now : TextState) (text : WrittenView) (was : Bool) (asked : Wanted) (current : Life) (why : IoFault) → state_of text was ≡ now → text.life ≡ current → life_fault current ≡ Some why → IsBounded (state_of text false) → Answers now (call_of asked) (Refused why) (state_of text false)
-refused_by_life now text was asked current why same is refuses bounded =
+pub refused_by_life : (now : TextState) (text : WrittenView) (was : Bool) (asked : Wanted) (current : Life) (why : IoFault) → state_of text was ≡ now → text.life ≡ current → life_fault current ≡ Some why → IsJoined (over_of text) → Answers now (call_of asked) (Refused why) (state_of text false)
+refused_by_life now text was asked current why same is refuses joined =
     subst (λ (before : TextState). Answers before (call_of asked) (Refused why) (state_of text false)) same
-    (refused text was (call_of asked) why (by_life (file_now text) asked current why is refuses) (own_life current why refuses) (never_again asked text.life) bounded)
+    (refused text was (call_of asked) why (by_life (file_now text) asked current why is refuses) (own_life current why refuses) (never_again asked text.life) joined)
 
 -- a reading of a buffer that can't be read
-pub refused_unread : (now : TextState) (text : WrittenView) (was : Bool) (asked : Wanted) → state_of text was ≡ now → text.life ≡ life.Live → text.text.buffer.can.readable ≡ false → IsBounded (state_of text false) → Answers now (call_of asked) (Refused fault.Unsupported) (state_of text false)
-refused_unread now text was asked same live can bounded =
+pub refused_unread : (now : TextState) (text : WrittenView) (was : Bool) (asked : Wanted) → state_of text was ≡ now → text.life ≡ life.Live → text.text.buffer.can.readable ≡ false → IsJoined (over_of text) → Answers now (call_of asked) (Refused fault.Unsupported) (state_of text false)
+refused_unread now text was asked same live can joined =
     subst (λ (before : TextState). Answers before (call_of asked) (Refused fault.Unsupported) (state_of text false)) same
-    (refused text was (call_of asked) fault.Unsupported (unread (file_now text) asked live can) refl (never_again asked text.life) bounded)
+    (refused text was (call_of asked) fault.Unsupported (unread (file_now text) asked live can) refl (never_again asked text.life) joined)
 
 -- what refuses a call that texts don't have
 abbrev pub other_fault : Life → IoFault
@@ -162,11 +180,11 @@ own_other life.Failed = refl
 own_other life.Closed = refl
 own_other life.Detached = refl
 
-pub refused_other : (now : TextState) (text : WrittenView) (was : Bool) (current : Life) (why : IoFault) → state_of text was ≡ now → text.life ≡ current → why ≡ other_fault current → IsBounded (state_of text false) → Answers now OtherKind (Refused why) (state_of text false)
-refused_other now text was current why same is says bounded =
+pub refused_other : (now : TextState) (text : WrittenView) (was : Bool) (current : Life) (why : IoFault) → state_of text was ≡ now → text.life ≡ current → why ≡ other_fault current → IsJoined (over_of text) → Answers now OtherKind (Refused why) (state_of text false)
+refused_other now text was current why same is says joined =
     subst (λ (before : TextState). Answers before OtherKind (Refused why) (state_of text false)) same
     (subst (λ (own : IoFault). Answers (state_of text was) OtherKind (Refused own) (state_of text false)) (sym says)
-    (refused text was OtherKind (other_fault current) (other_by (file_now text) current is) (own_other current) refl bounded))
+    (refused text was OtherKind (other_fault current) (other_by (file_now text) current is) (own_other current) refl joined))
 
 -- Closing.
 
@@ -183,10 +201,10 @@ not_again life.Closed other = absurd (other refl)
 not_again life.Detached other = refl
 
 -- a close that the life refuses
-pub refused_close : (now : TextState) (text : WrittenView) (was : Bool) (current : Life) (why : IoFault) → state_of text was ≡ now → text.life ≡ current → current ≢ life.Closed → life_fault current ≡ Some why → IsBounded (state_of text false) → Answers now Close (Refused why) (state_of text false)
-refused_close now text was current why same is other refuses bounded =
+pub refused_close : (now : TextState) (text : WrittenView) (was : Bool) (current : Life) (why : IoFault) → state_of text was ≡ now → text.life ≡ current → current ≢ life.Closed → life_fault current ≡ Some why → IsJoined (over_of text) → Answers now Close (Refused why) (state_of text false)
+refused_close now text was current why same is other refuses joined =
     subst (λ (before : TextState). Answers before Close (Refused why) (state_of text false)) same
-    (refused text was Close why (close_by (file_now text) current why is other refuses) (own_life current why refuses) (ap (λ (own : Life). closes_again own Close) is ∙ not_again current other) bounded)
+    (refused text was Close why (close_by (file_now text) current why is other refuses) (own_life current why refuses) (ap (λ (own : Life). closes_again own Close) is ∙ not_again current other) joined)
 
 closed_accepts : (file : TextFile) → file.life ≡ life.Closed → refusal file Close ≡ None
 closed_accepts file is = rw is refl
@@ -197,8 +215,8 @@ closed_step file is =
     settled (subst (λ (none : Option IoFault). SettledBy file Close none Done file) (sym (closed_accepts file is)) (ap (λ (left : TextFile). let pair : FileReply × TextFile = (Done, left) in pair) same))
 
 -- a close of a closed text is done again
-pub closed_again : (now : TextState) (text : WrittenView) (was : Bool) → state_of text was ≡ now → text.life ≡ life.Closed → IsBounded (state_of text false) → Answers now Close Done (state_of text false)
-closed_again now text was same is bounded =
+pub closed_again : (now : TextState) (text : WrittenView) (was : Bool) → state_of text was ≡ now → text.life ≡ life.Closed → IsJoined (over_of text) → Answers now Close Done (state_of text false)
+closed_again now text was same is joined =
     subst (λ (before : TextState). Answers before Close Done (state_of text false)) same
     (record {
       keeps = record { raw = keeps_same text.text.buffer.raw; can = refl; buffering = refl; exported = refl };
@@ -208,7 +226,13 @@ closed_again now text was same is bounded =
       counted = λ exact. record { faults = λ sound. refl; ends = λ own. record { waits = λ whole has. refl; once = λ short. absurd (cc); most = inl refl } };
       shorts = refl;
       nothing = λ none. refl;
-      moves = record { settings = refl; life_is = is; place = refl; written = tt; bounded = bounded };
+      moves = record { settings = refl; life_is = is; place = refl; written = tt };
+      joined = joined;
+      owes = owes_none (over_of text) Close (over_of text) tt (passes_none text.text.buffer.raw (all_owed (over_of text)));
+      starves = tt;
+      closes = λ live. let never : life.Closed ≡ life.Live = sym is ∙ live in absurd (cc);
+      stays = λ not. absurd (cc);
+      stops = λ short. absurd (cc);
       answer = λ accepts. tt;
       complete = λ accepts calm sound. record { answer = tt; whole = refl };
       wants = tt;
@@ -235,19 +259,19 @@ chunk_by file size life.Closed why is refuses = rw is refuses
 chunk_by file size life.Detached why is refuses = rw is refuses
 
 -- a chunk size that the life refuses
-pub refused_chunk : (now : TextState) (text : WrittenView) (was : Bool) (size : ℕ) (current : Life) (why : IoFault) → state_of text was ≡ now → text.life ≡ current → life_fault current ≡ Some why → IsBounded (state_of text false) → Answers now (SetChunkSize size) (Refused why) (state_of text false)
-refused_chunk now text was size current why same is refuses bounded =
+pub refused_chunk : (now : TextState) (text : WrittenView) (was : Bool) (size : ℕ) (current : Life) (why : IoFault) → state_of text was ≡ now → text.life ≡ current → life_fault current ≡ Some why → IsJoined (over_of text) → Answers now (SetChunkSize size) (Refused why) (state_of text false)
+refused_chunk now text was size current why same is refuses joined =
     subst (λ (before : TextState). Answers before (SetChunkSize size) (Refused why) (state_of text false)) same
-    (refused text was (SetChunkSize size) why (chunk_by (file_now text) size current why is refuses) (own_life current why refuses) refl bounded)
+    (refused text was (SetChunkSize size) why (chunk_by (file_now text) size current why is refuses) (own_life current why refuses) refl joined)
 
 no_chunk : (file : TextFile) (size : ℕ) → file.life ≡ life.Live → nat_eq size 0 ≡ true → refusal file (SetChunkSize size) ≡ Some fault.BadArgument
 no_chunk file size live none = rw live (rw none refl)
 
 -- a chunk of no bytes
-pub refused_none : (now : TextState) (text : WrittenView) (was : Bool) (size : ℕ) → state_of text was ≡ now → text.life ≡ life.Live → nat_eq size 0 ≡ true → IsBounded (state_of text false) → Answers now (SetChunkSize size) (Refused fault.BadArgument) (state_of text false)
-refused_none now text was size same live none bounded =
+pub refused_none : (now : TextState) (text : WrittenView) (was : Bool) (size : ℕ) → state_of text was ≡ now → text.life ≡ life.Live → nat_eq size 0 ≡ true → IsJoined (over_of text) → Answers now (SetChunkSize size) (Refused fault.BadArgument) (state_of text false)
+refused_none now text was size same live none joined =
     subst (λ (before : TextState). Answers before (SetChunkSize size) (Refused fault.BadArgument) (state_of text false)) same
-    (refused text was (SetChunkSize size) fault.BadArgument (no_chunk (file_now text) size live none) refl refl bounded)
+    (refused text was (SetChunkSize size) fault.BadArgument (no_chunk (file_now text) size live none) refl refl joined)
 
 some_chunk : (file : TextFile) (size : ℕ) → file.life ≡ life.Live → nat_eq size 0 ≡ false → refusal file (SetChunkSize size) ≡ None
 some_chunk file size live some = rw live (rw some refl)
@@ -259,8 +283,8 @@ chunk_step : (file : TextFile) (size : ℕ) → file.life ≡ life.Live → nat_
 chunk_step file size live some = settled (subst (λ (none : Option IoFault). SettledBy file (SetChunkSize size) none Done (with_chunk_size file size)) (sym (some_chunk file size live some)) refl)
 
 -- chunks of another size
-pub chunks_so : (now : TextState) (text new : WrittenView) (was : Bool) (size : ℕ) → state_of text was ≡ now → text.life ≡ life.Live → nat_eq size 0 ≡ false → IsBounded (state_of text false) → new ≡ with_chunk text size → Answers now (SetChunkSize size) Done (state_of new false)
-chunks_so now text new was size same live some bounded is =
+pub chunks_so : (now : TextState) (text new : WrittenView) (was : Bool) (size : ℕ) → state_of text was ≡ now → text.life ≡ life.Live → nat_eq size 0 ≡ false → IsJoined (over_of text) → new ≡ with_chunk text size → Answers now (SetChunkSize size) Done (state_of new false)
+chunks_so now text new was size same live some joined is =
     subst (λ (view : WrittenView). Answers now (SetChunkSize size) Done (state_of view false)) (sym is)
     (subst (λ (before : TextState). Answers before (SetChunkSize size) Done (state_of (with_chunk text size) false)) same
     (record {
@@ -271,11 +295,17 @@ chunks_so now text new was size same live some bounded is =
       counted = λ exact. record { faults = λ sound. refl; ends = λ own. record { waits = λ whole has. refl; once = λ short. absurd (cc); most = inl refl } };
       shorts = refl;
       nothing = λ none. refl;
-      moves = record { settings = refl; life_is = refl; place = refl; written = tt; bounded = record { behind = bounded.behind; far = bounded.far } };
+      moves = record { settings = refl; life_is = refl; place = refl; written = tt };
+      joined = joined;
+      owes = owes_none (over_of text) (SetChunkSize size) (over_of (with_chunk text size)) tt (passes_none text.text.buffer.raw (all_owed (over_of text)));
+      starves = tt;
+      closes = tt;
+      stays = λ is. open_still text.text.buffer;
+      stops = λ short. absurd (cc);
       answer = λ accepts. refl;
       complete = λ accepts calm sound. record { answer = refl; whole = refl };
       wants = tt;
-      shut = λ own can none closed. closed;
+      shut = λ own. tt;
       spares = λ can none. record { bytes = λ told. refl; written = λ told. refl; owed = none };
       tied = record { owed = λ can. refl; life_is = λ can was. was };
       stands = λ stood. stood;
@@ -294,10 +324,10 @@ flush_by file life.Closed why is refuses = rw is refuses
 flush_by file life.Detached why is refuses = rw is refuses
 
 -- a flush that the life refuses
-pub refused_flush : (now : TextState) (text : WrittenView) (was : Bool) (current : Life) (why : IoFault) → state_of text was ≡ now → text.life ≡ current → life_fault current ≡ Some why → IsBounded (state_of text false) → Answers now Flush (Refused why) (state_of text false)
-refused_flush now text was current why same is refuses bounded =
+pub refused_flush : (now : TextState) (text : WrittenView) (was : Bool) (current : Life) (why : IoFault) → state_of text was ≡ now → text.life ≡ current → life_fault current ≡ Some why → IsJoined (over_of text) → Answers now Flush (Refused why) (state_of text false)
+refused_flush now text was current why same is refuses joined =
     subst (λ (before : TextState). Answers before Flush (Refused why) (state_of text false)) same
-    (refused text was Flush why (flush_by (file_now text) current why is refuses) (own_life current why refuses) refl bounded)
+    (refused text was Flush why (flush_by (file_now text) current why is refuses) (own_life current why refuses) refl joined)
 
 -- Writing.
 
@@ -308,16 +338,57 @@ write_by file text life.Closed why is refuses = rw is refuses
 write_by file text life.Detached why is refuses = rw is refuses
 
 -- a write that the life refuses
-pub refused_write : (now : TextState) (text : WrittenView) (was : Bool) (written : List ℕ) (current : Life) (why : IoFault) → state_of text was ≡ now → text.life ≡ current → life_fault current ≡ Some why → IsBounded (state_of text false) → Answers now (WriteText written) (Refused why) (state_of text false)
-refused_write now text was written current why same is refuses bounded =
+pub refused_write : (now : TextState) (text : WrittenView) (was : Bool) (written : List ℕ) (current : Life) (why : IoFault) → state_of text was ≡ now → text.life ≡ current → life_fault current ≡ Some why → IsJoined (over_of text) → Answers now (WriteText written) (Refused why) (state_of text false)
+refused_write now text was written current why same is refuses joined =
     subst (λ (before : TextState). Answers before (WriteText written) (Refused why) (state_of text false)) same
-    (refused text was (WriteText written) why (write_by (file_now text) written current why is refuses) (own_life current why refuses) refl bounded)
+    (refused text was (WriteText written) why (write_by (file_now text) written current why is refuses) (own_life current why refuses) refl joined)
 
 unwritable : (file : TextFile) (text : List ℕ) → file.life ≡ life.Live → file.can.writable ≡ false → refusal file (WriteText text) ≡ Some fault.Unsupported
 unwritable file text live can = rw live (rw can refl)
 
 -- a write to a buffer that can't be written
-pub refused_unwritten : (now : TextState) (text : WrittenView) (was : Bool) (written : List ℕ) → state_of text was ≡ now → text.life ≡ life.Live → text.text.buffer.can.writable ≡ false → IsBounded (state_of text false) → Answers now (WriteText written) (Refused fault.Unsupported) (state_of text false)
-refused_unwritten now text was written same live can bounded =
+pub refused_unwritten : (now : TextState) (text : WrittenView) (was : Bool) (written : List ℕ) → state_of text was ≡ now → text.life ≡ life.Live → text.text.buffer.can.writable ≡ false → IsJoined (over_of text) → Answers now (WriteText written) (Refused fault.Unsupported) (state_of text false)
+refused_unwritten now text was written same live can joined =
     subst (λ (before : TextState). Answers before (WriteText written) (Refused fault.Unsupported) (state_of text false)) same
-    (refused text was (WriteText written) fault.Unsupported (unwritable (file_now text) written live can) refl refl bounded)
+    (refused text was (WriteText written) fault.Unsupported (unwritable (file_now text) written live can) refl refl joined)
+
+-- A call of a live text whose last answer was short.
+
+pub over_short : (now : TextState) (text : WrittenView) (was : Bool) (call : TextFileCall) (reply : FileReply) (after : TextState) → state_of text was ≡ now → TextPasses (state_of text was) call reply after → Answers (state_of text false) call reply after → Answers now call reply after
+over_short now text was call reply after same passes answers = subst (λ (before : TextState). Answers before call reply after) same (record {
+  keeps = answers.keeps;
+  refused = λ why is. let left = answers.refused why is in record { says = left.says; same = left.same };
+  again = λ closes. let left = answers.again closes in record { says = left.says; same = left.same };
+  causes = answers.causes;
+  counted = λ exact.
+      let counts = answers.counted exact in
+      record { faults = counts.faults; ends = λ own. let ends = counts.ends own in record { waits = ends.waits; once = ends.once; most = ends.most } };
+  shorts = answers.shorts;
+  nothing = answers.nothing;
+  moves = record { settings = answers.moves.settings; life_is = answers.moves.life_is; place = answers.moves.place; written = answers.moves.written };
+  joined = answers.joined;
+  owes = answers.owes;
+  starves = answers.starves;
+  answer = answers.answer;
+  complete = answers.complete;
+  wants = answers.wants;
+  closes = answers.closes;
+  stays = answers.stays;
+  shut = answers.shut;
+  spares = answers.spares;
+  tied = record { owed = answers.tied.owed; life_is = answers.tied.life_is };
+  stands = answers.stands;
+  told = answers.told;
+  hides = λ is gives own. let hidden = answers.hides is gives own in record { empty = hidden.empty; shows = hidden.shows };
+  stops = answers.stops;
+  passes = passes;
+  kept = answers.kept;
+})
+
+pub passes_read : (asked : Wanted) (before : TextState) (reply : FileReply) (after : TextState) → TextPasses before (call_of asked) reply after
+passes_read (Characters size) before reply after = tt
+passes_read (Line limit) before reply after = tt
+
+pub passes_write : (text : WrittenView) (was : Bool) (written : List ℕ) (result : Result ℕ IoFault) (after : TextState) → TextPasses (state_of text false) (WriteText written) (count_reply result) after → TextPasses (state_of text was) (WriteText written) (count_reply result) after
+passes_write text was written (Ok count) after passes = passes
+passes_write text was written (Err why) after passes = tt

@@ -1,5 +1,5 @@
 -- What is owed is handed on, and the text stays as it is.
-use Rattle.std.proofs.Common.{◌≡◌, ◌≢◌, ℕ, ◌+◌, ◌<◌, ◌≤◌, inl, inr, ◌⊎◌, nat_eq, ◌&&◌, Bool, true, false, List, [], ◌∷◌, length, take, drop, Option, None, Some, Result, Ok, Err, refl, sym, ap, ◌∙◌, subst, arith}
+use Rattle.std.proofs.Common.{◌≡◌, ◌≢◌, ℕ, ◌+◌, ◌-◌, ◌<◌, ◌≤◌, inl, inr, ◌⊎◌, nat_eq, ◌&&◌, Bool, true, false, List, [], ◌∷◌, ◌++◌, length, take, drop, Option, None, Some, Result, Ok, Err, refl, sym, ap, ◌∙◌, subst, arith, append-nil}
 use Rattle.std.proofs.lemmas.List.{length-drop, drop_all}
 use Rattle.py_flat.specs.declared.fault.IoFault.{IoFault}
 use Rattle.py_flat.specs.declared.fault.IoFault.TheVariants as fault
@@ -16,19 +16,24 @@ use Rattle.py_flat.proofs.Laying.{lay_resumes}
 use Rattle.py_plain.specs.Units.{Unknown}
 use Rattle.py_plain_text.specs.TextFile.{TextPlace, TextSettings, clean_at}
 use Rattle.py_plain_text.specs.TextWriting.{writes_texts}
-use Rattle.py_stream.specs.Kinds.{says_fault}
+use Rattle.py_stream.specs.Kinds.{says_fault, says_wait}
 use Rattle.py_stream.specs.Replies.{count_reply}
 use Rattle.py_stream.specs.Answers.{TakesOf, LifeMoves, PlaceStarves}
-use Rattle.py_stream.specs.Writing.{Takes}
-use Rattle.py_stream.specs.Buffer.{Buffer, WhereShown, flat_of, size_shown, stream_shown, AnswersAsBuffer}
-use Rattle.py_read_text.specs.Answers.{further, IsBounded}
-use Rattle.py_read_text.specs.Knowing.{TextView, place_of}
+use Rattle.py_stream.specs.Stream.{Stream}
+use Rattle.py_stream.specs.Writing.{Takes, TookOwn}
+use Rattle.py_stream.specs.Buffer.{Buffer, WhereShown, flat_of, size_shown, stream_shown, refused_here, AnswersAsBuffer}
+use Rattle.py_plain_text.specs.TextCalls.{TextFileCall}
+use Rattle.py_read_text.specs.TextState.{TextState}
+use Rattle.py_read_text.specs.Answers.{further, Answers}
+use Rattle.py_read_text.specs.Knowing.{TextView, place_of, over_of as read_of, state_of as read_state}
+use Rattle.py_read_text.specs.Owing.{all_owed, IsJoined, PassesOwed, own_from, stream_from, GaveOwn}
 use Rattle.py_read_text.specs.Reading.{KeepsPlace}
 use Rattle.py_read_text.specs.Writing.{unit_of, StandsBehind, LeavesFlat, ReturnOutcome}
 use Rattle.py_raw.proofs.Telling.{keeps_same, tells_still}
-use Rattle.py_read_text.proofs.Placing.{accepts_write, flush_flat}
+use Rattle.py_read_text.proofs.Placing.{accepts_write, flush_flat, flush_place}
+use Rattle.py_read_text.proofs.Owing.{passes_none, passes_then, passes_behind, front_passes, takes_passed, open_still, open_then, open_of, open_called}
 use Rattle.py_textio.proofs.Over.{calls_on}
-use Rattle.py_textio.specs.Written.{WrittenView, behind_owed, state_of, CallsBuffer, HandsOn, StandsToWrite, TakesNothing, IsWritten, SettleOutcome, BackOutcome, PassOutcome, HandOutcome}
+use Rattle.py_textio.specs.Written.{WrittenView, behind_owed, over_of, state_of, CallsBuffer, HandsOn, StandsToWrite, TakesNothing, LetsGo, IsWritten, SettleOutcome, BackOutcome, PassOutcome, HandOutcome, with_taken}
 
 -- The place of a text that owes bytes.
 
@@ -40,6 +45,17 @@ behind_so place (byte ∷ more) = refl
 
 pub clean_place : (text : TextView) (owed : List ℕ) → StandsToWrite text → behind_owed (place_of text) owed ≡ clean_at (text.buffer.place + length owed) Unknown
 clean_place text owed stands = behind_so (place_of text) owed ∙ rw (stands.0.taken, stands.0.dirty, stands.1) refl
+
+own_at : (place : TextPlace) (owed : List ℕ) → (behind_owed place owed).at - length owed ≡ place.at
+own_at place [] = omega arith
+own_at place (byte ∷ more) = omega arith
+
+-- what a text owes itself begins at the byte of the text that reads
+pub own_from_is : (view : WrittenView) → own_from (over_of view) ≡ view.text.at
+own_from_is view = own_at (place_of view.text) view.pending
+
+took_from : (old : WrittenView) (after : Stream) → old.text.at ≡ old.text.buffer.place → TookOwn (stream_shown old.text.buffer) after → TookOwn (stream_from (over_of old)) after
+took_from old after stands took = subst (λ (place : ℕ). TookOwn (record (stream_shown old.text.buffer) { place = place }) after) (sym (own_from_is old ∙ stands)) took
 
 -- A write of what is owed.
 
@@ -66,8 +82,8 @@ calls_so before after bytes reply answers = record {
   stands = λ stood. answers.stands;
 }
 
-pub hands_so : (old new : WrittenView) (reply : FileReply) → AnswersAsBuffer old.text.buffer (Write old.pending) reply new.text.buffer → Takes (stream_shown old.text.buffer) old.pending (stream_shown new.text.buffer) → StandsToWrite old.text → StandsBehind old.text new.text → new.pending ≡ drop new.text.buffer.taken old.pending → HandsOn old new.text.buffer.short (says_fault reply) new
-hands_so old new reply answers takes was stands left =
+pub hands_so : (old new : WrittenView) (reply : FileReply) → AnswersAsBuffer old.text.buffer (Write old.pending) reply new.text.buffer → Takes (stream_shown old.text.buffer) old.pending (stream_shown new.text.buffer) → StandsToWrite old.text → StandsBehind old.text new.text → new.pending ≡ drop new.text.buffer.taken old.pending → old.text.buffer.life ≡ life.Live → (new.text.buffer.life ≡ life.Live) ⊎ (new.text.buffer.life ≡ life.Failed) → HandsOn old new.text.buffer.short (says_fault reply) new
+hands_so old new reply answers takes was stands left live after =
     let taken = taken_so old.text.buffer new.text.buffer old.pending reply answers takes in
     let size : new.text.buffer.place + length new.pending ≡ old.text.buffer.place + length old.pending = omega (arith, ap length left, length-drop new.text.buffer.taken old.pending, taken, takes.within, takes.place) in
     record {
@@ -75,6 +91,8 @@ hands_so old new reply answers takes was stands left =
       bytes = λ told. ap (λ (owed : List ℕ). lay (flat_of new.text.buffer).bytes new.text.buffer.place owed) left ∙ bytes_so old.text.buffer new.text.buffer old.pending reply answers takes told;
       place = clean_place new.text new.pending (stands.clean, stands.at) ∙ (ap (λ (at : ℕ). clean_at at Unknown) size ∙ sym (clean_place old.text old.pending was));
       settings = stands.settings;
+      owes = subst (λ (own : List ℕ). PassesOwed old.text.buffer.raw (old.text.buffer.owed.bytes ++ old.pending) new.text.buffer.raw (new.text.buffer.owed.bytes ++ own)) (sym left) (takes_passed old.text.buffer new.text.buffer old.pending new.text.buffer.taken takes taken);
+      stays = open_of old.text.buffer new.text.buffer live after (answers.stays refl);
     }
 
 -- What the buffer answered.
@@ -121,38 +139,55 @@ starves_write (Buffered holds) bytes before after moves = moves
 starves_write Unbuffered bytes before after moves = moves
 starves_write InMemory bytes before after moves = moves
 
+-- a write of which nothing was taken passed on what the buffer owed itself
+none_taken : (before after : Buffer) (bytes : List ℕ) → Takes (stream_shown before) bytes (stream_shown after) → after.place ≡ before.place → PassesOwed before.raw before.owed.bytes after.raw after.owed.bytes
+none_taken before after bytes takes place =
+    let none : takes.taken ≡ 0 = omega (arith, place, takes.place) in
+    record {
+      passed = takes.passed;
+      most = omega (arith, takes.most, none);
+      answered = takes.answered;
+      rest = takes.owed ∙ (ap (λ (count : ℕ). drop takes.passed (before.owed.bytes ++ take count bytes)) none ∙ ap (drop takes.passed) (append-nil before.owed.bytes));
+    }
+
 -- what was written is handed on, or what isn't taken is owed still
 pub settled_so : (old new : WrittenView) (result : Result ℕ IoFault) → old.life ≡ life.Live → AnswersAsBuffer old.text.buffer (Write old.pending) (count_reply result) new.text.buffer → Takes (stream_shown old.text.buffer) old.pending (stream_shown new.text.buffer) → StandsToWrite old.text → StandsBehind old.text new.text → new.pending ≡ drop new.text.buffer.taken old.pending → old.text.buffer.can.writable ≡ true → old.text.buffer.life ≡ life.Live → old.text.buffer.exported ≡ false → old.text.buffer.place + length old.pending ≤ greatest_place → new.life ≡ new.text.buffer.life → SettleOutcome old (unit_of result) new
 settled_so old new (Ok count) live answers takes was stands left writes lives kept far current =
     let short : new.text.buffer.short ≡ false = answers.shorts in
-    (subst (λ (waited : Bool). HandsOn old waited false new) short (hands_so old new (Count count) answers takes was stands left), all_taken old new count answers left, current ∙ (answers.moves.life_is ∙ lives))
+    (subst (λ (waited : Bool). HandsOn old waited false new) short (hands_so old new (Count count) answers takes was stands left lives (inl (answers.moves.life_is ∙ lives))), all_taken old new count answers left, current ∙ (answers.moves.life_is ∙ lives))
 settled_so old new (Err (fault.WouldBlock taken)) live answers takes was stands left writes lives kept far current =
     let short : new.text.buffer.short ≡ true = answers.shorts in
     let count : new.text.buffer.taken ≡ taken = omega (arith, answers.moves.place.1, answers.taken) in (
-      subst (λ (waited : Bool). HandsOn old waited false new) short (hands_so old new (Refused (fault.WouldBlock taken)) answers takes was stands left),
+      subst (λ (waited : Bool). HandsOn old waited false new) short (hands_so old new (Refused (fault.WouldBlock taken)) answers takes was stands left lives (inl (answers.moves.life_is ∙ lives))),
       (λ none. some_left new.text.buffer.taken old.pending (omega (arith, count, answers.moves.place.0)) (sym left ∙ none)),
       current ∙ (answers.moves.life_is ∙ lives),
       writes,
+      answers.full,
     )
 settled_so old new (Err fault.RawFault) live answers takes was stands left writes lives kept far current =
     let short : new.text.buffer.short ≡ false = answers.shorts in
-    (subst (λ (waited : Bool). HandsOn old waited true new) short (hands_so old new (Refused fault.RawFault) answers takes was stands left), current ∙ answers.moves.life_is)
+    (subst (λ (waited : Bool). HandsOn old waited true new) short (hands_so old new (Refused fault.RawFault) answers takes was stands left lives (inr answers.moves.life_is)), current ∙ answers.moves.life_is)
 settled_so old new (Err fault.NoMemory) live answers takes was stands left writes lives kept far current =
     let short : new.text.buffer.short ≡ false = answers.shorts in
-    (subst (λ (waited : Bool). HandsOn old waited false new) short (hands_so old new (Refused fault.NoMemory) answers takes was stands left), answers.wants refl refl, starved (starves_write old.text.buffer.buffering old.pending old.text.buffer.life new.text.buffer.life answers.moves.life_is))
+    (subst (λ (waited : Bool). HandsOn old waited false new) short (hands_so old new (Refused fault.NoMemory) answers takes was stands left lives (alive (starves_write old.text.buffer.buffering old.pending old.text.buffer.life new.text.buffer.life answers.moves.life_is))), answers.wants refl refl, starved (starves_write old.text.buffer.buffering old.pending old.text.buffer.life new.text.buffer.life answers.moves.life_is))
   where
-    starved : (new.text.buffer.life ≡ old.text.buffer.life) ⊎ (new.text.buffer.life ≡ life.Failed) → TakesNothing old new ⊎ ((new.life ≡ life.Failed) × (old.text.buffer.can.writable ≡ true))
-    starved (inr failed) = inr (current ∙ failed, writes)
+    alive : (new.text.buffer.life ≡ old.text.buffer.life) ⊎ (new.text.buffer.life ≡ life.Failed) → (new.text.buffer.life ≡ life.Live) ⊎ (new.text.buffer.life ≡ life.Failed)
+    alive (inl same) = inl (same ∙ lives)
+    alive (inr failed) = inr failed
+
+    starved : (new.text.buffer.life ≡ old.text.buffer.life) ⊎ (new.text.buffer.life ≡ life.Failed) → TakesNothing old new ⊎ ((new.life ≡ life.Failed) × (old.text.buffer.can.writable ≡ true) × GaveOwn (over_of old) (over_of new))
+    starved (inr failed) = inr (current ∙ failed, writes, inr (took_from old (stream_shown new.text.buffer) was.1 (answers.starves refl refl failed)))
     starved (inl same) =
-        let alive : new.text.buffer.life ≡ life.Live = same ∙ lives in
-        let place : new.text.buffer.place ≡ old.text.buffer.place = subst (λ (own : Life). PlaceStarves own (Some (length old.pending)) old.text.buffer.place new.text.buffer.place) alive answers.moves.place in
+        let lives_on : new.text.buffer.life ≡ life.Live = same ∙ lives in
+        let place : new.text.buffer.place ≡ old.text.buffer.place = subst (λ (own : Life). PlaceStarves own (Some (length old.pending)) old.text.buffer.place new.text.buffer.place) lives_on answers.moves.place in
         let none : new.text.buffer.taken ≡ 0 = omega (arith, place, answers.taken) in
         inl (record {
-          lives = current ∙ alive;
+          lives = current ∙ lives_on;
           stands = (stands.clean, stands.at);
           pending = left ∙ ap (λ (count : ℕ). drop count old.pending) none;
           place = place;
-          flat = λ told. starves_flat (flat_of old.text.buffer) (flat_of new.text.buffer) old.pending new.text.buffer.short alive (answers.told (rw kept refl) told);
+          flat = λ told. starves_flat (flat_of old.text.buffer) (flat_of new.text.buffer) old.pending new.text.buffer.short lives_on (answers.told (rw kept refl) told);
+          owes = none_taken old.text.buffer new.text.buffer old.pending takes place;
         })
 settled_so old new (Err other) live answers takes was stands left writes lives kept far current = absurd (answers.answer (accepts_write old.text.buffer old.pending lives writes kept far).0)
 
@@ -176,8 +211,8 @@ writes_so text pending current is some = by_writes text.buffer.can.writable refl
     by_writes true says = says
     by_writes false says = absurd (some (is.unwritten says).0)
 
-pub written_passed : (old new : TextView) (pending left : List ℕ) (reply : FileReply) (before after : Life) → IsWritten old pending before → pending ≢ [] → AnswersAsBuffer old.buffer (Write pending) reply new.buffer → Takes (stream_shown old.buffer) pending (stream_shown new.buffer) → StandsBehind old new → left ≡ drop new.buffer.taken pending → (after ≡ life.Live → new.buffer.life ≡ life.Live) → IsWritten new left after
-written_passed old new pending left reply before after is some answers takes stands left_is lives =
+pub written_passed : (old new : TextView) (pending left : List ℕ) (reply : FileReply) (before after : Life) → IsWritten old pending before → pending ≢ [] → AnswersAsBuffer old.buffer (Write pending) reply new.buffer → Takes (stream_shown old.buffer) pending (stream_shown new.buffer) → StandsBehind old new → left ≡ drop new.buffer.taken pending → (after ≡ life.Live → new.buffer.life ≡ life.Live) → IsJoined (read_of new) → IsWritten new left after
+written_passed old new pending left reply before after is some answers takes stands left_is lives joined =
     let taken = taken_so old.buffer new.buffer pending reply answers takes in
     let was = stands_so old pending before is some in
     record {
@@ -187,7 +222,7 @@ written_passed old new pending left reply before after is some answers takes sta
       handler = λ writes. ap (λ (settings : TextSettings). writes_texts settings.handler) stands.settings ∙ is.handler (sym (ap (λ (can : Abilities). can.writable) answers.keeps.can) ∙ writes);
       lives = lives;
       stands = inr (stands.clean, stands.at);
-      behind = omega (arith, stands.at);
+      joined = joined;
       far = omega (arith, is.far, ap length left_is, length-drop new.buffer.taken pending, taken, takes.within, takes.place);
       unwritten = λ never. absurd (some (is.unwritten (sym (ap (λ (can : Abilities). can.writable) answers.keeps.can) ∙ never)).0);
     }
@@ -201,10 +236,30 @@ settled_at now old new pending left room more before after result same is some l
     subst (λ (view : WrittenView). SettleOutcome view (unit_of result) (view_of new left more after)) same
     (settled_so (view_of old pending room before) (view_of new left more after) result lives answers takes (stands_so old pending before is some) stands left_is (writes_so old pending before is some) (is.lives lives) is.kept is.far current)
 
--- a text stands no further than its buffer and what it owes
-pub bounded_of : (text : TextView) (pending : List ℕ) (room : ℕ) (current : Life) (short : Bool) → IsWritten text pending current → IsBounded (state_of (view_of text pending room current) short)
-bounded_of text [] room current short is = record { behind = omega (arith, is.behind); far = is.far }
-bounded_of text (byte ∷ more) room current short is = record { behind = omega (arith, is.behind); far = is.far }
+-- what a text and its buffer owe stands in one piece
+pub joined_with : (text : TextView) (pending : List ℕ) (room : ℕ) (current : Life) → IsWritten text pending current → IsJoined (over_of (view_of text pending room current))
+joined_with text [] room current is = is.joined
+joined_with text (byte ∷ more) room current is =
+    let stands = stands_so text (byte ∷ more) current is (λ none. absurd (cc)) in
+    record { below = is.joined.below; stands = inr (omega (arith, stands.1)); behind = omega (arith, is.joined.behind); far = is.far }
+
+-- a text that owes nothing itself, seen by its parts and as the text that reads is
+state_same : (text : TextView) (pending : List ℕ) (room : ℕ) (current : Life) (short : Bool) → pending ≡ [] → current ≡ text.buffer.life → read_state text short ≡ state_of (view_of text pending room current) short
+state_same text pending room current short none lives =
+    subst (λ (owed : List ℕ). read_state text short ≡ state_of (view_of text owed room current) short) (sym none)
+    (subst (λ (own : Life). read_state text short ≡ state_of (view_of text [] room own) short) (sym lives) refl)
+
+-- what the text that reads answered, of one that owes nothing itself
+pub text_answers : (now : WrittenView) (old new : TextView) (pending : List ℕ) (room more : ℕ) (before after : Life) (call : TextFileCall) (reply : FileReply) (short : Bool) → view_of old pending room before ≡ now → IsWritten old pending before → now.life ≡ life.Live → now.pending ≡ [] → after ≡ new.buffer.life → Answers (read_state old false) call reply (read_state new short) → Answers (state_of now false) call reply (state_of (view_of new pending more after) short)
+text_answers now old new pending room more before after call reply short same is live owes current answers =
+    let lives : before ≡ life.Live = ap (λ (view : WrittenView). view.life) same ∙ live in
+    let none : pending ≡ [] = ap (λ (view : WrittenView). view.pending) same ∙ owes in
+    subst (λ (view : WrittenView). Answers (state_of view false) call reply (state_of (view_of new pending more after) short)) same
+    (subst (λ (state : TextState). Answers state call reply (state_of (view_of new pending more after) short)) (state_same old pending room before false none (lives ∙ sym (is.lives lives)))
+    (subst (Answers (read_state old false) call reply) (state_same new pending more after short none current) answers))
+
+pub joined_bare : (text : TextView) (pending : List ℕ) (room : ℕ) (current : Life) → pending ≡ [] → IsJoined (read_of text) → IsJoined (over_of (view_of text pending room current))
+joined_bare text pending room current none joined = subst (λ (owed : List ℕ). IsJoined (over_of (view_of text owed room current))) (sym none) joined
 
 -- Going back to the place.
 
@@ -221,35 +276,44 @@ back_bytes old new (byte ∷ more) current is place there flat =
     same (inl now) was = omega (arith, now, was, place.at)
     same (inr still) was = still
 
-pub hands_back : (old new : TextView) (pending : List ℕ) (room more : ℕ) (before after : Life) (faulted : Bool) → IsWritten old pending before → KeepsPlace old new → (new.at ≡ new.buffer.place) ⊎ (new.buffer.place ≡ old.buffer.place) → LeavesFlat old.buffer faulted new.buffer → HandsOn (view_of old pending room before) false faulted (view_of new pending more after)
-hands_back old new pending room more before after faulted is place there leaves = record {
+pub hands_back : (old new : TextView) (pending : List ℕ) (room more : ℕ) (before after : Life) (faulted : Bool) → IsWritten old pending before → KeepsPlace old new → (new.at ≡ new.buffer.place) ⊎ (new.buffer.place ≡ old.buffer.place) → LeavesFlat old.buffer faulted new.buffer → old.buffer.life ≡ life.Live → HandsOn (view_of old pending room before) false faulted (view_of new pending more after)
+hands_back old new pending room more before after faulted is place there leaves live = record {
   calls = record { keeps = leaves.keeps; wait = λ waits. absurd (cc); fault = leaves.fault; faults = leaves.faults; stands = leaves.stands };
   bytes = λ told. back_bytes old new pending before is place there (leaves.bytes told);
   place = ap (λ (own : TextPlace). behind_owed own pending) (kept_place old new place);
   settings = place.settings;
+  owes = record { passed = 0; most = omega arith; answered = leaves.answered; rest = ap (λ (owed : List ℕ). owed ++ pending) leaves.owed };
+  stays = open_called old.buffer new.buffer faulted live leaves.life_is leaves.stays;
 }
 
+-- the buffer went back
+pub went_back : (now : WrittenView) (old new : TextView) (pending : List ℕ) (room more : ℕ) (before after : Life) → view_of old pending room before ≡ now → IsWritten old pending before → now.life ≡ life.Live → KeepsPlace old new → ReturnOutcome old (Ok tt) new → old.dirty ≡ false → after ≡ before → BackOutcome now (Ok tt) (view_of new pending more after)
+went_back now old new pending room more before after same is live place outcome clean current =
+    let lives : before ≡ life.Live = ap (λ (view : WrittenView). view.life) same ∙ live in
+    subst (λ (view : WrittenView). BackOutcome view (Ok tt) (view_of new pending more after)) same
+    (record {
+      hands = hands_back old new pending room more before after false is place (inl outcome.0) outcome.1 (is.lives lives);
+      owed = outcome.1.owed;
+      answered = outcome.1.answered;
+      lives = current ∙ lives;
+      pending = refl;
+      stands = (record { taken = place.taken ∙ is.clean clean; dirty = place.dirty ∙ clean }, outcome.0);
+    })
+
 -- what holds of every text, after its buffer went back, or failed to
-pub written_back : (old new : TextView) (pending : List ℕ) (before after : Life) (faulted : Bool) → IsWritten old pending before → before ≡ life.Live → KeepsPlace old new → (new.at ≡ new.buffer.place) ⊎ (new.buffer.place ≡ old.buffer.place) → LeavesFlat old.buffer faulted new.buffer → old.buffer.can.writable ≡ true → after ≡ new.buffer.life → IsWritten new pending after
-written_back old new pending before after faulted is live place there leaves writes current = record {
+pub written_back : (old new : TextView) (pending : List ℕ) (before after : Life) (faulted : Bool) → IsWritten old pending before → before ≡ life.Live → KeepsPlace old new → (new.at ≡ new.buffer.place) ⊎ (new.buffer.place ≡ old.buffer.place) → LeavesFlat old.buffer faulted new.buffer → old.buffer.can.writable ≡ true → after ≡ new.buffer.life → IsJoined (read_of new) → IsWritten new pending after
+written_back old new pending before after faulted is live place there leaves writes current joined = record {
   kept = leaves.keeps.exported ∙ is.kept;
   asks = subst (λ (settings : TextSettings). 0 < settings.chunk_size) (sym place.settings) is.asks;
   clean = λ dirty. place.taken ∙ is.clean (sym place.dirty ∙ dirty);
   handler = λ can. ap (λ (settings : TextSettings). writes_texts settings.handler) place.settings ∙ is.handler writes;
   lives = λ lives. sym current ∙ lives;
   stands = stood is.stands;
-  behind = omega (arith, least);
+  joined = joined;
   far = omega (arith, is.far, most is.stands);
   unwritten = λ never. let not : true ≡ false = sym writes ∙ (sym (ap (λ (can : Abilities). can.writable) leaves.keeps.can) ∙ never) in absurd (cc);
 }
   where
-    least : new.at ≤ new.buffer.place
-    least = at_least there
-      where
-        at_least : (new.at ≡ new.buffer.place) ⊎ (new.buffer.place ≡ old.buffer.place) → new.at ≤ new.buffer.place
-        at_least (inl now) = omega (arith, now)
-        at_least (inr still) = omega (arith, still, place.at, is.behind)
-
     stood : (pending ≡ []) ⊎ StandsToWrite old → (pending ≡ []) ⊎ StandsToWrite new
     stood (inl none) = inl none
     stood (inr stands) = inr (record { taken = place.taken ∙ stands.0.taken; dirty = place.dirty ∙ stands.0.dirty }, omega (arith, at_place there stands.1))
@@ -268,15 +332,15 @@ written_back old new pending before after faulted is live place there leaves wri
 
 pub not_back : (now : WrittenView) (old new : TextView) (pending : List ℕ) (room more : ℕ) (before after : Life) (why : IoFault) → view_of old pending room before ≡ now → IsWritten old pending before → now.life ≡ life.Live → KeepsPlace old new → ReturnOutcome old (Err why) new → after ≡ new.buffer.life → BackOutcome now (Err why) (view_of new pending more after)
 not_back now old new pending room more before after fault.RawFault same is live place outcome current =
-    (subst (λ (view : WrittenView). HandsOn view false true (view_of new pending more after)) same (hands_back old new pending room more before after true is place (inr outcome.1) outcome.0), current ∙ outcome.0.life_is)
+    (subst (λ (view : WrittenView). HandsOn view false true (view_of new pending more after)) same (hands_back old new pending room more before after true is place (inr outcome.1) outcome.0 (is.lives (ap (λ (view : WrittenView). view.life) same ∙ live))), current ∙ outcome.0.life_is)
 not_back now old new pending room more before after fault.NoMemory same is live place outcome current =
-    (subst (λ (view : WrittenView). HandsOn view false false (view_of new pending more after)) same (hands_back old new pending room more before after false is place (inr outcome.1) outcome.0), current ∙ (outcome.0.life_is ∙ is.lives (ap (λ (view : WrittenView). view.life) same ∙ live)))
+    (subst (λ (view : WrittenView). HandsOn view false false (view_of new pending more after)) same (hands_back old new pending room more before after false is place (inr outcome.1) outcome.0 (is.lives (ap (λ (view : WrittenView). view.life) same ∙ live))), current ∙ (outcome.0.life_is ∙ is.lives (ap (λ (view : WrittenView). view.life) same ∙ live)))
 not_back now old new pending room more before after other same is live place outcome current = absurd outcome
 
-pub unback_written : (old new : TextView) (pending : List ℕ) (before after : Life) (why : IoFault) → IsWritten old pending before → before ≡ life.Live → KeepsPlace old new → ReturnOutcome old (Err why) new → old.buffer.can.writable ≡ true → after ≡ new.buffer.life → IsWritten new pending after
-unback_written old new pending before after fault.RawFault is live place outcome writes current = written_back old new pending before after true is live place (inr outcome.1) outcome.0 writes current
-unback_written old new pending before after fault.NoMemory is live place outcome writes current = written_back old new pending before after false is live place (inr outcome.1) outcome.0 writes current
-unback_written old new pending before after other is live place outcome writes current = absurd outcome
+pub unback_written : (old new : TextView) (pending : List ℕ) (before after : Life) (why : IoFault) → IsWritten old pending before → before ≡ life.Live → KeepsPlace old new → ReturnOutcome old (Err why) new → old.buffer.can.writable ≡ true → after ≡ new.buffer.life → IsJoined (read_of new) → IsWritten new pending after
+unback_written old new pending before after fault.RawFault is live place outcome writes current joined = written_back old new pending before after true is live place (inr outcome.1) outcome.0 writes current joined
+unback_written old new pending before after fault.NoMemory is live place outcome writes current joined = written_back old new pending before after false is live place (inr outcome.1) outcome.0 writes current joined
+unback_written old new pending before after other is live place outcome writes current joined = absurd outcome
 
 -- Passing on.
 
@@ -286,6 +350,8 @@ hands_itself view = record {
   bytes = λ told. refl;
   place = refl;
   settings = refl;
+  owes = passes_none view.text.buffer.raw (all_owed (over_of view));
+  stays = open_still view.text.buffer;
 }
 
 pub passed_not : (now : WrittenView) (count : ℕ) (flushes : Bool) → flushes ≡ false → now.life ≡ life.Live → now.pending ≡ [] → 0 < now.text.settings.chunk_size → PassOutcome now count flushes (Ok tt) now
@@ -303,8 +369,8 @@ flush_calls before after reply answers = record {
 all_passed : (buffer : Buffer) → buffer.owed.bytes ≡ [] → buffer.raw.bytes ≡ (flat_of buffer).bytes
 all_passed buffer none = sym (ap (λ (owed : List ℕ). lay buffer.raw.bytes buffer.owed.place owed) none)
 
-hands_flush : (old new : TextView) (pending : List ℕ) (room more : ℕ) (before after : Life) (reply : FileReply) → pending ≡ [] → old.buffer.exported ≡ false → KeepsPlace old new → AnswersAsBuffer old.buffer Flush reply new.buffer → HandsOn (view_of old pending room before) new.buffer.short (says_fault reply) (view_of new pending more after)
-hands_flush old new pending room more before after reply none kept place answers = record {
+hands_flush : (old new : TextView) (pending : List ℕ) (room more : ℕ) (before after : Life) (reply : FileReply) → pending ≡ [] → old.buffer.exported ≡ false → KeepsPlace old new → AnswersAsBuffer old.buffer Flush reply new.buffer → old.buffer.life ≡ life.Live → (new.buffer.life ≡ life.Live) ⊎ (new.buffer.life ≡ life.Failed) → HandsOn (view_of old pending room before) new.buffer.short (says_fault reply) (view_of new pending more after)
+hands_flush old new pending room more before after reply none kept place answers live lives = record {
   calls = flush_calls old.buffer new.buffer reply answers;
   bytes = λ told.
       ap (λ (owed : List ℕ). lay (flat_of new.buffer).bytes new.buffer.place owed) none
@@ -312,18 +378,59 @@ hands_flush old new pending room more before after reply none kept place answers
       ∙ sym (ap (λ (owed : List ℕ). lay (flat_of old.buffer).bytes old.buffer.place owed) none));
   place = ap (λ (own : TextPlace). behind_owed own pending) (kept_place old new place);
   settings = place.settings;
+  owes = passes_behind old.buffer.raw new.buffer.raw old.buffer.owed.bytes new.buffer.owed.bytes pending (front_passes old.buffer new.buffer answers.owes);
+  stays = open_of old.buffer new.buffer live lives (answers.stays refl);
 }
+
+accepts_flush : (buffer : Buffer) → buffer.life ≡ life.Live → buffer.exported ≡ false → refused_here buffer Flush ≡ None
+accepts_flush buffer live kept = rw kept (rw live refl)
 
 pub passed_all : (now : WrittenView) (old new : TextView) (pending : List ℕ) (room more count : ℕ) (before after : Life) (flushes : Bool) → view_of old pending room before ≡ now → IsWritten old pending before → now.life ≡ life.Live → now.pending ≡ [] → KeepsPlace old new → AnswersAsBuffer old.buffer Flush Done new.buffer → after ≡ life.Live → PassOutcome now count flushes (Ok tt) (view_of new pending more after)
 passed_all now old new pending room more count before after flushes same is live owes place answers lives =
     let none : pending ≡ [] = ap (λ (view : WrittenView). view.pending) same ∙ owes in
+    let live_buffer : old.buffer.life ≡ life.Live = is.lives (ap (λ (view : WrittenView). view.life) same ∙ live) in
     let short : new.buffer.short ≡ false = answers.shorts in
     let asks : 0 < new.settings.chunk_size = subst (λ (settings : TextSettings). 0 < settings.chunk_size) (sym place.settings) is.asks in (
-      subst (λ (view : WrittenView). HandsOn view false false (view_of new pending more after)) same (subst (λ (waited : Bool). HandsOn (view_of old pending room before) waited false (view_of new pending more after)) short (hands_flush old new pending room more before after Done none is.kept place answers)),
+      subst (λ (view : WrittenView). HandsOn view false false (view_of new pending more after)) same (subst (λ (waited : Bool). HandsOn (view_of old pending room before) waited false (view_of new pending more after)) short (hands_flush old new pending room more before after Done none is.kept place answers live_buffer (inl (answers.moves.life_is ∙ live_buffer)))),
       lives,
       record { few = omega (arith, ap length none, asks); none = λ through. none },
       λ flushed. record { own = none; none = answers.passes.0.none; holds = λ told. all_passed new.buffer answers.passes.0.none ∙ sym (ap (λ (owed : List ℕ). lay (flat_of new.buffer).bytes new.buffer.place owed) none) },
     )
+
+-- the raw would have blocked before the buffer had passed on all
+pub passed_blocked : (now : WrittenView) (old new : TextView) (pending : List ℕ) (room more count taken : ℕ) (before after : Life) (flushes : Bool) → view_of old pending room before ≡ now → IsWritten old pending before → now.life ≡ life.Live → now.pending ≡ [] → KeepsPlace old new → AnswersAsBuffer old.buffer Flush (Refused (fault.WouldBlock taken)) new.buffer → after ≡ life.Live → PassOutcome now count flushes (Err (fault.WouldBlock count)) (view_of new pending more after)
+passed_blocked now old new pending room more count taken before after flushes same is live owes place answers lives =
+    let none : pending ≡ [] = ap (λ (view : WrittenView). view.pending) same ∙ owes in
+    let live_buffer : old.buffer.life ≡ life.Live = is.lives (ap (λ (view : WrittenView). view.life) same ∙ live) in
+    let short : new.buffer.short ≡ true = answers.shorts in (
+      subst (λ (view : WrittenView). HandsOn view true false (view_of new pending more after)) same (subst (λ (waited : Bool). HandsOn (view_of old pending room before) waited false (view_of new pending more after)) short (hands_flush old new pending room more before after (Refused (fault.WouldBlock taken)) none is.kept place answers live_buffer (inl (answers.moves.life_is ∙ live_buffer)))),
+      lives,
+      refl,
+      record { full = λ some. absurd (some none); some = λ gives own. answers.full.1 },
+    )
+
+pub passed_waits : (now : WrittenView) (old new : TextView) (pending : List ℕ) (room more count : ℕ) (before after : Life) (flushes : Bool) (why : IoFault) → view_of old pending room before ≡ now → IsWritten old pending before → now.life ≡ life.Live → now.pending ≡ [] → KeepsPlace old new → AnswersAsBuffer old.buffer Flush (Refused why) new.buffer → says_wait (Refused why) ≡ true → after ≡ before → PassOutcome now count flushes (Err (with_taken why count)) (view_of new pending more after)
+passed_waits now old new pending room more count before after flushes (fault.WouldBlock taken) same is live owes place answers waits current = passed_blocked now old new pending room more count taken before after flushes same is live owes place answers (current ∙ (ap (λ (view : WrittenView). view.life) same ∙ live))
+passed_waits now old new pending room more count before after flushes other same is live owes place answers waits current = absurd (cc)
+
+-- the raw failed as the buffer passed on, or memory ran out
+pub passed_failed : (now : WrittenView) (old new : TextView) (pending : List ℕ) (room more count : ℕ) (before after : Life) (flushes : Bool) (why : IoFault) → view_of old pending room before ≡ now → IsWritten old pending before → now.life ≡ life.Live → now.pending ≡ [] → flushes ≡ true → KeepsPlace old new → AnswersAsBuffer old.buffer Flush (Refused why) new.buffer → says_wait (Refused why) ≡ false → after ≡ life.Failed → PassOutcome now count flushes (Err why) (view_of new pending more after)
+passed_failed now old new pending room more count before after flushes (fault.WouldBlock taken) same is live owes flushed place answers calm failed = absurd (cc)
+passed_failed now old new pending room more count before after flushes fault.RawFault same is live owes flushed place answers calm failed =
+    let none : pending ≡ [] = ap (λ (view : WrittenView). view.pending) same ∙ owes in
+    let live_buffer : old.buffer.life ≡ life.Live = is.lives (ap (λ (view : WrittenView). view.life) same ∙ live) in
+    let short : new.buffer.short ≡ false = answers.shorts in
+    (subst (λ (view : WrittenView). HandsOn view false true (view_of new pending more after)) same (subst (λ (waited : Bool). HandsOn (view_of old pending room before) waited true (view_of new pending more after)) short (hands_flush old new pending room more before after (Refused fault.RawFault) none is.kept place answers live_buffer (inr answers.moves.life_is))), failed)
+passed_failed now old new pending room more count before after flushes fault.NoMemory same is live owes flushed place answers calm failed =
+    let none : pending ≡ [] = ap (λ (view : WrittenView). view.pending) same ∙ owes in
+    let live_buffer : old.buffer.life ≡ life.Live = is.lives (ap (λ (view : WrittenView). view.life) same ∙ live) in
+    let short : new.buffer.short ≡ false = answers.shorts in (
+      subst (λ (view : WrittenView). HandsOn view false false (view_of new pending more after)) same (subst (λ (waited : Bool). HandsOn (view_of old pending room before) waited false (view_of new pending more after)) short (hands_flush old new pending room more before after (Refused fault.NoMemory) none is.kept place answers live_buffer (inl (answers.moves.life_is ∙ live_buffer)))),
+      failed,
+      flushed,
+      flush_place (size_shown old.buffer.buffering) (Err fault.NoMemory) old.buffer.life new.buffer.life old.buffer.place new.buffer.place live_buffer answers.moves.life_is answers.moves.place ∙ ap (λ (view : WrittenView). view.text.buffer.place) same,
+    )
+passed_failed now old new pending room more count before after flushes other same is live owes flushed place answers calm failed = absurd (answers.answer (accepts_flush old.buffer (is.lives (ap (λ (view : WrittenView). view.life) same ∙ live)) is.kept))
 
 pub hands_on : (old mid new : WrittenView) (waited faulted : Bool) → HandsOn old false false mid → HandsOn mid waited faulted new → HandsOn old waited faulted new
 hands_on old mid new waited faulted first second = record {
@@ -331,15 +438,54 @@ hands_on old mid new waited faulted first second = record {
   bytes = λ told. second.bytes (tells_still old.text.buffer.raw mid.text.buffer.raw first.calls.keeps.raw ∙ told) ∙ first.bytes told;
   place = second.place ∙ first.place;
   settings = second.settings ∙ first.settings;
+  owes = passes_then old.text.buffer.raw mid.text.buffer.raw new.text.buffer.raw (all_owed (over_of old)) (all_owed (over_of mid)) (all_owed (over_of new)) first.calls.keeps.raw first.owes second.owes;
+  stays = open_then old.text.buffer mid.text.buffer new.text.buffer first.stays second.stays;
 }
 
--- what was passed on of a text whose buffer took what it owed, or that owed nothing
-pub passed_behind : (old mid new : WrittenView) (count : ℕ) (flushes ends : Bool) (result : Result (Unit {0}) IoFault) → HandsOn old false false mid → PassOutcome mid count flushes result new → (old.text.settings.line_buffering ≡ true → ends ≡ true → flushes ≡ true) → HandOutcome old count ends result new
-passed_behind old mid new count flushes ends (Ok done) hands outcome so = (hands_on old mid new false false hands outcome.0, outcome.1, outcome.2, λ lines is. outcome.3 (so lines is))
-passed_behind old mid new count flushes ends (Err (fault.WouldBlock taken)) hands outcome so = (hands_on old mid new true false hands outcome.0, outcome.1, outcome.2)
-passed_behind old mid new count flushes ends (Err fault.RawFault) hands outcome so = (hands_on old mid new false true hands outcome.0, outcome.1)
-passed_behind old mid new count flushes ends (Err fault.NoMemory) hands outcome so = inl (hands_on old mid new false false hands outcome.0, outcome.1)
-passed_behind old mid new count flushes ends (Err other) hands outcome so = absurd outcome
+-- what was passed on of a text whose buffer took what it owed, or that owed nothing and has nothing to flush
+pub passed_behind : (old mid new : WrittenView) (count : ℕ) (flushes ends : Bool) (result : Result (Unit {0}) IoFault) → HandsOn old false false mid → PassOutcome mid count flushes result new → (old.text.settings.line_buffering ≡ true → ends ≡ true → flushes ≡ true) → (flushes ≡ true → own_from (over_of old) < mid.text.buffer.place) → HandOutcome old count ends result new
+passed_behind old mid new count flushes ends (Ok done) hands outcome so further = (hands_on old mid new false false hands outcome.0, outcome.1, outcome.2, λ lines is. outcome.3 (so lines is))
+passed_behind old mid new count flushes ends (Err (fault.WouldBlock taken)) hands outcome so further = (hands_on old mid new true false hands outcome.0, outcome.1, outcome.2, outcome.3)
+passed_behind old mid new count flushes ends (Err fault.RawFault) hands outcome so further = (hands_on old mid new false true hands outcome.0, outcome.1)
+passed_behind old mid new count flushes ends (Err fault.NoMemory) hands outcome so further = inl (hands_on old mid new false false hands outcome.0, outcome.1, inl (omega (arith, further outcome.2, outcome.3)))
+passed_behind old mid new count flushes ends (Err other) hands outcome so further = absurd outcome
+
+some_long : (bytes : List ℕ) → bytes ≢ [] → 0 < length bytes
+some_long [] some = absurd (some refl)
+some_long (byte ∷ more) some = omega arith
+
+-- where the buffer took all that a text owed it stands behind where that began
+pub took_further : (old mid : WrittenView) → old.pending ≢ [] → SettleOutcome old (Ok tt) mid → IsJoined (over_of mid) → own_from (over_of old) < mid.text.buffer.place
+took_further old mid some outcome joined = omega (arith, own_from_is old, ap (λ (place : TextPlace). place.at) outcome.0.place, ap (λ (place : TextPlace). place.at) (behind_so (place_of old.text) old.pending), joined.behind, ap length outcome.1, some_long old.pending some)
+
+-- what is owed couldn't be handed on, and the text isn't as it was
+pub handed_not : (old new : WrittenView) (count : ℕ) (ends : Bool) (why : IoFault) → SettleOutcome old (Err why) new → (why ≡ fault.NoMemory → new.life ≢ life.Live) → HandOutcome old count ends (Err (with_taken why count)) new
+handed_not old new count ends (fault.WouldBlock taken) outcome failed = (outcome.0, outcome.2, refl, record { full = λ some. outcome.4; some = λ gives own. absurd (outcome.1 own) })
+handed_not old new count ends fault.RawFault outcome failed = (outcome.0, outcome.1)
+handed_not old new count ends fault.NoMemory outcome failed = by_life outcome.2
+  where
+    by_life : TakesNothing old new ⊎ ((new.life ≡ life.Failed) × (old.text.buffer.can.writable ≡ true) × GaveOwn (over_of old) (over_of new)) → HandOutcome old count ends (Err fault.NoMemory) new
+    by_life (inl nothing) = absurd (failed refl nothing.lives)
+    by_life (inr gave) = inl (outcome.0, gave.0, gave.2)
+handed_not old new count ends other outcome failed = absurd outcome
+
+-- the buffer took nothing for want of memory, and the last bytes are let go of
+pub lets_go : (old mid new : WrittenView) (count room : ℕ) → SettleOutcome old (Err fault.NoMemory) mid → mid.life ≡ life.Live → new ≡ record mid { pending = take (length mid.pending - count) mid.pending; room = room } → LetsGo old count new
+lets_go old mid new count room outcome lives is = subst (λ (view : WrittenView). LetsGo old count view) (sym is) (by_life outcome.2)
+  where
+    by_life : TakesNothing old mid ⊎ ((mid.life ≡ life.Failed) × (old.text.buffer.can.writable ≡ true) × GaveOwn (over_of old) (over_of mid)) → LetsGo old count (record mid { pending = take (length mid.pending - count) mid.pending; room = room })
+    by_life (inr failed) = let never : life.Live ≡ life.Failed = sym lives ∙ failed.0 in absurd (cc)
+    by_life (inl nothing) = record {
+      calls = outcome.0.calls;
+      lives = lives;
+      stands = nothing.stands;
+      pending = ap (λ (owed : List ℕ). take (length owed - count) owed) nothing.pending;
+      place = nothing.place;
+      settings = outcome.0.settings;
+      flat = nothing.flat;
+      owes = nothing.owes;
+      stays = outcome.0.stays;
+    }
 
 pub both_true : (lines ends : Bool) → lines ≡ true → ends ≡ true → (lines && ends) ≡ true
 both_true true true first second = refl

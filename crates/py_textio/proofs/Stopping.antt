@@ -15,11 +15,13 @@ use Rattle.py_stream.specs.Kinds.{says_wait, says_fault}
 use Rattle.py_stream.specs.Buffer.{Buffer, WhereShown}
 use Rattle.py_held_text.specs.declared.wanted.Wanted.{Wanted}
 use Rattle.py_held_text.specs.declared.wanted.Wanted.TheVariants.{Characters, Line}
-use Rattle.py_read_text.specs.Answers.{asks_nothing, passes_on, IsReplyTo, IsComplete, IsShort, PlaceMoves, WriteMoves, LifeMoves, settings_after, closes_again, WantsMemory, IsBounded, TextPasses, TextKeeps, Answers}
+use Rattle.py_read_text.specs.Owing.{IsJoined, WriteMovesBy, GaveOwn, Starves, Closes}
+use Rattle.py_read_text.proofs.Owing.{owes_none}
+use Rattle.py_read_text.specs.Answers.{calls_nothing, passes_on, IsReplyTo, IsComplete, IsShort, PlaceMoves, WriteMoves, LifeMoves, settings_after, closes_again, WantsMemory, TextPasses, TextKeeps, Answers}
 use Rattle.py_read_text.specs.Reading.{call_of, asks_none}
 use Rattle.py_read_text.proofs.Steps.{accepts, works, waited_by}
 use Rattle.py_read_text.proofs.Results.{faults_step, starves_step}
-use Rattle.py_textio.specs.Written.{WrittenView, place_now, state_of, file_now, HandsOn, TakesNothing, SettleOutcome, stopped_reply, with_taken}
+use Rattle.py_textio.specs.Written.{WrittenView, place_now, over_of, state_of, file_now, HandsOn, TakesNothing, IsStuffed, SettleOutcome, stopped_reply, with_taken}
 use Rattle.py_textio.specs.Working.{Works}
 use Rattle.py_textio.proofs.Working.{answers_work}
 use Rattle.py_textio.proofs.Over.{handed_file}
@@ -30,7 +32,7 @@ not_rose before after is still = grind arith
 -- calls of a live text that may end so: what each of them says of a reply that refuses, or isn't ready
 pub record Ends (call : TextFileCall) (reply : FileReply) (short : Bool) : Type 0 where
   pub once : closes_again life.Live call ≡ false
-  pub some : asks_nothing call ≡ false
+  pub some : calls_nothing call ≡ false
   pub shorts : IsShort reply short
   pub settings : (own : TextSettings) → settings_after call reply own ≡ own
   pub place : (own : TextPlace) (end : ℕ) → PlaceMoves call short reply own end own
@@ -39,6 +41,8 @@ pub record Ends (call : TextFileCall) (reply : FileReply) (short : Bool) : Type 
   pub calm : short ≡ false → says_fault reply ≡ false → IsComplete call reply short
   pub passes : (before after : _) → TextPasses before call reply after
   pub kept : (after : _) → TextKeeps call reply after
+  pub moves : (from to : ℕ) → WriteMovesBy call 0 from to
+  pub closes : (current : Life) (before after : Buffer) → Closes current call before reply after
 
 -- a text that owes something, and whose buffer called for it
 pub record Owes (old : WrittenView) : Type 0 where
@@ -50,8 +54,8 @@ busy_so : (owed : List ℕ) (call : TextFileCall) → owed ≢ [] → passes_on 
 busy_so [] call some = absurd (some refl)
 busy_so (byte ∷ more) call some = grind arith
 
-pub ends_work : (old : WrittenView) (call : TextFileCall) (reply : FileReply) (new : WrittenView) (short : Bool) → Owes old → Ends call reply short → refusal (file_now old) call ≡ None → HandsOn old short (says_fault reply) new → (IsTrue short → new.pending ≢ []) → LifeMoves true call reply old.life new.life → IsBounded (state_of new short) → WantsMemory call reply old.text.buffer → WhereShown old.text.buffer (TextFileStep (file_now old) call reply short (says_fault reply) (file_now new)) → Works old call reply new short
-ends_work old call reply new short owes ends accepted hands left current bounded wants told = record {
+pub ends_work : (old : WrittenView) (call : TextFileCall) (reply : FileReply) (new : WrittenView) (short : Bool) → Owes old → Ends call reply short → refusal (file_now old) call ≡ None → HandsOn old short (says_fault reply) new → (IsTrue short → (new.pending ≢ []) × IsStuffed new.text.buffer) → LifeMoves true call reply old.life new.life → IsJoined (over_of new) → Starves (over_of old) reply (over_of new) → WantsMemory call reply old.text.buffer → WhereShown old.text.buffer (TextFileStep (file_now old) call reply short (says_fault reply) (file_now new)) → Works old call reply new short
+ends_work old call reply new short owes ends accepted hands left current joined starves wants told = record {
   accepted = accepted;
   once = ap (λ (own : Life). closes_again own call) owes.live ∙ ends.once;
   some = ends.some;
@@ -63,13 +67,18 @@ ends_work old call reply new short owes ends accepted hands left current bounded
   life_is = current;
   place = subst (λ (own : TextPlace). PlaceMoves call short reply (place_now old) new.text.buffer.place own) (sym hands.place) (ends.place (place_now old) new.text.buffer.place);
   written = subst (λ (own : TextPlace). WriteMoves old.text.settings call reply (place_now old) own) (sym hands.place) (ends.written old.text.settings (place_now old));
-  bounded = bounded;
+  joined = joined;
+  owes = owes_none (over_of old) call (over_of new) (ends.moves (place_now old).at (place_now new).at) hands.owes;
+  starves = starves;
+  closes = ends.closes old.life old.text.buffer new.text.buffer;
+  stays = λ is. hands.stays;
+  stops = λ is. record { full = λ some. (left is).1; some = λ gives none. absurd ((left is).0 none) };
   answer = ends.answer;
   complete = λ calm sound. by_short short (says_fault reply) refl refl calm sound;
   wants = wants;
   shut = λ none. absurd (owes.some none);
   told = told;
-  hides = λ is gives none. absurd (left is none);
+  hides = λ is gives none. absurd ((left is).0 none);
   passes = ends.passes (state_of old false) (state_of new short);
   kept = ends.kept (state_of new short);
 }
@@ -79,25 +88,29 @@ ends_work old call reply new short owes ends accepted hands left current bounded
     by_short false true is fails calm sound = absurd (not_rose old.text.buffer.raw.faults new.text.buffer.raw.faults (hands.calls.fault fails) sound)
     by_short false false is fails calm sound = ends.calm is fails
 
+-- running out of memory left a live text as it was
+starved_not : (old new : WrittenView) → HandsOn old false false new → new.life ≡ old.life → Starves (over_of old) (Refused fault.NoMemory) (over_of new)
+starved_not old new hands current = inl (record { life_is = current; settings = hands.settings; place = hands.place })
+
 -- Readings.
 
-some_asked : (asked : Wanted) → asks_none asked ≡ false → asks_nothing (call_of asked) ≡ false
+some_asked : (asked : Wanted) → asks_none asked ≡ false → calls_nothing (call_of asked) ≡ false
 some_asked asked some = grind arith
 
 unready_ends : (asked : Wanted) → asks_none asked ≡ false → Ends (call_of asked) NotReady true
-unready_ends (Characters None) some = record { once = refl; some = some_asked (Characters None) some; shorts = refl; settings = λ own. refl; place = λ own end. refl; written = λ settings own. tt; answer = tt; calm = λ is. absurd (cc); passes = λ before after. tt; kept = λ after. tt }
-unready_ends (Characters (Some size)) some = record { once = refl; some = some_asked (Characters (Some size)) some; shorts = refl; settings = λ own. refl; place = λ own end. refl; written = λ settings own. tt; answer = tt; calm = λ is. absurd (cc); passes = λ before after. tt; kept = λ after. tt }
-unready_ends (Line limit) some = record { once = refl; some = some_asked (Line limit) some; shorts = refl; settings = λ own. refl; place = λ own end. refl; written = λ settings own. tt; answer = tt; calm = λ is. absurd (cc); passes = λ before after. tt; kept = λ after. tt }
+unready_ends (Characters None) some = record { once = refl; some = some_asked (Characters None) some; shorts = refl; settings = λ own. refl; place = λ own end. refl; written = λ settings own. tt; answer = tt; calm = λ is. absurd (cc); passes = λ before after. tt; kept = λ after. tt; moves = λ from to. tt; closes = λ current before after. tt }
+unready_ends (Characters (Some size)) some = record { once = refl; some = some_asked (Characters (Some size)) some; shorts = refl; settings = λ own. refl; place = λ own end. refl; written = λ settings own. tt; answer = tt; calm = λ is. absurd (cc); passes = λ before after. tt; kept = λ after. tt; moves = λ from to. tt; closes = λ current before after. tt }
+unready_ends (Line limit) some = record { once = refl; some = some_asked (Line limit) some; shorts = refl; settings = λ own. refl; place = λ own end. refl; written = λ settings own. tt; answer = tt; calm = λ is. absurd (cc); passes = λ before after. tt; kept = λ after. tt; moves = λ from to. tt; closes = λ current before after. tt }
 
 fault_ends : (asked : Wanted) → asks_none asked ≡ false → Ends (call_of asked) (Refused fault.RawFault) false
-fault_ends (Characters None) some = record { once = refl; some = some_asked (Characters None) some; shorts = refl; settings = λ own. refl; place = λ own end. refl; written = λ settings own. tt; answer = tt; calm = λ is fails. absurd (cc); passes = λ before after. tt; kept = λ after. tt }
-fault_ends (Characters (Some size)) some = record { once = refl; some = some_asked (Characters (Some size)) some; shorts = refl; settings = λ own. refl; place = λ own end. refl; written = λ settings own. tt; answer = tt; calm = λ is fails. absurd (cc); passes = λ before after. tt; kept = λ after. tt }
-fault_ends (Line limit) some = record { once = refl; some = some_asked (Line limit) some; shorts = refl; settings = λ own. refl; place = λ own end. refl; written = λ settings own. tt; answer = tt; calm = λ is fails. absurd (cc); passes = λ before after. tt; kept = λ after. tt }
+fault_ends (Characters None) some = record { once = refl; some = some_asked (Characters None) some; shorts = refl; settings = λ own. refl; place = λ own end. refl; written = λ settings own. tt; answer = tt; calm = λ is fails. absurd (cc); passes = λ before after. tt; kept = λ after. tt; moves = λ from to. tt; closes = λ current before after. tt }
+fault_ends (Characters (Some size)) some = record { once = refl; some = some_asked (Characters (Some size)) some; shorts = refl; settings = λ own. refl; place = λ own end. refl; written = λ settings own. tt; answer = tt; calm = λ is fails. absurd (cc); passes = λ before after. tt; kept = λ after. tt; moves = λ from to. tt; closes = λ current before after. tt }
+fault_ends (Line limit) some = record { once = refl; some = some_asked (Line limit) some; shorts = refl; settings = λ own. refl; place = λ own end. refl; written = λ settings own. tt; answer = tt; calm = λ is fails. absurd (cc); passes = λ before after. tt; kept = λ after. tt; moves = λ from to. tt; closes = λ current before after. tt }
 
 memory_ends : (asked : Wanted) → asks_none asked ≡ false → Ends (call_of asked) (Refused fault.NoMemory) false
-memory_ends (Characters None) some = record { once = refl; some = some_asked (Characters None) some; shorts = refl; settings = λ own. refl; place = λ own end. refl; written = λ settings own. tt; answer = tt; calm = λ is fails. record { answer = tt; whole = refl }; passes = λ before after. tt; kept = λ after. tt }
-memory_ends (Characters (Some size)) some = record { once = refl; some = some_asked (Characters (Some size)) some; shorts = refl; settings = λ own. refl; place = λ own end. refl; written = λ settings own. tt; answer = tt; calm = λ is fails. record { answer = tt; whole = refl }; passes = λ before after. tt; kept = λ after. tt }
-memory_ends (Line limit) some = record { once = refl; some = some_asked (Line limit) some; shorts = refl; settings = λ own. refl; place = λ own end. refl; written = λ settings own. tt; answer = tt; calm = λ is fails. record { answer = tt; whole = refl }; passes = λ before after. tt; kept = λ after. tt }
+memory_ends (Characters None) some = record { once = refl; some = some_asked (Characters None) some; shorts = refl; settings = λ own. refl; place = λ own end. refl; written = λ settings own. tt; answer = tt; calm = λ is fails. record { answer = tt; whole = refl }; passes = λ before after. tt; kept = λ after. tt; moves = λ from to. tt; closes = λ current before after. tt }
+memory_ends (Characters (Some size)) some = record { once = refl; some = some_asked (Characters (Some size)) some; shorts = refl; settings = λ own. refl; place = λ own end. refl; written = λ settings own. tt; answer = tt; calm = λ is fails. record { answer = tt; whole = refl }; passes = λ before after. tt; kept = λ after. tt; moves = λ from to. tt; closes = λ current before after. tt }
+memory_ends (Line limit) some = record { once = refl; some = some_asked (Line limit) some; shorts = refl; settings = λ own. refl; place = λ own end. refl; written = λ settings own. tt; answer = tt; calm = λ is fails. record { answer = tt; whole = refl }; passes = λ before after. tt; kept = λ after. tt; moves = λ from to. tt; closes = λ current before after. tt }
 
 wants_nothing : (asked : Wanted) (reply : FileReply) (buffer : Buffer) → WantsMemory (call_of asked) reply buffer
 wants_nothing (Characters size) reply buffer = tt
@@ -119,25 +132,25 @@ midway_read : (file after : TextFile) (asked : Wanted) → file.life ≡ life.Li
 midway_read file after (Characters size) live can writes fails = out_of_memory refl (inr (rw live (rw can refl), (writes, (0, omega arith, fails))))
 midway_read file after (Line limit) live can writes fails = out_of_memory refl (inr (rw live (rw can refl), (writes, (0, omega arith, fails))))
 
-pub read_waits : (old new : WrittenView) (asked : Wanted) → Owes old → old.text.buffer.can.readable ≡ true → asks_none asked ≡ false → HandsOn old true false new → new.pending ≢ [] → new.life ≡ life.Live → IsBounded (state_of new true) → Answers (state_of old false) (call_of asked) NotReady (state_of new true)
-read_waits old new asked owes can some hands left lives bounded =
+pub read_waits : (old new : WrittenView) (asked : Wanted) → Owes old → old.text.buffer.can.readable ≡ true → asks_none asked ≡ false → HandsOn old true false new → (new.pending ≢ []) × IsStuffed new.text.buffer → new.life ≡ life.Live → IsJoined (over_of new) → Answers (state_of old false) (call_of asked) NotReady (state_of new true)
+read_waits old new asked owes can some hands left lives joined =
     let current : new.life ≡ old.life = lives ∙ sym owes.live in
-    answers_work old (call_of asked) NotReady new true (ends_work old (call_of asked) NotReady new true owes (unready_ends asked some) (accepts (file_now old) asked owes.live can) hands (λ is. left) (same_life asked NotReady refl old.life new.life current) bounded (wants_nothing asked NotReady old.text.buffer)
+    answers_work old (call_of asked) NotReady new true (ends_work old (call_of asked) NotReady new true owes (unready_ends asked some) (accepts (file_now old) asked owes.live can) hands (λ is. left) (same_life asked NotReady refl old.life new.life current) joined tt (wants_nothing asked NotReady old.text.buffer)
     (λ told. waited_for refl (works (file_now old) asked owes.live can, waited_by (file_now old) asked NotReady (file_now new) (inl (refl, handed_file old new true false hands current told)))))
 
-pub read_fails : (old new : WrittenView) (asked : Wanted) → Owes old → old.text.buffer.can.readable ≡ true → asks_none asked ≡ false → HandsOn old false true new → new.life ≡ life.Failed → IsBounded (state_of new false) → Answers (state_of old false) (call_of asked) (Refused fault.RawFault) (state_of new false)
-read_fails old new asked owes can some hands failed bounded =
-    answers_work old (call_of asked) (Refused fault.RawFault) new false (ends_work old (call_of asked) (Refused fault.RawFault) new false owes (fault_ends asked some) (accepts (file_now old) asked owes.live can) hands (λ is. absurd (cc)) (failed_life asked old.life new.life failed) bounded (wants_nothing asked (Refused fault.RawFault) old.text.buffer)
+pub read_fails : (old new : WrittenView) (asked : Wanted) → Owes old → old.text.buffer.can.readable ≡ true → asks_none asked ≡ false → HandsOn old false true new → new.life ≡ life.Failed → IsJoined (over_of new) → Answers (state_of old false) (call_of asked) (Refused fault.RawFault) (state_of new false)
+read_fails old new asked owes can some hands failed joined =
+    answers_work old (call_of asked) (Refused fault.RawFault) new false (ends_work old (call_of asked) (Refused fault.RawFault) new false owes (fault_ends asked some) (accepts (file_now old) asked owes.live can) hands (λ is. absurd (cc)) (failed_life asked old.life new.life failed) joined tt (wants_nothing asked (Refused fault.RawFault) old.text.buffer)
     (λ told. faults_step (file_now old) (file_now new) asked owes.live can failed (hands.bytes told) hands.calls.keeps.can hands.settings))
 
-pub read_starves : (old new : WrittenView) (asked : Wanted) → Owes old → old.text.buffer.can.readable ≡ true → asks_none asked ≡ false → HandsOn old false false new → (new.life ≡ life.Live) ⊎ (new.life ≡ life.Failed) → IsBounded (state_of new false) → Answers (state_of old false) (call_of asked) (Refused fault.NoMemory) (state_of new false)
-read_starves old new asked owes can some hands (inl lives) bounded =
+pub read_starves : (old new : WrittenView) (asked : Wanted) → Owes old → old.text.buffer.can.readable ≡ true → asks_none asked ≡ false → HandsOn old false false new → (new.life ≡ life.Live) ⊎ ((new.life ≡ life.Failed) × GaveOwn (over_of old) (over_of new)) → IsJoined (over_of new) → Answers (state_of old false) (call_of asked) (Refused fault.NoMemory) (state_of new false)
+read_starves old new asked owes can some hands (inl lives) joined =
     let current : new.life ≡ old.life = lives ∙ sym owes.live in
-    answers_work old (call_of asked) (Refused fault.NoMemory) new false (ends_work old (call_of asked) (Refused fault.NoMemory) new false owes (memory_ends asked some) (accepts (file_now old) asked owes.live can) hands (λ is. absurd (cc)) (inl current) bounded (wants_nothing asked (Refused fault.NoMemory) old.text.buffer)
+    answers_work old (call_of asked) (Refused fault.NoMemory) new false (ends_work old (call_of asked) (Refused fault.NoMemory) new false owes (memory_ends asked some) (accepts (file_now old) asked owes.live can) hands (λ is. absurd (cc)) (inl current) joined (starved_not old new hands current) (wants_nothing asked (Refused fault.NoMemory) old.text.buffer)
     (λ told. starves_step (file_now old) (file_now new) asked owes.live can (handed_file old new false false hands current told)))
-read_starves old new asked owes can some hands (inr failed) bounded =
-    answers_work old (call_of asked) (Refused fault.NoMemory) new false (ends_work old (call_of asked) (Refused fault.NoMemory) new false owes (memory_ends asked some) (accepts (file_now old) asked owes.live can) hands (λ is. absurd (cc)) (inr (refl, failed)) bounded (wants_nothing asked (Refused fault.NoMemory) old.text.buffer)
-    (λ told. midway_read (file_now old) (file_now new) asked owes.live can owes.writes (fails_still (file_now old) (file_now new) life.Failed failed (hands.bytes told) hands.calls.keeps.can hands.settings)))
+read_starves old new asked owes can some hands (inr failed) joined =
+    answers_work old (call_of asked) (Refused fault.NoMemory) new false (ends_work old (call_of asked) (Refused fault.NoMemory) new false owes (memory_ends asked some) (accepts (file_now old) asked owes.live can) hands (λ is. absurd (cc)) (inr (refl, failed.0)) joined (inr failed) (wants_nothing asked (Refused fault.NoMemory) old.text.buffer)
+    (λ told. midway_read (file_now old) (file_now new) asked owes.live can owes.writes (fails_still (file_now old) (file_now new) life.Failed failed.0 (hands.bytes told) hands.calls.keeps.can hands.settings)))
 
 -- Flushing and closing.
 
@@ -150,16 +163,16 @@ passes_accepted file true live = rw live refl
 passes_accepted file false live = rw live refl
 
 wait_ends : (closes : Bool) → Ends (Passing closes) (Refused (fault.WouldBlock 0)) true
-wait_ends true = record { once = refl; some = refl; shorts = refl; settings = λ own. refl; place = λ own end. refl; written = λ settings own. tt; answer = refl; calm = λ is fails. absurd (cc); passes = λ before after. tt; kept = λ after. tt }
-wait_ends false = record { once = refl; some = refl; shorts = refl; settings = λ own. refl; place = λ own end. refl; written = λ settings own. tt; answer = refl; calm = λ is fails. absurd (cc); passes = λ before after. tt; kept = λ after. tt }
+wait_ends true = record { once = refl; some = refl; shorts = refl; settings = λ own. refl; place = λ own end. refl; written = λ settings own. tt; answer = refl; calm = λ is fails. absurd (cc); passes = λ before after. tt; kept = λ after. tt; moves = λ from to. tt; closes = λ current before after. tt }
+wait_ends false = record { once = refl; some = refl; shorts = refl; settings = λ own. refl; place = λ own end. refl; written = λ settings own. tt; answer = refl; calm = λ is fails. absurd (cc); passes = λ before after. tt; kept = λ after. tt; moves = λ from to. tt; closes = λ current before after. tt }
 
 passing_faults : (closes : Bool) → Ends (Passing closes) (Refused fault.RawFault) false
-passing_faults true = record { once = refl; some = refl; shorts = refl; settings = λ own. refl; place = λ own end. refl; written = λ settings own. tt; answer = tt; calm = λ is fails. absurd (cc); passes = λ before after. tt; kept = λ after. tt }
-passing_faults false = record { once = refl; some = refl; shorts = refl; settings = λ own. refl; place = λ own end. refl; written = λ settings own. tt; answer = tt; calm = λ is fails. absurd (cc); passes = λ before after. tt; kept = λ after. tt }
+passing_faults true = record { once = refl; some = refl; shorts = refl; settings = λ own. refl; place = λ own end. refl; written = λ settings own. tt; answer = tt; calm = λ is fails. absurd (cc); passes = λ before after. tt; kept = λ after. tt; moves = λ from to. tt; closes = λ current before after. tt }
+passing_faults false = record { once = refl; some = refl; shorts = refl; settings = λ own. refl; place = λ own end. refl; written = λ settings own. tt; answer = tt; calm = λ is fails. absurd (cc); passes = λ before after. tt; kept = λ after. tt; moves = λ from to. tt; closes = λ current before after. tt }
 
 passing_starves : (closes : Bool) → Ends (Passing closes) (Refused fault.NoMemory) false
-passing_starves true = record { once = refl; some = refl; shorts = refl; settings = λ own. refl; place = λ own end. refl; written = λ settings own. tt; answer = tt; calm = λ is fails. record { answer = tt; whole = refl }; passes = λ before after. tt; kept = λ after. tt }
-passing_starves false = record { once = refl; some = refl; shorts = refl; settings = λ own. refl; place = λ own end. refl; written = λ settings own. tt; answer = tt; calm = λ is fails. record { answer = tt; whole = refl }; passes = λ before after. tt; kept = λ after. tt }
+passing_starves true = record { once = refl; some = refl; shorts = refl; settings = λ own. refl; place = λ own end. refl; written = λ settings own. tt; answer = tt; calm = λ is fails. record { answer = tt; whole = refl }; passes = λ before after. tt; kept = λ after. tt; moves = λ from to. tt; closes = λ current before after. tt }
+passing_starves false = record { once = refl; some = refl; shorts = refl; settings = λ own. refl; place = λ own end. refl; written = λ settings own. tt; answer = tt; calm = λ is fails. record { answer = tt; whole = refl }; passes = λ before after. tt; kept = λ after. tt; moves = λ from to. tt; closes = λ current before after. tt }
 
 -- the life that a fault leaves
 abbrev pub faulted_life : Bool → Life
@@ -200,55 +213,55 @@ starve_step file after true live (inr fails) = out_of_memory refl (inr (rw live 
 starve_step file after false live (inl same) = out_of_memory refl (inl (rw live refl, same))
 starve_step file after false live (inr fails) = out_of_memory refl (inr (rw live refl, (fails.0, (0, omega arith, fails.1))))
 
-pub passing_blocked : (old new : WrittenView) (closes : Bool) → Owes old → HandsOn old true false new → new.pending ≢ [] → new.life ≡ life.Live → IsBounded (state_of new true) → Answers (state_of old false) (Passing closes) (Refused (fault.WouldBlock 0)) (state_of new true)
-passing_blocked old new closes owes hands left lives bounded =
+pub passing_blocked : (old new : WrittenView) (closes : Bool) → Owes old → HandsOn old true false new → (new.pending ≢ []) × IsStuffed new.text.buffer → new.life ≡ life.Live → IsJoined (over_of new) → Answers (state_of old false) (Passing closes) (Refused (fault.WouldBlock 0)) (state_of new true)
+passing_blocked old new closes owes hands left lives joined =
     let current : new.life ≡ old.life = lives ∙ sym owes.live in
-    answers_work old (Passing closes) (Refused (fault.WouldBlock 0)) new true (ends_work old (Passing closes) (Refused (fault.WouldBlock 0)) new true owes (wait_ends closes) (passes_accepted (file_now old) closes owes.live) hands (λ is. left) (passing_waits closes old.life new.life current) bounded (wait_wants closes old.text.buffer)
+    answers_work old (Passing closes) (Refused (fault.WouldBlock 0)) new true (ends_work old (Passing closes) (Refused (fault.WouldBlock 0)) new true owes (wait_ends closes) (passes_accepted (file_now old) closes owes.live) hands (λ is. left) (passing_waits closes old.life new.life current) joined tt (wait_wants closes old.text.buffer)
     (λ told. wait_step (file_now old) (file_now new) closes owes.live (handed_file old new true false hands current told)))
 
-pub passing_failed : (old new : WrittenView) (closes : Bool) → Owes old → HandsOn old false true new → new.life ≡ faulted_life closes → IsBounded (state_of new false) → Answers (state_of old false) (Passing closes) (Refused fault.RawFault) (state_of new false)
-passing_failed old new closes owes hands failed bounded =
-    answers_work old (Passing closes) (Refused fault.RawFault) new false (ends_work old (Passing closes) (Refused fault.RawFault) new false owes (passing_faults closes) (passes_accepted (file_now old) closes owes.live) hands (λ is. absurd (cc)) (passing_life closes old.life new.life failed) bounded (fault_wants closes old.text.buffer)
+pub passing_failed : (old new : WrittenView) (closes : Bool) → Owes old → HandsOn old false true new → new.life ≡ faulted_life closes → IsJoined (over_of new) → Answers (state_of old false) (Passing closes) (Refused fault.RawFault) (state_of new false)
+passing_failed old new closes owes hands failed joined =
+    answers_work old (Passing closes) (Refused fault.RawFault) new false (ends_work old (Passing closes) (Refused fault.RawFault) new false owes (passing_faults closes) (passes_accepted (file_now old) closes owes.live) hands (λ is. absurd (cc)) (passing_life closes old.life new.life failed) joined tt (fault_wants closes old.text.buffer)
     (λ told. fault_step (file_now old) (file_now new) closes owes.live (fails_still (file_now old) (file_now new) (faulted_life closes) failed (hands.bytes told) hands.calls.keeps.can hands.settings)))
 
-pub passing_starved : (old new : WrittenView) (closes : Bool) → Owes old → HandsOn old false false new → IsTrue old.text.buffer.raw.takes_memory → (new.life ≡ life.Live) ⊎ (new.life ≡ life.Failed) → IsBounded (state_of new false) → Answers (state_of old false) (Passing closes) (Refused fault.NoMemory) (state_of new false)
-passing_starved old new closes owes hands takes (inl lives) bounded =
+pub passing_starved : (old new : WrittenView) (closes : Bool) → Owes old → HandsOn old false false new → IsTrue old.text.buffer.raw.takes_memory → (new.life ≡ life.Live) ⊎ ((new.life ≡ life.Failed) × GaveOwn (over_of old) (over_of new)) → IsJoined (over_of new) → Answers (state_of old false) (Passing closes) (Refused fault.NoMemory) (state_of new false)
+passing_starved old new closes owes hands takes (inl lives) joined =
     let current : new.life ≡ old.life = lives ∙ sym owes.live in
-    answers_work old (Passing closes) (Refused fault.NoMemory) new false (ends_work old (Passing closes) (Refused fault.NoMemory) new false owes (passing_starves closes) (passes_accepted (file_now old) closes owes.live) hands (λ is. absurd (cc)) (inl current) bounded (wants_raw closes old.text.buffer takes)
+    answers_work old (Passing closes) (Refused fault.NoMemory) new false (ends_work old (Passing closes) (Refused fault.NoMemory) new false owes (passing_starves closes) (passes_accepted (file_now old) closes owes.live) hands (λ is. absurd (cc)) (inl current) joined (starved_not old new hands current) (wants_raw closes old.text.buffer takes)
     (λ told. starve_step (file_now old) (file_now new) closes owes.live (inl (handed_file old new false false hands current told))))
-passing_starved old new closes owes hands takes (inr failed) bounded =
-    answers_work old (Passing closes) (Refused fault.NoMemory) new false (ends_work old (Passing closes) (Refused fault.NoMemory) new false owes (passing_starves closes) (passes_accepted (file_now old) closes owes.live) hands (λ is. absurd (cc)) (inr (refl, failed)) bounded (wants_raw closes old.text.buffer takes)
-    (λ told. starve_step (file_now old) (file_now new) closes owes.live (inr (owes.writes, fails_still (file_now old) (file_now new) life.Failed failed (hands.bytes told) hands.calls.keeps.can hands.settings))))
+passing_starved old new closes owes hands takes (inr failed) joined =
+    answers_work old (Passing closes) (Refused fault.NoMemory) new false (ends_work old (Passing closes) (Refused fault.NoMemory) new false owes (passing_starves closes) (passes_accepted (file_now old) closes owes.live) hands (λ is. absurd (cc)) (inr (refl, failed.0)) joined (inr failed) (wants_raw closes old.text.buffer takes)
+    (λ told. starve_step (file_now old) (file_now new) closes owes.live (inr (owes.writes, fails_still (file_now old) (file_now new) life.Failed failed.0 (hands.bytes told) hands.calls.keeps.can hands.settings))))
 
 -- By what stopped the handing on.
 
-starved_life : (old new : WrittenView) → TakesNothing old new ⊎ ((new.life ≡ life.Failed) × (old.text.buffer.can.writable ≡ true)) → (new.life ≡ life.Live) ⊎ (new.life ≡ life.Failed)
+starved_life : (old new : WrittenView) → TakesNothing old new ⊎ ((new.life ≡ life.Failed) × (old.text.buffer.can.writable ≡ true) × GaveOwn (over_of old) (over_of new)) → (new.life ≡ life.Live) ⊎ ((new.life ≡ life.Failed) × GaveOwn (over_of old) (over_of new))
 starved_life old new (inl nothing) = inl nothing.lives
-starved_life old new (inr failed) = inr failed.0
+starved_life old new (inr failed) = inr (failed.0, failed.2)
 
 abbrev closed_of : WrittenView → WrittenView
 closed_of view = record view { life = life.Closed }
 
-pub read_stops : (old new : WrittenView) (asked : Wanted) (why : IoFault) → Owes old → old.text.buffer.can.readable ≡ true → asks_none asked ≡ false → SettleOutcome old (Err why) new → ((short : Bool) → IsBounded (state_of new short)) → Answers (state_of old false) (call_of asked) (stopped_reply why) (state_of new (says_wait (Refused why)))
-read_stops old new asked (fault.WouldBlock taken) owes can some outcome bounded = read_waits old new asked owes can some outcome.0 outcome.1 outcome.2 (bounded true)
-read_stops old new asked fault.RawFault owes can some outcome bounded = read_fails old new asked owes can some outcome.0 outcome.1 (bounded false)
-read_stops old new asked fault.NoMemory owes can some outcome bounded = read_starves old new asked owes can some outcome.0 (starved_life old new outcome.2) (bounded false)
-read_stops old new asked other owes can some outcome bounded = absurd outcome
+pub read_stops : (old new : WrittenView) (asked : Wanted) (why : IoFault) → Owes old → old.text.buffer.can.readable ≡ true → asks_none asked ≡ false → SettleOutcome old (Err why) new → IsJoined (over_of new) → Answers (state_of old false) (call_of asked) (stopped_reply why) (state_of new (says_wait (Refused why)))
+read_stops old new asked (fault.WouldBlock taken) owes can some outcome joined = read_waits old new asked owes can some outcome.0 (outcome.1, outcome.4) outcome.2 joined
+read_stops old new asked fault.RawFault owes can some outcome joined = read_fails old new asked owes can some outcome.0 outcome.1 joined
+read_stops old new asked fault.NoMemory owes can some outcome joined = read_starves old new asked owes can some outcome.0 (starved_life old new outcome.2) joined
+read_stops old new asked other owes can some outcome joined = absurd outcome
 
-pub passing_stops : (old new : WrittenView) (closes : Bool) (why : IoFault) → Owes old → (closes ≡ true → says_fault (Refused why) ≡ false) → SettleOutcome old (Err why) new → ((short : Bool) → IsBounded (state_of new short)) → Answers (state_of old false) (Passing closes) (Refused (with_taken why 0)) (state_of new (says_wait (Refused (with_taken why 0))))
-passing_stops old new closes (fault.WouldBlock taken) owes sound outcome bounded = passing_blocked old new closes owes outcome.0 outcome.1 outcome.2 (bounded true)
-passing_stops old new true fault.RawFault owes sound outcome bounded = let never : true ≡ false = sound refl in absurd (cc)
-passing_stops old new false fault.RawFault owes sound outcome bounded = passing_failed old new false owes outcome.0 outcome.1 (bounded false)
-passing_stops old new closes fault.NoMemory owes sound outcome bounded = passing_starved old new closes owes outcome.0 outcome.1 (starved_life old new outcome.2) (bounded false)
-passing_stops old new closes other owes sound outcome bounded = absurd outcome
+pub passing_stops : (old new : WrittenView) (closes : Bool) (why : IoFault) → Owes old → (closes ≡ true → says_fault (Refused why) ≡ false) → SettleOutcome old (Err why) new → IsJoined (over_of new) → Answers (state_of old false) (Passing closes) (Refused (with_taken why 0)) (state_of new (says_wait (Refused (with_taken why 0))))
+passing_stops old new closes (fault.WouldBlock taken) owes sound outcome joined = passing_blocked old new closes owes outcome.0 (outcome.1, outcome.4) outcome.2 joined
+passing_stops old new true fault.RawFault owes sound outcome joined = let never : true ≡ false = sound refl in absurd (cc)
+passing_stops old new false fault.RawFault owes sound outcome joined = passing_failed old new false owes outcome.0 outcome.1 joined
+passing_stops old new closes fault.NoMemory owes sound outcome joined = passing_starved old new closes owes outcome.0 outcome.1 (starved_life old new outcome.2) joined
+passing_stops old new closes other owes sound outcome joined = absurd outcome
 
 -- a close whose handing on the raw failed
-pub close_fails : (old mid new : WrittenView) (why : IoFault) → Owes old → says_fault (Refused why) ≡ true → SettleOutcome old (Err why) mid → ((short : Bool) → IsBounded (state_of mid short)) → new ≡ record mid { life = life.Closed } → Answers (state_of old false) Close (Refused fault.RawFault) (state_of new false)
-close_fails old mid new fault.RawFault owes fails outcome bounded is =
+pub close_fails : (old mid new : WrittenView) (why : IoFault) → Owes old → says_fault (Refused why) ≡ true → SettleOutcome old (Err why) mid → IsJoined (over_of mid) → new ≡ record mid { life = life.Closed } → Answers (state_of old false) Close (Refused fault.RawFault) (state_of new false)
+close_fails old mid new fault.RawFault owes fails outcome joined is =
     subst (λ (view : WrittenView). Answers (state_of old false) Close (Refused fault.RawFault) (state_of view false)) (sym is)
-    (passing_failed old (closed_of mid) true owes (record { calls = outcome.0.calls; bytes = outcome.0.bytes; place = outcome.0.place; settings = outcome.0.settings }) refl (record { behind = (bounded false).behind; far = (bounded false).far }))
-close_fails old mid new why owes fails outcome bounded is = absurd (cc)
+    (passing_failed old (closed_of mid) true owes (record { calls = outcome.0.calls; bytes = outcome.0.bytes; place = outcome.0.place; settings = outcome.0.settings; owes = outcome.0.owes; stays = outcome.0.stays }) refl joined)
+close_fails old mid new why owes fails outcome joined is = absurd (cc)
 
 -- a close that had to wait, or ran out of memory, before its buffer was asked to close
-pub close_stops : (old new : WrittenView) (why : IoFault) → Owes old → says_fault (Refused why) ≡ false → SettleOutcome old (Err why) new → ((short : Bool) → IsBounded (state_of new short)) → Answers (state_of old false) Close (Refused (with_taken why 0)) (state_of new (says_wait (Refused (with_taken why 0))))
-close_stops old new why owes sound outcome bounded = passing_stops old new true why owes (λ closes. sound) outcome bounded
+pub close_stops : (old new : WrittenView) (why : IoFault) → Owes old → says_fault (Refused why) ≡ false → SettleOutcome old (Err why) new → IsJoined (over_of new) → Answers (state_of old false) Close (Refused (with_taken why 0)) (state_of new (says_wait (Refused (with_taken why 0))))
+close_stops old new why owes sound outcome joined = passing_stops old new true why owes (λ closes. sound) outcome joined

@@ -20,8 +20,13 @@ answers_work old call reply new short works = record {
     life_is = subst (λ (writes : Bool). LifeMoves writes call reply old.life new.life) (sym works.writes) works.life_is;
     place = works.place;
     written = works.written;
-    bounded = works.bounded;
   };
+  joined = works.joined;
+  owes = works.owes;
+  starves = works.starves;
+  closes = works.closes;
+  stays = works.stays;
+  stops = works.stops;
   answer = λ accepts. subst (λ (writes : Bool). IsReplyTo writes call reply) (sym works.writes) works.answer;
   complete = λ accepts calm sound. works.complete calm sound;
   wants = works.wants;

@@ -1,5 +1,5 @@
 -- A text that is written: what each answer says of it.
-use Rattle.std.proofs.Common.{◌≡◌, ℕ, ◌+◌, ◌<◌, ◌≤◌, inl, inr, Bool, true, false, ◌&&◌, ◌||◌, IsTrue, List, [], ◌∷◌, ◌++◌, ◌-◌, length, take, Option, Some, None, Result, Ok, Err, is_none, refl, sym, ap, ◌∙◌, subst, arith}
+use Rattle.std.proofs.Common.{◌≡◌, ◌≢◌, ℕ, ◌+◌, ◌<◌, ◌≤◌, inl, inr, Bool, true, false, ◌&&◌, ◌||◌, IsTrue, List, [], ◌∷◌, ◌++◌, ◌-◌, length, take, Option, Some, None, Result, Ok, Err, is_none, refl, sym, ap, ◌∙◌, subst, arith, append_assoc}
 use Rattle.std.proofs.lemmas.List.{take_all, length-append, take-append-le}
 use Rattle.std.proofs.lemmas.Bool.{lt-ltb}
 use Rattle.py_flat.specs.declared.fault.IoFault.{IoFault}
@@ -12,6 +12,7 @@ use Rattle.py_flat.specs.AllowedStep.{settled, waited_for, raw_faulted, out_of_m
 use Rattle.py_flat.specs.Calls.{Count, Refused}
 use Rattle.py_flat.specs.BinaryStep.{is_live}
 use Rattle.py_plain_text.specs.TextFile.{TextFile, TextPlace, TextSettings, clean_at}
+use Rattle.py_plain_text.specs.TextOver.{TextOver}
 use Rattle.py_plain_text.specs.TextCalls.{WriteText}
 use Rattle.py_flat.specs.Limits.{greatest_place}
 use Rattle.py_flat.specs.Refusals.{too_far}
@@ -24,13 +25,16 @@ use Rattle.py_plain_text.specs.TextExact.{after_writing}
 use Rattle.py_plain_text.specs.TextAllowed.{SettledBy, Fails, does_work, reaches_raw, TextFileStep}
 use Rattle.py_raw.proofs.Telling.{tells_still}
 use Rattle.py_stream.specs.Kinds.{says_wait}
-use Rattle.py_stream.specs.Buffer.{WhereShown, flat_of}
+use Rattle.py_stream.specs.Buffer.{Buffer, WhereShown, flat_of}
 use Rattle.py_read_text.specs.Knowing.{place_of}
 use Rattle.py_read_text.proofs.Placing.{not_far}
-use Rattle.py_read_text.specs.Answers.{further, IsPassedOn, KeepsFew, IsBounded, has_line_end, Answers}
-use Rattle.py_textio.specs.Written.{WrittenView, behind_owed, place_now, state_of, file_now, HandsOn, TookText, GoesBack, BackOutcome, LetsGo, HandOutcome}
+use Rattle.py_read_text.specs.Owing.{all_owed, IsJoined, PassesOwed, OwesOn, own_from, GaveOwn, StopsOwing}
+use Rattle.py_read_text.proofs.Owing.{passes_then, passes_behind, owes_none, open_then}
+use Rattle.py_read_text.specs.Answers.{further, IsPassedOn, KeepsFew, has_line_end, Answers}
+use Rattle.py_textio.specs.Written.{WrittenView, behind_owed, place_now, over_of, state_of, file_now, HandsOn, TookText, GoesBack, BackOutcome, LetsGo, HandOutcome}
+use Rattle.py_textio.proofs.Ended.{ended-some}
 use Rattle.py_textio.proofs.Refusing.{refused}
-use Rattle.py_textio.proofs.Settling.{clean_place}
+use Rattle.py_textio.proofs.Settling.{clean_place, own_from_is}
 use Rattle.py_textio.proofs.Working.{answers_work}
 use Rattle.py_textio.proofs.Over.{calls_on, handed_file}
 use Rattle.py_textio.proofs.Stopping.{not_rose, fails_still}
@@ -42,7 +46,17 @@ took_then old mid new bytes waited faulted took hands = record {
   bytes = λ told. hands.bytes (tells_still old.text.buffer.raw mid.text.buffer.raw took.calls.keeps.raw ∙ told) ∙ took.bytes told;
   place = hands.place ∙ took.place;
   settings = hands.settings ∙ took.settings;
+  owes = passes_then old.text.buffer.raw mid.text.buffer.raw new.text.buffer.raw (all_owed (over_of old) ++ bytes) (all_owed (over_of mid)) (all_owed (over_of new)) took.calls.keeps.raw took.owes hands.owes;
+  stays = open_then old.text.buffer mid.text.buffer new.text.buffer took.stays hands.stays;
 }
+
+-- what is owed after a text was taken
+owes_took : (old new : WrittenView) (text : List ℕ) (waited faulted : Bool) → TookText old (written_bytes old.text.settings text) waited faulted new → OwesOn (over_of old) (WriteText text) (over_of new)
+owes_took old new text waited faulted took = record { taken = written_bytes old.text.settings text; whole = inr refl; place = ap (λ (place : TextPlace). place.at) took.place; passes = took.owes }
+
+-- what is owed after a text wasn't
+owes_not : (old new : WrittenView) (text : List ℕ) (waited faulted : Bool) → HandsOn old waited faulted new → OwesOn (over_of old) (WriteText text) (over_of new)
+owes_not old new text waited faulted hands = owes_none (over_of old) (WriteText text) (over_of new) (omega (arith, ap (λ (place : TextPlace). place.at) hands.place)) hands.owes
 
 -- a live text that may be written, by these characters
 pub record MayWrite (old : WrittenView) (text : List ℕ) : Type 0 where
@@ -86,8 +100,8 @@ count_step file after text count accepted counts same =
 
 -- the fields that every write has
 
-pub wrote : (old new : WrittenView) (text : List ℕ) (count : ℕ) → MayWrite old text → TookText old (own_bytes old text) false false new → new.life ≡ life.Live → IsBounded (state_of new false) → count ≡ length text → KeepsFew (state_of new false) → (old.text.settings.line_buffering ≡ true → has_line_end text ≡ true → IsPassedOn (state_of new false)) → Answers (state_of old false) (WriteText text) (Count count) (state_of new false)
-wrote old new text count may took lives bounded counts few passed =
+pub wrote : (old new : WrittenView) (text : List ℕ) (count : ℕ) → MayWrite old text → TookText old (own_bytes old text) false false new → new.life ≡ life.Live → IsJoined (over_of new) → count ≡ length text → KeepsFew (state_of new false) → (old.text.settings.line_buffering ≡ true → has_line_end text ≡ true → IsPassedOn (state_of new false)) → Answers (state_of old false) (WriteText text) (Count count) (state_of new false)
+wrote old new text count may took lives joined counts few passed =
     let current : new.life ≡ old.life = lives ∙ sym may.live in
     answers_work old (WriteText text) (Count count) new false (record {
       accepted = may.accepted;
@@ -101,19 +115,24 @@ wrote old new text count may took lives bounded counts few passed =
       life_is = current;
       place = tt;
       written = took.place;
-      bounded = bounded;
+      joined = joined;
+      owes = owes_took old new text false false took;
+      starves = tt;
+      closes = tt;
+      stays = λ is. took.stays;
+      stops = λ short. absurd (cc);
       answer = counts;
       complete = λ calm sound. record { answer = counts; whole = refl };
       wants = tt;
-      shut = λ none can. let never = sym may.writes ∙ can in absurd (cc);
+      shut = λ none. tt;
       told = λ told. count_step (file_now old) (file_now new) text count may.accepted counts (written_file old new (own_bytes old text) false false took current told);
       hides = λ is. absurd (cc);
       passes = passed;
       kept = few;
     })
 
-pub wrote_blocked : (old new : WrittenView) (text : List ℕ) (taken : ℕ) → MayWrite old text → TookText old (own_bytes old text) true false new → new.life ≡ life.Live → IsBounded (state_of new true) → taken ≡ length (own_bytes old text) → Answers (state_of old false) (WriteText text) (Refused (fault.WouldBlock taken)) (state_of new true)
-wrote_blocked old new text taken may took lives bounded counts =
+pub wrote_blocked : (old new : WrittenView) (text : List ℕ) (taken : ℕ) → MayWrite old text → TookText old (own_bytes old text) true false new → new.life ≡ life.Live → IsJoined (over_of new) → taken ≡ length (own_bytes old text) → StopsOwing false (over_of new) → Answers (state_of old false) (WriteText text) (Refused (fault.WouldBlock taken)) (state_of new true)
+wrote_blocked old new text taken may took lives joined counts stops =
     let current : new.life ≡ old.life = lives ∙ sym may.live in
     answers_work old (WriteText text) (Refused (fault.WouldBlock taken)) new true (record {
       accepted = may.accepted;
@@ -127,19 +146,24 @@ wrote_blocked old new text taken may took lives bounded counts =
       life_is = current;
       place = tt;
       written = (counts, took.place ∙ ap (further (place_now old)) (sym counts));
-      bounded = bounded;
+      joined = joined;
+      owes = owes_took old new text true false took;
+      starves = tt;
+      closes = tt;
+      stays = λ is. took.stays;
+      stops = λ short. stops;
       answer = refl;
       complete = λ calm sound. absurd (not_rose old.text.buffer.raw.waits new.text.buffer.raw.waits (took.calls.wait refl) calm);
       wants = tt;
-      shut = λ none can. let never = sym may.writes ∙ can in absurd (cc);
+      shut = λ none. tt;
       told = λ told. waited_for refl (works_writing (file_now old) text may.live may.accepted, (ap (λ (size : ℕ). Refused (fault.WouldBlock size)) counts, written_file old new (own_bytes old text) true false took current told));
       hides = λ is gives. absurd (cc);
       passes = tt;
       kept = tt;
     })
 
-pub wrote_failed : (old new : WrittenView) (text : List ℕ) → MayWrite old text → TookText old (own_bytes old text) false true new → new.life ≡ life.Failed → IsBounded (state_of new false) → Answers (state_of old false) (WriteText text) (Refused fault.RawFault) (state_of new false)
-wrote_failed old new text may took failed bounded =
+pub wrote_failed : (old new : WrittenView) (text : List ℕ) → MayWrite old text → TookText old (own_bytes old text) false true new → new.life ≡ life.Failed → IsJoined (over_of new) → Answers (state_of old false) (WriteText text) (Refused fault.RawFault) (state_of new false)
+wrote_failed old new text may took failed joined =
     let bytes : List ℕ = own_bytes old text in
     answers_work old (WriteText text) (Refused fault.RawFault) new false (record {
       accepted = may.accepted;
@@ -153,11 +177,16 @@ wrote_failed old new text may took failed bounded =
       life_is = failed;
       place = tt;
       written = inr took.place;
-      bounded = bounded;
+      joined = joined;
+      owes = owes_took old new text false true took;
+      starves = tt;
+      closes = tt;
+      stays = λ is. took.stays;
+      stops = λ short. absurd (cc);
       answer = tt;
       complete = λ calm sound. absurd (not_rose old.text.buffer.raw.faults new.text.buffer.raw.faults (took.calls.fault refl) sound);
       wants = tt;
-      shut = λ none can. let never = sym may.writes ∙ can in absurd (cc);
+      shut = λ none. tt;
       told = λ told. raw_faulted refl refl (reaches_writing (file_now old) text may.live may.accepted, (length bytes, omega arith, whole_fails old new bytes life.Failed failed (took.bytes told) took.calls.keeps.can took.settings));
       hides = λ is. absurd (cc);
       passes = tt;
@@ -167,8 +196,8 @@ wrote_failed old new text may took failed bounded =
     whole_fails : (old new : WrittenView) (bytes : List ℕ) (current : Life) → new.life ≡ current → (file_now new).bytes ≡ lay (file_now old).bytes (place_now old).at bytes → new.text.buffer.can ≡ old.text.buffer.can → new.text.settings ≡ old.text.settings → Fails (file_now old) current (lay (file_now old).bytes (place_now old).at (take (length bytes) bytes)) (file_now new)
     whole_fails old new bytes current is laid can settings = record { life_is = is; bytes_are = laid ∙ ap (lay (file_now old).bytes (place_now old).at) (sym (take_all (length bytes) bytes (omega arith))); can = can; settings = settings }
 
-pub wrote_starved : (old new : WrittenView) (text : List ℕ) → MayWrite old text → TookText old (own_bytes old text) false false new → new.life ≡ life.Failed → IsBounded (state_of new false) → Answers (state_of old false) (WriteText text) (Refused fault.NoMemory) (state_of new false)
-wrote_starved old new text may took failed bounded =
+pub wrote_starved : (old new : WrittenView) (text : List ℕ) → MayWrite old text → TookText old (own_bytes old text) false false new → new.life ≡ life.Failed → GaveOwn (over_of old) (over_of new) → IsJoined (over_of new) → Answers (state_of old false) (WriteText text) (Refused fault.NoMemory) (state_of new false)
+wrote_starved old new text may took failed gave joined =
     let bytes : List ℕ = own_bytes old text in
     answers_work old (WriteText text) (Refused fault.NoMemory) new false (record {
       accepted = may.accepted;
@@ -182,11 +211,16 @@ wrote_starved old new text may took failed bounded =
       life_is = inr (refl, failed);
       place = tt;
       written = inr took.place;
-      bounded = bounded;
+      joined = joined;
+      owes = owes_took old new text false false took;
+      starves = inr (failed, gave);
+      closes = tt;
+      stays = λ is. took.stays;
+      stops = λ short. absurd (cc);
       answer = tt;
       complete = λ calm sound. record { answer = tt; whole = refl };
       wants = tt;
-      shut = λ none can. let never = sym may.writes ∙ can in absurd (cc);
+      shut = λ none. tt;
       told = λ told. out_of_memory refl (inr (reaches_writing (file_now old) text may.live may.accepted, (may.writes, (length bytes, omega arith, record { life_is = failed; bytes_are = took.bytes told ∙ ap (lay (file_now old).bytes (place_now old).at) (sym (take_all (length bytes) bytes (omega arith))); can = took.calls.keeps.can; settings = took.settings }))));
       hides = λ is. absurd (cc);
       passes = tt;
@@ -199,8 +233,8 @@ or_false : (own : Bool) → own ≡ true → own || false ≡ true
 or_false true is = refl
 or_false false is = absurd (cc)
 
-pub unwritten_failed : (old new : WrittenView) (text : List ℕ) → MayWrite old text → HandsOn old false true new → new.life ≡ life.Failed → IsBounded (state_of new false) → Answers (state_of old false) (WriteText text) (Refused fault.RawFault) (state_of new false)
-unwritten_failed old new text may hands failed bounded =
+pub unwritten_failed : (old new : WrittenView) (text : List ℕ) → MayWrite old text → HandsOn old false true new → new.life ≡ life.Failed → IsJoined (over_of new) → Answers (state_of old false) (WriteText text) (Refused fault.RawFault) (state_of new false)
+unwritten_failed old new text may hands failed joined =
     answers_work old (WriteText text) (Refused fault.RawFault) new false (record {
       accepted = may.accepted;
       once = refl;
@@ -213,19 +247,24 @@ unwritten_failed old new text may hands failed bounded =
       life_is = failed;
       place = tt;
       written = inl hands.place;
-      bounded = bounded;
+      joined = joined;
+      owes = owes_not old new text false true hands;
+      starves = tt;
+      closes = tt;
+      stays = λ is. hands.stays;
+      stops = λ short. absurd (cc);
       answer = tt;
       complete = λ calm sound. absurd (not_rose old.text.buffer.raw.faults new.text.buffer.raw.faults (hands.calls.fault refl) sound);
       wants = tt;
-      shut = λ none can. let never = sym may.writes ∙ can in absurd (cc);
+      shut = λ none. tt;
       told = λ told. raw_faulted refl refl (reaches_writing (file_now old) text may.live may.accepted, (0, omega arith, fails_still (file_now old) (file_now new) life.Failed failed (hands.bytes told) hands.calls.keeps.can hands.settings));
       hides = λ is. absurd (cc);
       passes = tt;
       kept = tt;
     })
 
-pub unwritten_starved : (old new : WrittenView) (text : List ℕ) → MayWrite old text → HandsOn old false false new → new.life ≡ life.Live → IsBounded (state_of new false) → Answers (state_of old false) (WriteText text) (Refused fault.NoMemory) (state_of new false)
-unwritten_starved old new text may hands lives bounded =
+pub unwritten_starved : (old new : WrittenView) (text : List ℕ) → MayWrite old text → HandsOn old false false new → new.life ≡ life.Live → IsJoined (over_of new) → Answers (state_of old false) (WriteText text) (Refused fault.NoMemory) (state_of new false)
+unwritten_starved old new text may hands lives joined =
     let current : new.life ≡ old.life = lives ∙ sym may.live in
     answers_work old (WriteText text) (Refused fault.NoMemory) new false (record {
       accepted = may.accepted;
@@ -239,11 +278,16 @@ unwritten_starved old new text may hands lives bounded =
       life_is = inl current;
       place = tt;
       written = inl hands.place;
-      bounded = bounded;
+      joined = joined;
+      owes = owes_not old new text false false hands;
+      starves = inl (record { life_is = current; settings = hands.settings; place = hands.place });
+      closes = tt;
+      stays = λ is. hands.stays;
+      stops = λ short. absurd (cc);
       answer = tt;
       complete = λ calm sound. record { answer = tt; whole = refl };
       wants = tt;
-      shut = λ none can. let never = sym may.writes ∙ can in absurd (cc);
+      shut = λ none. tt;
       told = λ told. out_of_memory refl (inl (or_false (reaches_raw (file_now old) (WriteText text)) (reaches_writing (file_now old) text may.live may.accepted), handed_file old new false false hands current told));
       hides = λ is. absurd (cc);
       passes = tt;
@@ -269,8 +313,8 @@ refuses_run file text why live writes clean is = rw live (rw writes (rw clean (r
 write_refused : (file : TextFile) (text : List ℕ) → file.life ≡ life.Live → file.can.writable ≡ true → file.place.dirty ≡ false → written_refusal file.settings text ≡ None → refusal file (WriteText text) ≡ too_far (file.place.at + length (written_bytes file.settings text))
 write_refused file text live writes clean whole = rw live (rw writes (rw clean (rw whole refl)))
 
-pub write_dirty : (view : WrittenView) (text : List ℕ) → view.life ≡ life.Live → view.text.buffer.can.writable ≡ true → view.text.dirty ≡ true → ((short : Bool) → IsBounded (state_of view short)) → Answers (state_of view false) (WriteText text) (Refused fault.SeekFirst) (state_of view false)
-write_dirty view text live writes dirty bounded = refused view false (WriteText text) fault.SeekFirst (refuses_dirty (file_now view) text live writes (dirty_so view.pending dirty)) refl refl (bounded false)
+pub write_dirty : (view : WrittenView) (text : List ℕ) → view.life ≡ life.Live → view.text.buffer.can.writable ≡ true → view.text.dirty ≡ true → IsJoined (over_of view) → Answers (state_of view false) (WriteText text) (Refused fault.SeekFirst) (state_of view false)
+write_dirty view text live writes dirty joined = refused view false (WriteText text) fault.SeekFirst (refuses_dirty (file_now view) text live writes (dirty_so view.pending dirty)) refl refl joined
   where
     dirty_so : (pending : List ℕ) → view.text.dirty ≡ true → (behind_owed (place_of view.text) pending).dirty ≡ true
     dirty_so [] is = is
@@ -280,12 +324,12 @@ clean_so : (view : WrittenView) (owed : List ℕ) → view.text.dirty ≡ false 
 clean_so view [] is = is
 clean_so view (byte ∷ more) is = is
 
-pub write_run : (view : WrittenView) (text : List ℕ) (why : IoFault) → view.life ≡ life.Live → view.text.buffer.can.writable ≡ true → view.text.dirty ≡ false → encode_error (written_refusal view.text.settings text) ≡ Some why → ((short : Bool) → IsBounded (state_of view short)) → Answers (state_of view false) (WriteText text) (Refused why) (state_of view (says_wait (Refused why)))
-write_run view text why live writes clean is bounded = subst (λ (short : Bool). Answers (state_of view false) (WriteText text) (Refused why) (state_of view short)) (sym (waits_not (written_refusal view.text.settings text) why is)) (refused view false (WriteText text) why (refuses_run (file_now view) text why live writes (clean_so view view.pending clean) is) (blames_not (written_refusal view.text.settings text) why is) refl (bounded false))
+pub write_run : (view : WrittenView) (text : List ℕ) (why : IoFault) → view.life ≡ life.Live → view.text.buffer.can.writable ≡ true → view.text.dirty ≡ false → encode_error (written_refusal view.text.settings text) ≡ Some why → IsJoined (over_of view) → Answers (state_of view false) (WriteText text) (Refused why) (state_of view (says_wait (Refused why)))
+write_run view text why live writes clean is joined = subst (λ (short : Bool). Answers (state_of view false) (WriteText text) (Refused why) (state_of view short)) (sym (waits_not (written_refusal view.text.settings text) why is)) (refused view false (WriteText text) why (refuses_run (file_now view) text why live writes (clean_so view view.pending clean) is) (blames_not (written_refusal view.text.settings text) why is) refl joined)
 
-pub write_far : (view : WrittenView) (text : List ℕ) → view.life ≡ life.Live → view.text.buffer.can.writable ≡ true → view.text.dirty ≡ false → written_refusal view.text.settings text ≡ None → greatest_place < (place_now view).at + length (own_bytes view text) → ((short : Bool) → IsBounded (state_of view short)) → Answers (state_of view false) (WriteText text) (Refused fault.TooFar) (state_of view false)
-write_far view text live writes clean whole far bounded =
-    refused view false (WriteText text) fault.TooFar (write_refused (file_now view) text live writes (clean_so view view.pending clean) whole ∙ is_far) refl refl (bounded false)
+pub write_far : (view : WrittenView) (text : List ℕ) → view.life ≡ life.Live → view.text.buffer.can.writable ≡ true → view.text.dirty ≡ false → written_refusal view.text.settings text ≡ None → greatest_place < (place_now view).at + length (own_bytes view text) → IsJoined (over_of view) → Answers (state_of view false) (WriteText text) (Refused fault.TooFar) (state_of view false)
+write_far view text live writes clean whole far joined =
+    refused view false (WriteText text) fault.TooFar (write_refused (file_now view) text live writes (clean_so view view.pending clean) whole ∙ is_far) refl refl joined
   where
     is_far : too_far ((place_now view).at + length (own_bytes view text)) ≡ Some fault.TooFar
     is_far = rw (lt-ltb greatest_place ((place_now view).at + length (own_bytes view text)) far) refl
@@ -317,6 +361,8 @@ put_bytes old mid bytes room back = record {
       ∙ (ap (λ (at : ℕ). clean_at at Unknown) size
       ∙ (ap (λ (place : TextPlace). further place (length bytes)) (sym (clean_place mid.text mid.pending back.stands)) ∙ ap (λ (place : TextPlace). further place (length bytes)) back.hands.place));
   settings = back.hands.settings;
+  owes = subst (λ (all : List ℕ). PassesOwed old.text.buffer.raw (all_owed (over_of old) ++ bytes) mid.text.buffer.raw all) (append_assoc mid.text.buffer.owed.bytes mid.pending bytes) (passes_behind old.text.buffer.raw mid.text.buffer.raw (all_owed (over_of old)) (all_owed (over_of mid)) bytes back.hands.owes);
+  stays = back.hands.stays;
 }
 
 take_first : (first second : List ℕ) (count : ℕ) → count ≡ length second → take (length (first ++ second) - count) (first ++ second) ≡ first
@@ -336,30 +382,65 @@ let_go_so old mid new bytes room count back counts lets =
           let at : new.text.buffer.place + length new.pending ≡ mid.text.buffer.place + length mid.pending = omega (arith, lets.place, ap length pending) in
           clean_place new.text new.pending lets.stands ∙ (ap (λ (at : ℕ). clean_at at Unknown) at ∙ (sym (clean_place mid.text mid.pending back.stands) ∙ back.hands.place));
       settings = lets.settings ∙ back.hands.settings;
+      owes = passes_then old.text.buffer.raw mid.text.buffer.raw new.text.buffer.raw (all_owed (over_of old)) (all_owed (over_of mid)) (all_owed (over_of new)) back.hands.calls.keeps.raw back.hands.owes
+          (subst (λ (owed : List ℕ). PassesOwed mid.text.buffer.raw (all_owed (over_of mid)) new.text.buffer.raw (new.text.buffer.owed.bytes ++ owed)) (sym pending) (passes_behind mid.text.buffer.raw new.text.buffer.raw mid.text.buffer.owed.bytes new.text.buffer.owed.bytes mid.pending lets.owes));
+      stays = open_then old.text.buffer mid.text.buffer new.text.buffer back.hands.stays lets.stays;
     }
 
-pub written_on : (old mid new : WrittenView) (text : List ℕ) (room count : ℕ) (why : IoFault) → MayWrite old text → GoesBack old mid → count ≡ length (own_bytes old text) → HandOutcome (with_bytes mid (own_bytes old text) room) count (has_line_end text) (Err why) new → ((short : Bool) → IsBounded (state_of new short)) → Answers (state_of old false) (WriteText text) (Refused why) (state_of new (says_wait (Refused why)))
-written_on old mid new text room count (fault.WouldBlock taken) may back counts outcome bounded =
-    wrote_blocked old new text taken may (took_then old (with_bytes mid (own_bytes old text) room) new (own_bytes old text) true false (put_bytes old mid (own_bytes old text) room back) outcome.0) outcome.1 (bounded true) (outcome.2 ∙ counts)
-written_on old mid new text room count fault.RawFault may back counts outcome bounded =
-    wrote_failed old new text may (took_then old (with_bytes mid (own_bytes old text) room) new (own_bytes old text) false true (put_bytes old mid (own_bytes old text) room back) outcome.0) outcome.1 (bounded false)
-written_on old mid new text room count fault.NoMemory may back counts (inl outcome) bounded =
-    wrote_starved old new text may (took_then old (with_bytes mid (own_bytes old text) room) new (own_bytes old text) false false (put_bytes old mid (own_bytes old text) room back) outcome.0) outcome.1 (bounded false)
-written_on old mid new text room count fault.NoMemory may back counts (inr lets) bounded =
-    unwritten_starved old new text may (let_go_so old mid new (own_bytes old text) room count back counts lets) lets.lives (bounded false)
-written_on old mid new text room count other may back counts outcome bounded = absurd outcome
+-- bytes that went on of a text that went back and had more put behind what it owed
+gave_put : (old mid : WrittenView) (bytes : List ℕ) (room : ℕ) (new : TextOver Buffer) → GoesBack old mid → GaveOwn (over_of (with_bytes mid bytes room)) new → GaveOwn (over_of old) new
+gave_put old mid bytes room new back gave = by_gave gave
+  where
+    from : own_from (over_of old) ≡ own_from (over_of (with_bytes mid bytes room))
+    from = omega (arith, own_from_is (with_bytes mid bytes room), own_from_is mid, ap (λ (place : TextPlace). place.at) back.hands.place, ap length back.pending)
 
-pub written_all : (old mid new : WrittenView) (text : List ℕ) (room count chars : ℕ) → MayWrite old text → GoesBack old mid → chars ≡ length text → HandOutcome (with_bytes mid (own_bytes old text) room) count (has_line_end text) (Ok tt) new → ((short : Bool) → IsBounded (state_of new short)) → Answers (state_of old false) (WriteText text) (Count chars) (state_of new false)
-written_all old mid new text room count chars may back counts outcome bounded =
-    wrote old new text chars may (took_then old (with_bytes mid (own_bytes old text) room) new (own_bytes old text) false false (put_bytes old mid (own_bytes old text) room back) outcome.0) outcome.1 (bounded false) counts outcome.2 (λ lines ends. outcome.3 (ap (λ (settings : TextSettings). settings.line_buffering) back.hands.settings ∙ lines) ends)
+    by_gave : GaveOwn (over_of (with_bytes mid bytes room)) new → GaveOwn (over_of old) new
+    by_gave (inl further) = inl (omega (arith, further, from))
+    by_gave (inr took) = inr (record {
+      further = omega (arith, took.further, from);
+      stands = λ tells. omega (arith, took.stands (back.hands.calls.keeps.raw.tells_place ∙ tells), from);
+      answered = λ tells. omega (arith, took.answered (back.hands.calls.keeps.raw.tells_transfers ∙ tells), back.answered tells, ap length back.owed);
+    })
 
-pub written_not : (old new : WrittenView) (text : List ℕ) (why : IoFault) → MayWrite old text → BackOutcome old (Err why) new → ((short : Bool) → IsBounded (state_of new short)) → Answers (state_of old false) (WriteText text) (Refused why) (state_of new (says_wait (Refused why)))
-written_not old new text fault.RawFault may outcome bounded = unwritten_failed old new text may outcome.0 outcome.1 (bounded false)
-written_not old new text fault.NoMemory may outcome bounded = unwritten_starved old new text may outcome.0 outcome.1 (bounded false)
-written_not old new text other may outcome bounded = absurd outcome
+pub written_on : (old mid new : WrittenView) (text : List ℕ) (room count : ℕ) (why : IoFault) → MayWrite old text → GoesBack old mid → count ≡ length (own_bytes old text) → HandOutcome (with_bytes mid (own_bytes old text) room) count (has_line_end text) (Err why) new → IsJoined (over_of new) → Answers (state_of old false) (WriteText text) (Refused why) (state_of new (says_wait (Refused why)))
+written_on old mid new text room count (fault.WouldBlock taken) may back counts outcome joined =
+    wrote_blocked old new text taken may (took_then old (with_bytes mid (own_bytes old text) room) new (own_bytes old text) true false (put_bytes old mid (own_bytes old text) room back) outcome.0) outcome.1 joined (outcome.2 ∙ counts) outcome.3
+written_on old mid new text room count fault.RawFault may back counts outcome joined =
+    wrote_failed old new text may (took_then old (with_bytes mid (own_bytes old text) room) new (own_bytes old text) false true (put_bytes old mid (own_bytes old text) room back) outcome.0) outcome.1 joined
+written_on old mid new text room count fault.NoMemory may back counts (inl outcome) joined =
+    wrote_starved old new text may (took_then old (with_bytes mid (own_bytes old text) room) new (own_bytes old text) false false (put_bytes old mid (own_bytes old text) room back) outcome.0) outcome.1 (gave_put old mid (own_bytes old text) room (over_of new) back outcome.2) joined
+written_on old mid new text room count fault.NoMemory may back counts (inr lets) joined =
+    unwritten_starved old new text may (let_go_so old mid new (own_bytes old text) room count back counts lets) lets.lives joined
+written_on old mid new text room count other may back counts outcome joined = absurd outcome
+
+pub written_all : (old mid new : WrittenView) (text : List ℕ) (room count chars : ℕ) → MayWrite old text → GoesBack old mid → chars ≡ length text → HandOutcome (with_bytes mid (own_bytes old text) room) count (has_line_end text) (Ok tt) new → IsJoined (over_of new) → Answers (state_of old false) (WriteText text) (Count chars) (state_of new false)
+written_all old mid new text room count chars may back counts outcome joined =
+    wrote old new text chars may (took_then old (with_bytes mid (own_bytes old text) room) new (own_bytes old text) false false (put_bytes old mid (own_bytes old text) room back) outcome.0) outcome.1 joined counts outcome.2 (λ lines ends. outcome.3 (ap (λ (settings : TextSettings). settings.line_buffering) back.hands.settings ∙ lines) ends)
+
+pub written_not : (old new : WrittenView) (text : List ℕ) (why : IoFault) → MayWrite old text → BackOutcome old (Err why) new → IsJoined (over_of new) → Answers (state_of old false) (WriteText text) (Refused why) (state_of new (says_wait (Refused why)))
+written_not old new text fault.RawFault may outcome joined = unwritten_failed old new text may outcome.0 outcome.1 joined
+written_not old new text fault.NoMemory may outcome joined = unwritten_starved old new text may outcome.0 outcome.1 joined
+written_not old new text other may outcome joined = absurd outcome
 
 pub put_is : (old mid put : WrittenView) (text : List ℕ) → GoesBack old mid → put ≡ record mid { pending = mid.pending ++ written_bytes mid.text.settings text; room = put.room } → put ≡ with_bytes mid (own_bytes old text) put.room
 put_is old mid put text back is = is ∙ ap (λ (settings : TextSettings). with_bytes mid (written_bytes settings text) put.room) back.hands.settings
 
 pub hand_at : (put other new : WrittenView) (count : ℕ) (ends line : Bool) (result : Result (Unit {0}) IoFault) → put ≡ other → ends ≡ line → HandOutcome put count ends result new → HandOutcome other count line result new
 hand_at put other new count ends line result same is outcome = subst (λ (view : WrittenView). HandOutcome view count line result new) same (subst (λ (own : Bool). HandOutcome put count own result new) is outcome)
+
+-- a text with a line end has bytes to hand on
+pub put_some : (old mid put : WrittenView) (text : List ℕ) → put ≡ with_bytes mid (own_bytes old text) put.room → written_refusal old.text.settings text ≡ None → has_line_end text ≡ true → put.pending ≢ []
+put_some old mid put text is whole ends none =
+    ended-some old.text.settings text whole ends (back_none mid.pending (own_bytes old text) (sym (ap (λ (view : WrittenView). view.pending) is) ∙ none))
+  where
+    back_none : (front back : List ℕ) → front ++ back ≡ [] → back ≡ []
+    back_none [] back is = is
+    back_none (byte ∷ more) back is = absurd (cc)
+
+-- the room for a text's bytes couldn't be had
+pub unput : (old mid new : WrittenView) (text : List ℕ) (why : IoFault) → MayWrite old text → GoesBack old mid → why ≡ fault.NoMemory → new ≡ record mid { room = new.room } → IsJoined (over_of mid) → Answers (state_of old false) (WriteText text) (Refused why) (state_of new (says_wait (Refused why)))
+unput old mid new text why may back memory same joined =
+    let lacks : WrittenView = record mid { room = new.room } in
+    subst (λ (own : IoFault). Answers (state_of old false) (WriteText text) (Refused own) (state_of new (says_wait (Refused own)))) (sym memory)
+    (subst (λ (view : WrittenView). Answers (state_of old false) (WriteText text) (Refused fault.NoMemory) (state_of view false)) (sym same)
+    (unwritten_starved old lacks text may (record { calls = back.hands.calls; bytes = back.hands.bytes; place = back.hands.place; settings = back.hands.settings; owes = back.hands.owes; stays = back.hands.stays }) back.lives joined))

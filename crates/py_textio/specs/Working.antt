@@ -2,19 +2,20 @@
 use Rattle.std.specs.Prelude.{◌≡◌, Bool, true, false, IsTrue, [], None}
 use Rattle.py_flat.specs.Calls.{FileReply}
 use Rattle.py_flat.specs.Causes.{rose}
-use Rattle.py_plain_text.specs.TextCalls.{TextFileCall}
+use Rattle.py_plain_text.specs.TextCalls.{TextFileCall, is_close}
 use Rattle.py_plain_text.specs.TextRefusals.{refusal}
 use Rattle.py_plain_text.specs.TextAllowed.{TextFileStep}
 use Rattle.py_stream.specs.Kinds.{says_fault}
 use Rattle.py_stream.specs.Buffer.{WhereShown}
-use Rattle.py_read_text.specs.Answers.{asks_nothing, passes_on, gives_text, IsReplyTo, IsComplete, IsShort, PlaceMoves, WriteMoves, LifeMoves, settings_after, closes_again, WantsMemory, ClosesWithRaw, IsBounded, HidesNothing, TextPasses, TextKeeps}
-use Rattle.py_textio.specs.Written.{WrittenView, place_now, state_of, file_now, CallsBuffer}
+use Rattle.py_read_text.specs.Answers.{calls_nothing, passes_on, gives_text, IsReplyTo, IsComplete, IsShort, PlaceMoves, WriteMoves, LifeMoves, settings_after, closes_again, WantsMemory, ClosesWithRaw, HidesNothing, TextPasses, TextKeeps}
+use Rattle.py_read_text.specs.Owing.{IsJoined, OwesOn, Starves, StopsOwing, KeepsOpen, Closes}
+use Rattle.py_textio.specs.Written.{WrittenView, place_now, over_of, state_of, file_now, CallsBuffer}
 
 pub record Works (old : WrittenView) (call : TextFileCall) (reply : FileReply) (new : WrittenView) (short : Bool) : Type 0 where
   -- the call is accepted, and asks for something that only the buffer has
   pub accepted : refusal (file_now old) call ≡ None
   pub once : closes_again old.life call ≡ false
-  pub some : asks_nothing call ≡ false
+  pub some : calls_nothing call ≡ false
   pub busy : passes_on old.pending call ≡ true
   pub writes : old.text.buffer.can.writable ≡ true
   -- the buffer was called
@@ -25,7 +26,13 @@ pub record Works (old : WrittenView) (call : TextFileCall) (reply : FileReply) (
   pub life_is : LifeMoves true call reply old.life new.life
   pub place : PlaceMoves call short reply (place_now old) new.text.buffer.place (place_now new)
   pub written : WriteMoves old.text.settings call reply (place_now old) (place_now new)
-  pub bounded : IsBounded (state_of new short)
+  pub joined : IsJoined (over_of new)
+  -- what became of the bytes that were owed, and of the raw
+  pub owes : OwesOn (over_of old) call (over_of new)
+  pub starves : Starves (over_of old) reply (over_of new)
+  pub closes : Closes old.life call old.text.buffer reply new.text.buffer
+  pub stays : is_close call ≡ false → KeepsOpen old.text.buffer new.text.buffer
+  pub stops : IsTrue short → StopsOwing (gives_text call) (over_of new)
   -- what was answered
   pub answer : IsReplyTo true call reply
   pub complete : rose old.text.buffer.raw.waits new.text.buffer.raw.waits ≡ false → rose old.text.buffer.raw.faults new.text.buffer.raw.faults ≡ false → IsComplete call reply short

@@ -1,5 +1,5 @@
 -- A text that is written: what it owes its buffer, and the steps of its calls.
-use Rattle.std.specs.Prelude.{◌≡◌, ◌≢◌, ℕ, ◌+◌, ◌-◌, ◌<◌, ◌≤◌, ◌⊎◌, Bool, true, false, IsTrue, List, [], ◌∷◌, length, take, Option, Some, None, Result, Ok, Err}
+use Rattle.std.specs.Prelude.{◌≡◌, ◌≢◌, ℕ, ◌+◌, ◌-◌, ◌<◌, ◌≤◌, ◌⊎◌, Bool, true, false, IsTrue, List, [], ◌∷◌, ◌++◌, length, take, Option, Some, None, Result, Ok, Err}
 use Rattle.py_flat.specs.declared.fault.IoFault.{IoFault}
 use Rattle.py_flat.specs.declared.fault.IoFault.TheVariants as fault
 use Rattle.py_flat.specs.declared.life.Life.{Life}
@@ -9,10 +9,15 @@ use Rattle.py_flat.specs.Limits.{greatest_place}
 use Rattle.py_flat.specs.Calls.{FileReply, NotReady, Refused}
 use Rattle.py_flat.specs.Causes.{Rose}
 use Rattle.py_plain_text.specs.TextFile.{TextPlace, TextFile}
+use Rattle.py_plain_text.specs.TextOver.{TextOver}
 use Rattle.py_plain_text.specs.TextWriting.{writes_texts}
-use Rattle.py_stream.specs.Buffer.{Buffer, WhereShown, flat_of, KeepsBuffer}
+use Rattle.py_raw.specs.RawStream.{AnswersFor}
+use Rattle.py_stream.specs.Stream.{size_of}
+use Rattle.py_stream.specs.Writing.{IsFull}
+use Rattle.py_stream.specs.Buffer.{Buffer, WhereShown, flat_of, stream_shown, KeepsBuffer}
 use Rattle.py_read_text.specs.TextState.{TextState, file_of}
-use Rattle.py_read_text.specs.Knowing.{TextView, place_of, IsClean}
+use Rattle.py_read_text.specs.Knowing.{TextView, place_of, over_of as read_of, IsClean}
+use Rattle.py_read_text.specs.Owing.{all_owed, IsJoined, PassesOwed, GaveOwn, StopsOwing, KeepsOpen}
 use Rattle.py_read_text.specs.Answers.{further, StandsWhileLive, IsPassedOn, KeepsFew}
 
 -- the text that reads; the bytes that were written and that its buffer hasn't, with room for more; and its life
@@ -31,11 +36,11 @@ abbrev pub place_now : WrittenView → TextPlace
 place_now view = behind_owed (place_of view.text) view.pending
 
 -- what a text is seen as, by its parts
+abbrev pub over_of : WrittenView → TextOver Buffer
+over_of view = record { buffer = view.text.buffer; owed = view.pending; place = place_now view; settings = view.text.settings; life = view.life }
+
 abbrev pub state_of : WrittenView → Bool → TextState
-state_of view short = record {
-  text = record { buffer = view.text.buffer; owed = view.pending; place = place_now view; settings = view.text.settings; life = view.life };
-  short = short;
-}
+state_of view short = record { text = over_of view; short = short }
 
 -- the text that it stands for
 abbrev pub file_now : WrittenView → TextFile
@@ -55,7 +60,7 @@ pub record IsWritten (text : TextView) (pending : List ℕ) (current : Life) : T
   pub handler : text.buffer.can.writable ≡ true → writes_texts text.settings.handler ≡ true
   pub lives : current ≡ life.Live → text.buffer.life ≡ life.Live
   pub stands : (pending ≡ []) ⊎ StandsToWrite text
-  pub behind : text.at ≤ text.buffer.place
+  pub joined : IsJoined (read_of text)
   pub far : text.buffer.place + length pending ≤ greatest_place
   pub unwritten : text.buffer.can.writable ≡ false → (pending ≡ []) × (current ≡ text.buffer.life)
 
@@ -69,28 +74,35 @@ pub record CallsBuffer (before : Buffer) (waited faulted : Bool) (after : Buffer
   pub faults : IsTrue before.raw.counts_exactly → faulted ≡ false → after.raw.faults ≡ before.raw.faults
   pub stands : StandsWhileLive before → StandsWhileLive after
 
--- the buffer was called, and the text stays as it is
+-- the buffer was called, and the text stays as it is: no byte is lost or doubled, and the raw isn't closed
 pub record HandsOn (old : WrittenView) (waited faulted : Bool) (new : WrittenView) : Type 0 where
   pub calls : CallsBuffer old.text.buffer waited faulted new.text.buffer
   pub bytes : WhereShown old.text.buffer ((file_now new).bytes ≡ (file_now old).bytes)
   pub place : place_now new ≡ place_now old
   pub settings : new.text.settings ≡ old.text.settings
+  pub owes : PassesOwed old.text.buffer.raw (all_owed (over_of old)) new.text.buffer.raw (all_owed (over_of new))
+  pub stays : KeepsOpen old.text.buffer new.text.buffer
 
--- the buffer took nothing: its flat bytes and its place stay, and so does what the text owes
+-- the buffer took nothing: its flat bytes and its place stay, and so does what the text owes; what it owes itself it may have passed on
 pub record TakesNothing (old new : WrittenView) : Type 0 where
   pub lives : new.life ≡ life.Live
   pub stands : StandsToWrite new.text
   pub pending : new.pending ≡ old.pending
   pub place : new.text.buffer.place ≡ old.text.buffer.place
   pub flat : WhereShown old.text.buffer ((flat_of new.text.buffer).bytes ≡ (flat_of old.text.buffer).bytes)
+  pub owes : PassesOwed old.text.buffer.raw old.text.buffer.owed.bytes new.text.buffer.raw new.text.buffer.owed.bytes
+
+-- a buffer is full of bytes that it owes, up to its place
+abbrev pub IsStuffed : Buffer → Type 0
+IsStuffed buffer = IsFull buffer.owed buffer.place (size_of (stream_shown buffer))
 
 -- the buffer took all that the text owed; or the raw would have blocked, or failed, or memory ran out: what wasn't taken is owed still. Out
--- of memory nothing was taken, but of a text that failed
+-- of memory nothing was taken, but of a text that failed. A buffer that couldn't take all is full
 abbrev pub SettleOutcome : WrittenView → Result (Unit {0}) IoFault → WrittenView → Type 0
 SettleOutcome old (Ok done) new = HandsOn old false false new × (new.pending ≡ []) × (new.life ≡ life.Live)
-SettleOutcome old (Err (fault.WouldBlock taken)) new = HandsOn old true false new × (new.pending ≢ []) × (new.life ≡ life.Live) × (old.text.buffer.can.writable ≡ true)
+SettleOutcome old (Err (fault.WouldBlock taken)) new = HandsOn old true false new × (new.pending ≢ []) × (new.life ≡ life.Live) × (old.text.buffer.can.writable ≡ true) × IsStuffed new.text.buffer
 SettleOutcome old (Err fault.RawFault) new = HandsOn old false true new × (new.life ≡ life.Failed)
-SettleOutcome old (Err fault.NoMemory) new = HandsOn old false false new × IsTrue old.text.buffer.raw.takes_memory × (TakesNothing old new ⊎ ((new.life ≡ life.Failed) × (old.text.buffer.can.writable ≡ true)))
+SettleOutcome old (Err fault.NoMemory) new = HandsOn old false false new × IsTrue old.text.buffer.raw.takes_memory × (TakesNothing old new ⊎ ((new.life ≡ life.Failed) × (old.text.buffer.can.writable ≡ true) × GaveOwn (over_of old) (over_of new)))
 SettleOutcome old (Err other) new = ⊥
 
 -- what a reading answers where what is owed couldn't be handed on
@@ -111,15 +123,19 @@ pub record TookText (old : WrittenView) (written : List ℕ) (waited faulted : B
   pub bytes : WhereShown old.text.buffer ((file_now new).bytes ≡ lay (file_now old).bytes (place_now old).at written)
   pub place : place_now new ≡ further (place_now old) (length written)
   pub settings : new.text.settings ≡ old.text.settings
+  pub owes : PassesOwed old.text.buffer.raw (all_owed (over_of old) ++ written) new.text.buffer.raw (all_owed (over_of new))
+  pub stays : KeepsOpen old.text.buffer new.text.buffer
 
 -- how many bytes there are, where they end no further than a stream can
 abbrev pub RoomFor : WrittenView → ℕ → Option ℕ → Type 0
 RoomFor view bytes (Some count) = (count ≡ bytes) × ((place_now view).at + bytes ≤ greatest_place)
 RoomFor view bytes None = greatest_place < (place_now view).at + bytes
 
--- the buffer stands where what is owed begins, and the text stays as it is
+-- the buffer stands where what the text owes begins, and owes what it did, and the text stays as it is
 pub record GoesBack (old new : WrittenView) : Type 0 where
   pub hands : HandsOn old false false new
+  pub owed : new.text.buffer.owed.bytes ≡ old.text.buffer.owed.bytes
+  pub answered : AnswersFor 0 old.text.buffer.raw new.text.buffer.raw
   pub lives : new.life ≡ life.Live
   pub pending : new.pending ≡ old.pending
   pub stands : StandsToWrite new.text
@@ -140,21 +156,23 @@ pub record LetsGo (old : WrittenView) (count : ℕ) (new : WrittenView) : Type 0
   pub place : new.text.buffer.place ≡ old.text.buffer.place
   pub settings : new.text.settings ≡ old.text.settings
   pub flat : WhereShown old.text.buffer ((flat_of new.text.buffer).bytes ≡ (flat_of old.text.buffer).bytes)
+  pub owes : PassesOwed old.text.buffer.raw old.text.buffer.owed.bytes new.text.buffer.raw new.text.buffer.owed.bytes
+  pub stays : KeepsOpen old.text.buffer new.text.buffer
 
 -- the buffer passed on all, where it was to; or the raw would have blocked, which counts all n bytes as taken; or it failed, or memory ran
 -- out, which fails the text
 abbrev pub PassOutcome : WrittenView → (count : ℕ) → (flushes : Bool) → Result (Unit {0}) IoFault → WrittenView → Type 0
 PassOutcome old count flushes (Ok done) new = HandsOn old false false new × (new.life ≡ life.Live) × KeepsFew (state_of new false) × (flushes ≡ true → IsPassedOn (state_of new false))
-PassOutcome old count flushes (Err (fault.WouldBlock taken)) new = HandsOn old true false new × (new.life ≡ life.Live) × (taken ≡ count)
+PassOutcome old count flushes (Err (fault.WouldBlock taken)) new = HandsOn old true false new × (new.life ≡ life.Live) × (taken ≡ count) × StopsOwing false (over_of new)
 PassOutcome old count flushes (Err fault.RawFault) new = HandsOn old false true new × (new.life ≡ life.Failed)
-PassOutcome old count flushes (Err fault.NoMemory) new = HandsOn old false false new × (new.life ≡ life.Failed)
+PassOutcome old count flushes (Err fault.NoMemory) new = HandsOn old false false new × (new.life ≡ life.Failed) × (flushes ≡ true) × (new.text.buffer.place ≡ old.text.buffer.place)
 PassOutcome old count flushes (Err other) new = ⊥
 
 -- what is owed is handed on where it has to be, and with line buffering behind a line end passed on by the buffer; where memory ran out the
 -- text failed, or the n bytes are let go of
 abbrev pub HandOutcome : WrittenView → (count : ℕ) → (ends : Bool) → Result (Unit {0}) IoFault → WrittenView → Type 0
 HandOutcome old count ends (Ok done) new = HandsOn old false false new × (new.life ≡ life.Live) × KeepsFew (state_of new false) × (old.text.settings.line_buffering ≡ true → ends ≡ true → IsPassedOn (state_of new false))
-HandOutcome old count ends (Err (fault.WouldBlock taken)) new = HandsOn old true false new × (new.life ≡ life.Live) × (taken ≡ count)
+HandOutcome old count ends (Err (fault.WouldBlock taken)) new = HandsOn old true false new × (new.life ≡ life.Live) × (taken ≡ count) × StopsOwing false (over_of new)
 HandOutcome old count ends (Err fault.RawFault) new = HandsOn old false true new × (new.life ≡ life.Failed)
-HandOutcome old count ends (Err fault.NoMemory) new = (HandsOn old false false new × (new.life ≡ life.Failed)) ⊎ LetsGo old count new
+HandOutcome old count ends (Err fault.NoMemory) new = (HandsOn old false false new × (new.life ≡ life.Failed) × GaveOwn (over_of old) (over_of new)) ⊎ LetsGo old count new
 HandOutcome old count ends (Err other) new = ⊥

@@ -8,6 +8,7 @@ ghost use Rattle.py_stream.specs.Replies.{count_reply, done_reply};
 ghost use Rattle.py_stream.specs.Writing.{OwesUpTo};
 ghost use Rattle.py_read_text.specs.Reading.{call_of};
 ghost use Rattle.py_read_text.specs.Opening.{WrapOutcome};
+ghost use Rattle.py_read_text.specs.Owing.{IsJoined};
 ghost use Rattle.py_read_text.specs.Answers.{Answers, text_reply};
 
 use crate::TextDetached;
@@ -303,6 +304,7 @@ impl<B: BufferedStream> TextIOWrapper<B> {
     pub fn into_parts(self) -> TextDetached<B>
         ensures buffer { B.shows result.buffer ≡ self.text.buffer }
         ensures unwritten { result.unwritten.items ≡ self.text.owed }
+        ensures joined { IsJoined self.text }
         ensures place { result.place ≡ (if self.text.buffer.can.seekable then Some (self.text.place.at - length self.text.owed) else None) }
     {
         let TextIOWrapper { text, short: _ } = self;

@@ -7,8 +7,10 @@ ghost use Rattle.py_flat.specs.Calls.{Refused};
 ghost use Rattle.py_stream.specs.Kinds.{says_wait, says_fault};
 ghost use Rattle.py_stream.specs.Replies.{count_reply, done_reply};
 ghost use Rattle.py_read_text.specs.Reading.{call_of, asks_none, reply_of, waited_in};
-ghost use Rattle.py_read_text.specs.Answers.{IsBounded, Answers};
-ghost use Rattle.py_textio.specs.Written.{state_of, place_now, StandsToWrite, SettleOutcome, stopped_reply, with_taken, RoomFor, BackOutcome, PassOutcome, HandOutcome};
+ghost use Rattle.py_read_text.specs.Owing.{IsJoined};
+ghost use Rattle.py_read_text.specs.Knowing.{over_of as read_of};
+ghost use Rattle.py_read_text.specs.Answers.{Answers};
+ghost use Rattle.py_textio.specs.Written.{over_of, state_of, place_now, StandsToWrite, SettleOutcome, stopped_reply, with_taken, RoomFor, BackOutcome, PassOutcome, HandOutcome};
 
 use py_flat::{IoFault, Life};
 use py_held_text::{Coder, Wanted, drop_front};
@@ -48,6 +50,13 @@ fn with_taken(fault: IoFault, taken: u64) -> IoFault
     }
 }
 
+/// Whether the raw would have blocked.
+fn is_wait(fault: IoFault) -> bool
+    ensures { result ≡ says_wait (Refused fault) }
+{
+    matches!(fault, IoFault::WouldBlock { .. })
+}
+
 /// Whether the raw failed.
 fn is_raw_fault(fault: IoFault) -> bool
     ensures { result ≡ says_fault (Refused fault) }
@@ -78,7 +87,7 @@ impl<B: BufferedStream> WrittenText<B> {
     /// What became of the text.
     pub fn life(&self) -> Life
         ensures life { result ≡ self.now.life }
-        ensures bounded { (short : Bool) → IsBounded (state_of self.now short) }
+        ensures joined { IsJoined (over_of self.now) }
     {
         self.life
     }
@@ -90,11 +99,11 @@ impl<B: BufferedStream> WrittenText<B> {
         requires asks { 0 < text.settings.chunk_size }
         requires clean { text.taken ≡ 0 }
         requires handler { text.buffer.can.writable ≡ true → writes_texts text.settings.handler ≡ true }
-        requires behind { text.at ≤ text.buffer.place }
-        requires far { text.buffer.place ≤ greatest_place }
+        requires joined { IsJoined (read_of text) }
         ensures text { result.text ≡ text }
         ensures pending { result.pending ≡ [] }
         ensures life { result.life ≡ Life.Live }
+        ensures joined { IsJoined (over_of result) }
     {
         WrittenText {
             text,
@@ -162,6 +171,7 @@ impl<B: BufferedStream> WrittenText<B> {
         ensures buffer { B.shows result.0 ≡ self.text.buffer }
         ensures unwritten { result.1.items ≡ self.pending }
         ensures place { result.2 ≡ self.text.at }
+        ensures joined { IsJoined (over_of self) }
     {
         let WrittenText {
             text,
@@ -177,7 +187,7 @@ impl<B: BufferedStream> WrittenText<B> {
         requires live { self.old.life ≡ Life.Live }
         requires owes { self.old.pending ≢ [] }
         ensures outcome { SettleOutcome self.old result self.new }
-        ensures bounded { (short : Bool) → IsBounded (state_of self.new short) }
+        ensures joined { IsJoined (over_of self.new) }
         ensures writes { self.old.text.buffer.can.writable ≡ true }
     {
         // What holds of every text is known from here on.
@@ -342,7 +352,7 @@ impl<B: BufferedStream> WrittenText<B> {
         requires writes { self.old.text.buffer.can.writable ≡ true }
         requires clean { self.old.text.dirty ≡ false }
         ensures outcome { BackOutcome self.old result self.new }
-        ensures bounded { (short : Bool) → IsBounded (state_of self.new short) }
+        ensures joined { IsJoined (over_of self.new) }
     {
         // What holds of every text is known from here on.
         let _ = &self.life;
@@ -386,7 +396,7 @@ impl<B: BufferedStream> WrittenText<B> {
     fn let_go(&mut self, count: usize)
         requires { count ≤ length self.old.pending }
         ensures left { self.new ≡ record self.old { pending = take (length self.old.pending - count) self.old.pending; room = self.new.room } }
-        ensures bounded { (short : Bool) → IsBounded (state_of self.new short) }
+        ensures joined { IsJoined (over_of self.new) }
     {
         // What holds of every text is known from here on.
         let _ = &self.life;
@@ -407,8 +417,9 @@ impl<B: BufferedStream> WrittenText<B> {
         requires stands { StandsToWrite self.old.text }
         requires writes { self.old.text.buffer.can.writable ≡ true }
         requires count { count ≤ length self.old.pending }
+        requires some { ends ≡ true → self.old.pending ≢ [] }
         ensures outcome { HandOutcome self.old count ends result self.new }
-        ensures bounded { (short : Bool) → IsBounded (state_of self.new short) }
+        ensures joined { IsJoined (over_of self.new) }
     {
         // What holds of every text is known from here on.
         let _ = self.life();
@@ -438,7 +449,7 @@ impl<B: BufferedStream> WrittenText<B> {
         requires none { self.old.pending ≡ [] }
         requires writes { self.old.text.buffer.can.writable ≡ true }
         ensures outcome { PassOutcome self.old count flushes result self.new }
-        ensures bounded { (short : Bool) → IsBounded (state_of self.new short) }
+        ensures joined { IsJoined (over_of self.new) }
     {
         // What holds of every text is known from here on.
         let _ = self.life();
@@ -447,10 +458,10 @@ impl<B: BufferedStream> WrittenText<B> {
         }
         match self.text.flush() {
             Ok(()) => Ok(()),
-            Err(IoFault::WouldBlock { .. }) => Err(IoFault::WouldBlock {
-                taken: count as u64,
-            }),
             Err(fault) => {
+                if is_wait(fault) {
+                    return Err(with_taken(fault, count as u64));
+                }
                 self.life = Life::Failed;
                 Err(fault)
             }

@@ -2,7 +2,8 @@ use Rattle.std.proofs.Common.{sym, subst, false}
 use Rattle.std.proofs.lemmas.Result.{err_from_is_err_and}
 use Rattle.py_read_text.specs.Knowing.{TextView}
 use Rattle.py_read_text.specs.Reading.{IsAtEnd, Reads}
-use Rattle.py_read_text.proofs.Gathering.{gathers_more, holds_ended, asks_some, failed}
+use Rattle.py_read_text.proofs.Fetching.{reads_on}
+use Rattle.py_read_text.proofs.Gathering.{gathers_more, holds_ended, asks_some, failed, waited, ended}
 use Rattle.py_read_text.proofs.read_text.ReadText.gather.Goals as goal
 
 pub loop-stop-preserved : goal.loop-stop-preserved
@@ -31,3 +32,17 @@ returns-in_err-fetch-clause-outcome g c =
     let left = err_from_is_err_and c.from_residual-in_err-fetch.result c.from_residual-in_err-fetch.ensures.1 in
     let reads = subst (λ (view : TextView). Reads c.args.self.now.buffer false false view.buffer) (sym c.self-in-loop-stop.view_is) c.loop-stop.invariant.reads in
     rw (left.1, left.2) (failed c.args.self.now _ c.fetch.new.self c.args.wanted c.in_err-fetch.field-0.0 reads c.in_err-fetch.ensures.outcome)
+
+pub returns-in-End-clause-outcome : goal.returns-in-End-clause-outcome
+returns-in-End-clause-outcome g c =
+    let came = rw c.in-End.is at c.in_ok-fetch.ensures.outcome in
+    let reads = subst (λ (view : TextView). Reads c.args.self.now.buffer false false view.buffer) (sym c.self-in-loop-stop.view_is) c.loop-stop.invariant.reads in
+    let both = subst (λ (view : TextView). Reads c.args.self.now.buffer false false view.buffer) (sym c.self-in-loop-stop-2.view_is) (reads_on _ _ _ false false reads came.0.reads) in
+    ended c.args.self.now _ c.args.wanted c.look_at_end.result both c.look_at_end.ensures.outcome c.look_at_end.ensures.ready (subst (λ (view : TextView). IsAtEnd view.buffer) (sym c.self-in-loop-stop-2.view_is) came.1)
+
+pub returns-in-Waits-clause-outcome : goal.returns-in-Waits-clause-outcome
+returns-in-Waits-clause-outcome g c =
+    let looked = rw c.in_default.is at c.in_ok-stop.ensures.outcome in
+    let came = rw c.in-Waits.is at c.in_ok-fetch.ensures.outcome in
+    let reads = subst (λ (view : TextView). Reads c.args.self.now.buffer false false view.buffer) (sym c.self-in-loop-stop.view_is) c.loop-stop.invariant.reads in
+    waited c.args.self.now _ c.fetch.new.self c.args.wanted reads looked came

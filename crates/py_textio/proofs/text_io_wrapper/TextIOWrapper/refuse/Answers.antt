@@ -1,4 +1,4 @@
-use Rattle.std.proofs.Common.{false, sym, ◌∙◌}
+use Rattle.std.proofs.Common.{sym, ◌∙◌}
 use Rattle.py_flat.specs.declared.life.Life.TheVariants as life
 use Rattle.py_textio.proofs.Refusing.{refused_other}
 use Rattle.py_textio.proofs.text_io_wrapper.TextIOWrapper.refuse.Goals as goal
@@ -6,8 +6,8 @@ use Rattle.py_textio.proofs.text_io_wrapper.TextIOWrapper.refuse.Goals.{in-Live,
 
 pub returns : goal.returns
 returns g c = elim c.match-life.branch [
-  | in-Live w ↦ refused_other _ c.self.inside.text _ life.Live _ c.self.view_is (sym c.life.ensures.life ∙ w.in-Live.is) w.result-is (c.life.ensures.bounded false)
-  | in-Failed w ↦ refused_other _ c.self.inside.text _ life.Failed _ c.self.view_is (sym c.life.ensures.life ∙ w.in-Failed.is) w.result-is (c.life.ensures.bounded false)
-  | in-Closed w ↦ refused_other _ c.self.inside.text _ life.Closed _ c.self.view_is (sym c.life.ensures.life ∙ w.in-Closed.is) w.result-is (c.life.ensures.bounded false)
-  | in-Detached w ↦ refused_other _ c.self.inside.text _ life.Detached _ c.self.view_is (sym c.life.ensures.life ∙ w.in-Detached.is) w.result-is (c.life.ensures.bounded false)
+  | in-Live w ↦ refused_other _ c.self.inside.text _ life.Live _ c.self.view_is (sym c.life.ensures.life ∙ w.in-Live.is) w.result-is c.life.ensures.joined
+  | in-Failed w ↦ refused_other _ c.self.inside.text _ life.Failed _ c.self.view_is (sym c.life.ensures.life ∙ w.in-Failed.is) w.result-is c.life.ensures.joined
+  | in-Closed w ↦ refused_other _ c.self.inside.text _ life.Closed _ c.self.view_is (sym c.life.ensures.life ∙ w.in-Closed.is) w.result-is c.life.ensures.joined
+  | in-Detached w ↦ refused_other _ c.self.inside.text _ life.Detached _ c.self.view_is (sym c.life.ensures.life ∙ w.in-Detached.is) w.result-is c.life.ensures.joined
 ]

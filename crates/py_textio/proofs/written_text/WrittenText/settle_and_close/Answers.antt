@@ -8,8 +8,8 @@ returns-in-Ok g c = close_over c.args.self.now c.settle.new.self c.close_on.new.
 
 pub returns-then-is_raw_fault : goal.returns-then-is_raw_fault
 returns-then-is_raw_fault g c =
-    close_fails c.args.self.now c.settle.new.self c.end.new.self c.in-Err.fault (record { writes = c.in-Err.ensures.writes; live = c.requires.live; some = c.requires.owes }) (sym c.is_raw_fault.ensures ∙ c.if-is_raw_fault.true) c.in-Err.ensures.outcome c.in-Err.ensures.bounded c.end.ensures
+    close_fails c.args.self.now c.settle.new.self c.end.new.self c.in-Err.fault (record { writes = c.in-Err.ensures.writes; live = c.requires.live; some = c.requires.owes }) (sym c.is_raw_fault.ensures ∙ c.if-is_raw_fault.true) c.in-Err.ensures.outcome c.in-Err.ensures.joined c.end.ensures
 
 pub returns-else-is_raw_fault : goal.returns-else-is_raw_fault
 returns-else-is_raw_fault g c =
-    rw c.with_taken.ensures (close_stops c.args.self.now c.settle.new.self c.in-Err.fault (record { writes = c.in-Err.ensures.writes; live = c.requires.live; some = c.requires.owes }) (sym c.is_raw_fault.ensures ∙ c.if-is_raw_fault.false) c.in-Err.ensures.outcome c.in-Err.ensures.bounded)
+    rw c.with_taken.ensures (close_stops c.args.self.now c.settle.new.self c.in-Err.fault (record { writes = c.in-Err.ensures.writes; live = c.requires.live; some = c.requires.owes }) (sym c.is_raw_fault.ensures ∙ c.if-is_raw_fault.false) c.in-Err.ensures.outcome c.in-Err.ensures.joined)

@@ -8,4 +8,4 @@ returns-in-Ok g c = flush_over c.args.self.now c.settle.new.self c.flush_on.new.
 
 pub returns-in-Err : goal.returns-in-Err
 returns-in-Err g c =
-    rw c.with_taken.ensures (passing_stops c.args.self.now c.settle.new.self false c.in-Err.fault (record { writes = c.in-Err.ensures.writes; live = c.requires.live; some = c.requires.owes }) (λ closes. absurd (cc)) c.in-Err.ensures.outcome c.in-Err.ensures.bounded)
+    rw c.with_taken.ensures (passing_stops c.args.self.now c.settle.new.self false c.in-Err.fault (record { writes = c.in-Err.ensures.writes; live = c.requires.live; some = c.requires.owes }) (λ closes. absurd (cc)) c.in-Err.ensures.outcome c.in-Err.ensures.joined)

@@ -1,0 +1,104 @@
+-- What a text and its buffer owe, over any raw, and whether a call closes the raw.
+use Rattle.std.specs.Prelude.{◌≡◌, ◌≢◌, ◌⊎◌, ℕ, ◌+◌, ◌-◌, ◌<◌, ◌≤◌, Bool, false, IsTrue, List, [], ◌++◌, length, drop}
+use Rattle.py_flat.specs.declared.fault.IoFault.TheVariants as fault
+use Rattle.py_flat.specs.declared.life.Life.{Life}
+use Rattle.py_flat.specs.declared.life.Life.TheVariants as life
+use Rattle.py_flat.specs.Limits.{greatest_place}
+use Rattle.py_flat.specs.Calls.{FileReply, Done, Refused}
+use Rattle.py_plain_text.specs.TextFile.{TextSettings}
+use Rattle.py_plain_text.specs.TextOver.{TextOver}
+use Rattle.py_plain_text.specs.TextCalls.{TextFileCall, WriteText, Close}
+use Rattle.py_plain_text.specs.TextWriting.{written_bytes}
+use Rattle.py_raw.specs.RawStream.{Raw, StaysOpen, AnswersFor}
+use Rattle.py_stream.specs.Stream.{Stream, size_of}
+use Rattle.py_stream.specs.Writing.{OwesUpTo, IsFull, TookOwn}
+use Rattle.py_stream.specs.Buffer.{Buffer, stream_shown, IsClosedWithRaw}
+
+-- What is owed.
+
+-- all that is owed: what the buffer owes, and behind it what the text itself does
+abbrev pub all_owed : TextOver Buffer → List ℕ
+all_owed text = text.buffer.owed.bytes ++ text.owed
+
+-- what a buffer owes ends where it stands, and bytes that a text owes itself begin there; where any of both are owed the text stands
+-- behind them. It stands nowhere further on, and that no further than a stream can
+pub record JoinsAt (buffer : Buffer) (own : List ℕ) (at : ℕ) : Type 0 where
+  pub below : OwesUpTo buffer.owed buffer.place
+  pub stands : ((buffer.owed.bytes ≡ []) × (own ≡ [])) ⊎ (at ≡ buffer.place + length own)
+  pub behind : at ≤ buffer.place + length own
+  pub far : buffer.place + length own ≤ greatest_place
+
+-- what a text and its buffer owe stands in one piece
+abbrev pub IsJoined : TextOver Buffer → Type 0
+IsJoined text = JoinsAt text.buffer text.owed text.place.at
+
+-- of bytes that were owed the first were passed on, exactly as many as the raw answered for, and the rest is owed
+pub record PassesOwed (before : Raw) (owed : List ℕ) (after : Raw) (left : List ℕ) : Type 0 where
+  pub passed : ℕ
+  pub most : passed ≤ length owed
+  pub answered : AnswersFor passed before after
+  pub rest : left ≡ drop passed owed
+
+-- the bytes that a call gives: a write those that its text is written as
+abbrev pub given_by : TextSettings → TextFileCall → List ℕ
+given_by settings (WriteText text) = written_bytes settings text
+given_by settings call = []
+
+-- a write moved the text place by n bytes
+abbrev pub WriteMovesBy : TextFileCall → (count from to : ℕ) → Type 0
+WriteMovesBy (WriteText text) count from to = to ≡ from + count
+WriteMovesBy call count from to = Unit {0}
+
+-- no byte is lost, and none doubled, whatever a call answers: what is owed after it is what was owed before, and behind that the bytes that
+-- the call gave, without as many at the front as the raw answered for. Of the call's own bytes all were taken or none, and a write moved
+-- the place by them
+pub record OwesOn (before : TextOver Buffer) (call : TextFileCall) (after : TextOver Buffer) : Type 0 where
+  pub taken : List ℕ
+  pub whole : (taken ≡ []) ⊎ (taken ≡ given_by before.settings call)
+  pub place : WriteMovesBy call (length taken) before.place.at after.place.at
+  pub passes : PassesOwed before.buffer.raw (all_owed before ++ taken) after.buffer.raw (all_owed after)
+
+-- Running out of memory.
+
+-- where what the text itself owes begins; without any, the text place, where the bytes of a write would
+abbrev pub own_from : TextOver Buffer → ℕ
+own_from text = text.place.at - length text.owed
+
+-- what the buffer shows, of one that stands there
+abbrev pub stream_from : TextOver Buffer → Stream
+stream_from text = record (stream_shown text.buffer) { place = own_from text }
+
+-- bytes that the text owed or was given went on: the buffer took some and stands behind them, or failed once the raw took some, which
+-- answered for more than the buffer owed
+abbrev pub GaveOwn : TextOver Buffer → TextOver Buffer → Type 0
+GaveOwn before after = (own_from before < after.buffer.place) ⊎ TookOwn (stream_from before) (stream_shown after.buffer)
+
+-- life, settings and place stay
+pub record StaysAsItWas (before after : TextOver Buffer) : Type 0 where
+  pub life_is : after.life ≡ before.life
+  pub settings : after.settings ≡ before.settings
+  pub place : after.place ≡ before.place
+
+-- running out of memory fails a text only once bytes of its own went on, and else leaves it as it was
+abbrev pub Starves : TextOver Buffer → FileReply → TextOver Buffer → Type 0
+Starves before (Refused fault.NoMemory) after = StaysAsItWas before after ⊎ ((after.life ≡ life.Failed) × GaveOwn before after)
+Starves before reply after = Unit {0}
+
+-- A wait.
+
+-- a wait ended a call: while the text has bytes of its own left the buffer is full of bytes that it owes, up to its place; and of a call
+-- that gives no characters some bytes are owed
+pub record StopsOwing (gives : Bool) (after : TextOver Buffer) : Type 0 where
+  pub full : after.owed ≢ [] → IsFull after.buffer.owed after.buffer.place (size_of (stream_shown after.buffer))
+  pub some : gives ≡ false → after.owed ≡ [] → after.buffer.owed.bytes ≢ []
+
+-- What becomes of the raw.
+
+-- the raw isn't closed: it is closed exactly where the buffer is, as it was
+abbrev pub KeepsOpen : Buffer → Buffer → Type 0
+KeepsOpen before after = IsClosedWithRaw before → StaysOpen before.raw after.raw × IsClosedWithRaw after
+
+-- a close of a live text that is done closes its buffer, and the raw with it
+abbrev pub Closes : Life → TextFileCall → Buffer → FileReply → Buffer → Type 0
+Closes current Close before Done after = current ≡ life.Live → (after.life ≡ life.Closed) × (IsClosedWithRaw before → IsTrue after.raw.closed)
+Closes current call before reply after = Unit {0}
