@@ -3,105 +3,12 @@ use anyhow::{Result, anyhow};
 use py_buffered::BufferedReader;
 use py_flat::IoFault;
 use py_memio::BytesIO;
-use py_plain::{Encoding, Handler, Newlines};
 use py_raw::RawFlags;
-use py_raw_memory::{Cut, MemRaw};
 use py_stream::{BufferedStream, NewRefused};
 use py_text::{Coder, TextSettings};
+use py_text_trials::{coder, plan_of, push_answer, push_fault, raw_of, rule, split};
 use py_textio::TextIOWrapper;
 use std::alloc::Global;
-
-/// A word and what stands after the next space.
-fn split(line: &str) -> (&str, &str) {
-    match line.split_once(' ') {
-        Some((word, rest)) => (word, rest),
-        None => (line, ""),
-    }
-}
-
-fn encoding(word: &str) -> Result<Encoding> {
-    match word {
-        "utf-8" => Ok(Encoding::Utf8),
-        "latin-1" => Ok(Encoding::Latin1),
-        "ascii" => Ok(Encoding::Ascii),
-        "utf-16-le" => Ok(Encoding::Utf16Le),
-        "utf-16-be" => Ok(Encoding::Utf16Be),
-        _ => Err(anyhow!("no such encoding")),
-    }
-}
-
-fn handler(word: &str) -> Result<Handler> {
-    match word {
-        "strict" => Ok(Handler::Strict),
-        "ignore" => Ok(Handler::Ignore),
-        "replace" => Ok(Handler::Replace),
-        "backslashreplace" => Ok(Handler::BackslashReplace),
-        "surrogateescape" => Ok(Handler::SurrogateEscape),
-        "xmlcharrefreplace" => Ok(Handler::XmlCharRefReplace),
-        _ => Err(anyhow!("no such handler")),
-    }
-}
-
-fn rule(word: &str) -> Result<Newlines> {
-    match word {
-        "universal" => Ok(Newlines::Universal),
-        "passthrough" => Ok(Newlines::Passthrough),
-        "lf" => Ok(Newlines::Lf),
-        "cr" => Ok(Newlines::Cr),
-        "crlf" => Ok(Newlines::Crlf),
-        _ => Err(anyhow!("no such rule")),
-    }
-}
-
-/// The transfers of a raw: a digit moves as many bytes, `w` would block, `b` breaks.
-fn plan_of(alloc: Global, word: &str) -> Result<Vec<Cut>> {
-    let mut plan = Vec::new(alloc);
-    for letter in word.chars() {
-        match letter.to_digit(10) {
-            Some(count) => plan.push(Cut::Take(count))?,
-            None if letter == 'w' => plan.push(Cut::Wait)?,
-            None if letter == 'b' => plan.push(Cut::Break(0))?,
-            None => {}
-        }
-    }
-    Ok(plan)
-}
-
-/// A refusal as words.
-fn push_fault(alloc: Global, out: &mut String, fault: IoFault) -> Result<()> {
-    match fault {
-        IoFault::UnicodeDecodeError { start, end } => {
-            out.push_str(format!(in alloc; "err UnicodeDecodeError {start} {end}")?.as_str())?
-        }
-        IoFault::UnknownHandler => out.push_str("err UnknownHandler")?,
-        IoFault::BadArgument => out.push_str("err BadArgument")?,
-        IoFault::RawFault => out.push_str("err RawFault")?,
-        IoFault::Failed => out.push_str("err Failed")?,
-        IoFault::Closed => out.push_str("err Closed")?,
-        _ => out.push_str("err another")?,
-    }
-    Ok(())
-}
-
-/// An answer as words: characters as they are, those that aren't seen escaped.
-fn push_answer(
-    alloc: Global,
-    out: &mut String,
-    answer: Result<Option<String>, IoFault>,
-    short: bool,
-) -> Result<()> {
-    match answer {
-        Ok(Some(text)) => {
-            out.push_str(format!(in alloc; "{:?}", text.as_str())?.as_str())?;
-            if short {
-                out.push_str(" short")?;
-            }
-            Ok(())
-        }
-        Ok(None) => Ok(out.push_str("not ready")?),
-        Err(fault) => push_fault(alloc, out, fault),
-    }
-}
 
 /// Makes a call: `r` of all, `r2` of two characters, `l` of a line, `l2` of at most two characters of one, `c` closes.
 fn call<B: BufferedStream>(
@@ -123,7 +30,7 @@ fn call<B: BufferedStream>(
     if closed {
         return Ok(out.push_str("closed")?);
     }
-    push_answer(alloc, out, answer, text.short())
+    Ok(push_answer(alloc, out, answer, text.short())?)
 }
 
 /// Makes calls on a text, one after the other.
@@ -173,13 +80,13 @@ fn parse(line: &str) -> Result<Case<'_>> {
     let (chunk, rest) = split(rest);
     let (plan, rest) = split(rest);
     let (bytes, calls) = split(rest);
+    let (Some(coder), Some(newline)) = (coder(name, errors), rule(newline)) else {
+        return Err(anyhow!("no such name"));
+    };
     Ok(Case {
-        coder: Coder {
-            encoding: encoding(name)?,
-            errors: handler(errors)?,
-        },
+        coder,
         settings: TextSettings {
-            newline: rule(newline)?,
+            newline,
             line_buffering: false,
             write_through: false,
             chunk_size: chunk.parse()?,
@@ -202,7 +109,7 @@ fn run_in_memory(alloc: Global, case: Case<'_>, bytes: Vec<u8>) -> Result<String
 /// Runs a case over a reader of a raw stream.
 fn run_over_raw(alloc: Global, case: Case<'_>, bytes: Vec<u8>) -> Result<String> {
     let flags = RawFlags::able(true, false, true);
-    let raw = MemRaw::new(bytes, flags, plan_of(alloc, case.plan)?, Vec::new(alloc));
+    let raw = raw_of(alloc, &bytes, flags, plan_of(alloc, case.plan)?, Vec::new(alloc))?;
     let buffer = BufferedReader::new(alloc, raw, 4)?;
     match TextIOWrapper::new(alloc, buffer, case.coder, case.settings) {
         Ok(mut text) => calls(alloc, &mut text, case.calls),

@@ -6,8 +6,6 @@
 //! Nothing here is clever: it is code to be read and trusted, and only its safety is proved.
 #![tactic(auto)]
 
-mod asking;
-mod beside;
 mod cases;
 mod samples;
 mod sweep;

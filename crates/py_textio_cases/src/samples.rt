@@ -1,31 +1,14 @@
-//! What is read, and by which settings.
-use py_plain::{Encoding, Handler, Newlines};
+//! What is read, and by which calls.
+use py_text_trials::Asking;
 
-/// The encodings of texts.
-pub(crate) const ENCODINGS: [Encoding; 5] = [
-    Encoding::Utf8,
-    Encoding::Latin1,
-    Encoding::Ascii,
-    Encoding::Utf16Le,
-    Encoding::Utf16Be,
-];
-
-/// The handlers that texts are read by.
-pub(crate) const HANDLERS: [Handler; 5] = [
-    Handler::Strict,
-    Handler::Ignore,
-    Handler::Replace,
-    Handler::BackslashReplace,
-    Handler::SurrogateEscape,
-];
-
-/// The newline rules.
-pub(crate) const RULES: [Newlines; 5] = [
-    Newlines::Universal,
-    Newlines::Passthrough,
-    Newlines::Lf,
-    Newlines::Cr,
-    Newlines::Crlf,
+/// The calls.
+pub(crate) const CALLS: [Asking; 6] = [
+    Asking::Characters(1),
+    Asking::Characters(3),
+    Asking::Characters(0),
+    Asking::Whole,
+    Asking::Line,
+    Asking::LineOf(2),
 ];
 
 /// Bytes that are read: line ends of each kind, alone and cut; characters of one to four bytes; ranges that are refused, at the

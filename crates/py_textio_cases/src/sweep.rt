@@ -1,18 +1,13 @@
 //! Texts over raw streams in memory, read by every setting.
-ghost use Rattle.std.specs.Prelude.{IfOk};
-ghost use Rattle.py_raw_memory.specs.MemRaw.{shown as raw_shown};
-ghost use Rattle.py_stream.specs.Opening.{StandsAtStart};
-
-use crate::asking::{Asking, CALLS};
-use crate::beside::{Came, came_of};
-use crate::samples::{ENCODINGS, HANDLERS, RULES, SAMPLES};
+use crate::samples::{CALLS, SAMPLES};
 use anyhow::{Result, anyhow};
 use py_buffered::BufferedReader;
 use py_flat::IoFault;
 use py_plain_text::{PlainSettings, PlainText};
 use py_raw::RawFlags;
-use py_raw_memory::{Cut, MemRaw};
+use py_raw_memory::Cut;
 use py_text::{Coder, TextSettings};
+use py_text_trials::{Asking, Came, ENCODINGS, HANDLERS, RULES, came_of, failing, raw_of, steps};
 use py_textio::TextIOWrapper;
 use std::alloc::Global;
 
@@ -98,30 +93,6 @@ impl Sweep {
     }
 }
 
-/// The transfers of a raw: steps, and a wait where there is one.
-fn plan_of(alloc: Global, run: Run) -> Result<Vec<Cut>> {
-    let mut plan = Vec::new(alloc);
-    for transfer in 0..64usize {
-        if run.wait == Some(transfer) {
-            plan.push(Cut::Wait)?;
-        }
-        plan.push(Cut::Take(run.step))?;
-    }
-    Ok(plan)
-}
-
-/// A raw over a sample.
-fn raw_of(alloc: Global, bytes: &[u8], run: Run) -> Result<MemRaw>
-    ensures { IfOk result (λ raw. StandsAtStart (raw_shown raw)) }
-{
-    let mut faults = Vec::new(alloc);
-    if let Some(call) = run.fault {
-        faults.push(call)?;
-    }
-    let flags = RawFlags::able(true, false, true);
-    Ok(MemRaw::new(bytes.to_vec(alloc)?, flags, plan_of(alloc, run)?, faults))
-}
-
 /// Makes a call over and over on a text over a raw, and on the plain text, and counts what came.
 fn read_beside(
     alloc: Global,
@@ -132,7 +103,10 @@ fn read_beside(
     counts: &mut Counts,
 ) -> Result<()> {
     let mut plain = PlainText::new(bytes.to_vec(alloc)?, settings);
-    let buffer = BufferedReader::new(alloc, raw_of(alloc, bytes, run)?, run.buffer_size)?;
+    let flags = RawFlags::able(true, false, true);
+    let plan = steps(alloc, 64, run.step, run.wait, Cut::Wait)?;
+    let raw = raw_of(alloc, bytes, flags, plan, failing(alloc, run.fault)?)?;
+    let buffer = BufferedReader::new(alloc, raw, run.buffer_size)?;
     let coder = Coder {
         encoding: settings.encoding,
         errors: settings.handler,

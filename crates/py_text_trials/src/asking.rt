@@ -1,13 +1,13 @@
-//! The calls of a case, made on a text and on the plain one.
+//! Readings, made on a text and on the plain one.
 use py_flat::{Chars, IoFault};
 use py_plain_text::PlainText;
 use py_stream::BufferedStream;
 use py_textio::TextIOWrapper;
 use std::alloc::Global;
 
-/// A call that is made over and over.
+/// A call that reads.
 #[derive(Clone, Copy, Debug, PartialEq, Eq)]
-pub(crate) enum Asking {
+pub enum Asking {
     /// So many characters.
     Characters(usize),
     /// All that is left.
@@ -18,19 +18,9 @@ pub(crate) enum Asking {
     LineOf(usize),
 }
 
-/// The calls.
-pub(crate) const CALLS: [Asking; 6] = [
-    Asking::Characters(1),
-    Asking::Characters(3),
-    Asking::Characters(0),
-    Asking::Whole,
-    Asking::Line,
-    Asking::LineOf(2),
-];
-
 impl Asking {
     /// Makes the call on a text.
-    pub(crate) fn of<B: BufferedStream>(
+    pub fn of<B: BufferedStream>(
         self,
         alloc: Global,
         text: &mut TextIOWrapper<B>,
@@ -44,7 +34,7 @@ impl Asking {
     }
 
     /// Makes the call on the plain text.
-    pub(crate) fn of_plain(self, alloc: Global, text: &mut PlainText) -> Result<Chars, IoFault> {
+    pub fn of_plain(self, alloc: Global, text: &mut PlainText) -> Result<Chars, IoFault> {
         match self {
             Asking::Characters(size) => text.read(alloc, Some(size)),
             Asking::Whole => text.read(alloc, None),

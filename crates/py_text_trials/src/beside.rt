@@ -6,7 +6,7 @@ use std::alloc::Global;
 
 /// What came of a call.
 #[derive(Clone, Copy, Debug, PartialEq, Eq)]
-pub(crate) enum Came {
+pub enum Came {
     /// The answer of the plain text.
     Same,
     /// Some of it, or none yet, as the raw would have blocked.
@@ -42,7 +42,7 @@ fn refuses(alloc: Global, plain: &mut PlainText, asking: Asking, fault: IoFault)
 }
 
 /// What came of a call, beside the plain text, which it is made on too: of a short answer as many characters are read there.
-pub(crate) fn came_of(
+pub fn came_of(
     alloc: Global,
     plain: &mut PlainText,
     asking: Asking,

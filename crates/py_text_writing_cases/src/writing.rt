@@ -1,0 +1,143 @@
+//! A text and the plain one, written piece by piece.
+use crate::flat::Flat;
+use crate::pieces::Piece;
+use crate::runs::{End, Run};
+use py_flat::IoFault;
+use py_stream::BufferedStream;
+use py_text_trials::{Asking, Came};
+use py_textio::TextIOWrapper;
+use std::alloc::Global;
+
+/// What came of texts.
+#[derive(Clone, Copy, Debug, PartialEq, Eq)]
+pub(crate) struct Counts {
+    pub texts: u64,
+    /// Calls that were answered as those of the plain text, refused ones too.
+    pub answers: u64,
+    /// Of these, those that were refused.
+    pub refused: u64,
+    /// Calls in which the raw would have blocked.
+    pub waits: u64,
+    /// Calls in which the raw failed.
+    pub faults: u64,
+}
+
+impl Counts {
+    pub fn none() -> Counts {
+        Counts {
+            texts: 0,
+            answers: 0,
+            refused: 0,
+            waits: 0,
+            faults: 0,
+        }
+    }
+
+    /// Counts a call.
+    fn count(&mut self, came: Came, is_refused: bool) {
+        match came {
+            Came::Same => {
+                self.answers = self.answers.saturating_add(1);
+                if is_refused {
+                    self.refused = self.refused.saturating_add(1);
+                }
+            }
+            Came::Short => self.waits = self.waits.saturating_add(1),
+            Came::Faulted => self.faults = self.faults.saturating_add(1),
+            Came::Differs => {}
+        }
+    }
+}
+
+/// Writes a piece to both.
+fn write<B: BufferedStream>(
+    alloc: Global,
+    text: &mut TextIOWrapper<B>,
+    flat: &mut Flat,
+    piece: &Piece,
+    counts: &mut Counts,
+) -> Came {
+    let answer = text.write(alloc, piece.text.as_str());
+    let is_refused = answer.is_err();
+    let came = flat.came_of_write(alloc, piece, answer);
+    counts.count(came, is_refused);
+    came
+}
+
+/// Reads from both.
+fn read<B: BufferedStream>(
+    alloc: Global,
+    text: &mut TextIOWrapper<B>,
+    flat: &mut Flat,
+    asking: Asking,
+    counts: &mut Counts,
+) -> Came {
+    let answer = asking.of(alloc, text);
+    let is_refused = answer.is_err();
+    let came = flat.came_of_reading(alloc, asking, answer, text.short());
+    counts.count(came, is_refused);
+    came
+}
+
+/// Writes the pieces to both, and reads between them: `Same` where each call was answered, in full or short.
+pub(crate) fn write_all<B: BufferedStream>(
+    alloc: Global,
+    text: &mut TextIOWrapper<B>,
+    flat: &mut Flat,
+    pieces: &[Piece],
+    run: Run,
+    counts: &mut Counts,
+) -> Came {
+    let mut number = 0usize;
+    for piece in pieces {
+        let mut came = write(alloc, text, flat, piece, counts);
+        if came == Came::Faulted || came == Came::Differs {
+            return came;
+        }
+        if let Some(asking) = run.reading(number) {
+            came = read(alloc, text, flat, asking, counts);
+        }
+        if came == Came::Faulted || came == Came::Differs {
+            return came;
+        }
+        number = number.saturating_add(1);
+    }
+    Came::Same
+}
+
+/// Ends a text: `Same` where the raw has all, `Short` where it was taken apart with nothing done before.
+pub(crate) fn finish<B: BufferedStream>(
+    text: &mut TextIOWrapper<B>,
+    end: End,
+    counts: &mut Counts,
+) -> Came {
+    // A raw that would block once is asked again.
+    for _ in 0..3 {
+        let answer = match end {
+            End::Apart => return Came::Short,
+            End::Flushed => text.flush(),
+            End::Closed => text.close(),
+        };
+        let came = match answer {
+            Ok(()) => Came::Same,
+            Err(IoFault::WouldBlock { taken: 0 }) => Came::Short,
+            Err(IoFault::RawFault) => Came::Faulted,
+            Err(_) => Came::Differs,
+        };
+        counts.count(came, false);
+        if came != Came::Short {
+            return came;
+        }
+    }
+    Came::Differs
+}
+
+/// Whether a text that the raw failed answers so: it is failed, or was closed.
+pub(crate) fn is_ended<B: BufferedStream>(alloc: Global, text: &mut TextIOWrapper<B>) -> bool {
+    if text.closed() {
+        return text.write(alloc, "a") == Err(IoFault::Closed) && text.close() == Ok(());
+    }
+    text.write(alloc, "a") == Err(IoFault::Failed)
+        && text.flush() == Err(IoFault::Failed)
+        && text.close() == Err(IoFault::Failed)
+}
