@@ -12,7 +12,7 @@ use py_flat::{IoFault, Life};
 use py_memio::BytesIO;
 use py_raw::RawFlags;
 use py_raw_memory::MemRaw;
-use py_stream::NewRefused;
+use py_stream::{NewRefused, Whence};
 use py_text::{Coder, TextSettings};
 use py_text_trials::{coder, faults_of, plan_of, push_fault, raw_of, rule, split};
 use py_textio::TextIOWrapper;
@@ -166,6 +166,42 @@ fn over_writer(alloc: Global, case: Case<'_>, bytes: &[u8], is_pipe: bool) -> Re
     run_made(alloc, TextIOWrapper::new(alloc, buffer, case.coder, case.settings), case.calls)
 }
 
+/// Runs a case over a writer that was closed.
+fn over_closed(alloc: Global, case: Case<'_>, bytes: &[u8]) -> Result<String> {
+    let raw = raw(alloc, case, bytes, RawFlags::able(false, true, true))?;
+    let mut buffer = BufferedWriter::new(alloc, raw, case.size)?;
+    buffer.close()?;
+    run_made(alloc, TextIOWrapper::new(alloc, buffer, case.coder, case.settings), case.calls)
+}
+
+/// Runs a case over a writer that was detached.
+fn over_detached(alloc: Global, case: Case<'_>, bytes: &[u8]) -> Result<String> {
+    let raw = raw(alloc, case, bytes, RawFlags::able(false, true, true))?;
+    let mut buffer = BufferedWriter::new(alloc, raw, case.size)?;
+    buffer.detach()?;
+    run_made(alloc, TextIOWrapper::new(alloc, buffer, case.coder, case.settings), case.calls)
+}
+
+/// Runs a case over a writer that its raw failed as it passed on a byte.
+fn over_failed(alloc: Global, case: Case<'_>, bytes: &[u8]) -> Result<String> {
+    let raw = raw(alloc, case, bytes, RawFlags::able(false, true, true))?;
+    let mut buffer = BufferedWriter::new(alloc, raw, case.size)?;
+    buffer.write(b"a")?;
+    let has_failed = buffer.flush() == Err(IoFault::RawFault);
+    if !has_failed {
+        return Err(anyhow!("the raw didn't fail"));
+    }
+    run_made(alloc, TextIOWrapper::new(alloc, buffer, case.coder, case.settings), case.calls)
+}
+
+/// Runs a case over a writer that was moved to the byte before the greatest place.
+fn over_far(alloc: Global, case: Case<'_>, bytes: &[u8]) -> Result<String> {
+    let raw = raw(alloc, case, bytes, RawFlags::able(false, true, true))?;
+    let mut buffer = BufferedWriter::new(alloc, raw, case.size)?;
+    buffer.seek(i64::MAX - 1, Whence::Start.into())?;
+    run_made(alloc, TextIOWrapper::new(alloc, buffer, case.coder, case.settings), case.calls)
+}
+
 /// Runs a case over a writer that appends.
 fn over_appender(alloc: Global, case: Case<'_>, bytes: &[u8]) -> Result<String> {
     let raw = raw(alloc, case, bytes, RawFlags::able(false, true, true))?;
@@ -199,6 +235,10 @@ pub(crate) fn run(alloc: Global, line: &str) -> Result<String> {
         "lent" => over_lent(alloc, case, bytes),
         "writer" => over_writer(alloc, case, &bytes, false),
         "pipe" => over_writer(alloc, case, &bytes, true),
+        "closed" => over_closed(alloc, case, &bytes),
+        "detached" => over_detached(alloc, case, &bytes),
+        "failed" => over_failed(alloc, case, &bytes),
+        "far" => over_far(alloc, case, &bytes),
         "appender" => over_appender(alloc, case, &bytes),
         "random" => over_random(alloc, case, &bytes),
         "reader" => over_reader(alloc, case, &bytes),
