@@ -50,8 +50,8 @@ pub(crate) struct Run {
     pub fault: Option<u64>,
     pub chunk_size: usize,
     pub buffer_size: usize,
-    /// Which readings are made, if any.
-    pub readings: Option<usize>,
+    /// Which readings are made between the writes, where the stream is read.
+    pub readings: usize,
     pub end: End,
 }
 
@@ -67,11 +67,6 @@ const WRITING: [Handler; 6] = [
 
 const ENDS: [End; 3] = [End::Apart, End::Flushed, End::Closed];
 
-/// An end by a number.
-fn numbered_end(number: usize) -> End {
-    ENDS[number % ENDS.len()]
-}
-
 /// A run by its number of 18: a raw that moves a byte at a time, and one that moves all.
 fn by_sizes(number: usize) -> Run {
     Run {
@@ -82,7 +77,7 @@ fn by_sizes(number: usize) -> Run {
         fault: None,
         chunk_size: 1 + number % 9,
         buffer_size: 1 + number % 5,
-        readings: None,
+        readings: 0,
         end: End::Apart,
     }
 }
@@ -144,11 +139,10 @@ impl Sweep {
     /// How many runs there are of a setting and a text.
     pub fn runs(self) -> usize {
         match self {
-            Sweep::Sizes => 54,
-            Sweep::Appended => 18,
-            Sweep::Waits => 36,
-            Sweep::Faults => 48,
-            Sweep::Read => 138,
+            Sweep::Sizes | Sweep::Appended => 18,
+            Sweep::Waits => 12,
+            Sweep::Faults => 16,
+            Sweep::Read => 46,
         }
     }
 
@@ -160,32 +154,29 @@ impl Sweep {
         }
     }
 
-    /// A run by its number.
-    pub fn run(self, number: usize) -> Run {
+    /// A run by its number. Texts of other turns have other ends and readings.
+    pub fn run(self, number: usize, turn: usize) -> Run {
+        let run = match self {
+            Sweep::Sizes | Sweep::Appended => by_sizes(number),
+            Sweep::Waits => by_wait(number),
+            Sweep::Faults => by_fault(number),
+            Sweep::Read => by_all(number),
+        };
+        let turned = number.wrapping_add(turn);
+        Run {
+            over: self.over(),
+            end: ENDS[turned % ENDS.len()],
+            readings: turned / ENDS.len() % 3,
+            ..run
+        }
+    }
+
+    /// What its texts are over.
+    fn over(self) -> Over {
         match self {
-            Sweep::Sizes => Run {
-                end: numbered_end(number / 18),
-                ..by_sizes(number % 18)
-            },
-            Sweep::Appended => Run {
-                over: Over::Appender,
-                end: numbered_end(number),
-                ..by_sizes(number)
-            },
-            Sweep::Waits => Run {
-                end: numbered_end(number / 12),
-                ..by_wait(number % 12)
-            },
-            Sweep::Faults => Run {
-                end: numbered_end(number / 16),
-                ..by_fault(number % 16)
-            },
-            Sweep::Read => Run {
-                over: Over::Random,
-                readings: Some(number / 46),
-                end: numbered_end(number),
-                ..by_all(number % 46)
-            },
+            Sweep::Appended => Over::Appender,
+            Sweep::Read => Over::Random,
+            _ => Over::Writer,
         }
     }
 }
@@ -193,7 +184,10 @@ impl Sweep {
 impl Run {
     /// What is read behind the piece of a number.
     pub fn reading(self, number: usize) -> Option<Asking> {
-        match (self.readings?, number % 4) {
+        if self.over != Over::Random {
+            return None;
+        }
+        match (self.readings, number % 4) {
             (0, 1) => Some(Asking::Whole),
             (1, 0) => Some(Asking::LineOf(2)),
             (1, 2) => Some(Asking::Whole),

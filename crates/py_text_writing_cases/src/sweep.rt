@@ -183,7 +183,7 @@ fn try_runs(
     for line_buffering in [false, true] {
         for write_through in [false, true] {
             for number in 0..which.runs() {
-                let run = which.run(number);
+                let run = which.run(number, pieces.len());
                 let trial = Trial {
                     settings,
                     line_buffering,
