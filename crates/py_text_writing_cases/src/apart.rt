@@ -89,7 +89,10 @@ impl Under for BytesIO {
 }
 
 /// Takes a text apart, and the stream under it.
-pub(crate) fn take_text_apart<B: Under>(alloc: Global, text: TextIOWrapper<B>) -> Result<Apart, AllocError> {
+pub(crate) fn take_text_apart<B: Under>(
+    alloc: Global,
+    text: TextIOWrapper<B>,
+) -> Result<Apart, AllocError> {
     let TextDetached {
         buffer,
         unwritten,
@@ -127,6 +130,11 @@ impl Apart {
         laid_at(alloc, &owed, self.at, &self.unwritten)
     }
 
+    /// The place behind what the text owes; none where the stream can't be moved.
+    pub fn end(&self) -> Option<u64> {
+        self.at?.checked_add(self.unwritten.len() as u64)
+    }
+
     /// Whether nothing is owed.
     pub fn owes_nothing(&self) -> bool {
         self.held.owed.is_empty() && self.unwritten.is_empty()
@@ -138,7 +146,8 @@ impl Apart {
             return true;
         }
         match (self.held.owed_at, self.at) {
-            (Some(owed_at), Some(at)) => owed_at.checked_add(self.held.owed.len() as u64) == Some(at),
+            (Some(owed_at), Some(at)) => owed_at.checked_add(self.held.owed.len() as u64)
+                == Some(at),
             (owed_at, at) => owed_at == at,
         }
     }

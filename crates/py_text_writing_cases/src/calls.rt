@@ -74,7 +74,12 @@ fn call<B: BufferedStream>(
         Some('f') => push_done(alloc, out, "flushed", text.flush())?,
         Some('c') => push_done(alloc, out, "closed", text.close())?,
         Some('r') => push_answer(alloc, out, text.read(alloc, size_of(rest)), text.short())?,
-        Some('l') => push_answer(alloc, out, text.readline(alloc, size_of(rest)), text.short())?,
+        Some('l') => push_answer(
+            alloc,
+            out,
+            text.readline(alloc, size_of(rest)),
+            text.short(),
+        )?,
         Some('k') => {
             let size = size_of(rest).unwrap_or(0);
             push_done(alloc, out, "set", text.set_chunksize(size))?;

@@ -116,7 +116,8 @@ fn run_text<B: Under>(alloc: Global, text: TextIOWrapper<B>, words: &str) -> Res
     let life = text.life();
     let apart = take_text_apart(alloc, text);
     let mut out = came?;
-    push_end(alloc, &mut out, life, &apart?)?;
+    let apart = apart?;
+    push_end(alloc, &mut out, life, &apart)?;
     Ok(out)
 }
 
@@ -143,27 +144,45 @@ fn run_made<B: Under>(
 fn raw(alloc: Global, case: Case<'_>, bytes: &[u8], flags: RawFlags) -> Result<MemRaw, AllocError>
     ensures { IfOk result (λ raw. StandsAtStart (raw_shown raw)) }
 {
-    raw_of(alloc, bytes, flags, plan_of(alloc, case.plan)?, faults_of(alloc, case.plan)?)
+    raw_of(
+        alloc,
+        bytes,
+        flags,
+        plan_of(alloc, case.plan)?,
+        faults_of(alloc, case.plan)?,
+    )
 }
 
 /// Runs a case over a stream in memory.
 fn over_memory(alloc: Global, case: Case<'_>, bytes: Vec<u8>) -> Result<String> {
     let buffer = BytesIO::new(alloc, bytes);
-    run_made(alloc, TextIOWrapper::new(alloc, buffer, case.coder, case.settings), case.calls)
+    run_made(
+        alloc,
+        TextIOWrapper::new(alloc, buffer, case.coder, case.settings),
+        case.calls,
+    )
 }
 
 /// Runs a case over a stream in memory of which bytes are lent out.
 fn over_lent(alloc: Global, case: Case<'_>, bytes: Vec<u8>) -> Result<String> {
     let mut buffer = BytesIO::new(alloc, bytes);
     buffer.getbuffer()?;
-    run_made(alloc, TextIOWrapper::new(alloc, buffer, case.coder, case.settings), case.calls)
+    run_made(
+        alloc,
+        TextIOWrapper::new(alloc, buffer, case.coder, case.settings),
+        case.calls,
+    )
 }
 
 /// Runs a case over a writer; over one whose raw can't be moved where it is a pipe.
 fn over_writer(alloc: Global, case: Case<'_>, bytes: &[u8], is_pipe: bool) -> Result<String> {
     let raw = raw(alloc, case, bytes, RawFlags::able(false, true, !is_pipe))?;
     let buffer = BufferedWriter::new(alloc, raw, case.size)?;
-    run_made(alloc, TextIOWrapper::new(alloc, buffer, case.coder, case.settings), case.calls)
+    run_made(
+        alloc,
+        TextIOWrapper::new(alloc, buffer, case.coder, case.settings),
+        case.calls,
+    )
 }
 
 /// Runs a case over a writer that was closed.
@@ -171,7 +190,11 @@ fn over_closed(alloc: Global, case: Case<'_>, bytes: &[u8]) -> Result<String> {
     let raw = raw(alloc, case, bytes, RawFlags::able(false, true, true))?;
     let mut buffer = BufferedWriter::new(alloc, raw, case.size)?;
     buffer.close()?;
-    run_made(alloc, TextIOWrapper::new(alloc, buffer, case.coder, case.settings), case.calls)
+    run_made(
+        alloc,
+        TextIOWrapper::new(alloc, buffer, case.coder, case.settings),
+        case.calls,
+    )
 }
 
 /// Runs a case over a writer that was detached.
@@ -179,7 +202,11 @@ fn over_detached(alloc: Global, case: Case<'_>, bytes: &[u8]) -> Result<String> 
     let raw = raw(alloc, case, bytes, RawFlags::able(false, true, true))?;
     let mut buffer = BufferedWriter::new(alloc, raw, case.size)?;
     buffer.detach()?;
-    run_made(alloc, TextIOWrapper::new(alloc, buffer, case.coder, case.settings), case.calls)
+    run_made(
+        alloc,
+        TextIOWrapper::new(alloc, buffer, case.coder, case.settings),
+        case.calls,
+    )
 }
 
 /// Runs a case over a writer that its raw failed as it passed on a byte.
@@ -191,7 +218,11 @@ fn over_failed(alloc: Global, case: Case<'_>, bytes: &[u8]) -> Result<String> {
     if !has_failed {
         return Err(anyhow!("the raw didn't fail"));
     }
-    run_made(alloc, TextIOWrapper::new(alloc, buffer, case.coder, case.settings), case.calls)
+    run_made(
+        alloc,
+        TextIOWrapper::new(alloc, buffer, case.coder, case.settings),
+        case.calls,
+    )
 }
 
 /// Runs a case over a writer that was moved to the byte before the greatest place.
@@ -199,28 +230,44 @@ fn over_far(alloc: Global, case: Case<'_>, bytes: &[u8]) -> Result<String> {
     let raw = raw(alloc, case, bytes, RawFlags::able(false, true, true))?;
     let mut buffer = BufferedWriter::new(alloc, raw, case.size)?;
     buffer.seek(i64::MAX - 1, Whence::Start.into())?;
-    run_made(alloc, TextIOWrapper::new(alloc, buffer, case.coder, case.settings), case.calls)
+    run_made(
+        alloc,
+        TextIOWrapper::new(alloc, buffer, case.coder, case.settings),
+        case.calls,
+    )
 }
 
 /// Runs a case over a writer that appends.
 fn over_appender(alloc: Global, case: Case<'_>, bytes: &[u8]) -> Result<String> {
     let raw = raw(alloc, case, bytes, RawFlags::able(false, true, true))?;
     let buffer = BufferedWriter::append(alloc, raw, case.size)?;
-    run_made(alloc, TextIOWrapper::new(alloc, buffer, case.coder, case.settings), case.calls)
+    run_made(
+        alloc,
+        TextIOWrapper::new(alloc, buffer, case.coder, case.settings),
+        case.calls,
+    )
 }
 
 /// Runs a case over a stream that is read and written.
 fn over_random(alloc: Global, case: Case<'_>, bytes: &[u8]) -> Result<String> {
     let raw = raw(alloc, case, bytes, RawFlags::able(true, true, true))?;
     let buffer = BufferedRandom::new(alloc, raw, case.size)?;
-    run_made(alloc, TextIOWrapper::new(alloc, buffer, case.coder, case.settings), case.calls)
+    run_made(
+        alloc,
+        TextIOWrapper::new(alloc, buffer, case.coder, case.settings),
+        case.calls,
+    )
 }
 
 /// Runs a case over a reader.
 fn over_reader(alloc: Global, case: Case<'_>, bytes: &[u8]) -> Result<String> {
     let raw = raw(alloc, case, bytes, RawFlags::able(true, false, true))?;
     let buffer = BufferedReader::new(alloc, raw, case.size)?;
-    run_made(alloc, TextIOWrapper::new(alloc, buffer, case.coder, case.settings), case.calls)
+    run_made(
+        alloc,
+        TextIOWrapper::new(alloc, buffer, case.coder, case.settings),
+        case.calls,
+    )
 }
 
 /// Runs a case, and answers what came as words.

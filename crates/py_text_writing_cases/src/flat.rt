@@ -96,16 +96,15 @@ impl Flat {
         Ok(())
     }
 
-    /// Whether what stands once a text is taken apart is these bytes; without a place of its own where nothing is taken.
+    /// Whether what stands once a text is taken apart is these bytes.
     pub fn is_held(&self, alloc: Global, apart: &Apart) -> Result<bool, AllocError> {
         Ok(apart.is_joined() && apart.all(alloc)?.as_slice() == self.bytes.as_slice())
     }
 
     /// Whether what stands is what stood before the last write, as where the raw failed before any of it was taken.
     pub fn was_held(&self, alloc: Global, apart: &Apart) -> Result<bool, AllocError> {
-        let end = apart.at.map(|at| at.saturating_add(apart.unwritten.len() as u64));
         Ok(
-            end == Some(self.place_before as u64)
+            apart.end() == Some(self.place_before as u64)
                 && apart.is_joined()
                 && apart.all(alloc)?.as_slice() == self.bytes_before.as_slice(),
         )

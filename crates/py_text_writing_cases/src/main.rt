@@ -52,7 +52,13 @@ fn main(rt: HostRuntime) -> Result<()> {
         println!(rt; "{path}")?;
         run_file(&rt, str::from_utf8(&bytes)?)?;
     }
-    for which in [Sweep::Sizes, Sweep::Appended, Sweep::Waits, Sweep::Faults, Sweep::Read] {
+    for which in [
+        Sweep::Sizes,
+        Sweep::Appended,
+        Sweep::Waits,
+        Sweep::Faults,
+        Sweep::Read,
+    ] {
         run_sweep(&rt, which)?;
     }
     Ok(())

@@ -1,6 +1,6 @@
 //! What is varied of a text.
-use py_raw_memory::Cut;
 use py_plain::Handler;
+use py_raw_memory::Cut;
 use py_text_trials::{Asking, HANDLERS};
 
 /// What is varied besides the settings.

@@ -67,12 +67,22 @@ impl Trial<'_> {
         if self.run.cut_at.is_some() {
             return true;
         }
-        let most = if self.write_through { 1 } else { self.run.chunk_size };
+        let most = if self.write_through {
+            1
+        } else {
+            self.run.chunk_size
+        };
         apart.unwritten.len() < most
     }
 
     /// Whether what stands once a text is taken apart is what must stand.
-    fn fits(self, alloc: Global, flat: &Flat, came: Came, apart: &Apart) -> Result<bool, AllocError> {
+    fn fits(
+        self,
+        alloc: Global,
+        flat: &Flat,
+        came: Came,
+        apart: &Apart,
+    ) -> Result<bool, AllocError> {
         match came {
             Came::Differs => Ok(false),
             Came::Faulted => {
@@ -100,7 +110,11 @@ fn try_calls<B: Under>(
     counts: &mut Counts,
 ) -> Came {
     let came = write_all(alloc, text, flat, trial.pieces, trial.run, counts);
-    let came = if came == Came::Same { finish(text, trial.run.end, counts) } else { came };
+    let came = if came == Came::Same {
+        finish(text, trial.run.end, counts)
+    } else {
+        came
+    };
     if came == Came::Faulted && !is_ended(alloc, text) {
         return Came::Differs;
     }
@@ -204,7 +218,10 @@ fn try_runs(
 
 /// Whether a text of an encoding meets no character that a handler is asked of.
 fn has_all(encoding: Encoding) -> bool {
-    matches!(encoding, Encoding::Utf8 | Encoding::Utf16Le | Encoding::Utf16Be)
+    matches!(
+        encoding,
+        Encoding::Utf8 | Encoding::Utf16Le | Encoding::Utf16Be
+    )
 }
 
 /// Tries the pieces in each setting, by the runs of a sweep.

@@ -109,7 +109,13 @@ fn run_in_memory(alloc: Global, case: Case<'_>, bytes: Vec<u8>) -> Result<String
 /// Runs a case over a reader of a raw stream.
 fn run_over_raw(alloc: Global, case: Case<'_>, bytes: Vec<u8>) -> Result<String> {
     let flags = RawFlags::able(true, false, true);
-    let raw = raw_of(alloc, &bytes, flags, plan_of(alloc, case.plan)?, Vec::new(alloc))?;
+    let raw = raw_of(
+        alloc,
+        &bytes,
+        flags,
+        plan_of(alloc, case.plan)?,
+        Vec::new(alloc),
+    )?;
     let buffer = BufferedReader::new(alloc, raw, 4)?;
     match TextIOWrapper::new(alloc, buffer, case.coder, case.settings) {
         Ok(mut text) => calls(alloc, &mut text, case.calls),
