@@ -55,8 +55,8 @@ fn size_of(word: &str) -> Option<usize> {
     word.parse().ok()
 }
 
-/// Makes a call: `wTEXT` writes a text, `f` flushes, `c` closes, `r` reads all, `r2` two characters, `l` a line, `l2` at most two characters
-/// of one, `k2` sets chunks of two bytes.
+/// Makes a call: `wTEXT` writes a text, `f` flushes, `c` closes, `r` reads all, `r2` two characters, `l` a line, `l2` at most two
+/// characters of one, `k2` sets chunks of two bytes.
 fn call<B: BufferedStream>(
     alloc: Global,
     text: &mut TextIOWrapper<B>,
