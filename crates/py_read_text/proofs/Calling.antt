@@ -85,7 +85,7 @@ whole_reply (Ok done) = refl
 whole_reply (Err (fault.WouldBlock taken)) = refl
 whole_reply (Err other) = refl
 
-all_passed : (buffer : Buffer) → buffer.owed.bytes ≡ [] → buffer.raw.bytes ≡ (flat_of buffer).bytes
+pub all_passed : (buffer : Buffer) → buffer.owed.bytes ≡ [] → buffer.raw.bytes ≡ (flat_of buffer).bytes
 all_passed buffer none = sym (ap (λ (owed : List ℕ). lay buffer.raw.bytes buffer.owed.place owed) none)
 
 waits_so : (writes : Bool) → IsTrue (writes && true) → IsTrue writes
@@ -94,7 +94,7 @@ waits_so false is = absurd (cc)
 
 -- Flushing.
 
-accepts_flush : (buffer : Buffer) → buffer.life ≡ life.Live → buffer.exported ≡ false → refused_here buffer binary.Flush ≡ None
+pub accepts_flush : (buffer : Buffer) → buffer.life ≡ life.Live → buffer.exported ≡ false → refused_here buffer binary.Flush ≡ None
 accepts_flush buffer live kept = rw kept (rw live refl)
 
 flush_short : (result : Result (Unit {0}) IoFault) (short : Bool) → stream.IsShort binary.Flush (done_reply result) short → short ≡ says_wait (done_reply result)

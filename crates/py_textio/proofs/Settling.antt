@@ -21,7 +21,7 @@ use Rattle.py_stream.specs.Replies.{count_reply}
 use Rattle.py_stream.specs.Answers.{TakesOf, LifeMoves, PlaceStarves}
 use Rattle.py_stream.specs.Stream.{Stream}
 use Rattle.py_stream.specs.Writing.{Takes, TookOwn}
-use Rattle.py_stream.specs.Buffer.{Buffer, WhereShown, flat_of, size_shown, stream_shown, refused_here, AnswersAsBuffer}
+use Rattle.py_stream.specs.Buffer.{Buffer, WhereShown, flat_of, size_shown, stream_shown, AnswersAsBuffer}
 use Rattle.py_plain_text.specs.TextCalls.{TextFileCall}
 use Rattle.py_read_text.specs.TextState.{TextState}
 use Rattle.py_read_text.specs.Answers.{further, Answers}
@@ -31,6 +31,7 @@ use Rattle.py_read_text.specs.Reading.{KeepsPlace}
 use Rattle.py_read_text.specs.Writing.{unit_of, StandsBehind, LeavesFlat, ReturnOutcome}
 use Rattle.py_raw.proofs.Telling.{keeps_same, tells_still}
 use Rattle.py_read_text.proofs.Placing.{accepts_write, flush_flat, flush_place}
+use Rattle.py_read_text.proofs.Calling.{all_passed, accepts_flush}
 use Rattle.py_read_text.proofs.Owing.{passes_none, passes_then, passes_behind, front_passes, takes_passed, open_still, open_then, open_of, open_called}
 use Rattle.py_textio.proofs.Over.{calls_on}
 use Rattle.py_textio.specs.Written.{WrittenView, behind_owed, over_of, state_of, CallsBuffer, HandsOn, StandsToWrite, TakesNothing, LetsGo, IsWritten, SettleOutcome, BackOutcome, PassOutcome, HandOutcome, with_taken}
@@ -366,9 +367,6 @@ flush_calls before after reply answers = record {
   stands = λ stood. answers.stands;
 }
 
-all_passed : (buffer : Buffer) → buffer.owed.bytes ≡ [] → buffer.raw.bytes ≡ (flat_of buffer).bytes
-all_passed buffer none = sym (ap (λ (owed : List ℕ). lay buffer.raw.bytes buffer.owed.place owed) none)
-
 hands_flush : (old new : TextView) (pending : List ℕ) (room more : ℕ) (before after : Life) (reply : FileReply) → pending ≡ [] → old.buffer.exported ≡ false → KeepsPlace old new → AnswersAsBuffer old.buffer Flush reply new.buffer → old.buffer.life ≡ life.Live → (new.buffer.life ≡ life.Live) ⊎ (new.buffer.life ≡ life.Failed) → HandsOn (view_of old pending room before) new.buffer.short (says_fault reply) (view_of new pending more after)
 hands_flush old new pending room more before after reply none kept place answers live lives = record {
   calls = flush_calls old.buffer new.buffer reply answers;
@@ -381,9 +379,6 @@ hands_flush old new pending room more before after reply none kept place answers
   owes = passes_behind old.buffer.raw new.buffer.raw old.buffer.owed.bytes new.buffer.owed.bytes pending (front_passes old.buffer new.buffer answers.owes);
   stays = open_of old.buffer new.buffer live lives (answers.stays refl);
 }
-
-accepts_flush : (buffer : Buffer) → buffer.life ≡ life.Live → buffer.exported ≡ false → refused_here buffer Flush ≡ None
-accepts_flush buffer live kept = rw kept (rw live refl)
 
 pub passed_all : (now : WrittenView) (old new : TextView) (pending : List ℕ) (room more count : ℕ) (before after : Life) (flushes : Bool) → view_of old pending room before ≡ now → IsWritten old pending before → now.life ≡ life.Live → now.pending ≡ [] → KeepsPlace old new → AnswersAsBuffer old.buffer Flush Done new.buffer → after ≡ life.Live → PassOutcome now count flushes (Ok tt) (view_of new pending more after)
 passed_all now old new pending room more count before after flushes same is live owes place answers lives =

@@ -4,11 +4,11 @@ use Rattle.py_flat.specs.declared.fault.IoFault.{IoFault}
 use Rattle.py_flat.specs.declared.fault.IoFault.TheVariants as fault
 use Rattle.py_flat.specs.declared.life.Life.{Life}
 use Rattle.py_flat.specs.declared.life.Life.TheVariants as life
-use Rattle.py_flat.specs.AllowedStep.{waited_for, raw_faulted, out_of_memory}
+use Rattle.py_flat.specs.AllowedStep.{waited_for, out_of_memory}
 use Rattle.py_flat.specs.Calls.{FileReply, NotReady, Refused}
 use Rattle.py_flat.specs.Causes.{Rose, rose}
 use Rattle.py_plain_text.specs.TextFile.{TextFile, TextPlace, TextSettings}
-use Rattle.py_plain_text.specs.TextCalls.{TextFileCall, Flush, Close}
+use Rattle.py_plain_text.specs.TextCalls.{TextFileCall, Close}
 use Rattle.py_plain_text.specs.TextRefusals.{refusal}
 use Rattle.py_plain_text.specs.TextAllowed.{Fails, TextFileStep}
 use Rattle.py_stream.specs.Kinds.{says_wait, says_fault}
@@ -16,6 +16,7 @@ use Rattle.py_stream.specs.Buffer.{Buffer, WhereShown}
 use Rattle.py_held_text.specs.declared.wanted.Wanted.{Wanted}
 use Rattle.py_held_text.specs.declared.wanted.Wanted.TheVariants.{Characters, Line}
 use Rattle.py_read_text.specs.Owing.{IsJoined, WriteMovesBy, GaveOwn, Starves, Closes}
+use Rattle.py_read_text.proofs.Calling.{Passing, faulted_life, passes_accepted, fails_still, wait_step, fault_step, starve_step}
 use Rattle.py_read_text.proofs.Owing.{owes_none}
 use Rattle.py_read_text.specs.Answers.{calls_nothing, passes_on, IsReplyTo, IsComplete, IsShort, PlaceMoves, WriteMoves, LifeMoves, settings_after, closes_again, WantsMemory, TextPasses, TextKeeps, Answers}
 use Rattle.py_read_text.specs.Reading.{call_of, asks_none}
@@ -124,10 +125,6 @@ failed_life : (asked : Wanted) (before after : Life) → after ≡ life.Failed �
 failed_life (Characters size) before after is = is
 failed_life (Line limit) before after is = is
 
--- told: the raw failed, or memory ran out, before the call wrote or read anything
-pub fails_still : (file after : TextFile) (current : Life) → after.life ≡ current → after.bytes ≡ file.bytes → after.can ≡ file.can → after.settings ≡ file.settings → Fails file current file.bytes after
-fails_still file after current ends bytes can settings = record { life_is = ends; bytes_are = bytes; can = can; settings = settings }
-
 midway_read : (file after : TextFile) (asked : Wanted) → file.life ≡ life.Live → file.can.readable ≡ true → file.can.writable ≡ true → Fails file life.Failed file.bytes after → TextFileStep file (call_of asked) (Refused fault.NoMemory) false false after
 midway_read file after (Characters size) live can writes fails = out_of_memory refl (inr (rw live (rw can refl), (writes, (0, omega arith, fails))))
 midway_read file after (Line limit) live can writes fails = out_of_memory refl (inr (rw live (rw can refl), (writes, (0, omega arith, fails))))
@@ -154,14 +151,6 @@ read_starves old new asked owes can some hands (inr failed) joined =
 
 -- Flushing and closing.
 
-abbrev pub Passing : Bool → TextFileCall
-Passing true = Close
-Passing false = Flush
-
-passes_accepted : (file : TextFile) (closes : Bool) → file.life ≡ life.Live → refusal file (Passing closes) ≡ None
-passes_accepted file true live = rw live refl
-passes_accepted file false live = rw live refl
-
 wait_ends : (closes : Bool) → Ends (Passing closes) (Refused (fault.WouldBlock 0)) true
 wait_ends true = record { once = refl; some = refl; shorts = refl; settings = λ own. refl; place = λ own end. refl; written = λ settings own. tt; answer = refl; calm = λ is fails. absurd (cc); passes = λ before after. tt; kept = λ after. tt; moves = λ from to. tt; closes = λ current before after. tt }
 wait_ends false = record { once = refl; some = refl; shorts = refl; settings = λ own. refl; place = λ own end. refl; written = λ settings own. tt; answer = refl; calm = λ is fails. absurd (cc); passes = λ before after. tt; kept = λ after. tt; moves = λ from to. tt; closes = λ current before after. tt }
@@ -173,11 +162,6 @@ passing_faults false = record { once = refl; some = refl; shorts = refl; setting
 passing_starves : (closes : Bool) → Ends (Passing closes) (Refused fault.NoMemory) false
 passing_starves true = record { once = refl; some = refl; shorts = refl; settings = λ own. refl; place = λ own end. refl; written = λ settings own. tt; answer = tt; calm = λ is fails. record { answer = tt; whole = refl }; passes = λ before after. tt; kept = λ after. tt; moves = λ from to. tt; closes = λ current before after. tt }
 passing_starves false = record { once = refl; some = refl; shorts = refl; settings = λ own. refl; place = λ own end. refl; written = λ settings own. tt; answer = tt; calm = λ is fails. record { answer = tt; whole = refl }; passes = λ before after. tt; kept = λ after. tt; moves = λ from to. tt; closes = λ current before after. tt }
-
--- the life that a fault leaves
-abbrev pub faulted_life : Bool → Life
-faulted_life true = life.Closed
-faulted_life false = life.Failed
 
 passing_life : (closes : Bool) (before after : Life) → after ≡ faulted_life closes → LifeMoves true (Passing closes) (Refused fault.RawFault) before after
 passing_life true before after is = is
@@ -198,20 +182,6 @@ wait_wants false buffer = tt
 fault_wants : (closes : Bool) (buffer : Buffer) → WantsMemory (Passing closes) (Refused fault.RawFault) buffer
 fault_wants true buffer = tt
 fault_wants false buffer = tt
-
-wait_step : (file after : TextFile) (closes : Bool) → file.life ≡ life.Live → after ≡ file → TextFileStep file (Passing closes) (Refused (fault.WouldBlock 0)) true false after
-wait_step file after true live same = waited_for refl (rw live refl, (refl, same))
-wait_step file after false live same = waited_for refl (rw live refl, (refl, same))
-
-fault_step : (file after : TextFile) (closes : Bool) → file.life ≡ life.Live → Fails file (faulted_life closes) file.bytes after → TextFileStep file (Passing closes) (Refused fault.RawFault) false true after
-fault_step file after true live fails = raw_faulted refl refl (rw live refl, (0, omega arith, fails))
-fault_step file after false live fails = raw_faulted refl refl (rw live refl, (0, omega arith, fails))
-
-starve_step : (file after : TextFile) (closes : Bool) → file.life ≡ life.Live → (after ≡ file) ⊎ ((file.can.writable ≡ true) × Fails file life.Failed file.bytes after) → TextFileStep file (Passing closes) (Refused fault.NoMemory) false false after
-starve_step file after true live (inl same) = out_of_memory refl (inl (rw live refl, same))
-starve_step file after true live (inr fails) = out_of_memory refl (inr (rw live refl, (fails.0, (0, omega arith, fails.1))))
-starve_step file after false live (inl same) = out_of_memory refl (inl (rw live refl, same))
-starve_step file after false live (inr fails) = out_of_memory refl (inr (rw live refl, (fails.0, (0, omega arith, fails.1))))
 
 pub passing_blocked : (old new : WrittenView) (closes : Bool) → Owes old → HandsOn old true false new → (new.pending ≢ []) × IsStuffed new.text.buffer → new.life ≡ life.Live → IsJoined (over_of new) → Answers (state_of old false) (Passing closes) (Refused (fault.WouldBlock 0)) (state_of new true)
 passing_blocked old new closes owes hands left lives joined =

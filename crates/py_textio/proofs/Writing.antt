@@ -37,7 +37,8 @@ use Rattle.py_textio.proofs.Refusing.{refused}
 use Rattle.py_textio.proofs.Settling.{clean_place, own_from_is}
 use Rattle.py_textio.proofs.Working.{answers_work}
 use Rattle.py_textio.proofs.Over.{calls_on, handed_file}
-use Rattle.py_textio.proofs.Stopping.{not_rose, fails_still}
+use Rattle.py_read_text.proofs.Calling.{fails_still}
+use Rattle.py_textio.proofs.Stopping.{not_rose}
 
 -- what written is handed on
 pub took_then : (old mid new : WrittenView) (bytes : List ℕ) (waited faulted : Bool) → TookText old bytes false false mid → HandsOn mid waited faulted new → TookText old bytes waited faulted new

@@ -50,9 +50,10 @@ file_now view = file_of (state_of view false)
 abbrev pub StandsToWrite : TextView → Type 0
 StandsToWrite text = IsClean text × (text.at ≡ text.buffer.place)
 
--- what holds of every text: no bytes of its buffer are lent out, and its chunks have some; where no character was asked for none was taken; its handler is one of those that texts are written with, where
--- it writes; while it lives so does its buffer; what it owes begins where the buffer stands, and ends no further than a
--- stream can; over a buffer that doesn't write it owes nothing, and its life is its buffer's
+-- what holds of every text: no bytes of its buffer are lent out, and its chunks have some; where no character was asked for none was taken;
+-- its handler is one of those that texts are written with, where it writes; while it lives so does its buffer; what it owes begins where the
+-- buffer stands, behind what that owes, and ends no further than a stream can; over a buffer that doesn't write it owes nothing, and its life
+-- is its buffer's
 pub record IsWritten (text : TextView) (pending : List ℕ) (current : Life) : Type 0 where
   pub kept : text.buffer.exported ≡ false
   pub asks : 0 < text.settings.chunk_size
