@@ -209,22 +209,6 @@ fn over_detached(alloc: Global, case: Case<'_>, bytes: &[u8]) -> Result<String> 
     )
 }
 
-/// Runs a case over a writer that its raw failed as it passed on a byte.
-fn over_failed(alloc: Global, case: Case<'_>, bytes: &[u8]) -> Result<String> {
-    let raw = raw(alloc, case, bytes, RawFlags::able(false, true, true))?;
-    let mut buffer = BufferedWriter::new(alloc, raw, case.size)?;
-    buffer.write(b"a")?;
-    let has_failed = buffer.flush() == Err(IoFault::RawFault);
-    if !has_failed {
-        return Err(anyhow!("the raw didn't fail"));
-    }
-    run_made(
-        alloc,
-        TextIOWrapper::new(alloc, buffer, case.coder, case.settings),
-        case.calls,
-    )
-}
-
 /// Runs a case over a writer that was moved to the byte before the greatest place.
 fn over_far(alloc: Global, case: Case<'_>, bytes: &[u8]) -> Result<String> {
     let raw = raw(alloc, case, bytes, RawFlags::able(false, true, true))?;
@@ -284,7 +268,6 @@ pub(crate) fn run(alloc: Global, line: &str) -> Result<String> {
         "pipe" => over_writer(alloc, case, &bytes, true),
         "closed" => over_closed(alloc, case, &bytes),
         "detached" => over_detached(alloc, case, &bytes),
-        "failed" => over_failed(alloc, case, &bytes),
         "far" => over_far(alloc, case, &bytes),
         "appender" => over_appender(alloc, case, &bytes),
         "random" => over_random(alloc, case, &bytes),
