@@ -34,5 +34,7 @@ fn main(rt: HostRuntime) -> Result<()> {
     print(&rt, lines::of_both(alloc))?;
     print(&rt, writing::written(alloc))?;
     print(&rt, writing::by_lines(alloc))?;
-    print(&rt, writers::of_all(alloc))
+    print(&rt, writers::to_a_string(alloc))?;
+    print(&rt, writers::to_a_sink(alloc))?;
+    print(&rt, writers::to_a_text(alloc))
 }

@@ -14,22 +14,32 @@ fn greet<W: Write>(alloc: Global, to: &mut W, name: &str) -> Result<(), W::Error
     to.write_text(alloc, name)
 }
 
-/// A greeting is written to a string, to a sink, and to a text over a stream.
-pub(crate) fn of_all(alloc: Global) -> Result<String> {
+/// A greeting is written to a string.
+pub(crate) fn to_a_string(alloc: Global) -> Result<String> {
     let mut string = String::new(alloc);
     greet(alloc, &mut string, "a")?;
+    Ok(string)
+}
+
+/// A greeting is written to a sink that has room for one.
+pub(crate) fn to_a_sink(alloc: Global) -> Result<String> {
     let mut sink = IoWriter(MemSink::with_room(alloc, 8, Vec::new(alloc))?);
     let is_taken = greet(alloc, &mut sink, "b").is_ok(); // all of its 7 bytes, in UTF-8
     let fails = greet(alloc, &mut sink, "c") == Err(Failed); // one more byte has room
+    Ok(format!(in alloc; "to a sink: {is_taken} {fails}")?)
+}
+
+/// A greeting is written to a text by its own `write`.
+fn greet_in(alloc: Global, text: &mut TextIOWrapper<BytesIO>) -> Result<()> {
+    greet(alloc, &mut PyWriter(text), "é")?;
+    Ok(text.flush()?)
+}
+
+/// A greeting is written to a text over a stream.
+pub(crate) fn to_a_text(alloc: Global) -> Result<String> {
     let buffer = BytesIO::new(alloc, Vec::new(alloc));
     let mut text = TextIOWrapper::new(alloc, buffer, STRICT, TextSettings::default())?;
-    greet(alloc, &mut PyWriter(&mut text), "é")?; // by its own `write`
-    text.flush()?;
+    greet_in(alloc, &mut text)?;
     let bytes = text.into_parts().buffer.getvalue(alloc)?;
-    let shown = format!(in alloc; "{:?}", bytes.as_slice())?;
-    Ok(format!(in alloc;
-        "writers: {} {is_taken} {fails} {}",
-        string.as_str(),
-        shown.as_str()
-    )?)
+    Ok(format!(in alloc; "to a text: {:?}", bytes.as_slice())?)
 }
