@@ -77,6 +77,7 @@ starved_look old new part a = record {
   nothing = λ asks. absurd (cc);
   idle = λ keeps. absurd (cc);
   single = a.single;
+  once = a.once;
   passes_first = λ buffered single some given. absurd (cc);
   brings = a.brings;
   unread = a.unread;

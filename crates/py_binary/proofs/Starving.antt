@@ -73,6 +73,7 @@ starved_into stream size is live reads = record {
   nothing = λ asks. record { raw = refl; fault = refl };
   idle = λ keeps. absurd (let never = never_idle stream.buffer stream.can.writable size in cc);
   single = λ one none tells. omega arith;
+  once = λ one tells. inl refl;
   passes_first = λ buffered single some given. absurd (cc);
   in_hand = λ has. record { raw = refl; fault = refl };
   owing = λ has. record { owed = refl; held = refl };

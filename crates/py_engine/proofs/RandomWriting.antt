@@ -120,6 +120,7 @@ module _ (old : EngineView) (bytes : List ℕ) (is : Stands old) (opened : old.a
       from = λ _. over.first ∙ sym (first_is (pending_of old.window) bytes (old.window.begin + old.window.from) (place_of old.window) (none_rests old.window is.window_is) some);
       covers = λ _. over.covers;
     };
+    held = over.ends;
   }
 
   pub overlaid : old.life ≡ life.Live → Overlaid old bytes new
@@ -140,6 +141,7 @@ none_put old is = record {
     told = λ tells. refl;
   };
   owes = owes_still (stream_of old).owed (place_of old.window);
+  held = omega (arith, is.window_is.cursor);
 }
 
 -- some are owed where some are pending

@@ -96,7 +96,7 @@ gives_held old mid call stop asks is ready answered =
     let size : length part ≡ min asked (length (ahead_of mid.window)) = length-take asked (ahead_of mid.window) in
     let new : EngineView = record mid { window = advanced (moves_by call (length part)) mid.window } in
     let moved : Transferred old mid × (place_of mid.window ≡ place_of old.window) = moved_to_ready old mid stop ready in
-    grind (arith, keeps_reading old new (keeps_then old mid new moved.0.kept (keeps_advanced mid (moves_by call (length part)) moved.0.kept.is (omega (arith, moves_within call (length part), size)))), ready_counts old mid stop ready answered, leaves_held, moved.1, size, front_held, ahead_next, nothing_left)
+    grind (arith, keeps_reading old new (keeps_then old mid new moved.0.kept (keeps_advanced mid (moves_by call (length part)) moved.0.kept.is (omega (arith, moves_within call (length part), size)))), ready_counts old mid stop ready answered, leaves_held, moved.0.once, moved.1, size, front_held, ahead_next, nothing_left)
 
 -- An engine that reads on from the bytes held goes on so.
 

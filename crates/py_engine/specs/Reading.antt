@@ -10,7 +10,7 @@ use Rattle.py_flat.specs.Causes.{Rose}
 use Rattle.py_raw.specs.RawStream.{Keeps, StaysOpen, WhereTold, WherePlace, WhereTransfers, KeepsBytes, NoFault, NoWait, WaitsOnce, AnswersFor, KeepsReads}
 use Rattle.py_stream.specs.Access.{can_of, is_read}
 use Rattle.py_stream.specs.Stream.{Stream, nothing_owed}
-use Rattle.py_stream.specs.Answers.{Answers, CameByReads, EachBrings}
+use Rattle.py_stream.specs.Answers.{Answers, CameByReads, EachBrings, ReadsOnce}
 use Rattle.py_stream.specs.LiveRaw.{starved}
 use Rattle.py_stream.specs.declared.stop.Stop.{Stop}
 use Rattle.py_stream.specs.declared.stop.Stop.TheVariants as stop
@@ -77,6 +77,7 @@ pub record Transferred (old new : EngineView) : Type 0 where
   pub no_fault : NoFault old.raw new.raw
   pub live : new.life ≡ life.Live
   pub transfers : WhereTransfers old.raw (new.raw.transfers ≤ old.raw.transfers + 1)
+  pub once : ReadsOnce (reading_of old) (reading_of new)
   pub came : CameByReads 1 (reading_of old) (reading_of new)
 
 -- the raw would have blocked, or a read of it brought none, as nothing comes: the window is used up

@@ -110,6 +110,7 @@ calm file lent was call reply left taken calmly =
       full = full_of call reply (stream_shown (buffer_with left lent taken)) calmly.shorts;
       unwaited = λ reads gives none. refl;
       single = λ one none told. absurd (cc);
+      once = λ one told. absurd (cc);
       passes_first = λ some single asks given first. refl;
       starves = λ wanting writing fails. absurd (calmly.unfailed fails);
       takes = calmly.takes;

@@ -79,6 +79,7 @@ detached_left before Detach (Unwritten bytes place) a was is moves hands = recor
   life_is = refl;
   can = refl;
   buffering = refl;
+  place = refl;
   at = a.owed.place;
   told = λ there same. ap (λ (owed : Owed). owed.place) hands.2 ∙ told_at before.can.seekable (owed_then before.life before).place there (sym hands.1 ∙ same);
   bytes = ap (λ (owed : List ℕ). lay a.raw.bytes a.owed.place owed) (ap (λ (owed : Owed). owed.bytes) hands.2 ∙ sym hands.0);

@@ -129,11 +129,12 @@ place_in (Unwritten bytes place) = place
 place_in reply = None
 
 -- what a `detach` leaves of the flat file that it detached, now without a stream: what it could do; and its bytes, but for those that
--- it handed over as unwritten, of a live one none. The place was handed over, and isn't told any more
+-- it handed over as unwritten, of a live one none. No place is left of it: that of the unwritten bytes was handed over
 pub record IsDetached (file : FlatFile) (reply : FileReply) (after : FlatFile) : Type 0 where
   pub life_is : after.life ≡ life.Detached
   pub can : after.can ≡ file.can
   pub buffering : after.buffering ≡ file.buffering
+  pub place : after.place ≡ 0
   pub at : ℕ
   pub told : (place : ℕ) → place_in reply ≡ Some place → at ≡ place
   pub bytes : file.bytes ≡ lay after.bytes at (unwritten_in reply)

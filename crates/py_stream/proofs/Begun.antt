@@ -93,7 +93,7 @@ module _ (short : Bool) where
   writes_seen before after call reply written = record {
     owes = λ writing. owed_both before after (payload call) (written.owes writing);
     takes = taken before after call written.takes;
-    room = λ writing has. let is = written.room writing (record { lives = has.lives; buffered = has.buffered; within = has.within; room = has.room; stands = has.stands }) in record { says = is.says; whole = is.whole; raw = is.raw; raw_place = is.raw_place; owes = is.owes };
+    room = λ writing has. let is = written.room writing (record { lives = has.lives; buffered = has.buffered; within = has.within; room = has.room; stands = has.stands }) in record { says = is.says; whole = is.whole; raw = is.raw; raw_place = is.raw_place; owes = is.owes; held = is.held };
     leaves = λ spares. front_passed before after (written.leaves spares);
     stands = λ behind. written.stands (owed_behind before behind);
     lays = laid before call after.raw.bytes written.lays;
@@ -128,6 +128,7 @@ module _ (short : Bool) where
     nothing = λ asks. let none = answers.nothing asks in record { raw = none.raw; fault = none.fault };
     idle = λ keeps. let still = answers.idle keeps in record { raw = still.raw; fault = still.fault; memory = still.memory };
     single = answers.single;
+    once = answers.once;
     passes_first = answers.passes_first;
     in_hand = λ has. let none = answers.in_hand (record { lives = has.lives; buffered = has.buffered; of = has.of }) in record { raw = none.raw; fault = none.fault };
     owing = λ has. let stays = answers.owing (record { lives = has.lives; buffered = has.buffered; of = has.of }) in record { owed = stays.owed; held = stays.held };

@@ -1,10 +1,10 @@
 -- How far a raw came by what its reads brought, over any raw.
-use Rattle.std.proofs.Common.{Bool, ◌≡◌, ℕ, zero, suc, ◌+◌, ◌-◌, ◌<◌, ◌≤◌, refl, ap, arith}
+use Rattle.std.proofs.Common.{Bool, inl, inr, ◌≡◌, ℕ, zero, suc, ◌+◌, ◌-◌, ◌<◌, ◌≤◌, refl, ap, arith}
 use Rattle.py_raw.specs.declared.reads.Reads.{Reads}
 use Rattle.py_raw.specs.Reads.{BringInAll}
 use Rattle.py_raw.specs.RawStream.{Raw, Keeps, WhereTransfers, ReadsBring, KeepsReads}
 use Rattle.py_stream.specs.Stream.{Stream}
-use Rattle.py_stream.specs.Answers.{IsNear, IsAhead, CameByReads, EachBrings}
+use Rattle.py_stream.specs.Answers.{IsNear, IsAhead, CameByReads, EachBrings, ReadsOnce}
 use Rattle.py_stream.specs.Reading.{OneTransfer}
 
 -- reads that brought nothing, and none of which brought none, are none
@@ -74,9 +74,17 @@ came_once before after (suc count) place brings = record { forth = omega (arith,
 pub came_none : (before after : Stream) → after.raw_place ≡ before.raw_place → ReadsBring 0 before.raw after.raw → CameByReads 1 before after
 came_none before after place brings = came_once before after 0 (omega (arith, place)) brings
 
+-- so one read at most was made
+pub read_once : (before after : Stream) (count : ℕ) → ReadsBring count before.raw after.raw → ReadsOnce before after
+read_once before after count brings tells = inr (count, brings tells)
+
+-- where none was, too
+pub read_never : (before after : Stream) → KeepsReads before.raw after.raw → ReadsOnce before after
+read_never before after same tells = inl (same tells)
+
 -- one transfer that was no read, or whose read would have blocked or failed
 pub one_unread : (before after : Stream) → after.raw_place ≡ before.raw_place → WhereTransfers before.raw (after.raw.transfers ≤ before.raw.transfers + 1) → KeepsReads before.raw after.raw → OneTransfer before after
-one_unread before after place transfers same = record { transfers = transfers; came = came_more before after 0 1 (omega arith) (came_unread before after place same) }
+one_unread before after place transfers same = record { transfers = transfers; once = read_never before after same; came = came_more before after 0 1 (omega arith) (came_unread before after place same) }
 
 -- a transfer more, which brought none or was no read
 pub each_but_one : (before after : Stream) (empties : ℕ) → after.raw_place ≡ before.raw_place → WhereTransfers before.raw (after.raw.transfers ≤ before.raw.transfers + 1) → CameByReads empties before after → EachBrings 1 empties before after

@@ -248,6 +248,7 @@ takes_alone old new call writing took keeps = record {
   raw = keeps.raw;
   raw_place = omega (arith, took.behind.stands, took.behind.ends, took.was.stands, took.was.ends, took_ends old new (payload call) took, ap length keeps.owed, length-append old.owed.bytes (payload call));
   owes = owes_all old.owed new.owed old.place (payload call) (inr took.was.ends) keeps.owed (took.behind.ends ∙ took_ends old new (payload call) took);
+  held = keeps.held;
 }
 
 -- a call that took all of its bytes

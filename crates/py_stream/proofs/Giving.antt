@@ -21,7 +21,7 @@ use Rattle.py_stream.specs.Taking.{Calm, WaitsAsOne}
 use Rattle.py_stream.proofs.Completing.{completes}
 use Rattle.py_stream.proofs.Stopping.{GivesNone, gives_none}
 use Rattle.py_stream.proofs.Owing.{owes_both}
-use Rattle.py_stream.proofs.Coming.{near_seen}
+use Rattle.py_stream.proofs.Coming.{near_seen, read_never}
 use Rattle.py_stream.proofs.Refusing.{IsPlaced, refused_alone, refused_with}
 
 -- The calls.
@@ -150,6 +150,7 @@ answers_coming old new call reply short may comes =
       nothing = λ asks. absurd (cc (giving.some old.buffer));
       idle = λ keeps. absurd (cc (giving.calls old.buffer old.can.writable));
       single = λ single none. comes.one single;
+      once = λ single. read_never old left comes.kept.reads;
       passes_first = λ _ single. absurd (cc (gives.single));
       in_hand = λ has. absurd (giving.unheld old has.of);
       owing = λ has. absurd (giving.unheld old has.of);

@@ -20,7 +20,7 @@ use Rattle.py_raw.proofs.Telling.{keeps_same}
 use Rattle.py_stream.specs.Stream.{Stream, size_of, file_of, nothing_owed}
 use Rattle.py_stream.specs.Kinds.{is_reading, is_single, asks_nothing, reads_on, by_several, makes_one, asks_none, has_room, says_fault, says_no_memory, says_given}
 use Rattle.py_stream.specs.Writing.{NoneAtPlace, LaysFront, LaysInOrder, BlocksFull, Writes}
-use Rattle.py_stream.specs.Answers.{Answers, KeepsStream, ClosedWith, parts_at_close, HasCauses, IsCounted, IsShort, LifeMoves, PlaceMoves, GivesWithin, WantsMemory, Starves, StarvesReading, StarvesFirst, AsksNothing, AtMostOne, FlushesFirst, PassesFirst, CameByReads, InHand, StaysHeld, IsAhead, GoesPast, AsksNoMore, SparesBytes, IsReplyTo, IsNear, refused_by, ahead}
+use Rattle.py_stream.specs.Answers.{Answers, KeepsStream, ClosedWith, parts_at_close, HasCauses, IsCounted, IsShort, LifeMoves, PlaceMoves, GivesWithin, WantsMemory, Starves, StarvesReading, StarvesFirst, AsksNothing, AtMostOne, ReadsOnce, FlushesFirst, PassesFirst, CameByReads, InHand, StaysHeld, IsAhead, GoesPast, AsksNoMore, SparesBytes, IsReplyTo, IsNear, refused_by, ahead}
 use Rattle.py_stream.specs.Keeping.{IsSound}
 use Rattle.py_stream.specs.Settling.{PassesSome, LivesOn, SettleOutcome}
 use Rattle.py_stream.specs.Reading.{Reaches, ComesNext, wanted_by, reply_by}
@@ -33,7 +33,7 @@ use Rattle.py_stream.proofs.ReadingCalls.{IsReadingCall, reading_call, reading_o
 use Rattle.py_stream.proofs.ReadingSteps.{within_end}
 use Rattle.py_stream.proofs.ReadingAnswers.{accepted, works}
 use Rattle.py_stream.proofs.Refused.{nothing_blocked}
-use Rattle.py_stream.proofs.Coming.{near_seen, came_still, each_still}
+use Rattle.py_stream.proofs.Coming.{near_seen, came_still, each_still, read_never}
 use Rattle.py_stream.proofs.SingleReading.{reads_once, asks_for, moves_by, moves_within, IsSingleCall, single_call, once_carried}
 use Rattle.py_stream.proofs.ReadingStops.{short_part, part_moves, part_within, carried}
 use Rattle.py_stream.proofs.Flat.{flat_of, failed_file}
@@ -72,6 +72,7 @@ pub record ShowsReading (before : Stream) (call : FileCall) (reply : FileReply) 
   pub first : StarvesFirst before call reply after
   pub nothing : IsTrue (asks_none before.buffer call) → AsksNothing before reply after
   pub single : IsTrue (makes_one before.buffer call) → before.owed.bytes ≡ [] → AtMostOne before after
+  pub once : IsTrue (makes_one before.buffer call) → ReadsOnce before after
   pub passes_first : PassesFirst before call reply after
   pub brings : IsAhead before → CameByReads 1 before after
   pub in_hand : InHand before call → AsksNothing before reply after
@@ -170,6 +171,7 @@ stops_reading before mid call reply short may stops =
       first = λ wanting _ takes_none. absurd (let takes = stops.wants wanting in cc);
       nothing = λ asks. absurd (cc (may.some));
       single = λ _ none. stops.single none;
+      once = λ _. read_never before after passes.kept.reads;
       passes_first = λ _ _ _ given. absurd (cc (stops.ungiven));
       brings = λ ahead. absurd (stops.behind ahead);
       in_hand = λ has. absurd (may.apart has);
@@ -325,6 +327,7 @@ held_reading before call reply place owed reads held moved is =
       first = λ wanting. absurd (fed wanting);
       nothing = λ _. idle;
       single = λ _ _ tells. omega arith;
+      once = λ _ tells. inl refl;
       passes_first = λ _ single some _ first. moved.bytes ∙ is.passed single some first;
       brings = λ _. came_still before after 1 refl refl;
       in_hand = λ _. idle;
@@ -498,6 +501,7 @@ reading_lacks before call reads room held =
       first = λ _ _ _. (starves_same before held).unmoved held.live;
       nothing = λ _. idle;
       single = λ _ _ tells. omega arith;
+      once = λ _ tells. inl refl;
       passes_first = λ _ _ _ given. absurd (cc);
       brings = λ _. came_still before before 1 refl refl;
       in_hand = λ _. idle;

@@ -108,6 +108,7 @@ answers_left before new call reply short may left =
       nothing = λ asks. absurd (cc (giving.some before.buffer));
       idle = λ keeps. absurd (cc (giving.calls before.buffer before.can.writable));
       single = λ single. absurd (cc (not_one before call may));
+      once = λ single. absurd (cc (not_one before call may));
       passes_first = λ _ single. absurd (cc (gives.single));
       in_hand = λ has. absurd (giving.unheld before has.of);
       owing = λ has. absurd (giving.unheld before has.of);
@@ -319,7 +320,7 @@ all_answers before mid after call may goes reach keeps room =
 pub fits_answers : (before after : Stream) (call : FileCall) → MayKeep before call → KeepsBoth before (payload call) after → Answers before call (taken_reply call (length (payload call))) after
 fits_answers before after call may keeps =
     all_answers before before after call may (lives_itself before may.sound may.live) (inl refl) keeps
-    (λ _. record { says = says_all call may.writing; whole = refl; raw = keeps.over.raw; raw_place = keeps.over.raw_place; owes = keeps.owes })
+    (λ _. record { says = says_all call may.writing; whole = refl; raw = keeps.over.raw; raw_place = keeps.over.raw_place; owes = keeps.owes; held = keeps.held })
 
 -- bytes that fit the buffer once the raw took some of what was owed, and then would have blocked, are all taken
 pub fits_after_wait : (before mid after : Stream) (call : FileCall) → MayKeep before call → (HasRoom before (payload call) → ⊥) → LivesOn before mid → 0 < length mid.owed.bytes → mid.owed.place ≤ before.place + length (payload call) → KeepsBoth mid (payload call) after → Answers before call (taken_reply call (length (payload call))) after

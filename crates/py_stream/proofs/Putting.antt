@@ -75,6 +75,8 @@ keeps_more old mid new front more first second = record {
   raw = second.raw ∙ first.raw;
   buffer = second.buffer ∙ first.buffer;
   owed = second.owed ∙ ap (λ (owed : List ℕ). owed ++ more) first.owed ∙ append_assoc old.owed.bytes front more;
+  forth = omega (arith, first.forth, second.forth);
+  held = omega (arith, first.held, second.held, second.forth);
 }
 
 -- a line has room behind the lines before it, where all bytes have

@@ -11,7 +11,7 @@ use Rattle.py_raw.specs.RawStream.{StaysOpen, WhereTold}
 use Rattle.py_stream.specs.Stream.{Stream, size_of, buffering_of, file_of, nothing_owed}
 use Rattle.py_stream.specs.Kinds.{is_reading, reads_on, makes_one, has_room, asks_none, says_fault, says_no_memory, by_several}
 use Rattle.py_stream.specs.Writing.{Writes}
-use Rattle.py_stream.specs.Answers.{Answers, parts_at_close, CameByReads, IsReplyTo, IsShort, LifeMoves, PlaceMoves, GivesWithin, WantsMemory, Starves, BringsSome, StarvesReading, HasCauses, IsCounted, StarvesFirst, IsAhead, InHandOf, InHand, StaysHeld, AsksNoMore, PassesFirst, refused_by}
+use Rattle.py_stream.specs.Answers.{Answers, parts_at_close, CameByReads, IsReplyTo, IsShort, LifeMoves, PlaceMoves, GivesWithin, WantsMemory, Starves, BringsSome, StarvesReading, HasCauses, IsCounted, StarvesFirst, IsAhead, InHandOf, InHand, StaysHeld, AsksNoMore, ReadsOnce, PassesFirst, refused_by}
 use Rattle.py_stream.specs.Reading.{KeepsReading, OneTransfer, Reaches}
 use Rattle.py_stream.proofs.Begun.{answers_whole}
 use Rattle.py_stream.proofs.Completing.{completes}
@@ -106,6 +106,7 @@ answers_coming before mid call reply short reads has begun comes =
       left = λ failed. brings_some before mid ((comes.starves wanting on).moved failed) comes.brings;
       unread = λ lives tells. ap (λ (stream : Stream). stream.raw.reads) ((comes.starves wanting on).unmoved lives);
     } in
+    let once : IsTrue (makes_one before.buffer call) → ReadsOnce before after = λ single. (comes.one single).once in
     let passes_first : PassesFirst before call reply after = λ _ _ _ _ _. goes_on.none in
     let parted : parts_at_close before call reply after ≡ true → StaysOpen before.raw after.raw = λ parts. absurd (cc (parts, is.parts before reply after)) in
     search (rules, passes_nothing, completes, near_seen, came_seen)

@@ -95,6 +95,7 @@ refused_with before after call why is refuses alone own first same =
       nothing = λ _. record { raw = refl; fault = idle.fault };
       idle = λ _. idle;
       single = λ _ _ tells. omega arith;
+      once = λ _ tells. inl refl;
       passes_first = λ _ _ _ given. absurd (ungiven given);
       in_hand = λ _. record { raw = refl; fault = idle.fault };
       owing = λ _. record { owed = refl; held = refl };

@@ -1,5 +1,5 @@
 -- A call that gives or takes bytes, before which all that was owed was passed on: its answer is one of the stream as it was before.
-use Rattle.std.proofs.Common.{◌≡◌, ◌≢◌, ℕ, ◌+◌, ◌-◌, ◌≤◌, inl, inr, max, Bool, true, false, ◌||◌, IsTrue, List, [], ◌++◌, length, take, drop, Option, Some, None, IsSome, Ok, sym, ap, ◌∙◌, subst, arith, length-drop, rules}
+use Rattle.std.proofs.Common.{◌≡◌, ◌≢◌, ℕ, ◌+◌, ◌-◌, ◌≤◌, ◌⊎◌, inl, inr, max, Bool, true, false, ◌||◌, IsTrue, List, [], ◌++◌, length, take, drop, Option, Some, None, IsSome, Ok, sym, ap, ◌∙◌, subst, arith, length-drop, rules}
 use Rattle.std.proofs.Math.Seq.{take-nil, drop-nil, drop-append-add}
 use Rattle.std.proofs.lemmas.List.{take_all, drop_all, length-take-le}
 use Rattle.py_flat.specs.declared.fault.IoFault.{IoFault}
@@ -11,6 +11,7 @@ use Rattle.py_flat.specs.Owed.{Owed}
 use Rattle.py_flat.specs.BinaryStep.{BinaryStep, payload}
 use Rattle.py_flat.specs.Causes.{Rose}
 use Rattle.py_raw.specs.declared.reads.Reads.{Reads}
+use Rattle.py_raw.specs.Reads.{after_read}
 use Rattle.py_raw.specs.RawStream.{Keeps, KeepsReads, WhereTold, WhereTransfers, AnswersFor}
 use Rattle.py_raw.proofs.Telling.{tells_still}
 use Rattle.py_raw.proofs.ReadingOn.{Keeps-then}
@@ -18,7 +19,7 @@ use Rattle.py_stream.specs.Stream.{Stream, file_of, nothing_owed}
 use Rattle.py_stream.specs.Kinds.{is_reading, is_writing, reads_on, takes_space_first, makes_one, asks_none, by_several, calls_none, says_fault, says_no_memory, says_given}
 use Rattle.py_stream.specs.Writing.{HasRoom, OwesUpTo, OwesBehind, LaysTaken, Takes, PassesFront, OwesBoth, LaysFront, LaysInOrder, OwesOld, OwesNoneOfIts, TookOwn, Writes}
 use Rattle.py_stream.specs.Keeping.{KeepsOn}
-use Rattle.py_stream.specs.Answers.{Answers, HasCauses, IsAhead, GoesPast, InHand, AsksNoMore, AtMostOne, PassesFirst, CameByReads, StarvesReading, StarvesFirst, SeeksByEnd, SeekStands, refused_by, closes_again, parts_at_close}
+use Rattle.py_stream.specs.Answers.{Answers, HasCauses, IsAhead, GoesPast, InHand, AsksNoMore, AtMostOne, ReadsOnce, PassesFirst, CameByReads, StarvesReading, StarvesFirst, SeeksByEnd, SeekStands, refused_by, closes_again, parts_at_close}
 use Rattle.py_stream.specs.Settling.{PassesSome, LivesOn, SettleOutcome}
 use Rattle.py_stream.proofs.Taking.{waited_then, faulted_then, answers_then, answers_still}
 use Rattle.py_stream.proofs.Flat.{flat_of}
@@ -117,6 +118,7 @@ pub record AfterSettling (before : Stream) (call : FileCall) (reply : FileReply)
   pub first : StarvesFirst before call reply after
   pub nothing : asks_none before.buffer call ≡ false
   pub single : IsTrue (makes_one before.buffer call) → before.owed.bytes ≡ [] → AtMostOne before after
+  pub once : IsTrue (makes_one before.buffer call) → ReadsOnce before after
   pub passes_first : PassesFirst before call reply after
   pub brings : IsTrue (is_reading call) → IsAhead before → CameByReads 1 before after
   pub unread : is_reading call ≡ false → KeepsReads before.raw after.raw
@@ -157,6 +159,7 @@ then_answers before mid after call reply moves settled answers own =
       nothing = λ asks. absurd (cc (own.nothing));
       idle = λ keeps. absurd (cc (is.calls before.buffer before.can.writable));
       single = own.single;
+      once = own.once;
       passes_first = own.passes_first;
       in_hand = λ has. absurd (own.in_hand has);
       owing = λ has. absurd (own.in_hand has);
@@ -230,6 +233,10 @@ reading_writes before mid after call reply reads settled writes =
 ahead_settled : (before mid : Stream) (call : FileCall) → SettledFor before call mid → IsAhead mid → IsAhead (settled_as before mid)
 ahead_settled before mid call settled ahead = record { none = ahead.none; stands = λ can. ahead.stands (ap (λ (able : Abilities). able.writable) settled.settled_by.0.passes.kept.can ∙ can) }
 
+-- a passing on reads nothing
+once_then : (before mid after : Stream) → KeepsOn before mid → ReadsOnce (settled_as before mid) after → ReadsOnce before after
+once_then before mid after kept once tells = subst (λ (reads : Reads). (after.raw.reads ≡ reads) ⊎ ((count : ℕ) × (after.raw.reads ≡ after_read reads count))) (kept.reads tells) (once (kept.raw.tells_transfers ∙ tells))
+
 -- what the answer of a reading after a passing on has of its own
 reading_own : (before mid after : Stream) (call : FileCall) (reply : FileReply) → is_reading call ≡ true → SettledReading before call reply mid → Answers (settled_as before mid) call reply after → AfterSettling before call reply after
 reading_own before mid after call reply reads is answers =
@@ -240,6 +247,7 @@ reading_own before mid after call reply reads is answers =
       unread = λ lives tells. (answers.starves wanting on).unread lives (kept.raw.tells_transfers ∙ tells) ∙ kept.reads tells;
       left = λ failed tells. subst (λ (reads : Reads). Rose reads.brought after.raw.reads.brought) (kept.reads tells) ((answers.starves wanting on).left failed (kept.raw.tells_transfers ∙ tells));
     } in
+    let once : IsTrue (makes_one before.buffer call) → ReadsOnce before after = λ one. once_then before mid after kept (answers.once one) in
     search (rules, reading_writes)
 
 -- an answer of a reading, after all that was owed was passed on

@@ -12,6 +12,7 @@ use Rattle.py_flat.specs.Calls.{FileCall, Read, Read1, ReadLine, ReadLines, Peek
 use Rattle.py_flat.specs.Refusals.{is_getter, is_other_getter, lets_through, lacks, refusal, moved_by, target_refusal}
 use Rattle.py_flat.specs.ExactStep.{rest, is_closed}
 use Rattle.py_flat.specs.BinaryStep.{asks_end, BinaryStep}
+use Rattle.py_raw.specs.Reads.{after_read}
 use Rattle.py_raw.specs.RawStream.{Raw, tells, Keeps, StaysOpen, WhereTold, WherePlace, WhereTransfers, KeepsBytes, AnswersFor, KeepsReads, ReadsInAll}
 use Rattle.py_stream.specs.Stream.{Span, Stream, size_of, buffering_of, file_of, nothing_owed}
 use Rattle.py_stream.specs.Kinds.{profile, is_reading, is_single, asks_nothing, moves_raw, reads_on, by_several, has_room, takes_space_first, calls_none, says_wait, says_fault, says_no_memory, says_given}
@@ -327,6 +328,10 @@ pub record AsksNothing (before : Stream) (reply : FileReply) (after : Stream) : 
 abbrev pub AtMostOne : Stream → Stream → Type 0
 AtMostOne before after = WhereTransfers before.raw (after.raw.transfers ≤ before.raw.transfers + 1)
 
+-- at most one read brought bytes, or met the end, where the raw tells its transfers
+abbrev pub ReadsOnce : Stream → Stream → Type 0
+ReadsOnce before after = WhereTransfers before.raw ((after.raw.reads ≡ before.raw.reads) ⊎ ((count : ℕ) × (after.raw.reads ≡ after_read before.raw.reads count)))
+
 -- how many of the bytes held lie from the place on
 abbrev pub ahead : Stream → ℕ
 ahead stream = stream.held.to - stream.place
@@ -480,6 +485,8 @@ pub record AnswersWith (room : FileCall → Bool) (before : Stream) (call : File
   pub idle : IsTrue (calls_none before.buffer before.can.writable call) → IsIdle before reply after
   -- calls that make at most one transfer, where nothing was owed
   pub single : IsTrue (profile before.buffer call).one → before.owed.bytes ≡ [] → AtMostOne before after
+  -- also where they pass on first what was owed they read once at most
+  pub once : IsTrue (profile before.buffer call).one → ReadsOnce before after
   -- a `read1` gives bytes only once all that was owed is passed on; so do the others by one transfer where no byte was held
   pub passes_first : PassesFirst before call reply after
   -- a reading that goes on from the bytes held moves the raw by as many bytes as its reads bring, and meets the end once at most

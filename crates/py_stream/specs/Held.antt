@@ -1,5 +1,5 @@
 -- What a stream does with the bytes that its buffer holds, whatever it owes: no raw is called.
-use Rattle.std.specs.Prelude.{◌≡◌, ◌≢◌, ℕ, ◌+◌, ◌≤◌, List, [], ◌++◌, length, take}
+use Rattle.std.specs.Prelude.{◌≡◌, ◌≢◌, ℕ, ◌+◌, ◌≤◌, List, [], ◌++◌, length, take, max}
 use Rattle.py_flat.specs.Bytes.{lay}
 use Rattle.py_flat.specs.ExactStep.{rest}
 use Rattle.py_raw.specs.RawStream.{WhereTold}
@@ -29,10 +29,11 @@ pub record TakesOver (old : Stream) (bytes : List ℕ) (new : Stream) : Type 0 w
   pub stands : OwesBehind old → OwesBehind new
   pub told : WhereTold old.raw (lay new.raw.bytes new.owed.place new.owed.bytes ≡ lay (lay old.raw.bytes old.owed.place old.owed.bytes) old.place bytes)
 
--- bytes are taken at the place: all of them, and all that was owed, are owed then
+-- bytes are taken at the place: all of them, and all that was owed, are owed then; what was held behind them is held still
 pub record KeepsBoth (old : Stream) (bytes : List ℕ) (new : Stream) : Type 0 where
   pub over : TakesOver old bytes new
   pub owes : OwesAll old.owed old.place bytes new.owed
+  pub held : new.held.to ≡ max old.held.to new.place
 
 -- none are taken: what was owed, which is some, is owed still, and after it what the buffer holds up to the place; told, those are the flat
 -- bytes there already

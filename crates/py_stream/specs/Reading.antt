@@ -14,7 +14,7 @@ use Rattle.py_raw.specs.RawStream.{Keeps, StaysOpen, WhereTold, WherePlace, Wher
 use Rattle.py_stream.specs.declared.stop.Stop.{Stop}
 use Rattle.py_stream.specs.declared.stop.Stop.TheVariants as stop
 use Rattle.py_stream.specs.Stream.{Stream, file_of, nothing_owed}
-use Rattle.py_stream.specs.Answers.{ahead, IsNear, CameByReads, EachBrings, LastIsNeeded}
+use Rattle.py_stream.specs.Answers.{ahead, IsNear, CameByReads, EachBrings, LastIsNeeded, ReadsOnce}
 
 -- What a reading keeps.
 
@@ -40,9 +40,10 @@ pub record LeavesHeld (before after : Stream) : Type 0 where
   pub raw : after.raw ≡ before.raw
   pub held : after.held ≡ before.held
 
--- at most one transfer was made
+-- at most one transfer was made, and so one read
 pub record OneTransfer (before after : Stream) : Type 0 where
   pub transfers : WhereTransfers before.raw (after.raw.transfers ≤ before.raw.transfers + 1)
+  pub once : ReadsOnce before after
   pub came : CameByReads 1 before after
 
 -- the raw of a stream with a buffer isn't called for what lies among the bytes that were held, and was last called for what was given

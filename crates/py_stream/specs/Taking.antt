@@ -1,5 +1,5 @@
 -- What the steps of a call that gives bytes do: of a stream that owes what lies right before its place, or nothing.
-use Rattle.std.specs.Prelude.{◌≡◌, ℕ, ◌+◌, ◌-◌, ◌<◌, ◌≤◌, ◌⊎◌, Bool, true, false, IsTrue, List, ◌++◌, length, take, drop, Option, Some, None, IsSome, Result, Ok, Err}
+use Rattle.std.specs.Prelude.{◌≡◌, ℕ, ◌+◌, ◌-◌, ◌<◌, ◌≤◌, ◌⊎◌, Bool, true, false, IsTrue, List, ◌++◌, length, take, drop, max, Option, Some, None, IsSome, Result, Ok, Err}
 use Rattle.py_flat.specs.declared.fault.IoFault.{IoFault}
 use Rattle.py_flat.specs.declared.fault.IoFault.TheVariants as fault
 use Rattle.py_flat.specs.declared.life.Life.TheVariants as life
@@ -128,11 +128,13 @@ pub record FitsBehind (stream : Stream) (bytes : List ℕ) : Type 0 where
   pub buffered : IsSome stream.buffer
   pub room : length stream.owed.bytes + length bytes ≤ size_of stream
 
--- bytes are owed behind those that were, and no raw is called
+-- bytes are owed behind those that were, and no raw is called; what was held behind them is held still
 pub record KeepsBehind (old : Stream) (bytes : List ℕ) (new : Stream) : Type 0 where
   pub raw : new.raw ≡ old.raw
   pub buffer : new.buffer ≡ old.buffer
   pub owed : new.owed.bytes ≡ old.owed.bytes ++ bytes
+  pub forth : old.place ≤ new.place
+  pub held : new.held.to ≡ max old.held.to new.place
 
 -- bytes for which there is room are all kept so
 abbrev pub KeepsWhatFits : Stream → List ℕ → Result Bool IoFault → Stream → Type 0

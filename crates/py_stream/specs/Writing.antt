@@ -299,14 +299,15 @@ abbrev pub answer_of_all : FileCall → FileReply
 answer_of_all (Write bytes) = Count (length bytes)
 answer_of_all call = Done
 
--- a write took all of its bytes, and called no raw: so that is as it was in all that it shows, and stands where it stood; and all that was
--- owed, and all that the write gave, are owed
+-- a write took all of its bytes, and called no raw: so that is as it was in all that it shows, and stands where it stood; all that was
+-- owed, and all that the write gave, are owed; and the bytes that were held behind these are held still
 pub record TakesAlone (before : Stream) (call : FileCall) (reply : FileReply) (after : Stream) : Type 0 where
   pub says : reply ≡ answer_of_all call
   pub whole : after.short ≡ false
   pub raw : after.raw ≡ before.raw
   pub raw_place : after.raw_place ≡ before.raw_place
   pub owes : OwesAll before.owed before.place (payload call) after.owed
+  pub held : after.held.to ≡ max before.held.to after.place
 
 -- One call of a stream that writes.
 pub record Writes (before : Stream) (call : FileCall) (reply : FileReply) (after : Stream) : Type 0 where

@@ -10,7 +10,7 @@ use Rattle.py_stream.specs.Kinds.{asks_none}
 use Rattle.py_stream.specs.Answers.{Answers}
 use Rattle.py_stream.specs.Reading.{Gives, FailsReading}
 use Rattle.py_stream.specs.Replies.{into_reply}
-use Rattle.py_stream.proofs.Coming.{came_once, came_unread, one_unread, each_but_one}
+use Rattle.py_stream.proofs.Coming.{came_once, read_once, came_unread, one_unread, each_but_one}
 use Rattle.py_stream.proofs.ReadingAnswers.{Reads}
 use Rattle.py_stream.proofs.ReadingOn.{comes_front}
 use Rattle.py_stream.proofs.SingleReading.{reads_once, asks_for, moves_by, answers_once, unready_once, faulted_once, unmoved_once}
@@ -40,7 +40,7 @@ module _ (old mid : EngineView) (call : FileCall) (before after : List ℕ) (onc
       let part : List ℕ = take count after in
       let left : List ℕ = left_at old.raw.bytes old.place in
       let size : length part ≡ count = length-take-le count after came.fits in
-      answers_once (stream_of old) (stream_of mid) call part once begun (grind (arith, keeps_reading, asks_always, bufferless, moves_all, came_once, comes_front, asks_for, take-take, none_left))
+      answers_once (stream_of old) (stream_of mid) call part once begun (grind (arith, keeps_reading, asks_always, bufferless, moves_all, came_once, read_once, comes_front, asks_for, take-take, none_left))
   once_came None long same_long came =
       let given : Gives (stream_of old) [] (stream_of mid) = record { kept = keeps_reading old mid came.kept came.bytes came.answered; no_fault = came.no_fault; live = came.live; place = omega (arith, came.place); told = λ _. refl } in
       unready_once (stream_of old) (stream_of mid) call once (asks_always call once) begun given came.cause refl came.once (one_unread (stream_of old) (stream_of mid) came.place came.transfers came.reads) (λ buffered. absurd (cc))

@@ -214,7 +214,7 @@ pub record Overlays (window : WindowView) (bytes : List ℕ) (new : WindowView) 
   -- it begins no earlier than the other, and no later than what that owes; it ends no earlier
   pub begins : window.begin ≤ new.begin
   pub starts : new.begin ≤ window.begin + window.from
-  pub ends : end_of window ≤ end_of new
+  pub ends : end_of new ≡ max (end_of window) (place_of new)
   -- what it owes begins at the first of both places
   pub first : new.begin + new.from ≡ min (window.begin + window.from) (place_of window)
   -- and reaches to its place at least

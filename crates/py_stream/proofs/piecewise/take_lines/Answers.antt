@@ -7,7 +7,7 @@ use Rattle.py_stream.proofs.Putting.{takes_nothing, lines_stopped, lines_taken, 
 use Rattle.py_stream.proofs.piecewise.take_lines.Goals as goal
 
 pub loop-line-init : goal.loop-line-init
-loop-line-init g c = record { all = takes_nothing (g.S.TakesPieces.shows c.args.stream.now) c.requires.sound c.requires.behind c.requires.live; room = λ _. record { raw = refl; buffer = refl; owed = sym (append-nil (g.S.TakesPieces.shows c.args.stream.now).owed.bytes) }; takes = c.requires.takes }
+loop-line-init g c = record { all = takes_nothing (g.S.TakesPieces.shows c.args.stream.now) c.requires.sound c.requires.behind c.requires.live; room = λ _. record { raw = refl; buffer = refl; owed = sym (append-nil (g.S.TakesPieces.shows c.args.stream.now).owed.bytes); forth = omega arith; held = omega (arith, (c.requires.sound.near c.requires.live).before_end) }; takes = c.requires.takes }
 
 pub take_piece-requires-clause-within : goal.take_piece-requires-clause-within
 take_piece-requires-clause-within g c =
