@@ -189,6 +189,7 @@ flush_so old after result live is answers =
       tied = record { owed = λ can. refl; life_is = λ can was. refl };
       stands = λ stood. answers.stands;
       told = λ told. flush_told old after result live is.kept answers (flush_flat (flat_of old.buffer) (flat_of after) (done_reply result) after.short (says_fault (done_reply result)) (answers.told (rw is.kept refl) told));
+      needs = λ gives. absurd (cc);
       hides = λ waited gives. absurd (cc);
       stops = λ waited. flush_stops old after result answers waited;
       passes = flush_passes old after result answers;
@@ -300,6 +301,7 @@ close_so old after result live is answers =
       tied = record { owed = λ can. refl; life_is = λ can was. refl };
       stands = λ stood. answers.stands;
       told = λ told. close_told old after result live is.kept answers (close_flat (flat_of old.buffer) (flat_of after) (done_reply result) after.short (says_fault (done_reply result)) (answers.told (rw is.kept refl) told));
+      needs = λ gives. absurd (cc);
       hides = λ waited gives. absurd (cc);
       stops = λ waited. close_stops old after result answers waited;
       passes = close_passes old after result live answers;

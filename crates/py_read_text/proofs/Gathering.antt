@@ -2,6 +2,7 @@
 use Rattle.std.proofs.Common.{◌≡◌, ◌≢◌, ℕ, zero, suc, ◌≤◌, inl, Bool, true, false, nat_le, if◌then◌else◌, List, [], ◌∷◌, ◌++◌, length, Some, None, Result, Ok, Err, refl, sym, ap, ◌∙◌, subst, arith}
 use Rattle.py_flat.specs.declared.fault.IoFault.{IoFault}
 use Rattle.py_flat.specs.declared.fault.IoFault.TheVariants as fault
+use Rattle.py_flat.specs.declared.life.Life.TheVariants as life
 use Rattle.py_flat.specs.Limits.{greatest_place}
 use Rattle.std.proofs.lemmas.List.{length-take}
 use Rattle.std.proofs.lemmas.Bool.{le-leb}
@@ -13,6 +14,7 @@ use Rattle.py_stream.specs.Buffer.{Buffer, flat_of}
 use Rattle.py_held_text.specs.declared.wanted.Wanted.{Wanted}
 use Rattle.py_held_text.specs.declared.wanted.Wanted.TheVariants.{Characters, Line}
 use Rattle.py_held_text.specs.Held.{HeldView}
+use Rattle.py_held_text.specs.Decodes.{IsDrained}
 use Rattle.py_held_text.specs.Finding.{enough}
 use Rattle.py_read_text.specs.declared.looking.Gathered.{Gathered}
 use Rattle.py_read_text.specs.declared.looking.Gathered.TheVariants as gathered
@@ -20,6 +22,7 @@ use Rattle.py_read_text.specs.declared.read_text.Chunk.TheVariants as chunk
 use Rattle.py_read_text.specs.Knowing.{TextView, IsText}
 use Rattle.py_read_text.specs.Reading.{Coming, Follows, Reads, HeldAt, IsTold, IsReady, IsAtEnd, GatheredAt, gathers_wait, GatherOutcome, StopOutcome, FetchOutcome, asks_none, KeepsPlace, Gathers}
 use Rattle.py_read_text.proofs.Fetching.{reads_on}
+use Rattle.py_read_text.proofs.Ahead.{needs_chunk}
 use Rattle.py_read_text.proofs.Owing.{passes_none}
 use Rattle.py_read_text.proofs.Answering.{last_at_range}
 use Rattle.py_read_text.proofs.Knowing.{ends_behind}
@@ -47,7 +50,7 @@ reads_itself buffer far = record {
 }
 
 pub begins : (text : TextView) (asked : Wanted) → text.buffer.place ≤ greatest_place → Gathers text asked text
-begins text asked far = record { place = record { at = refl; taken = refl; dirty = refl; settings = refl }; reads = reads_itself text.buffer far; nothing = λ none. refl }
+begins text asked far = record { place = record { at = refl; taken = refl; dirty = refl; settings = refl }; reads = reads_itself text.buffer far; nothing = λ none. refl; needs = λ told. inl (omega arith) }
 
 -- what is in hand tells by itself what a text comes to
 pub gathered_look : (text : TextView) (asked : Wanted) (stop : Gathered) → HeldAt (Coming false) asked text.held stop → IsTold stop → GatheredAt text asked stop
@@ -95,6 +98,12 @@ failed old mid new asked fault.RawFault reads outcome = (reads_on old.buffer mid
 failed old mid new asked fault.NoMemory reads outcome = (reads_on old.buffer mid.buffer new.buffer false false reads outcome.reads, tt)
 failed old mid new asked other reads outcome = absurd outcome
 
+-- a read of the buffer that was refused leaves its place
+pub fails_there : (mid new : TextView) (why : IoFault) → FetchOutcome mid (Err why) new → new.buffer.place ≡ mid.buffer.place
+fails_there mid new fault.RawFault outcome = outcome.place
+fails_there mid new fault.NoMemory outcome = outcome.place
+fails_there mid new other outcome = absurd outcome
+
 held_room : (asked : Wanted) (held : HeldView) (room : ℕ) → HeldAt (Coming false) asked held gathered.Waits → HeldAt (Coming false) asked (record held { room = room }) gathered.Waits
 held_room asked held room at = (at.0, record { items = at.1.items; refusal = at.1.refusal; none = at.1.none })
 
@@ -126,22 +135,29 @@ places_on : (old mid new : TextView) → KeepsPlace old mid → KeepsPlace mid n
 places_on old mid new first second = record { at = second.at ∙ first.at; taken = second.taken ∙ first.taken; dirty = second.dirty ∙ first.dirty; settings = second.settings ∙ first.settings }
 
 -- bytes came, of a call that asks for some character
-gathers_at : (old before mid new : TextView) (asked : Wanted) → Gathers old asked before → mid.buffer ≡ before.buffer → KeepsPlace before mid → enough asked mid.held.newline mid.held.known ≡ None → FetchOutcome mid (Ok chunk.More) new → KeepsPlace mid new → Gathers old asked new
-gathers_at old before mid new asked so_far same place short came kept = record {
-  place = places_on old before new so_far.place (places_on before mid new place kept);
-  reads = reads_on old.buffer before.buffer new.buffer false false so_far.reads (subst (λ (buffer : Buffer). Reads buffer false false new.buffer) same came.reads);
-  nothing = λ none. asks_some asked mid.held.newline mid.held.known (new.buffer ≡ old.buffer) short none;
-}
+gathers_at : (old before mid new : TextView) (asked : Wanted) → old.buffer.life ≡ life.Live → old.buffer.can.readable ≡ true → Gathers old asked before → mid.buffer ≡ before.buffer → KeepsPlace before mid → IsText mid.buffer mid.held mid.at mid.taken mid.settings → enough asked mid.held.newline mid.held.known ≡ None → IsDrained false mid.held → FetchOutcome mid (Ok chunk.More) new → KeepsPlace mid new → Gathers old asked new
+gathers_at old before mid new asked live can so_far same place is short drained came kept =
+    let reads : Reads old.buffer false false mid.buffer = subst (Reads old.buffer false false) (sym same) so_far.reads in
+    record {
+      place = places_on old before new so_far.place (places_on before mid new place kept);
+      reads = reads_on old.buffer mid.buffer new.buffer false false reads came.reads;
+      nothing = λ none. asks_some asked mid.held.newline mid.held.known (new.buffer ≡ old.buffer) short none;
+      needs = needs_chunk old mid new asked live can (places_on old before mid so_far.place place) reads is short drained came;
+    }
+
+-- what is in hand was looked at, whatever comes behind
+holds_looked : (buffer : Buffer) (old new : HeldView) (at taken : ℕ) (settings : TextSettings) → Follows (Coming false) old new → IsText buffer old at taken settings → IsText buffer new at taken settings
+holds_looked buffer old new at taken settings follows is = text_follows buffer old new at taken settings (Coming false) follows (λ told more front last. absurd (cc)) is
 
 -- a text as it is seen, with something else in hand
 abbrev with_held : TextView → HeldView → TextView
 with_held text held = record text { held = held }
 
-pub gathers_more : (old before seen new : TextView) (held : HeldView) (asked : Wanted) → Gathers old asked before → seen ≡ before → enough asked held.newline held.known ≡ None → FetchOutcome (with_held seen held) (Ok chunk.More) new → KeepsPlace (with_held seen held) new → Gathers old asked new
-gathers_more old before seen new held asked so_far is short came kept =
-    gathers_at old before (with_held seen held) new asked so_far (ap (λ (view : TextView). view.buffer) is)
+pub gathers_more : (old before seen new : TextView) (held : HeldView) (asked : Wanted) → old.buffer.life ≡ life.Live → old.buffer.can.readable ≡ true → Gathers old asked before → seen ≡ before → IsText seen.buffer seen.held seen.at seen.taken seen.settings → Follows (Coming false) seen.held held → enough asked held.newline held.known ≡ None → IsDrained false held → FetchOutcome (with_held seen held) (Ok chunk.More) new → KeepsPlace (with_held seen held) new → Gathers old asked new
+gathers_more old before seen new held asked live can so_far is text follows short drained came kept =
+    gathers_at old before (with_held seen held) new asked live can so_far (ap (λ (view : TextView). view.buffer) is)
     (record { at = ap (λ (view : TextView). view.at) is; taken = ap (λ (view : TextView). view.taken) is; dirty = ap (λ (view : TextView). view.dirty) is; settings = ap (λ (view : TextView). view.settings) is })
-    short came kept
+    (holds_looked seen.buffer seen.held held seen.at seen.taken seen.settings follows text) short drained came kept
 
 -- what is in hand was looked at where nothing comes behind
 pub holds_ended : (buffer : Buffer) (old new : HeldView) (at taken : ℕ) (settings : TextSettings) → IsAtEnd buffer → Follows (Coming true) old new → IsText buffer old at taken settings → IsText buffer new at taken settings

@@ -6,8 +6,9 @@ pub mod Steps
 mod Fetching
 mod Holding
 mod Answering
-mod Gathering
 pub mod Results
+mod Ahead
+mod Gathering
 mod Chunks
 mod Stopping
 mod Beginning

@@ -1,5 +1,5 @@
 -- A call of a text that reads, from its parts.
-use Rattle.std.proofs.Common.{◌≡◌, ℕ, inl, inr, ◌⊎◌, Bool, true, false, IsTrue, List, [], Some, None, Result, Ok, Err, if◌then◌else◌, refl, sym, ap, ◌∙◌, subst, arith}
+use Rattle.std.proofs.Common.{◌≡◌, ℕ, max, inl, inr, ◌⊎◌, Bool, true, false, IsTrue, List, [], Some, None, Result, Ok, Err, if◌then◌else◌, refl, sym, ap, ◌∙◌, subst, arith}
 use Rattle.py_flat.specs.declared.fault.IoFault.{IoFault}
 use Rattle.py_flat.specs.declared.fault.IoFault.TheVariants as fault
 use Rattle.py_flat.specs.declared.life.Life.{Life}
@@ -22,11 +22,12 @@ use Rattle.py_read_text.specs.declared.looking.Gathered.{Gathered}
 use Rattle.py_read_text.specs.declared.looking.Gathered.TheVariants as gathered
 use Rattle.py_read_text.specs.declared.read_text.Answer.{Answer}
 use Rattle.py_read_text.specs.Waiting.{ShowsAll}
+use Rattle.py_read_text.specs.Ahead.{AsksAsNeeded}
 use Rattle.py_read_text.specs.TextState.{TextState}
 use Rattle.py_read_text.specs.Owing.{IsJoined, WriteMovesBy, Starves, Closes}
 use Rattle.py_read_text.specs.Answers.{calls_nothing, gives_text, IsReplyTo, IsComplete, IsShort, PlaceMoves, WriteMoves, LifeMoves, settings_after, closes_again, WantsMemory, ClosesWithRaw, TextPasses, TextKeeps, Answers}
 use Rattle.py_read_text.specs.Knowing.{TextView, place_of, over_of, state_of, shown_file}
-use Rattle.py_read_text.specs.Reading.{call_of, asks_none, Reads, KeepsPlace, HoldsNothing, gathers_wait, GatherOutcome, Finishes, OnlyWhereWaits, WaitsOrLacks, reply_of, waited_in}
+use Rattle.py_read_text.specs.Reading.{call_of, asks_none, Reads, KeepsPlace, HoldsNothing, gathers_wait, GatherOutcome, GathersAsNeeded, Finishes, OnlyWhereWaits, WaitsOrLacks, reply_of, waited_in}
 use Rattle.py_read_text.proofs.Steps.{accepts}
 use Rattle.py_read_text.proofs.Owing.{passes_behind, owes_none, open_called}
 
@@ -109,6 +110,7 @@ pub record Parts (old : TextView) (asked : Wanted) (waited short : Bool) (reply 
   pub shorts : IsShort reply short
   pub place : PlaceMoves (call_of asked) short reply (place_of old) new.buffer.place (place_of new)
   pub joined : IsJoined (over_of new)
+  pub needs : GathersAsNeeded old asked new
   pub told : WhereShown old.buffer (TextFileStep (shown_file old) (call_of asked) reply short (says_fault reply) (shown_file new))
   pub hides : IsTrue short → HoldsNothing new.buffer × WhereShown old.buffer (ShowsAll (shown_file new) new.buffer.place)
 
@@ -165,6 +167,7 @@ answers old new asked waited short reply live can parts =
       tied = record { owed = λ can. refl; life_is = λ can was. refl };
       stands = parts.reads.stands;
       told = parts.told;
+      needs = λ gives. parts.needs;
       hides = λ is gives own. let hidden = parts.hides is in record { empty = hidden.0; shows = hidden.1 };
       stops = λ is. record { full = λ some. absurd (some refl); some = λ none own. let never = sym (gives_some asked) ∙ none in absurd (cc) };
       passes = passes_none (state_of old false) asked reply (state_of new short);
@@ -198,8 +201,8 @@ pub starves_step : (file after : TextFile) (asked : Wanted) → file.life ≡ li
 starves_step file after (Characters size) live can same = out_of_memory refl (inl (rw live (rw can refl), same))
 starves_step file after (Line limit) live can same = out_of_memory refl (inl (rw live (rw can refl), same))
 
-pub stopped : (old new : TextView) (asked : Wanted) (why : IoFault) → old.buffer.life ≡ life.Live → old.buffer.can.readable ≡ true → IsJoined (over_of new) → KeepsPlace old new → (asks_none asked ≡ true → new.buffer ≡ old.buffer) → GatherOutcome old asked (Err why) new → Answers (state_of old false) (call_of asked) (Refused why) (state_of new false)
-stopped old new asked fault.RawFault live can joined place nothing outcome =
+pub stopped : (old new : TextView) (asked : Wanted) (why : IoFault) → old.buffer.life ≡ life.Live → old.buffer.can.readable ≡ true → IsJoined (over_of new) → KeepsPlace old new → (asks_none asked ≡ true → new.buffer ≡ old.buffer) → GathersAsNeeded old asked new → GatherOutcome old asked (Err why) new → Answers (state_of old false) (call_of asked) (Refused why) (state_of new false)
+stopped old new asked fault.RawFault live can joined place nothing needs outcome =
     let reads = outcome.0 in
     answers old new asked false false (Refused fault.RawFault) live can (record {
       reads = reads;
@@ -211,10 +214,11 @@ stopped old new asked fault.RawFault live can joined place nothing outcome =
       shorts = refl;
       place = stops_place asked fault.RawFault old new new.buffer.place place;
       joined = joined;
+      needs = needs;
       told = λ told. faults_step (shown_file old) (shown_file new) asked live can reads.life_is (reads.bytes told) reads.keeps.can place.settings;
       hides = λ is. absurd (cc);
     })
-stopped old new asked fault.NoMemory live can joined place nothing outcome =
+stopped old new asked fault.NoMemory live can joined place nothing needs outcome =
     let reads = outcome.0 in
     answers old new asked false false (Refused fault.NoMemory) live can (record {
       reads = reads;
@@ -226,10 +230,11 @@ stopped old new asked fault.NoMemory live can joined place nothing outcome =
       shorts = refl;
       place = stops_place asked fault.NoMemory old new new.buffer.place place;
       joined = joined;
+      needs = needs;
       told = λ told. starves_step (shown_file old) (shown_file new) asked live can (same_file old new (reads.bytes told) reads.keeps.can reads.life_is place);
       hides = λ is. absurd (cc);
     })
-stopped old new asked other live can joined place nothing outcome = absurd outcome.1
+stopped old new asked other live can joined place nothing needs outcome = absurd outcome.1
 
 -- A call that was answered.
 
@@ -247,8 +252,8 @@ quiet_so (gathered.Before front) result lacks whole has = refl
 quiet_so (gathered.Refuses start end) result lacks whole has = refl
 quiet_so gathered.Ends result lacks whole has = refl
 
-pub finished : (old mid new : TextView) (asked : Wanted) (stop : Gathered) (result : Result Answer IoFault) → old.buffer.life ≡ life.Live → old.buffer.can.readable ≡ true → IsJoined (over_of new) → KeepsPlace old mid → (asks_none asked ≡ true → mid.buffer ≡ old.buffer) → GatherOutcome old asked (Ok stop) mid → OnlyWhereWaits stop (waited_in result) → WaitsOrLacks stop result → Finishes mid asked result new → Answers (state_of old false) (call_of asked) (reply_of result) (state_of new (waited_in result))
-finished old mid new asked stop result live can joined place nothing outcome only lacks done =
+pub finished : (old mid new : TextView) (asked : Wanted) (stop : Gathered) (result : Result Answer IoFault) → old.buffer.life ≡ life.Live → old.buffer.can.readable ≡ true → IsJoined (over_of new) → KeepsPlace old mid → (asks_none asked ≡ true → mid.buffer ≡ old.buffer) → GathersAsNeeded old asked mid → GatherOutcome old asked (Ok stop) mid → OnlyWhereWaits stop (waited_in result) → WaitsOrLacks stop result → Finishes mid asked result new → Answers (state_of old false) (call_of asked) (reply_of result) (state_of new (waited_in result))
+finished old mid new asked stop result live can joined place nothing needs outcome only lacks done =
     let reads : Reads old.buffer (gathers_wait (Ok stop)) false new.buffer = subst (Reads old.buffer (gathers_wait (Ok stop)) false) (sym done.buffer) outcome.0 in
     let same : WhereShown old.buffer (shown_file mid ≡ shown_file old) = λ told. same_file old mid (outcome.0.bytes told) outcome.0.keeps.can outcome.0.life_is place in
     let tells_mid = tells_still old.buffer.raw mid.buffer.raw outcome.0.keeps.raw in
@@ -263,6 +268,7 @@ finished old mid new asked stop result live can joined place nothing outcome onl
       place = subst (λ (own : TextPlace). PlaceMoves (call_of asked) (waited_in result) (reply_of result) own new.buffer.place (place_of new)) (same_place old mid place)
           (subst (λ (buffer : Buffer). PlaceMoves (call_of asked) (waited_in result) (reply_of result) (place_of mid) buffer.place (place_of new)) (sym done.buffer) done.place);
       joined = joined;
+      needs = λ told. subst (λ (buffer : Buffer). AsksAsNeeded (shown_file old) (call_of asked) old.settings.chunk_size (max old.buffer.place old.at) buffer.place) (sym done.buffer) (needs told);
       told = λ told. subst (λ (faulted : Bool). TextFileStep (shown_file old) (call_of asked) (reply_of result) (waited_in result) faulted (shown_file new)) (sym done.sound)
           (subst (λ (file : TextFile). TextFileStep file (call_of asked) (reply_of result) (waited_in result) false (shown_file new)) (same told) (done.told (tells_mid ∙ told)));
       hides = λ is. let hidden = done.hides is in (hidden.0, λ told. hidden.1 (tells_mid ∙ told));

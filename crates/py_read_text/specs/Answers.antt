@@ -25,6 +25,7 @@ use Rattle.py_stream.specs.Answers.{HasCauses}
 use Rattle.py_stream.specs.Buffer.{Buffer, WhereShown, KeepsBuffer, IsClosedWithRaw, parts_when_closed, StandsAsCounted}
 use Rattle.py_read_text.specs.TextState.{TextState, file_of}
 use Rattle.py_read_text.specs.Waiting.{ShowsAll}
+use Rattle.py_read_text.specs.Ahead.{ReadsNoFurther}
 use Rattle.py_read_text.specs.Owing.{IsJoined, OwesOn, Starves, StopsOwing, KeepsOpen, Closes}
 
 -- what the answer of a reading says, in the model's words
@@ -284,6 +285,8 @@ pub record Answers (before : TextState) (call : TextFileCall) (reply : FileReply
   pub stands : StandsWhileLive before.text.buffer → StandsWhileLive after.text.buffer
   -- where the raw tells, the call is a step of the model
   pub told : WhereShown before.text.buffer (TextFileStep (file_of before) call reply after.short (says_fault reply) (file_of after))
+  -- a reading asks for no chunk that it needn't
+  pub needs : gives_text call ≡ true → ReadsNoFurther before call after
   -- a wait hides nothing, where the text itself owes nothing
   pub hides : IsTrue after.short → gives_text call ≡ true → after.text.owed ≡ [] → HidesNothing before after
   -- what a wait leaves that ended a call which hands bytes on

@@ -1,5 +1,6 @@
 pub mod TextState
 pub mod Waiting
+pub mod Ahead
 pub mod Owing
 pub mod Answers
 pub mod Knowing

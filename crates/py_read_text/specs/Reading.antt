@@ -1,5 +1,5 @@
 -- How a text reads: the steps of a call.
-use Rattle.std.specs.Prelude.{◌≡◌, ℕ, zero, ◌+◌, ◌*◌, ◌≤◌, ◌≢◌, ◌⊎◌, ◌||◌, Bool, true, false, not, IsTrue, String, List, [], ◌++◌, length, take, drop, Option, Some, None, Result, Ok, Err, Vec, if◌then◌else◌}
+use Rattle.std.specs.Prelude.{◌≡◌, ℕ, zero, ◌+◌, ◌*◌, ◌≤◌, ◌≢◌, ◌⊎◌, ◌||◌, Bool, true, false, not, IsTrue, String, List, [], ◌++◌, length, take, drop, max, Option, Some, None, Result, Ok, Err, Vec, if◌then◌else◌}
 use Rattle.std.specs.declared.alloc.Global.{Global}
 use Rattle.py_flat.specs.declared.fault.IoFault.{IoFault}
 use Rattle.py_flat.specs.declared.fault.IoFault.TheVariants as fault
@@ -37,6 +37,7 @@ use Rattle.py_stream.specs.Kinds.{says_fault, says_no_memory}
 use Rattle.py_read_text.specs.declared.read_text.Answer.{Answer}
 use Rattle.py_read_text.specs.declared.read_text.Answer.TheVariants as answer
 use Rattle.py_read_text.specs.Waiting.{ShowsAll}
+use Rattle.py_read_text.specs.Ahead.{AsksAsNeeded}
 use Rattle.py_read_text.specs.Owing.{PassesOwed}
 use Rattle.py_read_text.specs.Answers.{SparesBytes, StandsWhileLive, IsReplyTo, IsShort, PlaceMoves}
 
@@ -183,10 +184,11 @@ pub record KeepsPlace (old new : TextView) : Type 0 where
 abbrev pub HoldsAsBefore : TextView → TextView → Type 0
 HoldsAsBefore old new = new.held ≡ record old.held { room = new.held.room }
 
--- bytes came behind those in hand
+-- bytes came behind those in hand, no more than a chunk of them
 pub record Brings (old new : TextView) : Type 0 where
   pub part : List ℕ
   pub some : part ≢ []
+  pub few : length part ≤ old.settings.chunk_size
   pub held : new.held ≡ record old.held { bytes = old.held.bytes ++ part; room = new.held.room }
   pub reads : Reads old.buffer false false new.buffer
   pub place : new.buffer.place ≡ old.buffer.place + length part
@@ -250,11 +252,16 @@ GatherStop asked (Err other) new = ⊥
 abbrev pub GatherOutcome : TextView → Wanted → Result Gathered IoFault → TextView → Type 0
 GatherOutcome old asked result new = Reads old.buffer (gathers_wait result) (gathers_fault result) new.buffer × GatherStop asked result new
 
--- so far nothing but bytes came; of a call that asks for no character none were asked for
+-- told, a call asked its buffer for no chunk that it needn't
+abbrev pub GathersAsNeeded : TextView → Wanted → TextView → Type 0
+GathersAsNeeded old asked new = WhereShown old.buffer (AsksAsNeeded (shown_file old) (call_of asked) old.settings.chunk_size (max old.buffer.place old.at) new.buffer.place)
+
+-- so far nothing but bytes came, as they were needed; of a call that asks for no character none were asked for
 pub record Gathers (old : TextView) (asked : Wanted) (new : TextView) : Type 0 where
   pub place : KeepsPlace old new
   pub reads : Reads old.buffer false false new.buffer
   pub nothing : asks_none asked ≡ true → new.buffer ≡ old.buffer
+  pub needs : GathersAsNeeded old asked new
 
 -- the first of the known characters are given and taken
 abbrev pub GiveOutcome : TextView → ℕ → Bool → Result (String Global) IoFault → TextView → Type 0

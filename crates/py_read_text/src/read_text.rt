@@ -14,7 +14,7 @@ ghost use Rattle.py_plain_text.specs.TextStep.{asks_any};
 ghost use Rattle.py_stream.specs.Writing.{OwesUpTo, Takes};
 ghost use Rattle.py_stream.specs.Buffer.{WhereShown, flat_of, stream_shown, AnswersAsBuffer};
 ghost use Rattle.py_held_text.specs.Finding.{IsFrontOf, answer_of};
-ghost use Rattle.py_read_text.specs.Reading.{size_of, asks_all, KeepsPlace, FetchOutcome, GatherOutcome, asks_none, GiveOutcome, GiveAllOutcome, GatheredAt, Finishes, OnlyWhereWaits, WaitsOrLacks, reply_of, call_of, waited_in};
+ghost use Rattle.py_read_text.specs.Reading.{size_of, asks_all, KeepsPlace, FetchOutcome, GatherOutcome, GathersAsNeeded, asks_none, GiveOutcome, GiveAllOutcome, GatheredAt, Finishes, OnlyWhereWaits, WaitsOrLacks, reply_of, call_of, waited_in};
 ghost use Rattle.py_read_text.specs.Knowing.{over_of, state_of, IsClean};
 ghost use Rattle.py_read_text.specs.Writing.{StandsBehind, ReturnOutcome};
 ghost use Rattle.py_read_text.specs.Owing.{IsJoined};
@@ -334,6 +334,7 @@ impl<B: BufferedStream> ReadText<B> {
         ensures keeps { KeepsPlace self.old self.new }
         ensures outcome { GatherOutcome self.old wanted result self.new }
         ensures nothing { asks_none wanted ≡ true → self.new.buffer ≡ self.old.buffer }
+        ensures needs { GathersAsNeeded self.old wanted self.new }
     {
         // What holds of every text is known from here on.
         let _ = &self.held;

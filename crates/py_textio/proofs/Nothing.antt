@@ -92,6 +92,7 @@ none_answers (Characters size) old was live can none joined = record {
   tied = record { owed = λ can. refl; life_is = λ can was. was };
   stands = λ stood. stood;
   told = λ told. none_step (file_now old) (Characters size) live can none;
+  needs = λ gives told. inl (omega arith);
   hides = λ short. absurd (cc);
   passes = tt;
   kept = tt;
@@ -119,6 +120,7 @@ none_answers (Line limit) old was live can none joined = record {
   tied = record { owed = λ can. refl; life_is = λ can was. was };
   stands = λ stood. stood;
   told = λ told. none_step (file_now old) (Line limit) live can none;
+  needs = λ gives told. inl (omega arith);
   hides = λ short. absurd (cc);
   passes = tt;
   kept = tt;

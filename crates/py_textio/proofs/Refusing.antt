@@ -119,6 +119,7 @@ refused text was call why is own once joined =
       tied = record { owed = λ can. refl; life_is = λ can was. was };
       stands = λ stood. stood;
       told = λ told. subst (λ (faulted : Bool). TextFileStep (file_now text) call (Refused why) false faulted (file_now text)) (sym quiet) (step_refused (file_now text) call why is);
+      needs = λ gives told. inl (omega arith);
       hides = λ short. absurd (cc);
       passes = passes_refused (state_of text was) call why (state_of text false);
       kept = keeps_refused call why (state_of text false);
@@ -241,6 +242,7 @@ closed_again now text was same is joined =
       tied = record { owed = λ can. refl; life_is = λ can was. was };
       stands = λ stood. stood;
       told = λ told. closed_step (file_now text) is;
+      needs = λ gives. absurd (cc);
       hides = λ short. absurd (cc);
       passes = λ live. let never : life.Closed ≡ life.Live = sym is ∙ live in absurd (cc);
       kept = tt;
@@ -310,6 +312,7 @@ chunks_so now text new was size same live some joined is =
       tied = record { owed = λ can. refl; life_is = λ can was. was };
       stands = λ stood. stood;
       told = λ told. chunk_step (file_now text) size live some;
+      needs = λ gives. absurd (cc);
       hides = λ short. absurd (cc);
       passes = tt;
       kept = tt;
@@ -379,6 +382,7 @@ over_short now text was call reply after same passes answers = subst (λ (before
   tied = record { owed = answers.tied.owed; life_is = answers.tied.life_is };
   stands = answers.stands;
   told = answers.told;
+  needs = answers.needs;
   hides = λ is gives own. let hidden = answers.hides is gives own in record { empty = hidden.empty; shows = hidden.shows };
   stops = answers.stops;
   passes = passes;

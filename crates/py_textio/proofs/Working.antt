@@ -35,6 +35,7 @@ answers_work old call reply new short works = record {
   tied = record { owed = λ can. let never = sym works.writes ∙ can in absurd (cc); life_is = λ can was. let never = sym works.writes ∙ can in absurd (cc) };
   stands = works.calls.stands;
   told = works.told;
+  needs = works.needs;
   hides = λ is gives none. works.hides is gives none;
   passes = works.passes;
   kept = works.kept;

@@ -7,6 +7,7 @@ use Rattle.py_plain_text.specs.TextRefusals.{refusal}
 use Rattle.py_plain_text.specs.TextAllowed.{TextFileStep}
 use Rattle.py_stream.specs.Kinds.{says_fault}
 use Rattle.py_stream.specs.Buffer.{WhereShown}
+use Rattle.py_read_text.specs.Ahead.{ReadsNoFurther}
 use Rattle.py_read_text.specs.Answers.{calls_nothing, passes_on, gives_text, IsReplyTo, IsComplete, IsShort, PlaceMoves, WriteMoves, LifeMoves, settings_after, closes_again, WantsMemory, ClosesWithRaw, HidesNothing, TextPasses, TextKeeps}
 use Rattle.py_read_text.specs.Owing.{IsJoined, OwesOn, Starves, StopsOwing, KeepsOpen, Closes}
 use Rattle.py_textio.specs.Written.{WrittenView, place_now, over_of, state_of, file_now, CallsBuffer}
@@ -39,6 +40,7 @@ pub record Works (old : WrittenView) (call : TextFileCall) (reply : FileReply) (
   pub wants : WantsMemory call reply old.text.buffer
   pub shut : old.pending ≡ [] → ClosesWithRaw call old.text.buffer reply new.text.buffer
   pub told : WhereShown old.text.buffer (TextFileStep (file_now old) call reply short (says_fault reply) (file_now new))
+  pub needs : gives_text call ≡ true → ReadsNoFurther (state_of old false) call (state_of new short)
   pub hides : IsTrue short → gives_text call ≡ true → new.pending ≡ [] → HidesNothing (state_of old false) (state_of new short)
   pub passes : TextPasses (state_of old false) call reply (state_of new short)
   pub kept : TextKeeps call reply (state_of new short)

@@ -189,6 +189,8 @@ impl<B: BufferedStream> WrittenText<B> {
         ensures outcome { SettleOutcome self.old result self.new }
         ensures joined { IsJoined (over_of self.new) }
         ensures writes { self.old.text.buffer.can.writable ≡ true }
+        ensures stood { self.old.text.at ≡ self.old.text.buffer.place }
+        ensures there { self.new.text.at ≡ self.new.text.buffer.place }
     {
         // What holds of every text is known from here on.
         let _ = &self.life;

@@ -1,16 +1,17 @@
-use Rattle.std.proofs.Common.{sym, subst, false}
+use Rattle.std.proofs.Common.{sym, ap, ◌∙◌, subst, false}
 use Rattle.std.proofs.lemmas.Result.{err_from_is_err_and}
 use Rattle.py_read_text.specs.Knowing.{TextView}
 use Rattle.py_read_text.specs.Reading.{IsAtEnd, Reads}
 use Rattle.py_read_text.proofs.Fetching.{reads_on}
-use Rattle.py_read_text.proofs.Gathering.{gathers_more, holds_ended, asks_some, failed, waited, ended}
+use Rattle.py_read_text.proofs.Ahead.{needs_at}
+use Rattle.py_read_text.proofs.Gathering.{fails_there, gathers_more, holds_ended, asks_some, failed, waited, ended}
 use Rattle.py_read_text.proofs.read_text.ReadText.gather.Goals as goal
 
 pub loop-stop-preserved : goal.loop-stop-preserved
 loop-stop-preserved g c =
     let looked = rw c.in_default.is at c.in_ok-stop.ensures.outcome in
     let came = rw c.in-More.is at c.in_ok-fetch.ensures.outcome in
-    gathers_more _ _ _ _ _ c.args.wanted c.loop-stop.invariant c.self-in-loop-stop.view_is looked.0 came c.in_ok-fetch.ensures.keeps
+    gathers_more _ _ _ _ _ c.args.wanted c.requires.live c.requires.reads c.loop-stop.invariant c.self-in-loop-stop.view_is c.self-in-loop-stop.invariant c.look.ensures.follows looked.0 looked.1 came c.in_ok-fetch.ensures.keeps
 
 pub invariant_of-self-in-End : goal.invariant_of-self-in-End
 invariant_of-self-in-End g c =
@@ -46,3 +47,19 @@ returns-in-Waits-clause-outcome g c =
     let came = rw c.in-Waits.is at c.in_ok-fetch.ensures.outcome in
     let reads = subst (λ (view : TextView). Reads c.args.self.now.buffer false false view.buffer) (sym c.self-in-loop-stop.view_is) c.loop-stop.invariant.reads in
     waited c.args.self.now _ c.fetch.new.self c.args.wanted reads looked came
+
+pub returns-in-Some-clause-needs : goal.returns-in-Some-clause-needs
+returns-in-Some-clause-needs g c = needs_at c.args.self.now c.loop-stop.self c.args.wanted _ (ap (λ (view : TextView). view.buffer.place) c.self-in-loop-stop.view_is) c.loop-stop.invariant.needs
+
+pub returns-in_err-fetch-clause-needs : goal.returns-in_err-fetch-clause-needs
+returns-in_err-fetch-clause-needs g c = needs_at c.args.self.now c.loop-stop.self c.args.wanted _ (fails_there _ c.fetch.new.self c.in_err-fetch.field-0.0 c.in_err-fetch.ensures.outcome ∙ ap (λ (view : TextView). view.buffer.place) c.self-in-loop-stop.view_is) c.loop-stop.invariant.needs
+
+pub returns-in-End-clause-needs : goal.returns-in-End-clause-needs
+returns-in-End-clause-needs g c =
+    let came = rw c.in-End.is at c.in_ok-fetch.ensures.outcome in
+    needs_at c.args.self.now c.loop-stop.self c.args.wanted _ (ap (λ (view : TextView). view.buffer.place) c.self-in-loop-stop-2.view_is ∙ (came.0.place ∙ ap (λ (view : TextView). view.buffer.place) c.self-in-loop-stop.view_is)) c.loop-stop.invariant.needs
+
+pub returns-in-Waits-clause-needs : goal.returns-in-Waits-clause-needs
+returns-in-Waits-clause-needs g c =
+    let came = rw c.in-Waits.is at c.in_ok-fetch.ensures.outcome in
+    needs_at c.args.self.now c.loop-stop.self c.args.wanted _ (came.0.place ∙ ap (λ (view : TextView). view.buffer.place) c.self-in-loop-stop.view_is) c.loop-stop.invariant.needs
