@@ -23,7 +23,7 @@ use Rattle.py_read_text.specs.TextState as over
 use Rattle.py_read_text.specs.Answers as over_answers
 use Rattle.py_text_reader.specs.Seen.{seen, OnlyReads}
 use Rattle.py_text_reader.specs.TextState.{TextState}
-use Rattle.py_text_reader.specs.Answers.{AnswersText, Answers, LeavesText, closes_again, IsAnswerTo, IsReplyTo, IsComplete, WantsMemory, ClosesSound, PlaceMoves, GoesToEnd, TextMoves, life_after}
+use Rattle.py_text_reader.specs.Answers.{AnswersText, Answers, LeavesText, closes_again, IsAnswerTo, IsReplyTo, IsComplete, calls_nothing, IsCounted, WantsMemory, ClosesSound, PlaceMoves, GoesToEnd, TextMoves, life_after}
 use Rattle.py_text_reader.proofs.SoFar.{step_so_far}
 use Rattle.py_raw.proofs.Telling.{tells_its_bytes, tells_its_place, tells_still}
 use Rattle.py_read_text.specs.Waiting.{ShowsAll}
@@ -111,6 +111,18 @@ wants_so call reply buffer wants = grind arith
 sound_so : (call : TextCall) (reply : FileReply) (old new : Raw) → (IsTrue old.counts_exactly → says_fault reply ≡ false → new.faults ≡ old.faults) → ClosesSound call reply old new
 sound_so call reply old new counted = grind arith
 
+nothing_so : (call : TextCall) → over_answers.calls_nothing (whole_call call) ≡ calls_nothing call
+nothing_so call = grind arith
+
+-- a text that owes nothing hands its buffer nothing in a call that writes nothing
+passes_none : (owed : List ℕ) (call : TextCall) → owed ≡ [] → over_answers.passes_on owed (whole_call call) ≡ false
+passes_none owed call none = grind arith
+
+counted_so : (before : over.TextState) (call : TextCall) (reply : FileReply) (after : over.TextState) → OnlyReads before → over_answers.IsCounted before (whole_call call) reply after → IsCounted before.text.buffer.raw reply after.text.buffer.raw after.short
+counted_so before call reply after reads counts =
+    let ends = counts.ends (passes_none before.text.owed call reads.own) in
+    record { faults = counts.faults; waits = ends.waits; once = ends.once; most = ends.most }
+
 accepted_kind : (file : TextFile) → text_refusal file far.OtherKind ≢ None
 accepted_kind file none = grind arith
 
@@ -167,6 +179,8 @@ answers_so before call reply after reads answers =
         written = spares.written;
         flat = λ tells. bytes_are after still ∙ spares.bytes tells ∙ sym (bytes_are before reads);
         causes = answers.causes;
+        counted = λ exactly. counted_so before call reply after reads (answers.counted exactly);
+        nothing = λ none. ap (λ (buffer : Buffer). buffer.raw) (answers.nothing (nothing_so call ∙ none));
         shorts = answers.shorts;
         wants = wants_so call reply before.text.buffer answers.wants;
         sound = sound_so call reply old new (λ exactly quiet. (answers.counted exactly).faults quiet);

@@ -1,16 +1,16 @@
 -- The one clause of all calls of a text that is read: what a call may answer and leave, over any raw.
-use Rattle.std.specs.Prelude.{◌≡◌, ◌≢◌, ℕ, ◌≤◌, Bool, true, false, IsTrue, List, [], length, Option, Some, None, Result, Ok, Err}
+use Rattle.std.specs.Prelude.{◌≡◌, ◌≢◌, ◌⊎◌, ℕ, zero, ◌≤◌, Bool, true, false, IsTrue, List, [], length, Option, Some, None, Result, Ok, Err}
 use Rattle.py_flat.specs.declared.fault.IoFault.{IoFault}
 use Rattle.py_flat.specs.declared.fault.IoFault.TheVariants as fault
 use Rattle.py_flat.specs.declared.life.Life.{Life}
 use Rattle.py_flat.specs.declared.life.Life.TheVariants as life
 use Rattle.py_flat.specs.Calls.{FileReply, Text, Done, NotReady, Refused}
-use Rattle.py_flat.specs.Causes.{rose}
+use Rattle.py_flat.specs.Causes.{rose, counted}
 use Rattle.py_flat.specs.ExactStep.{is_closed}
 use Rattle.py_plain_text.specs.TextFile.{TextPlace, clean_at, TextFile}
-use Rattle.py_plain_text.specs.TextStep.{TextCall, Read, ReadLine, Close, text_refusal, asks_any, place_taking, TextStep}
+use Rattle.py_plain_text.specs.TextStep.{TextCall, Read, ReadLine, Close, OtherKind, text_refusal, asks_any, place_taking, TextStep}
 use Rattle.py_raw.specs.RawStream.{Raw, Keeps, KeepsBytes, WhereBytes, WhereTold, NoFault, AnswersFor}
-use Rattle.py_stream.specs.Kinds.{says_fault}
+use Rattle.py_stream.specs.Kinds.{says_fault, says_no_memory}
 use Rattle.py_stream.specs.Answers.{ClosedWith, HasCauses}
 use Rattle.py_read_text.specs.Waiting.{ShowsAll}
 use Rattle.py_read_text.specs.Answers.{IsShort, TakesText}
@@ -47,14 +47,13 @@ pub record GoesToEnd (before after : TextPlace) : Type 0 where
   pub clean : after ≡ clean_at after.at before.order
   pub forth : before.at ≤ after.at
 
--- the place after each reply; after a fault it isn't told
+-- the place after each reply; a fault leaves it
 abbrev pub PlaceMoves : TextCall → Bool → FileReply → TextPlace → TextPlace → Type 0
 PlaceMoves (Read None) false (Text characters) before after = GoesToEnd before after
 PlaceMoves (Read size) true (Text characters) before after = TakesText size characters true before after
 PlaceMoves (Read size) false (Text characters) before after = TakesText size characters (asks_any size) before after
 PlaceMoves (ReadLine limit) true (Text characters) before after = TakesText limit characters true before after
 PlaceMoves (ReadLine limit) false (Text characters) before after = TakesText limit characters (asks_any limit) before after
-PlaceMoves call short (Refused fault.RawFault) before after = Unit {0}
 PlaceMoves call short reply before after = after ≡ before
 
 -- what every call keeps of a text, and what it moves
@@ -95,6 +94,21 @@ IsReplyTo call (Refused fault.RawFault) = Unit {0}
 IsReplyTo call NotReady = Unit {0}
 IsReplyTo call reply = IsAnswerTo call reply
 
+-- calls that ask for no character, or that texts don't have
+abbrev pub calls_nothing : TextCall → Bool
+calls_nothing (Read (Some zero)) = true
+calls_nothing (ReadLine (Some zero)) = true
+calls_nothing OtherKind = true
+calls_nothing call = false
+
+-- where the counts are exact: each fault is answered, and a wait ends the call: it is answered, but where what came by then can't be given
+-- for want of memory
+pub record IsCounted (old : Raw) (reply : FileReply) (new : Raw) (short : Bool) : Type 0 where
+  pub faults : says_fault reply ≡ false → new.faults ≡ old.faults
+  pub waits : short ≡ false → says_no_memory reply ≡ false → new.waits ≡ old.waits
+  pub once : IsTrue short → new.waits ≡ counted old.waits 1
+  pub most : (new.waits ≡ old.waits) ⊎ (new.waits ≡ counted old.waits 1)
+
 -- an accepted call in which no count rose is answered so, and whole
 pub record IsComplete (call : TextCall) (reply : FileReply) (short : Bool) : Type 0 where
   pub answer : IsAnswerTo call reply
@@ -118,6 +132,10 @@ pub record AnswersText (before : TextFile) (old : Raw) (call : TextCall) (reply 
   pub flat : WhereBytes old (after.bytes ≡ before.bytes)
   -- a short answer and a fault have their cause in the raw's counts
   pub causes : HasCauses old reply new short
+  -- no fault goes unanswered, and a wait ends the call, over a raw that counts exactly
+  pub counted : IsTrue old.counts_exactly → IsCounted old reply new short
+  -- a reading of no characters, and a call that texts lack, leave the raw as it was
+  pub nothing : calls_nothing call ≡ true → new ≡ old
   -- which answers are short
   pub shorts : IsShort reply short
   -- a close needs no memory but its raw's
