@@ -1,2 +1,4 @@
 pub mod Keeping
 pub mod ReadBack
+pub mod SoughtBack
+pub mod Unasked

@@ -1,13 +1,22 @@
-ghost use Rattle.std.specs.Prelude.{◌≡◌, ℕ, true, List, length, Some, None};
-ghost use Rattle.py_flat.specs.Calls.{Text};
-ghost use Rattle.py_plain.specs.Units.{Order};
+ghost use Rattle.std.specs.Prelude.{◌≡◌, ℕ, true, false, pos, List, [], ◌∷◌, length, Some, None};
+ghost use Rattle.std.specs.List.{All};
+ghost use Rattle.std.specs.Char.{IsScalar};
+ghost use Rattle.py_flat.specs.Calls.{Text, Count, Cookie};
+ghost use Rattle.py_plain.specs.declared.encoding.Encoding.{Encoding};
+ghost use Rattle.py_plain.specs.Units.{Order, Unknown};
+ghost use Rattle.py_plain.specs.Encode.{text_bytes};
 ghost use Rattle.py_plain_text.specs.TextFile.{TextFile, clean_at};
 ghost use Rattle.py_plain_text.specs.Rest.{text_rest};
-ghost use Rattle.py_plain_text.specs.Telling.{placed};
-ghost use Rattle.py_plain_text.specs.TextCalls.{Read, WriteText};
+ghost use Rattle.py_plain_text.specs.Cookie.{cookie_bytes};
+ghost use Rattle.py_plain_text.specs.Telling.{placed, told};
+ghost use Rattle.py_plain_text.specs.TextWriting.{written_bytes, written_refusal};
+ghost use Rattle.py_plain_text.specs.TextCalls.{Read, WriteText, SeekText, Tell};
 ghost use Rattle.py_plain_text.specs.TextRefusals.{refusal};
 ghost use Rattle.py_plain_text.specs.TextExact.{exact};
-ghost use Rattle.py_text_laws.specs.Written.{NeedsNoHandler, is_kept, rest_behind};
+ghost use Rattle.py_plain_text.specs.TextExamples.{replies_of};
+ghost use Rattle.py_plain_text.specs.CookieLaws.{StandsInText, LiesInReach};
+ghost use Rattle.py_codec.specs.Laws.{writes_runs};
+ghost use Rattle.py_text_laws.specs.Written.{NeedsNoHandler, has_all, is_kept, rest_behind};
 
 /// A text that a file takes, written with no character that a handler had to replace, is what a reading of as many characters
 /// from where it was written gives (`read`): in each encoding, whatever the handler is, what stood there and what stands behind
@@ -22,4 +31,30 @@ pub fn a_written_text_is_read_back()
     ensures read { (file : TextFile) (text : List ℕ) → NeedsNoHandler file.settings.encoding text → is_kept file.settings.newline text ≡ true → refusal file (WriteText text) ≡ None
         → file.can.readable ≡ true → (order : Order)
         → (exact (placed (exact file (WriteText text)).1 (clean_at file.place.at order)) (Read (Some (length text)))).0 ≡ Text text }
+{}
+
+/// The same by calls alone: a text that tells its place, is written, sought to what it told, and read by as many characters as
+/// were written answers the cookie, the count of characters, the cookie again and the text that was written.
+///
+/// It does nothing: what it ensures is a law of the definitions.
+pub fn a_written_text_is_sought_and_read()
+    ensures { (file : TextFile) (text : List ℕ) → StandsInText file → LiesInReach file → file.place.order ≡ Unknown
+        → file.can.readable ≡ true → file.can.seekable ≡ true → file.can.appending ≡ false
+        → NeedsNoHandler file.settings.encoding text → is_kept file.settings.newline text ≡ true → refusal file (WriteText text) ≡ None
+        → let cookie = cookie_bytes (told file) in
+        replies_of file (Tell ∷ WriteText text ∷ SeekText cookie (pos 0) ∷ Read (Some (length text)) ∷ []) ≡ Cookie cookie ∷ Count (length text) ∷ Cookie cookie ∷ Text text ∷ [] }
+{}
+
+/// Which texts need no handler: each in an encoding that has all characters (`unicode`), and each that a handler which refuses
+/// every run let through (`strict`). Such a text is refused for none of its characters (`accepted`), and is written as their own
+/// bytes (`bytes`).
+///
+/// It does nothing: what it ensures is a law of the definitions.
+pub fn texts_that_need_no_handler()
+    ensures unicode { (encoding : Encoding) (text : List ℕ) → has_all encoding ≡ true → All IsScalar text → NeedsNoHandler encoding text }
+    ensures strict { (file : TextFile) (text : List ℕ) → writes_runs file.settings.handler ≡ false → All IsScalar text → refusal file (WriteText text) ≡ None
+        → NeedsNoHandler file.settings.encoding text }
+    ensures accepted { (file : TextFile) (text : List ℕ) → NeedsNoHandler file.settings.encoding text → written_refusal file.settings text ≡ None }
+    ensures bytes { (file : TextFile) (text : List ℕ) → NeedsNoHandler file.settings.encoding text → is_kept file.settings.newline text ≡ true
+        → text_bytes file.settings.encoding text ≡ Some (written_bytes file.settings text) }
 {}
