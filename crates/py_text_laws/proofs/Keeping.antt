@@ -1,5 +1,5 @@
 -- Texts that a newline rule writes and reads as they are, and their bytes.
-use Rattle.std.proofs.Common.{◌≡◌, inl, inr, ℕ, Bool, true, false, not, ◌||◌, nat_eq, if◌then◌else◌, List, [], ◌∷◌, ◌++◌, Option, Some, None, is_some, refl, sym, ap, ◌∙◌, append_assoc}
+use Rattle.std.proofs.Common.{◌≡◌, inl, inr, ℕ, Bool, true, false, not, ◌||◌, nat_eq, if◌then◌else◌, List, [], ◌∷◌, ◌++◌, Option, Some, refl, sym, ap, ◌∙◌, append_assoc}
 use Rattle.std.specs.List.{All}
 use Rattle.std.specs.Char.{IsScalar}
 use Rattle.std.proofs.lemmas.Bool.{cases_Bool, cond-true, cond-false, eqb-true, and_parts}
@@ -13,6 +13,7 @@ use Rattle.py_plain.specs.Encode.{own_bytes, joined_bytes, text_bytes}
 use Rattle.py_plain.specs.NewlineRule.{released, universal, ends_held, translated}
 use Rattle.py_plain.proofs.Translating.{finished}
 use Rattle.py_plain_text.specs.TextWriting.{written_as, written}
+use Rattle.py_codec.proofs.Refusals.{some_bytes}
 use Rattle.py_text_laws.specs.Written.{HasBytes, NeedsNoHandler, is_without, is_kept}
 
 -- The bytes of a text.
@@ -21,15 +22,11 @@ use Rattle.py_text_laws.specs.Written.{HasBytes, NeedsNoHandler, is_without, is_
 abbrev pub HasText : Encoding → List ℕ → Type 0
 HasText encoding text = (bytes : List ℕ) × (text_bytes encoding text ≡ Some bytes)
 
-is_there : (own : Option (List ℕ)) → is_some own ≡ true → (bytes : List ℕ) × (own ≡ Some bytes)
-is_there None is = absurd (cc)
-is_there (Some bytes) is = (bytes, refl)
-
 -- a text whose characters all have bytes has bytes
 pub text_there : (encoding : Encoding) (text : List ℕ) → NeedsNoHandler encoding text → HasText encoding text
 text_there encoding [] all = ([], refl)
 text_there encoding (c ∷ text) all =
-    let own = is_there (own_bytes encoding c) (All-head (HasBytes encoding) c text all).1 in
+    let own = some_bytes (own_bytes encoding c) (sym (All-head (HasBytes encoding) c text all).1) in
     let behind = text_there encoding text (All-tail (HasBytes encoding) c text all) in
     (own.0 ++ behind.0, ap (λ (o : Option (List ℕ)). joined_bytes o (text_bytes encoding text)) own.1 ∙ ap (joined_bytes (Some own.0)) behind.1)
 

@@ -1,6 +1,7 @@
 -- A text that is told, written, sought and read by its calls.
-use Rattle.std.proofs.Common.{◌≡◌, ℕ, zero, pos, nat_eq, Bool, true, false, not, ◌&&◌, ◌||◌, List, [], ◌∷◌, length as len, find, Some, None, refl, sym, ap, ◌∙◌}
+use Rattle.std.proofs.Common.{◌≡◌, ℕ, zero, pos, nat_eq, Bool, true, false, not, List, [], ◌∷◌, length as len, find, Option, Some, None, refl, sym, ap, ◌∙◌}
 use Rattle.std.proofs.lemmas.Bool.{cond-true}
+use Rattle.py_flat.specs.declared.fault.IoFault.{IoFault}
 use Rattle.py_flat.specs.declared.fault.IoFault.TheVariants as fault
 use Rattle.py_flat.specs.declared.life.Life.{Life}
 use Rattle.py_flat.specs.declared.life.Life.TheVariants as life
@@ -8,8 +9,7 @@ use Rattle.py_flat.specs.Calls.{FileReply, Text, Count, Cookie as CookieReply}
 use Rattle.py_flat.specs.Refusals.{or_else, refused_if}
 use Rattle.py_plain.specs.Units.{Order, Unknown}
 use Rattle.py_plain_text.specs.TextFile.{TextFile, clean_at}
-use Rattle.py_plain_text.specs.Cookie.{Cookie, boundary_cookie, cookie_bytes, flags_of, parsed}
-use Rattle.py_plain_text.specs.Landing.{accepts_flags, is_valid_cookie}
+use Rattle.py_plain_text.specs.Cookie.{Cookie, boundary_cookie, cookie_bytes, flags_of}
 use Rattle.py_plain_text.specs.Telling.{placed, gives_rest, boundaries, told_at, told}
 use Rattle.py_plain_text.specs.TextCalls.{TextFileCall, Read, WriteText, SeekText, Tell}
 use Rattle.py_plain_text.specs.TextRefusals.{refusal, life_refusal, dirty_refusal, argument_refusal}
@@ -20,8 +20,8 @@ use Rattle.py_plain_text.proofs.Standing.{or_none, test_none, all_none}
 use Rattle.py_plain_text.proofs.Building.{cookie_back}
 use Rattle.py_plain_text.proofs.Inside.{same_way}
 use Rattle.py_plain_text.proofs.Told.{gives_here}
-use Rattle.py_plain_text.proofs.Fitting.{told_fits, told_parsed}
-use Rattle.py_plain_text.proofs.Sought.{told_flags}
+use Rattle.py_plain_text.proofs.Fitting.{told_fits}
+use Rattle.py_plain_text.proofs.Sought.{told_then_sought}
 use Rattle.py_text_laws.specs.Written.{NeedsNoHandler, is_kept}
 use Rattle.py_text_laws.proofs.ReadBack.{after, exact_written, lives_by, read_back}
 
@@ -49,15 +49,10 @@ free_to_tell was seekable lives able = rw (lives, able) refl
 exact_told : (file : TextFile) → file.life ≡ life.Live → file.can.seekable ≡ true → exact file Tell ≡ (CookieReply (cookie_bytes (told file)), file)
 exact_told file lives able = ap (answered file Tell) (free_to_tell file.life file.can.seekable lives able)
 
-free_to_seek : (was : Life) (seekable appending valid : Bool) (cookie : List ℕ) → was ≡ life.Live → seekable ≡ true → appending ≡ false → valid ≡ true → or_else (life_refusal was (SeekText cookie (pos zero))) (or_else (refused_if (not seekable || (appending || false)) fault.Unsupported) (or_else None (or_else (refused_if (not valid) fault.InvalidCookie) None))) ≡ None
-free_to_seek was seekable appending valid cookie lives able forward is = rw (lives, able, forward, is) refl
-
-valid_there : (file : TextFile) → StandsInText file → LiesInReach file → file.place.order ≡ Unknown → is_valid_cookie file.settings.encoding (parsed (cookie_bytes (told file))) ≡ true
-valid_there file stands reach order =
-    ap (is_valid_cookie file.settings.encoding) (told_parsed file stands reach)
-    ∙ (ap (λ (b : Bool). b && accepts_flags file.settings.encoding (told file).dec_flags) (told_fits file stands reach).natural
-    ∙ (ap (accepts_flags file.settings.encoding) (told_flags file)
-    ∙ ap (λ (o : Order). accepts_flags file.settings.encoding (pos (flags_of o))) order))
+-- what is answered with a cookie was not refused
+answered_free : (file : TextFile) (call : TextFileCall) (why : Option IoFault) (bytes : List ℕ) → (answered file call why).0 ≡ CookieReply bytes → why ≡ None
+answered_free file call None bytes is = refl
+answered_free file call (Some fault) bytes is = absurd (cc)
 
 -- a text in which another was written is sought to the cookie that was told before
 exact_sought : (file : TextFile) (text : List ℕ) → StandsInText file → LiesInReach file → file.place.order ≡ Unknown → file.place.dirty ≡ false → file.life ≡ life.Live → file.can.seekable ≡ true → file.can.appending ≡ false → exact (after file text) (SeekText (cookie_bytes (told file)) (pos zero)) ≡ (CookieReply (cookie_bytes (told file)), placed (after file text) (clean_at file.place.at Unknown))
@@ -65,7 +60,7 @@ exact_sought file text stands reach order clean lives able forward =
     let cookie : List ℕ = cookie_bytes (told file) in
     let here : told file ≡ boundary_cookie file.place.at 0 = told_by_byte file stands clean order in
     let through : refusal (after file text) (SeekText cookie (pos zero)) ≡ None =
-    free_to_seek file.life file.can.seekable file.can.appending (is_valid_cookie file.settings.encoding (parsed cookie)) cookie lives able forward (valid_there file stands reach order) in
+    answered_free file (SeekText cookie (pos zero)) (refusal file (SeekText cookie (pos zero))) cookie (told_then_sought file stands reach lives able forward order).0 in
     ap (answered (after file text) (SeekText cookie (pos zero))) through
     ∙ (ap (text_sought (after file text)) (cookie_back (told file) (told_fits file stands reach).fields)
     ∙ (ap (text_sought (after file text)) here

@@ -1,20 +1,27 @@
 -- Texts of which no handler is asked.
-use Rattle.std.proofs.Common.{◌≡◌, ℕ, ◌+◌, true, false, List, [], ◌∷◌, Option, Some, None, is_some, refl, sym, ap, ◌∙◌}
+use Rattle.std.proofs.Common.{◌≡◌, ℕ, true, false, List, [], ◌∷◌, length as len, Option, Some, None, Ok, is_some, refl, ap}
 use Rattle.std.specs.List.{All}
 use Rattle.std.specs.Char.{IsScalar}
 use Rattle.std.proofs.lemmas.List.Elements.{All-nil, All-cons, All-head, All-tail}
+use Rattle.py_flat.specs.declared.fault.IoFault.{IoFault}
 use Rattle.py_plain.specs.declared.encoding.Encoding.{Encoding}
 use Rattle.py_plain.specs.declared.encoding.Encoding.TheVariants.{Utf8, Latin1, Ascii, Utf16Le, Utf16Be}
 use Rattle.py_plain.specs.declared.handler.Handler.{Handler}
 use Rattle.py_plain.specs.declared.handler.Handler.TheVariants.{Strict, Ignore, Replace, XmlCharRefReplace, BackslashReplace, SurrogatePass, SurrogateEscape}
-use Rattle.py_plain.specs.Encode.{own_bytes, run_length, RefusesRun, EncodeTreatment, encode_treatment, Encoded, first_written, characters_behind, onto_encoded, refused_run, encoded_from}
+use Rattle.py_plain.specs.Encode.{own_bytes, text_bytes, encode_treatment, EncodeEnding, AllWritten, AtRun, Encoded, refused_run, encoded}
+use Rattle.py_plain.proofs.OwnText.{joined_bytes-parts}
 use Rattle.py_plain_text.specs.TextFile.{TextFile}
 use Rattle.py_plain_text.specs.TextWriting.{written_treatment, written_refusal}
 use Rattle.py_plain_text.specs.TextCalls.{WriteText}
 use Rattle.py_plain_text.specs.TextRefusals.{encode_error, dirty_refusal, refusal}
 use Rattle.py_plain_text.proofs.Standing.{or_none, all_none}
+use Rattle.py_codec.specs.declared.handler_ref.HandlerRef.TheVariants.{Builtin}
+use Rattle.py_codec.specs.ErrorHandler.{EncodeMeaning}
+use Rattle.py_codec.specs.Treating.{encode_fault}
+use Rattle.py_codec.specs.Encoding.{encode_ended}
 use Rattle.py_codec.specs.Laws.{writes_runs}
-use Rattle.py_codec.proofs.Texts.{written_from}
+use Rattle.py_codec.specs.Refusing.{strict_ending}
+use Rattle.py_codec.proofs.Texts.{written_from, strict}
 use Rattle.py_text_laws.specs.Written.{HasBytes, NeedsNoHandler, has_all}
 use Rattle.py_text_laws.proofs.Keeping.{text_there}
 
@@ -35,37 +42,35 @@ unicode_has_all encoding (c ∷ text) is scalars =
 
 -- By the handler.
 
-refuses_each : (handler : Handler) (encoding : Encoding) (place : ℕ) (rest : List ℕ) (size : ℕ) → writes_runs handler ≡ false → encode_treatment handler encoding place rest size ≡ RefusesRun
-refuses_each Strict encoding place rest size is = refl
-refuses_each Ignore encoding place rest size is = absurd (cc)
-refuses_each Replace encoding place rest size is = absurd (cc)
-refuses_each XmlCharRefReplace encoding place rest size is = absurd (cc)
-refuses_each BackslashReplace encoding place rest size is = absurd (cc)
-refuses_each SurrogatePass encoding place rest size is = refl
-refuses_each SurrogateEscape encoding place rest size is = refl
+-- a text that has bytes needs no handler
+pub bytes_there : (encoding : Encoding) (text bytes : List ℕ) → All IsScalar text → text_bytes encoding text ≡ Some bytes → NeedsNoHandler encoding text
+bytes_there encoding [] bytes scalars is = All-nil (HasBytes encoding)
+bytes_there encoding (c ∷ text) bytes scalars is =
+    let parts = joined_bytes-parts (own_bytes encoding c) (text_bytes encoding text) bytes is in
+    All-cons (HasBytes encoding) c text (All-head IsScalar c text scalars, ap is_some parts.front_is) (bytes_there encoding text parts.back (All-tail IsScalar c text scalars) parts.back_is)
 
--- an encoding by what is known of the bytes of the first character
-abbrev begun : Encoding → EncodeTreatment → (place c : ℕ) → List ℕ → Option (List ℕ) → Encoded
-begun encoding treat place c text own =
-    let size = run_length encoding (c ∷ text) in
-    let first = first_written treat place (c ∷ text) size own in
-    onto_encoded place size first (encoded_from encoding treat (place + 1) (characters_behind first) text)
+ended_whole : (bytes : List ℕ) (total : ℕ) (fault_of : ℕ → ℕ → IoFault) (ending : EncodeEnding) → refused_run ending ≡ None → encode_ended bytes total fault_of ending ≡ Ok (bytes, total)
+ended_whole bytes total fault_of AllWritten is = refl
+ended_whole bytes total fault_of (AtRun start end) is = absurd (cc)
 
--- where each run is refused and none was, the first character has bytes, and none is refused behind it
-first_has : (encoding : Encoding) (treat : EncodeTreatment) (place c : ℕ) (text : List ℕ) (own : Option (List ℕ)) → treat place (c ∷ text) (run_length encoding (c ∷ text)) ≡ RefusesRun → refused_run (begun encoding treat place c text own).ending ≡ None → (is_some own ≡ true) × (refused_run (encoded_from encoding treat (place + 1) 0 text).ending ≡ None)
-first_has encoding treat place c text (Some bytes) refuses none = (refl, none)
-first_has encoding treat place c text None refuses none =
-    let size = run_length encoding (c ∷ text) in
-    let some : refused_run (begun encoding treat place c text None).ending ≡ Some (place, place + size) =
-    ap (λ first. refused_run (onto_encoded place size first (encoded_from encoding treat (place + 1) (characters_behind first) text)).ending) refuses in
-    let absent : ◌≡◌ {A = Option (ℕ × ℕ)} (Some (place, place + size)) None = sym some ∙ none in
-    absurd (cc)
+no_meaning : ⊥ → EncodeMeaning
+no_meaning none = absurd none
 
-each_has : (encoding : Encoding) (treat : EncodeTreatment) → ((place : ℕ) (rest : List ℕ) (size : ℕ) → treat place rest size ≡ RefusesRun) → (place : ℕ) (text : List ℕ) → All IsScalar text → refused_run (encoded_from encoding treat place 0 text).ending ≡ None → NeedsNoHandler encoding text
-each_has encoding treat refuses place [] scalars none = All-nil (HasBytes encoding)
-each_has encoding treat refuses place (c ∷ text) scalars none =
-    let has = first_has encoding treat place c text (own_bytes encoding c) (refuses place (c ∷ text) (run_length encoding (c ∷ text))) none in
-    All-cons (HasBytes encoding) c text (All-head IsScalar c text scalars, has.0) (each_has encoding treat refuses (place + 1) text (All-tail IsScalar c text scalars) has.1)
+-- a text without a run has bytes
+strict_has : (encoding : Encoding) (text : List ℕ) → refused_run (strict_ending encoding text) ≡ None → text_bytes encoding text ≡ Some (encoded encoding (encode_treatment Strict encoding) text).bytes
+strict_has encoding text is =
+    let made : Encoded = encoded encoding (encode_treatment Strict encoding) text in
+    strict no_meaning encoding text made.bytes (len text) (ended_whole made.bytes (len text) (encode_fault no_meaning (Builtin Strict) encoding text) made.ending is)
+
+-- a handler that refuses every run lets through what strict does
+as_strict : (handler : Handler) (encoding : Encoding) (text : List ℕ) → writes_runs handler ≡ false → refused_run (encoded encoding (encode_treatment handler encoding) text).ending ≡ None → refused_run (strict_ending encoding text) ≡ None
+as_strict Strict encoding text refuses is = is
+as_strict Ignore encoding text refuses is = absurd (cc)
+as_strict Replace encoding text refuses is = absurd (cc)
+as_strict XmlCharRefReplace encoding text refuses is = absurd (cc)
+as_strict BackslashReplace encoding text refuses is = absurd (cc)
+as_strict SurrogatePass encoding text refuses is = is
+as_strict SurrogateEscape encoding text refuses is = is
 
 no_error : (run : Option (ℕ × ℕ)) → encode_error run ≡ None → run ≡ None
 no_error None is = refl
@@ -76,8 +81,8 @@ pub let_through : (file : TextFile) (text : List ℕ) → writes_runs file.setti
 let_through file text refuses scalars accepted =
     let wrong = or_none (dirty_refusal file) _ (all_none file (WriteText text) accepted).1 in
     let run = or_none (encode_error (written_refusal file.settings text)) _ wrong.1 in
-    each_has file.settings.encoding (written_treatment file.settings) (λ place rest size. refuses_each file.settings.handler file.settings.encoding place rest size refuses) 0 text scalars
-    (no_error (written_refusal file.settings text) run.0)
+    let none = as_strict file.settings.handler file.settings.encoding text refuses (no_error (written_refusal file.settings text) run.0) in
+    bytes_there file.settings.encoding text _ scalars (strict_has file.settings.encoding text none)
 
 -- a text that needs no handler is refused for none of its characters
 pub none_refused : (file : TextFile) (text : List ℕ) → NeedsNoHandler file.settings.encoding text → written_refusal file.settings text ≡ None
