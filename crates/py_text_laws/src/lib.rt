@@ -1,4 +1,7 @@
-//! What a text gives back of what was written in it.
+//! What a text gives back of what was written in it: laws of the definitions of texts, in each encoding.
+//!
+//! Each law is what a function without effect ensures. Here are their words (`specs/`): which texts need no handler, and which a
+//! newline rule keeps.
 #![tactic(auto)]
 
 mod laws;
