@@ -16,16 +16,6 @@ pub(crate) enum Reading {
 }
 
 impl Reading {
-    /// What a word asks for; `long` is one line that is the whole file, read as lines are.
-    pub(crate) fn from_word(word: &str) -> Option<Self> {
-        match word {
-            "whole" => Some(Reading::Whole),
-            "lines" | "long" => Some(Reading::Lines),
-            "pieces" => Some(Reading::Pieces),
-            _ => None,
-        }
-    }
-
     /// Reads to the end, and counts the answers that aren't empty, and their bytes.
     pub(crate) fn run<B: BufferedStream>(
         self,
