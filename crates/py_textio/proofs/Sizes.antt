@@ -1,4 +1,4 @@
--- What a text answers hangs on no chunk size.
+-- What a text answers, and what a reading leaves of it, hangs on no chunk size.
 use Rattle.std.proofs.Common.{◌≡◌, ℕ, List, Option, Some, None, not, length, refl}
 use Rattle.py_flat.specs.declared.fault.IoFault.{IoFault}
 use Rattle.py_flat.specs.Bytes.{first_of}
@@ -26,3 +26,23 @@ same_line None file chunk limit =
     let cs : List ℕ = (text_rest file).characters in
     let line : List ℕ = first_line (line_end file.settings.newline) limit cs in
     same_text (range_refusal (not (is_ended (line_end file.settings.newline) limit cs)) (text_rest file).refusal) line (with_chunk_size file chunk) file (after_taking (with_chunk_size file chunk) (length line) (asks_any limit)) (after_taking file (length line) (asks_any limit))
+
+left_text : (refused : Option IoFault) (cs : List ℕ) (file left : TextFile) (chunk : ℕ) → (answered_text (with_chunk_size file chunk) refused cs (with_chunk_size left chunk)).1 ≡ with_chunk_size (answered_text file refused cs left).1 chunk
+left_text (Some why) cs file left chunk = refl
+left_text None cs file left chunk = refl
+
+pub left_read : (refused : Option IoFault) (file : TextFile) (chunk : ℕ) (size : Option ℕ) → (answered (with_chunk_size file chunk) (Read size) refused).1 ≡ with_chunk_size (answered file (Read size) refused).1 chunk
+left_read (Some why) file chunk size = refl
+left_read None file chunk None =
+    let cs : List ℕ = (text_rest file).characters in
+    left_text (range_refusal (asks_past None cs) (text_rest file).refusal) cs file (after_text_read file None cs) chunk
+left_read None file chunk (Some size) =
+    let cs : List ℕ = (text_rest file).characters in
+    left_text (range_refusal (asks_past (Some size) cs) (text_rest file).refusal) (first_of (Some size) cs) file (after_text_read file (Some size) (first_of (Some size) cs)) chunk
+
+pub left_line : (refused : Option IoFault) (file : TextFile) (chunk : ℕ) (limit : Option ℕ) → (answered (with_chunk_size file chunk) (ReadLine limit) refused).1 ≡ with_chunk_size (answered file (ReadLine limit) refused).1 chunk
+left_line (Some why) file chunk limit = refl
+left_line None file chunk limit =
+    let cs : List ℕ = (text_rest file).characters in
+    let line : List ℕ = first_line (line_end file.settings.newline) limit cs in
+    left_text (range_refusal (not (is_ended (line_end file.settings.newline) limit cs)) (text_rest file).refusal) line file (after_taking file (length line) (asks_any limit)) chunk

@@ -19,9 +19,9 @@ const ROUNDS: usize = 24;
 pub(crate) enum Sweep {
     /// Chunks of 1 to 9 bytes and buffers of 1 to 5, over a raw that moves a byte at a time, and one that moves all.
     Sizes,
-    /// A raw that would block before one of its first transfers.
+    /// A raw that would block before one of its first twelve transfers, read in chunks of each size from 1 to 9 bytes.
     Waits,
-    /// A raw of which one of the first calls fails.
+    /// A raw of which one of the first eight calls fails, read in chunks of each of these sizes.
     Faults,
 }
 
@@ -60,8 +60,8 @@ impl Sweep {
     fn runs(self) -> usize {
         match self {
             Sweep::Sizes => 18,
-            Sweep::Waits => 12,
-            Sweep::Faults => 8,
+            Sweep::Waits => 108,
+            Sweep::Faults => 72,
         }
     }
 
@@ -77,16 +77,16 @@ impl Sweep {
             },
             Sweep::Waits => Run {
                 step: 2,
-                wait: Some(number),
+                wait: Some(number / 9),
                 fault: None,
-                chunk_size: 1 + number % 3,
+                chunk_size: 1 + number % 9,
                 buffer_size: 3,
             },
             Sweep::Faults => Run {
                 step: 3,
                 wait: None,
-                fault: Some((number as u64).saturating_add(1)),
-                chunk_size: 2,
+                fault: Some((number as u64 / 9).saturating_add(1)),
+                chunk_size: 1 + number % 9,
                 buffer_size: 2,
             },
         }
