@@ -6,8 +6,8 @@ use Rattle.std.specs.Str.{bytes_eq}
 use Rattle.py_script.specs.declared.options.WordOption.{WordOption}
 use Rattle.py_script.specs.declared.options.WordOption.TheVariants.{Buffering, Encoding, Errors, Newline, ChunkSize}
 use Rattle.py_script.specs.declared.options.Given.{Given}
-use Rattle.py_script.specs.Words.{decimal_value, integer_value}
-use Rattle.py_script.specs.Options.{hex_text, named_option, is_equals, name_of, option_of, nothing_given, given_with, given_with_word, given_with_words, arguments_by, arguments_of}
+use Rattle.py_script.specs.Words.{decimal_value, integer_value, hex_text}
+use Rattle.py_script.specs.Options.{named_option, is_equals, name_of, option_of, nothing_given, given_with, given_with_word, given_with_words, arguments_by, arguments_of}
 
 -- steps that may fail, one after the other
 and_then_assoc : {A B C : Type 0} (f : A → Option B) (h : B → Option C) (o : Option A) → option_and_then (λ x. option_and_then h (f x)) o ≡ option_and_then h (option_and_then f o)

@@ -1,16 +1,18 @@
--- Bytes are written in scripts by the words that replies have for them.
-use Rattle.std.proofs.Common.{◌≡◌, ℕ, true, false, ◌&&◌, eqb, List, [], ◌∷◌, ◌++◌, map, codes, Some, option_map, refl, ap, ◌∙◌}
+-- Bytes and texts are written in scripts by the words that replies have for them.
+use Rattle.std.proofs.Common.{◌≡◌, ℕ, true, false, ◌&&◌, eqb, List, [], ◌∷◌, ◌++◌, map, codes, chars, Some, option_map, refl, ap, ◌∙◌}
 use Rattle.std.specs.List.{All}
+use Rattle.std.specs.Option.{option_and_then}
 use Rattle.std.specs.Result.{result_ok}
-use Rattle.std.specs.Str.{bytes_eq}
+use Rattle.std.specs.Str.{IsUtf8, bytes_eq}
 use Rattle.std.proofs.lemmas.List.Elements.{All-head, All-tail}
 use Rattle.hex.specs.Hex.{IsBytes, encode_with, encode_lower}
 use Rattle.hex.proofs.HexLemmas.{decode_of-encode_lower}
-use Rattle.py_calls.specs.declared.call.Call.TheVariants.{Write, WriteLines}
-use Rattle.py_script.specs.Words.{spaced, hex_bytes, word_bytes, words_bytes}
+use Rattle.py_calls.specs.declared.call.Call.TheVariants.{Write, WriteLines, WriteText}
+use Rattle.py_script.specs.Words.{spaced, text_of, hex_bytes, word_bytes, words_bytes}
 use Rattle.py_script.specs.LineCall.{words_call}
 use Rattle.py_script.specs.Script.{line_call}
 use Rattle.py_script.specs.ReplyLine.{hex_of}
+use Rattle.py_script.proofs.OptionLemmas.{text_of_utf8}
 use Rattle.py_script.proofs.WordLemmas.{hex_word, hex_lines_words, words_apart}
 
 -- two digits are no `-`
@@ -51,3 +53,8 @@ pub writelines_line : (lines : List (List ℕ)) → All IsBytes lines → line_c
 writelines_line lines all =
     ap words_call (words_apart (codes "writelines") (map hex_of lines) refl (hex_lines_words lines))
     ∙ ap (option_map WriteLines) (words_of_lines lines all)
+
+pub writetext_line : (bytes : List ℕ) → IsBytes bytes → IsUtf8 bytes → line_call (codes "writetext" ++ spaced (hex_of bytes ∷ [])) ≡ Some (WriteText (chars bytes))
+writetext_line bytes range utf8 =
+    ap words_call (words_apart (codes "writetext") (hex_of bytes ∷ []) refl (hex_word bytes, tt))
+    ∙ ap (option_map WriteText) (ap (option_and_then text_of) (word_of_bytes bytes range) ∙ text_of_utf8 bytes utf8)

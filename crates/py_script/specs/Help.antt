@@ -26,8 +26,7 @@ words_help =
     codes "  newline=HEX    what ends a line, in hex of its UTF-8: 0a is LF (default: any" ∷
     codes "                 of CR LF, CR and LF, each read as LF); none: empty text" ∷
     codes "  chunk=N        bytes that a text asks its buffer for at once (default 8192)" ∷
-    codes "So far MODE is rb, wb, xb, ab, rb+, wb+ or xb+, of bytes; or r, buffered," ∷
-    codes "with newline=0a, in UTF-8, strict, by chunks of 1 byte or more." ∷
+    codes "So far MODE is any but ab+ and a+, and a text (no b) in UTF-8, strict, buffered." ∷
     []
 
 -- the script and its replies
@@ -37,9 +36,10 @@ script_help =
     codes "  read [N]           reads N bytes, of a text characters, or all that is left" ∷
     codes "  readline [N]       reads up to and with the end of a line, at most N of it" ∷
     codes "  readlines [N], read1 [N], peek, readinto N, readinto1 N     read as in Python" ∷
-    codes "  write HEX          writes bytes, and writelines [HEX ..] any number of lines" ∷
+    codes "  write HEX, writelines [HEX ..], writetext HEX   writes bytes, lines, UTF-8" ∷
     codes "  seek I [WHENCE]    I from the start (0, or none), the place (1), the end (2)" ∷
-    codes "  truncate [N], tell, flush, close, detach, readable, writable, seekable, closed" ∷
+    codes "  truncate [N], chunksize [N], tell, flush, close, detach, readable, writable," ∷
+    codes "  seekable, closed, encoding, errors" ∷
     codes "N and I are decimal, I also after a -; HEX has two digits a byte, - for none." ∷
     codes "Lines that are empty or begin with # are skipped. A close is added at the end." ∷
     [] ∷

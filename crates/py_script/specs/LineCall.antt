@@ -3,8 +3,8 @@ use Rattle.std.specs.Prelude.{ℕ, ℤ, pos, List, [], ◌∷◌, Option, Some, 
 use Rattle.std.specs.Option.{option_and_then}
 use Rattle.std.specs.Str.{bytes_eq}
 use Rattle.py_calls.specs.declared.call.Call.{Call}
-use Rattle.py_calls.specs.declared.call.Call.TheVariants.{Read, Read1, ReadLine, ReadLines, Peek, ReadInto, ReadInto1, Write, WriteLines, Seek, Tell, Truncate, Flush, Close, Detach, Readable, Writable, Seekable, Closed}
-use Rattle.py_script.specs.Words.{decimal_value, integer_value, whence_value, word_bytes, words_bytes}
+use Rattle.py_calls.specs.declared.call.Call.TheVariants.{Read, Read1, ReadLine, ReadLines, Peek, ReadInto, ReadInto1, Write, WriteLines, WriteText, Seek, Tell, Truncate, Flush, Close, Detach, ChunkSize, SetChunkSize, Readable, Writable, Seekable, Closed, Encoding, Errors}
+use Rattle.py_script.specs.Words.{decimal_value, integer_value, whence_value, word_bytes, word_text, words_bytes}
 
 -- the call of a word that stands alone: a reading or a truncation without a size, and each call that takes nothing
 abbrev pub plain_call : List ℕ → Option Call
@@ -23,9 +23,12 @@ plain_call name =
     else if bytes_eq name (codes "writable") then Some Writable
     else if bytes_eq name (codes "seekable") then Some Seekable
     else if bytes_eq name (codes "closed") then Some Closed
+    else if bytes_eq name (codes "chunksize") then Some ChunkSize
+    else if bytes_eq name (codes "encoding") then Some Encoding
+    else if bytes_eq name (codes "errors") then Some Errors
     else None
 
--- the call of a word with a size after it: each reading of so much, and a truncation to it
+-- the call of a word with a size after it: each reading of so much, a truncation to it, and chunks of it
 abbrev pub sized_call : List ℕ → ℕ → Option Call
 sized_call name size =
     if bytes_eq name (codes "read") then Some (Read (Some size))
@@ -35,6 +38,7 @@ sized_call name size =
     else if bytes_eq name (codes "readinto") then Some (ReadInto size)
     else if bytes_eq name (codes "readinto1") then Some (ReadInto1 size)
     else if bytes_eq name (codes "truncate") then Some (Truncate (Some size))
+    else if bytes_eq name (codes "chunksize") then Some (SetChunkSize size)
     else None
 
 -- the call of a word with at most a size after it
@@ -59,6 +63,11 @@ abbrev pub write_call : List (List ℕ) → Option Call
 write_call (bytes ∷ []) = option_map Write (word_bytes bytes)
 write_call _ = None
 
+-- the call of what stands after `writetext`: the UTF-8 of a text
+abbrev pub writetext_call : List (List ℕ) → Option Call
+writetext_call (text ∷ []) = option_map WriteText (word_text text)
+writetext_call _ = None
+
 -- the call of what stands after `writelines`: the bytes of each line, of any number of them
 abbrev pub writelines_call : List (List ℕ) → Option Call
 writelines_call lines = option_map WriteLines (words_bytes lines)
@@ -69,5 +78,6 @@ words_call [] = None
 words_call (name ∷ words) =
     if bytes_eq name (codes "seek") then seek_call words
     else if bytes_eq name (codes "write") then write_call words
+    else if bytes_eq name (codes "writetext") then writetext_call words
     else if bytes_eq name (codes "writelines") then writelines_call words
     else reading_call name words

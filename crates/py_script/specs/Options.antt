@@ -1,20 +1,12 @@
 -- The options of the command line, words such as `newline=0a`: this project's own.
 use Rattle.std.specs.Prelude.{ℕ, ◌==◌, nat_lt, negsuc, Bool, List, [], ◌∷◌, length, chars, Option, Some, None, is_none, option_map, option_and_then, unwrap_or, codes, if◌then◌else◌}
 use Rattle.std.specs.List.{position_or_len, before_first, after_first}
-use Rattle.std.specs.Str.{bytes_eq, is_utf8}
+use Rattle.std.specs.Str.{bytes_eq}
 use Rattle.py_mode.specs.declared.open_args.OpenArgs.{OpenArgs}
 use Rattle.py_script.specs.declared.options.WordOption.{WordOption}
 use Rattle.py_script.specs.declared.options.WordOption.TheVariants.{Buffering, Encoding, Errors, Newline, ChunkSize}
 use Rattle.py_script.specs.declared.options.Given.{Given}
-use Rattle.py_script.specs.Words.{decimal_value, integer_value, hex_bytes}
-
--- the characters of bytes that are well-formed UTF-8; None of others
-abbrev pub text_of : List ℕ → Option (List ℕ)
-text_of bytes = if is_utf8 bytes then Some (chars bytes) else None
-
--- the text whose UTF-8 is written in hex, two digits of either case to a byte; None where they are no hex, or the bytes no UTF-8
-abbrev pub hex_text : List ℕ → Option (List ℕ)
-hex_text digits = option_and_then text_of (hex_bytes digits)
+use Rattle.py_script.specs.Words.{decimal_value, integer_value, hex_text}
 
 -- the option of a name and its value; None where there is no such name, or the value is malformed
 abbrev pub named_option : List ℕ → List ℕ → Option WordOption

@@ -1,9 +1,9 @@
 -- Words of a line, and the numbers and bytes among them: this project's script language, docs/PROGRAM.md.
-use Rattle.std.specs.Prelude.{ℕ, ◌+◌, ◌-◌, ◌*◌, ◌^◌, ◌==◌, ◌&&◌, nat_le, nat_lt, ℤ, pos, negsuc, neg_ℤ, Bool, List, [], ◌∷◌, ◌++◌, Option, Some, None, codes, if◌then◌else◌}
+use Rattle.std.specs.Prelude.{ℕ, ◌+◌, ◌-◌, ◌*◌, ◌^◌, ◌==◌, ◌&&◌, nat_le, nat_lt, ℤ, pos, negsuc, neg_ℤ, Bool, List, [], ◌∷◌, ◌++◌, chars, Option, Some, None, codes, if◌then◌else◌}
 use Rattle.std.specs.List.{slice_split}
 use Rattle.std.specs.Option.{option_and_then}
 use Rattle.std.specs.Result.{result_ok}
-use Rattle.std.specs.Str.{bytes_eq}
+use Rattle.std.specs.Str.{bytes_eq, is_utf8}
 use Rattle.hex.specs.Hex.{decode_of}
 
 -- the words of a line, parted by one space: two spaces in a row have an empty word between them
@@ -62,10 +62,22 @@ whence_value word = option_and_then as_whence (integer_value word)
 abbrev pub hex_bytes : List ℕ → Option (List ℕ)
 hex_bytes digits = result_ok (decode_of digits)
 
+-- the characters of bytes that are well-formed UTF-8; None of others
+abbrev pub text_of : List ℕ → Option (List ℕ)
+text_of bytes = if is_utf8 bytes then Some (chars bytes) else None
+
+-- the text whose UTF-8 is written in hex, two digits of either case to a byte; None where they are no hex, or the bytes no UTF-8
+abbrev pub hex_text : List ℕ → Option (List ℕ)
+hex_text digits = option_and_then text_of (hex_bytes digits)
+
 -- the bytes of a word: at least one, in hex, or `-` for none; None where it is neither
 abbrev pub word_bytes : List ℕ → Option (List ℕ)
 word_bytes [] = None
 word_bytes (digit ∷ digits) = if bytes_eq (digit ∷ digits) (codes "-") then Some [] else hex_bytes (digit ∷ digits)
+
+-- the text of a word: the UTF-8 of at least one character, in hex, or `-` for none; None where it is neither
+abbrev pub word_text : List ℕ → Option (List ℕ)
+word_text word = option_and_then text_of (word_bytes word)
 
 -- an item before those that follow; None where either is malformed
 abbrev pub item_before : {A : Type 0} → Option A → Option (List A) → Option (List A)

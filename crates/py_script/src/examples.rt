@@ -28,12 +28,14 @@ pub fn examples_of_plain_lines()
     ensures place_and_end { script_calls (codes "tell\nflush\nclose\ndetach") ≡ Some (Call.Tell ∷ Call.Flush ∷ Call.Close ∷ Call.Detach ∷ []) }
     ensures questions { script_calls (codes "readable\nwritable\nseekable\nclosed")
         ≡ Some (Call.Readable ∷ Call.Writable ∷ Call.Seekable ∷ Call.Closed ∷ []) }
+    ensures settings { script_calls (codes "chunksize\nencoding\nerrors") ≡ Some (Call.ChunkSize ∷ Call.Encoding ∷ Call.Errors ∷ []) }
 {}
 
 /// Worked examples of lines with a size, computed from the definition.
 #[tactic(auto, unfolding(crate::specs::Words::is_digit))]
 pub fn examples_of_sized_lines()
     ensures reads { script_calls (codes "read1 2\nreadlines 010") ≡ Some (Call.Read1 (Some 2) ∷ Call.ReadLines (Some 10) ∷ []) }
+    ensures chunks { script_calls (codes "chunksize 016") ≡ Some (Call.SetChunkSize 16 ∷ []) }
     ensures into { script_calls (codes "readinto 0\nreadinto1 3") ≡ Some (Call.ReadInto 0 ∷ Call.ReadInto1 3 ∷ []) }
     ensures no_size_to_read_into { script_calls (codes "readinto") ≡ None }
     ensures no_size_to_read_into_once { script_calls (codes "readinto1") ≡ None }
@@ -78,6 +80,17 @@ pub fn examples_of_writes()
     ensures odd_line { script_calls (codes "writelines 61 6") ≡ None }
 {}
 
+/// Worked examples of texts that are written, computed from the definition.
+pub fn examples_of_texts()
+    ensures utf8 { script_calls (codes "writetext c3a90A") ≡ Some (Call.WriteText (233 ∷ 10 ∷ []) ∷ []) }
+    ensures no_characters { script_calls (codes "writetext -") ≡ Some (Call.WriteText [] ∷ []) }
+    ensures nothing_to_write { script_calls (codes "writetext") ≡ None }
+    ensures two_words { script_calls (codes "writetext 61 62") ≡ None }
+    ensures no_utf8 { script_calls (codes "writetext ff") ≡ None }
+    ensures cut_utf8 { script_calls (codes "writetext c3") ≡ None }
+    ensures no_hex { script_calls (codes "writetext a") ≡ None }
+{}
+
 /// Worked examples of malformed scripts, computed from the definition.
 #[tactic(auto, unfolding(crate::specs::Words::is_digit))]
 pub fn examples_of_malformed_lines()
@@ -93,12 +106,10 @@ pub fn examples_of_malformed_lines()
     ensures too_large { script_calls (codes "read 18446744073709551616") ≡ None }
     ensures size_of_close { script_calls (codes "close 1") ≡ None }
     ensures not_utf8 { script_calls (codes "read " ++ 255 ∷ []) ≡ None }
-    ensures text_to_write { script_calls (codes "writetext 61") ≡ None }
     ensures cookie { script_calls (codes "seektext 00") ≡ None }
-    ensures chunk { script_calls (codes "chunksize") ≡ None }
     ensures settings { script_calls (codes "reconfigure") ≡ None }
-    ensures encoding { script_calls (codes "encoding") ≡ None }
-    ensures errors { script_calls (codes "errors") ≡ None }
+    ensures name_to_set { script_calls (codes "encoding utf-8") ≡ None }
+    ensures chunk_below_zero { script_calls (codes "chunksize -1") ≡ None }
 {}
 
 /// Worked examples of the lines of replies, computed from the definition.

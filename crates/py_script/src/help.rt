@@ -14,16 +14,16 @@ MODE is as in Python's open. Each OPTION is given at most once, in any order:
   newline=HEX    what ends a line, in hex of its UTF-8: 0a is LF (default: any
                  of CR LF, CR and LF, each read as LF); none: empty text
   chunk=N        bytes that a text asks its buffer for at once (default 8192)
-So far MODE is rb, wb, xb, ab, rb+, wb+ or xb+, of bytes; or r, buffered,
-with newline=0a, in UTF-8, strict, by chunks of 1 byte or more.
+So far MODE is any but ab+ and a+, and a text (no b) in UTF-8, strict, buffered.
 
 A script has a call a line, one space between words, and 1048576 bytes at most:
   read [N]           reads N bytes, of a text characters, or all that is left
   readline [N]       reads up to and with the end of a line, at most N of it
   readlines [N], read1 [N], peek, readinto N, readinto1 N     read as in Python
-  write HEX          writes bytes, and writelines [HEX ..] any number of lines
+  write HEX, writelines [HEX ..], writetext HEX   writes bytes, lines, UTF-8
   seek I [WHENCE]    I from the start (0, or none), the place (1), the end (2)
-  truncate [N], tell, flush, close, detach, readable, writable, seekable, closed
+  truncate [N], chunksize [N], tell, flush, close, detach, readable, writable,
+  seekable, closed, encoding, errors
 N and I are decimal, I also after a -; HEX has two digits a byte, - for none.
 Lines that are empty or begin with # are skipped. A close is added at the end.
 

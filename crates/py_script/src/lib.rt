@@ -26,7 +26,7 @@ pub use decimal::parse_decimal;
 pub use examples::{
     examples_of_commands, examples_of_malformed_lines, examples_of_moves, examples_of_no_options,
     examples_of_options, examples_of_plain_lines, examples_of_refusals, examples_of_replies,
-    examples_of_scripts, examples_of_sized_lines, examples_of_writes,
+    examples_of_scripts, examples_of_sized_lines, examples_of_texts, examples_of_writes,
 };
 pub use fault_line::{fault_name, push_refused_line};
 pub use help::{help_text, version_text};
@@ -34,4 +34,6 @@ pub use option_laws::{an_option_stands_once, every_text_has_its_hex, options_sta
 pub use reply_law::reply_lines_tell;
 pub use reply_line::push_reply_line;
 pub use script::{parse_line, parse_script};
-pub use word_laws::{answered_bytes_can_be_written, answered_lines_can_be_written};
+pub use word_laws::{
+    answered_bytes_can_be_written, answered_lines_can_be_written, answered_texts_can_be_written,
+};

@@ -1,8 +1,8 @@
 ghost use Rattle.std.specs.Prelude.{◌≡◌, map, IfOk};
-ghost use Rattle.py_script.specs.LineCall.{plain_call, sized_call, reading_call, seek_call, write_call, writelines_call, words_call};
+ghost use Rattle.py_script.specs.LineCall.{plain_call, sized_call, reading_call, seek_call, write_call, writetext_call, writelines_call, words_call};
 
 use crate::decimal::{parse_decimal, parse_integer, parse_whence};
-use crate::hex_words::{word_bytes, words_bytes};
+use crate::hex_words::{word_bytes, word_text, words_bytes};
 use py_calls::Call;
 use std::alloc::{AllocError, Global};
 
@@ -17,6 +17,8 @@ pub(crate) fn words_call(alloc: Global, words: &[&[u8]]) -> Result<Option<Call>,
         Ok(seek_call(words))
     } else if *name == "write".as_bytes() {
         write_call(alloc, words)
+    } else if *name == "writetext".as_bytes() {
+        writetext_call(alloc, words)
     } else if *name == "writelines".as_bytes() {
         writelines_call(alloc, words)
     } else {
@@ -41,6 +43,16 @@ fn write_call(alloc: Global, words: &[&[u8]]) -> Result<Option<Call>, AllocError
 {
     match words {
         [bytes] => Ok(word_bytes(alloc, bytes)?.map(Call::Write)),
+        _ => Ok(None),
+    }
+}
+
+/// The call of what stands after `writetext`: the UTF-8 of a text.
+fn writetext_call(alloc: Global, words: &[&[u8]]) -> Result<Option<Call>, AllocError>
+    ensures { IfOk result (λ call. call ≡ writetext_call (map (λ word. word.now) words.now)) }
+{
+    match words {
+        [text] => Ok(word_text(alloc, text)?.map(Call::WriteText)),
         _ => Ok(None),
     }
 }
@@ -95,12 +107,18 @@ fn plain_call(name: &[u8]) -> Option<Call>
         Some(Call::Seekable)
     } else if name == "closed".as_bytes() {
         Some(Call::Closed)
+    } else if name == "chunksize".as_bytes() {
+        Some(Call::ChunkSize)
+    } else if name == "encoding".as_bytes() {
+        Some(Call::Encoding)
+    } else if name == "errors".as_bytes() {
+        Some(Call::Errors)
     } else {
         None
     }
 }
 
-/// The call of a word with a size after it: each reading of so much, and a truncation to it.
+/// The call of a word with a size after it: each reading of so much, a truncation to it, and chunks of it.
 fn sized_call(name: &[u8], size: usize) -> Option<Call>
     ensures { result ≡ sized_call name.now size }
 {
@@ -118,6 +136,8 @@ fn sized_call(name: &[u8], size: usize) -> Option<Call>
         Some(Call::ReadInto1(size))
     } else if name == "truncate".as_bytes() {
         Some(Call::Truncate(Some(size as u64)))
+    } else if name == "chunksize".as_bytes() {
+        Some(Call::SetChunkSize(size))
     } else {
         None
     }

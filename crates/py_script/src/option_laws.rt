@@ -1,7 +1,8 @@
 //! Laws of the options of the command line. No function here does anything; what it ensures is a law.
 ghost use Rattle.std.specs.Prelude.{◌≡◌, ℕ, None, List, ◌∷◌, ◌++◌, encode_utf8_all};
 ghost use Rattle.hex.specs.Hex.{encode_lower};
-ghost use Rattle.py_script.specs.Options.{name_of, hex_text, arguments_of};
+ghost use Rattle.py_script.specs.Words.{hex_text};
+ghost use Rattle.py_script.specs.Options.{name_of, arguments_of};
 
 use crate::reply_law::read_bytes;
 use py_flat::Chars;

@@ -1,8 +1,8 @@
 ghost use Rattle.std.specs.Prelude.{◌≡◌, map, string_bytes, IfOk};
-ghost use Rattle.py_script.specs.Options.{text_of, hex_text, named_option, option_of, given_with, arguments_by, arguments_of};
+ghost use Rattle.py_script.specs.Options.{named_option, option_of, given_with, arguments_by, arguments_of};
 
 use crate::decimal::{parse_decimal, parse_integer};
-use crate::hex_words::hex_bytes;
+use crate::hex_words::hex_text;
 use py_flat::Chars;
 use py_mode::OpenArgs;
 use std::alloc::{AllocError, Global};
@@ -127,25 +127,5 @@ fn named_option(alloc: Global, name: &str, value: &str) -> Result<Option<WordOpt
         "newline" => Ok(hex_text(alloc, value)?.map(WordOption::Newline)),
         "chunk" => Ok(parse_decimal(value.as_bytes()).map(WordOption::ChunkSize)),
         _ => Ok(None),
-    }
-}
-
-/// The text whose UTF-8 is written in hex, in digits of either case, or `None` where it is none; `Err` when out of memory.
-fn hex_text(alloc: Global, digits: &str) -> Result<Option<Chars>, AllocError>
-    ensures { IfOk result (λ text. text ≡ hex_text digits.now) }
-{
-    match hex_bytes(alloc, digits.as_bytes())? {
-        Some(bytes) => Ok(text_of(bytes.into_vec())),
-        None => Ok(None),
-    }
-}
-
-/// The text of some bytes, or `None` where they are no UTF-8.
-fn text_of(bytes: Vec<u8>) -> Option<Chars>
-    ensures { result ≡ text_of bytes.items }
-{
-    match String::from_utf8(bytes) {
-        Ok(text) => Some(Chars::from_string(text)),
-        Err(_) => None,
     }
 }

@@ -1,7 +1,7 @@
 use Rattle.std.proofs.Common.{◌≡◌, Some, encode_utf8_all, sym, ap, subst, ◌∙◌}
 use Rattle.std.proofs.lemmas.Str.{encodes-chars}
 use Rattle.hex.specs.Hex.{IsBytes, encode_lower}
-use Rattle.py_script.specs.Options.{hex_text}
+use Rattle.py_script.specs.Words.{hex_text}
 use Rattle.py_script.proofs.OptionLemmas.{hex_text_of_utf8}
 use Rattle.py_script.proofs.option_laws.every_text_has_its_hex.Goals as goal
 

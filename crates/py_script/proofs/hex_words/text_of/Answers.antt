@@ -3,7 +3,7 @@ use Rattle.std.specs.Str.{IsUtf8}
 use Rattle.std.proofs.lemmas.Bool.{false≢true}
 use Rattle.std.proofs.lemmas.Str.{IsUtf8-string_bytes}
 use Rattle.py_script.proofs.OptionLemmas.{text_of_utf8, text_of_other}
-use Rattle.py_script.proofs.options.text_of.Goals as goal
+use Rattle.py_script.proofs.hex_words.text_of.Goals as goal
 
 pub returns-in-Ok : goal.returns-in-Ok
 returns-in-Ok c =
