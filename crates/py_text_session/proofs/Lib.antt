@@ -1,0 +1,4 @@
+mod SoFar
+mod OverBuffer
+mod Parting
+mod Losing
