@@ -1,9 +1,10 @@
 //! A buffered stream, which is its engine or, once its raw was handed back, what is left of it.
-ghost use Rattle.std.specs.Prelude.{◌≡◌, ◌≢◌, ◌≤◌, ◌-◌, true, false, Some, None, IfOk, length, vec_len, if◌then◌else◌};
+ghost use Rattle.std.specs.Prelude.{◌≡◌, ◌≢◌, ◌≤◌, ◌-◌, true, false, Some, None, IfOk, IfSome, length, vec_len, if◌then◌else◌};
 ghost use Rattle.py_flat.specs.Lines.{joined};
 ghost use Rattle.py_flat.specs.Calls.{FileCall, Read, Read1, ReadLine, ReadLines, Peek, ReadInto, ReadInto1, Write, WriteLines, Seek, Tell, Truncate, Flush, Close, Refused};
 ghost use Rattle.py_stream.specs.Access.{can_of, is_able};
 ghost use Rattle.py_stream.specs.Answers.{Answers, RefusesAlone};
+ghost use Rattle.py_stream.specs.Stream.{size_of};
 ghost use Rattle.py_stream.specs.Replies.{bytes_reply, into_reply, CountFits, KeepsBuffer, KeepsUnread, look_reply, lines_reply, count_reply, place_reply, done_reply};
 ghost use Rattle.py_stream.specs.Taken.{taken_of};
 ghost use Rattle.py_stream.specs.Buffer.{buffer_of, OwesAsItCan, TellsPlace, AnswersEnd};
@@ -357,9 +358,10 @@ impl<R: RawStream> Buffered<R> {
         }
     }
 
-    /// Hands the raw back, with what it is owed, in every life.
+    /// Hands the raw back, with what it is owed, no more than its buffer holds, in every life.
     pub fn into_parts(self) -> Option<Detached<R>>
-        ensures { PartsOutcome R.shows (seen_of self) result }
+        ensures parts { PartsOutcome R.shows (seen_of self) result }
+        ensures fits { IfSome result (λ parts. length parts.unwritten.items ≤ size_of (seen_of self)) }
     {
         let Buffered {
             data,
@@ -444,6 +446,7 @@ fn begin_detach<R: RawStream>(engine: &mut Option<BufferedData<R>>) -> Result<()
 fn hand_over<R: RawStream>(engine: BufferedData<R>, seekable: bool) -> Detached<R>
     ensures raw { R.shows result.raw ≡ engine.raw }
     ensures unwritten { result.unwritten.items ≡ (stream_of engine).owed.bytes }
+    ensures fits { length result.unwritten.items ≤ engine.window.size }
     ensures place { result.place ≡ (if seekable then Some (stream_of engine).owed.place else None) }
     ensures attached { engine.life ≢ Life.Detached }
 {

@@ -150,6 +150,7 @@ impl<R: RawStream> BufferedData<R> {
     pub fn into_parts(self) -> (R, Vec<u8>, u64)
         ensures raw { R.shows result.0 ≡ self.raw }
         ensures unwritten { result.1.items ≡ (stream_of self).owed.bytes }
+        ensures fits { length result.1.items ≤ self.window.size }
         ensures place { result.2 ≡ (stream_of self).owed.place }
         ensures attached { self.life ≢ Life.Detached }
     {

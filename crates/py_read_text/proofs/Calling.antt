@@ -1,5 +1,5 @@
 -- A flush and a close of a text that owes nothing itself, from what its buffer answered.
-use Rattle.std.proofs.Common.{◌≡◌, ℕ, inl, inr, ◌⊎◌, ◌&&◌, Bool, true, false, IsTrue, List, [], Option, None, Result, Ok, Err, refl, sym, ap, ◌∙◌, subst, arith}
+use Rattle.std.proofs.Common.{◌≡◌, ℕ, inl, inr, ◌⊎◌, ◌&&◌, Bool, true, false, IsTrue, List, [], ◌∷◌, Option, None, Result, Ok, Err, refl, sym, ap, ◌∙◌, subst, arith}
 use Rattle.py_flat.specs.declared.fault.IoFault.{IoFault}
 use Rattle.py_flat.specs.declared.fault.IoFault.TheVariants as fault
 use Rattle.py_flat.specs.declared.life.Life.{Life}
@@ -16,18 +16,19 @@ use Rattle.py_plain_text.specs.TextCalls.{TextFileCall, Flush, Close}
 use Rattle.py_plain_text.specs.TextRefusals.{refusal}
 use Rattle.py_plain_text.specs.TextExact.{in_life}
 use Rattle.py_plain_text.specs.TextAllowed.{SettledBy, Fails, TextFileStep}
+use Rattle.py_raw.specs.RawStream.{StaysOpen}
 use Rattle.py_stream.specs.Kinds.{says_wait, says_fault}
 use Rattle.py_stream.specs.Replies.{done_reply}
 use Rattle.py_stream.specs.Answers as stream
-use Rattle.py_stream.specs.Buffer.{Buffer, flat_of, size_shown, refused_here, AnswersAsBuffer}
+use Rattle.py_stream.specs.Buffer.{Buffer, flat_of, size_shown, refused_here, parts_when_closed, IsClosedWithRaw, AnswersAsBuffer}
 use Rattle.py_read_text.specs.Knowing.{TextView, over_of, state_of, shown_file, place_of}
-use Rattle.py_read_text.specs.Owing.{Starves, StopsOwing, Closes}
+use Rattle.py_read_text.specs.Owing.{Starves, StopsOwing, may_close, KeepsOpen, Closes}
 use Rattle.py_read_text.specs.Answers.{IsReplyTo, IsComplete, IsShort, LifeMoves, WantsMemory, TextPasses, Answers}
 use Rattle.py_read_text.specs.Reading.{KeepsPlace}
 use Rattle.py_read_text.proofs.Results.{same_file}
 use Rattle.py_read_text.proofs.Placing.{flush_flat, close_flat, text_flushed, text_closed}
 use Rattle.py_read_text.proofs.Answering.{Holds}
-use Rattle.py_read_text.proofs.Owing.{joined_of, passes_behind, front_passes, owes_none, open_of}
+use Rattle.py_read_text.proofs.Owing.{joined_of, passes_behind, front_passes, owes_none, open_of, attached_in}
 
 -- What passes on, in the model: a close, or a flush.
 
@@ -235,7 +236,23 @@ close_wants before after (Ok done) answers = tt
 
 close_closes : (before after : Buffer) (result : Result (Unit {0}) IoFault) → before.life ≡ life.Live → AnswersAsBuffer before binary.Close (done_reply result) after → Closes before.life Close before (done_reply result) after
 close_closes before after (Ok done) live answers = λ lives. (answers.moves.life_is, λ closed. answers.shut refl (answers.passes live).none closed ∙ ap is_closed answers.moves.life_is)
+close_closes before after (Err fault.RawFault) live answers = attached_in before after life.Closed answers.moves.life_is (λ gone. absurd (cc))
 close_closes before after (Err why) live answers = tt
+
+-- a close that is made to wait, or lacks memory, leaves the raw open
+unclosed : (before after : Buffer) (reply : FileReply) → after.life ≡ before.life → parts_when_closed before binary.Close reply after ≡ false → AnswersAsBuffer before binary.Close reply after → IsClosedWithRaw before → StaysOpen before.raw after.raw
+unclosed before after reply same whole answers closed = by_owed after.owed.bytes refl
+  where
+    by_owed : (owed : List ℕ) → after.owed.bytes ≡ owed → StaysOpen before.raw after.raw
+    by_owed [] none = answers.shut whole none closed ∙ (ap is_closed same ∙ sym closed)
+    by_owed (byte ∷ more) some = answers.unclosed (λ none. let never : byte ∷ more ≡ [] = sym some ∙ none in absurd (cc))
+
+close_open : (before after : Buffer) (result : Result (Unit {0}) IoFault) → before.life ≡ life.Live → before.exported ≡ false → AnswersAsBuffer before binary.Close (done_reply result) after → may_close Close (done_reply result) ≡ false → KeepsOpen before after
+close_open before after (Ok done) live kept answers is = absurd (cc)
+close_open before after (Err fault.RawFault) live kept answers is = absurd (cc)
+close_open before after (Err (fault.WouldBlock taken)) live kept answers is = open_of before after live (inl (answers.moves.life_is ∙ live)) (unclosed before after (Refused (fault.WouldBlock taken)) answers.moves.life_is refl answers)
+close_open before after (Err fault.NoMemory) live kept answers is = open_of before after live (inl (answers.moves.life_is ∙ live)) (unclosed before after (Refused fault.NoMemory) answers.moves.life_is refl answers)
+close_open before after (Err other) live kept answers is = absurd (answers.answer (accepts_close before live kept))
 
 close_starves : (old : TextView) (after : Buffer) (result : Result (Unit {0}) IoFault) → AnswersAsBuffer old.buffer binary.Close (done_reply result) after → Starves (over_of old) (done_reply result) (over_of (with_buffer old after))
 close_starves old after (Err fault.NoMemory) answers = inl (record { life_is = answers.moves.life_is; settings = refl; place = refl })
@@ -295,7 +312,7 @@ close_so old after result live is answers =
       complete = λ accepts calm sound. close_complete result (answers.complete taken_here calm sound).0;
       wants = close_wants old.buffer after result answers;
       closes = close_closes old.buffer after result live answers;
-      stays = λ not. absurd (cc);
+      stays = close_open old.buffer after result live is.kept answers;
       shut = λ own. answers.shut;
       spares = λ can none. let spared = answers.spares can none in record { bytes = spared.bytes; written = spared.written; owed = spared.owed };
       tied = record { owed = λ can. refl; life_is = λ can was. refl };

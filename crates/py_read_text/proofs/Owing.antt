@@ -1,6 +1,7 @@
 -- What is owed after one call of a buffer and after two, and that no call but a close closes the raw.
-use Rattle.std.proofs.Common.{◌≡◌, ℕ, ◌+◌, ◌≤◌, inl, inr, ◌⊎◌, Bool, true, false, if◌then◌else◌, List, [], ◌++◌, length, take, drop, refl, sym, ap, ◌∙◌, subst, arith, append_assoc, append-nil}
+use Rattle.std.proofs.Common.{◌≡◌, ◌≢◌, ℕ, ◌+◌, ◌≤◌, inl, inr, ◌⊎◌, Bool, true, false, if◌then◌else◌, List, [], ◌++◌, length, take, drop, refl, sym, ap, ◌∙◌, subst, arith, append_assoc, append-nil}
 use Rattle.std.proofs.lemmas.List.{length-append, length-drop, length-take-le, drop-append-le, drop-drop, take-append-drop}
+use Rattle.py_flat.specs.declared.life.Life.{Life}
 use Rattle.py_flat.specs.declared.life.Life.TheVariants as life
 use Rattle.py_flat.specs.ExactStep.{is_closed}
 use Rattle.py_plain_text.specs.TextOver.{TextOver}
@@ -10,7 +11,7 @@ use Rattle.py_stream.specs.Writing.{PassesFront, Takes}
 use Rattle.py_stream.specs.Buffer.{Buffer, stream_shown, IsClosedWithRaw}
 use Rattle.py_stream.proofs.Taking.{answers_then}
 use Rattle.py_read_text.specs.Knowing.{TextView, over_of, IsText}
-use Rattle.py_read_text.specs.Owing.{all_owed, IsJoined, PassesOwed, WriteMovesBy, OwesOn, KeepsOpen}
+use Rattle.py_read_text.specs.Owing.{all_owed, IsJoined, PassesOwed, WriteMovesBy, OwesOn, StaysAttached, KeepsOpen}
 
 -- What is passed on.
 
@@ -77,17 +78,24 @@ joined_of text is = record { below = is.owes; stands = by_place is.ahead; behind
 -- The raw.
 
 pub open_still : (buffer : Buffer) → KeepsOpen buffer buffer
-open_still buffer = λ closed. (refl, closed)
+open_still buffer = record { attached = λ was. was; stays = λ closed. (refl, closed) }
 
 pub open_then : (before mid after : Buffer) → KeepsOpen before mid → KeepsOpen mid after → KeepsOpen before after
-open_then before mid after first second = λ closed.
-    let one = first closed in
-    let other = second one.1 in
-    (other.0 ∙ one.0, other.1)
+open_then before mid after first second = record {
+  attached = λ was. second.attached (first.attached was);
+  stays = λ closed.
+      let one = first.stays closed in
+      let other = second.stays one.1 in
+      (other.0 ∙ one.0, other.1);
+}
+
+-- a buffer of which the life is known isn't detached
+pub attached_in : (before after : Buffer) (current : Life) → after.life ≡ current → current ≢ life.Detached → StaysAttached before after
+attached_in before after current is other = λ was gone. other (sym is ∙ gone)
 
 pub open_of : (before after : Buffer) → before.life ≡ life.Live → (after.life ≡ life.Live) ⊎ (after.life ≡ life.Failed) → (IsClosedWithRaw before → StaysOpen before.raw after.raw) → KeepsOpen before after
-open_of before after live (inl lives) stays = λ closed. (stays closed, stays closed ∙ (closed ∙ (ap is_closed live ∙ sym (ap is_closed lives))))
-open_of before after live (inr failed) stays = λ closed. (stays closed, stays closed ∙ (closed ∙ (ap is_closed live ∙ sym (ap is_closed failed))))
+open_of before after live (inl lives) stays = record { attached = attached_in before after life.Live lives (λ gone. absurd (cc)); stays = λ closed. (stays closed, stays closed ∙ (closed ∙ (ap is_closed live ∙ sym (ap is_closed lives)))) }
+open_of before after live (inr failed) stays = record { attached = attached_in before after life.Failed failed (λ gone. absurd (cc)); stays = λ closed. (stays closed, stays closed ∙ (closed ∙ (ap is_closed live ∙ sym (ap is_closed failed)))) }
 
 -- a call that may have failed the buffer, and closed nothing
 pub open_called : (before after : Buffer) (faulted : Bool) → before.life ≡ life.Live → after.life ≡ (if faulted then life.Failed else before.life) → (IsClosedWithRaw before → StaysOpen before.raw after.raw) → KeepsOpen before after

@@ -14,7 +14,7 @@ use Rattle.py_flat.specs.ExactStep.{is_closed}
 use Rattle.py_codec.specs.Answers.{text_of}
 use Rattle.py_plain_text.specs.TextFile.{TextPlace, clean_at, TextSettings}
 use Rattle.py_plain_text.specs.TextStep.{asks_any, place_taking}
-use Rattle.py_plain_text.specs.TextCalls.{TextFileCall, Read, ReadLine, WriteText, SetChunkSize, Flush, Close, OtherKind, is_close}
+use Rattle.py_plain_text.specs.TextCalls.{TextFileCall, Read, ReadLine, WriteText, SetChunkSize, Flush, Close, OtherKind}
 use Rattle.py_plain_text.specs.TextRefusals.{refusal}
 use Rattle.py_plain_text.specs.TextAllowed.{TextFileStep}
 use Rattle.py_plain_text.specs.TextWriting.{written_bytes}
@@ -26,7 +26,7 @@ use Rattle.py_stream.specs.Buffer.{Buffer, WhereShown, KeepsBuffer, IsClosedWith
 use Rattle.py_read_text.specs.TextState.{TextState, file_of}
 use Rattle.py_read_text.specs.Waiting.{ShowsAll}
 use Rattle.py_read_text.specs.Ahead.{ReadsNoFurther}
-use Rattle.py_read_text.specs.Owing.{IsJoined, OwesOn, Starves, StopsOwing, KeepsOpen, Closes}
+use Rattle.py_read_text.specs.Owing.{IsJoined, OwesOn, Starves, StopsOwing, KeepsOpen, may_close, Closes}
 
 -- what the answer of a reading says, in the model's words
 abbrev pub text_reply : Result (Option (String Global)) IoFault → FileReply
@@ -273,8 +273,8 @@ pub record Answers (before : TextState) (call : TextFileCall) (reply : FileReply
   pub wants : WantsMemory call reply before.text.buffer
   -- a done close closes the buffer and its raw
   pub closes : Closes before.text.life call before.text.buffer reply after.text.buffer
-  -- no other call closes the raw
-  pub stays : is_close call ≡ false → KeepsOpen before.text.buffer after.text.buffer
+  -- nothing else closes the raw, and no call hands it back
+  pub stays : may_close call reply ≡ false → KeepsOpen before.text.buffer after.text.buffer
   -- a close of a text that itself owed nothing leaves the raw closed where the buffer is
   pub shut : before.text.owed ≡ [] → ClosesWithRaw call before.text.buffer reply after.text.buffer
   -- a buffer that doesn't write leaves the raw's bytes, and owes nothing

@@ -1,5 +1,5 @@
 -- What a text and its buffer owe, over any raw, and whether a call closes the raw.
-use Rattle.std.specs.Prelude.{◌≡◌, ◌≢◌, ◌⊎◌, ℕ, ◌+◌, ◌-◌, ◌<◌, ◌≤◌, Bool, false, IsTrue, List, [], ◌++◌, length, drop}
+use Rattle.std.specs.Prelude.{◌≡◌, ◌≢◌, ◌⊎◌, ℕ, ◌+◌, ◌-◌, ◌<◌, ◌≤◌, Bool, true, false, IsTrue, List, [], ◌++◌, length, drop}
 use Rattle.py_flat.specs.declared.fault.IoFault.TheVariants as fault
 use Rattle.py_flat.specs.declared.life.Life.{Life}
 use Rattle.py_flat.specs.declared.life.Life.TheVariants as life
@@ -94,11 +94,23 @@ pub record StopsOwing (gives : Bool) (after : TextOver Buffer) : Type 0 where
 
 -- What becomes of the raw.
 
--- the raw isn't closed: it is closed exactly where the buffer is, as it was
-abbrev pub KeepsOpen : Buffer → Buffer → Type 0
-KeepsOpen before after = IsClosedWithRaw before → StaysOpen before.raw after.raw × IsClosedWithRaw after
+-- whether a call may close the raw: a close that is done, or in which the raw failed
+abbrev pub may_close : TextFileCall → FileReply → Bool
+may_close Close Done = true
+may_close Close (Refused fault.RawFault) = true
+may_close call reply = false
 
--- a close of a live text that is done closes its buffer, and the raw with it
+-- the raw isn't handed back
+abbrev pub StaysAttached : Buffer → Buffer → Type 0
+StaysAttached before after = before.life ≢ life.Detached → after.life ≢ life.Detached
+
+-- the raw isn't handed back and isn't closed: it is closed exactly where the buffer is, as it was
+pub record KeepsOpen (before after : Buffer) : Type 0 where
+  pub attached : StaysAttached before after
+  pub stays : IsClosedWithRaw before → StaysOpen before.raw after.raw × IsClosedWithRaw after
+
+-- a close of a live text that is done closes its buffer, and the raw with it; where the raw failed it isn't handed back
 abbrev pub Closes : Life → TextFileCall → Buffer → FileReply → Buffer → Type 0
 Closes current Close before Done after = current ≡ life.Live → (after.life ≡ life.Closed) × (IsClosedWithRaw before → IsTrue after.raw.closed)
+Closes current Close before (Refused fault.RawFault) after = StaysAttached before after
 Closes current call before reply after = Unit {0}

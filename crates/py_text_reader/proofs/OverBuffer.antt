@@ -82,10 +82,10 @@ parts_none : (before after : Buffer) (reply : FileReply) → before.can.writable
 parts_none before after reply unwritten = grind arith
 
 shuts : (before : over.TextState) (call : TextCall) (reply : FileReply) (after : over.TextState) → OnlyReads before → OnlyReads after → over_answers.Answers before (whole_call call) reply after → IsClosedWithRaw before.text.buffer → IsClosedWithRaw after.text.buffer
-shuts before (far.Read size) reply after reads still answers = λ closed. (answers.stays refl closed).1
-shuts before (far.ReadLine limit) reply after reads still answers = λ closed. (answers.stays refl closed).1
+shuts before (far.Read size) reply after reads still answers = λ closed. ((answers.stays refl).stays closed).1
+shuts before (far.ReadLine limit) reply after reads still answers = λ closed. ((answers.stays refl).stays closed).1
 shuts before far.Close reply after reads still answers = answers.shut reads.own (parts_none before.text.buffer after.text.buffer reply reads.unwritten) (ap (λ (owed : Owed). owed.bytes) still.none)
-shuts before far.OtherKind reply after reads still answers = λ closed. (answers.stays refl closed).1
+shuts before far.OtherKind reply after reads still answers = λ closed. ((answers.stays refl).stays closed).1
 
 settings_so : (call : TextCall) (reply : FileReply) (settings : TextSettings) → over_answers.settings_after (whole_call call) reply settings ≡ settings
 settings_so (far.Read size) reply settings = refl

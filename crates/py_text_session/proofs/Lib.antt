@@ -1,4 +1,5 @@
-mod SoFar
-mod OverBuffer
+mod Keeping
+mod Opening
 mod Parting
+mod Blaming
 mod Losing

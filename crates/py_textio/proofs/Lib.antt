@@ -7,3 +7,4 @@ mod Nothing
 mod Writing
 mod Sizes
 mod Ended
+mod Rooms

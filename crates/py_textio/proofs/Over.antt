@@ -207,8 +207,9 @@ wants_close : (old mid : Buffer) (reply : FileReply) → KeepsBuffer old mid →
 wants_close old mid reply keeps wants = grind arith
 
 closes_behind : (was current : Life) (reply : FileReply) (before mid after : Buffer) → was ≡ life.Live → KeepsOpen before mid → Closes was Close mid reply after → Closes current Close before reply after
-closes_behind was current Done before mid after live stays closes = λ lives. ((closes live).0, λ closed. (closes live).1 (stays closed).1)
-closes_behind was current reply before mid after live stays closes = tt
+closes_behind was current Done before mid after live kept closes = λ lives. ((closes live).0, λ closed. (closes live).1 (kept.stays closed).1)
+closes_behind was current (Refused fault.RawFault) before mid after live kept closes = λ was_there. closes (kept.attached was_there)
+closes_behind was current reply before mid after live kept closes = tt
 
 passes_close : (old mid : TextState) (reply : FileReply) (after : TextState) → mid.text.life ≡ life.Live → TextPasses mid Close reply after → TextPasses old Close reply after
 passes_close old mid reply after lives passes = grind arith

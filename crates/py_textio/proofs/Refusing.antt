@@ -86,6 +86,7 @@ starves_refused text fault.NoMemory = inl (record { life_is = refl; settings = r
 starves_refused text why = tt
 
 closes_refused : (current : Life) (call : TextFileCall) (why : IoFault) (buffer : Buffer) → Closes current call buffer (Refused why) buffer
+closes_refused current Close fault.RawFault buffer = λ was. was
 closes_refused current Close why buffer = tt
 closes_refused current call why buffer = tt
 

@@ -15,7 +15,7 @@ use Rattle.py_stream.specs.Kinds.{says_wait, says_fault}
 use Rattle.py_stream.specs.Buffer.{Buffer, WhereShown}
 use Rattle.py_held_text.specs.declared.wanted.Wanted.{Wanted}
 use Rattle.py_held_text.specs.declared.wanted.Wanted.TheVariants.{Characters, Line}
-use Rattle.py_read_text.specs.Owing.{IsJoined, WriteMovesBy, GaveOwn, Starves, Closes}
+use Rattle.py_read_text.specs.Owing.{IsJoined, WriteMovesBy, GaveOwn, Starves, KeepsOpen, Closes}
 use Rattle.py_read_text.proofs.Calling.{Passing, faulted_life, passes_accepted, fails_still, wait_step, fault_step, starve_step}
 use Rattle.py_read_text.proofs.Owing.{owes_none}
 use Rattle.py_read_text.specs.Knowing.{place_of}
@@ -44,7 +44,7 @@ pub record Ends (call : TextFileCall) (reply : FileReply) (short : Bool) : Type 
   pub passes : (before after : _) → TextPasses before call reply after
   pub kept : (after : _) → TextKeeps call reply after
   pub moves : (from to : ℕ) → WriteMovesBy call 0 from to
-  pub closes : (current : Life) (before after : Buffer) → Closes current call before reply after
+  pub closes : (current : Life) (before after : Buffer) → KeepsOpen before after → Closes current call before reply after
 
 -- a text that owes something, and whose buffer called for it
 pub record Owes (old : WrittenView) : Type 0 where
@@ -72,7 +72,7 @@ ends_work old call reply new short owes ends accepted hands there left current j
   joined = joined;
   owes = owes_none (over_of old) call (over_of new) (ends.moves (place_now old).at (place_now new).at) hands.owes;
   starves = starves;
-  closes = ends.closes old.life old.text.buffer new.text.buffer;
+  closes = ends.closes old.life old.text.buffer new.text.buffer hands.stays;
   stays = λ is. hands.stays;
   stops = λ is. record { full = λ some. (left is).1; some = λ gives none. absurd ((left is).0 none) };
   answer = ends.answer;
@@ -101,19 +101,19 @@ some_asked : (asked : Wanted) → asks_none asked ≡ false → calls_nothing (c
 some_asked asked some = grind arith
 
 unready_ends : (asked : Wanted) → asks_none asked ≡ false → Ends (call_of asked) NotReady true
-unready_ends (Characters None) some = record { once = refl; some = some_asked (Characters None) some; shorts = refl; settings = λ own. refl; place = λ own end. refl; written = λ settings own. tt; answer = tt; calm = λ is. absurd (cc); passes = λ before after. tt; kept = λ after. tt; moves = λ from to. tt; closes = λ current before after. tt }
-unready_ends (Characters (Some size)) some = record { once = refl; some = some_asked (Characters (Some size)) some; shorts = refl; settings = λ own. refl; place = λ own end. refl; written = λ settings own. tt; answer = tt; calm = λ is. absurd (cc); passes = λ before after. tt; kept = λ after. tt; moves = λ from to. tt; closes = λ current before after. tt }
-unready_ends (Line limit) some = record { once = refl; some = some_asked (Line limit) some; shorts = refl; settings = λ own. refl; place = λ own end. refl; written = λ settings own. tt; answer = tt; calm = λ is. absurd (cc); passes = λ before after. tt; kept = λ after. tt; moves = λ from to. tt; closes = λ current before after. tt }
+unready_ends (Characters None) some = record { once = refl; some = some_asked (Characters None) some; shorts = refl; settings = λ own. refl; place = λ own end. refl; written = λ settings own. tt; answer = tt; calm = λ is. absurd (cc); passes = λ before after. tt; kept = λ after. tt; moves = λ from to. tt; closes = λ current before after kept. tt }
+unready_ends (Characters (Some size)) some = record { once = refl; some = some_asked (Characters (Some size)) some; shorts = refl; settings = λ own. refl; place = λ own end. refl; written = λ settings own. tt; answer = tt; calm = λ is. absurd (cc); passes = λ before after. tt; kept = λ after. tt; moves = λ from to. tt; closes = λ current before after kept. tt }
+unready_ends (Line limit) some = record { once = refl; some = some_asked (Line limit) some; shorts = refl; settings = λ own. refl; place = λ own end. refl; written = λ settings own. tt; answer = tt; calm = λ is. absurd (cc); passes = λ before after. tt; kept = λ after. tt; moves = λ from to. tt; closes = λ current before after kept. tt }
 
 fault_ends : (asked : Wanted) → asks_none asked ≡ false → Ends (call_of asked) (Refused fault.RawFault) false
-fault_ends (Characters None) some = record { once = refl; some = some_asked (Characters None) some; shorts = refl; settings = λ own. refl; place = λ own end. refl; written = λ settings own. tt; answer = tt; calm = λ is fails. absurd (cc); passes = λ before after. tt; kept = λ after. tt; moves = λ from to. tt; closes = λ current before after. tt }
-fault_ends (Characters (Some size)) some = record { once = refl; some = some_asked (Characters (Some size)) some; shorts = refl; settings = λ own. refl; place = λ own end. refl; written = λ settings own. tt; answer = tt; calm = λ is fails. absurd (cc); passes = λ before after. tt; kept = λ after. tt; moves = λ from to. tt; closes = λ current before after. tt }
-fault_ends (Line limit) some = record { once = refl; some = some_asked (Line limit) some; shorts = refl; settings = λ own. refl; place = λ own end. refl; written = λ settings own. tt; answer = tt; calm = λ is fails. absurd (cc); passes = λ before after. tt; kept = λ after. tt; moves = λ from to. tt; closes = λ current before after. tt }
+fault_ends (Characters None) some = record { once = refl; some = some_asked (Characters None) some; shorts = refl; settings = λ own. refl; place = λ own end. refl; written = λ settings own. tt; answer = tt; calm = λ is fails. absurd (cc); passes = λ before after. tt; kept = λ after. tt; moves = λ from to. tt; closes = λ current before after kept. tt }
+fault_ends (Characters (Some size)) some = record { once = refl; some = some_asked (Characters (Some size)) some; shorts = refl; settings = λ own. refl; place = λ own end. refl; written = λ settings own. tt; answer = tt; calm = λ is fails. absurd (cc); passes = λ before after. tt; kept = λ after. tt; moves = λ from to. tt; closes = λ current before after kept. tt }
+fault_ends (Line limit) some = record { once = refl; some = some_asked (Line limit) some; shorts = refl; settings = λ own. refl; place = λ own end. refl; written = λ settings own. tt; answer = tt; calm = λ is fails. absurd (cc); passes = λ before after. tt; kept = λ after. tt; moves = λ from to. tt; closes = λ current before after kept. tt }
 
 memory_ends : (asked : Wanted) → asks_none asked ≡ false → Ends (call_of asked) (Refused fault.NoMemory) false
-memory_ends (Characters None) some = record { once = refl; some = some_asked (Characters None) some; shorts = refl; settings = λ own. refl; place = λ own end. refl; written = λ settings own. tt; answer = tt; calm = λ is fails. record { answer = tt; whole = refl }; passes = λ before after. tt; kept = λ after. tt; moves = λ from to. tt; closes = λ current before after. tt }
-memory_ends (Characters (Some size)) some = record { once = refl; some = some_asked (Characters (Some size)) some; shorts = refl; settings = λ own. refl; place = λ own end. refl; written = λ settings own. tt; answer = tt; calm = λ is fails. record { answer = tt; whole = refl }; passes = λ before after. tt; kept = λ after. tt; moves = λ from to. tt; closes = λ current before after. tt }
-memory_ends (Line limit) some = record { once = refl; some = some_asked (Line limit) some; shorts = refl; settings = λ own. refl; place = λ own end. refl; written = λ settings own. tt; answer = tt; calm = λ is fails. record { answer = tt; whole = refl }; passes = λ before after. tt; kept = λ after. tt; moves = λ from to. tt; closes = λ current before after. tt }
+memory_ends (Characters None) some = record { once = refl; some = some_asked (Characters None) some; shorts = refl; settings = λ own. refl; place = λ own end. refl; written = λ settings own. tt; answer = tt; calm = λ is fails. record { answer = tt; whole = refl }; passes = λ before after. tt; kept = λ after. tt; moves = λ from to. tt; closes = λ current before after kept. tt }
+memory_ends (Characters (Some size)) some = record { once = refl; some = some_asked (Characters (Some size)) some; shorts = refl; settings = λ own. refl; place = λ own end. refl; written = λ settings own. tt; answer = tt; calm = λ is fails. record { answer = tt; whole = refl }; passes = λ before after. tt; kept = λ after. tt; moves = λ from to. tt; closes = λ current before after kept. tt }
+memory_ends (Line limit) some = record { once = refl; some = some_asked (Line limit) some; shorts = refl; settings = λ own. refl; place = λ own end. refl; written = λ settings own. tt; answer = tt; calm = λ is fails. record { answer = tt; whole = refl }; passes = λ before after. tt; kept = λ after. tt; moves = λ from to. tt; closes = λ current before after kept. tt }
 
 wants_nothing : (asked : Wanted) (reply : FileReply) (buffer : Buffer) → WantsMemory (call_of asked) reply buffer
 wants_nothing (Characters size) reply buffer = tt
@@ -158,16 +158,16 @@ passing_gives true gives = absurd (cc)
 passing_gives false gives = absurd (cc)
 
 wait_ends : (closes : Bool) → Ends (Passing closes) (Refused (fault.WouldBlock 0)) true
-wait_ends true = record { once = refl; some = refl; shorts = refl; settings = λ own. refl; place = λ own end. refl; written = λ settings own. tt; answer = refl; calm = λ is fails. absurd (cc); passes = λ before after. tt; kept = λ after. tt; moves = λ from to. tt; closes = λ current before after. tt }
-wait_ends false = record { once = refl; some = refl; shorts = refl; settings = λ own. refl; place = λ own end. refl; written = λ settings own. tt; answer = refl; calm = λ is fails. absurd (cc); passes = λ before after. tt; kept = λ after. tt; moves = λ from to. tt; closes = λ current before after. tt }
+wait_ends true = record { once = refl; some = refl; shorts = refl; settings = λ own. refl; place = λ own end. refl; written = λ settings own. tt; answer = refl; calm = λ is fails. absurd (cc); passes = λ before after. tt; kept = λ after. tt; moves = λ from to. tt; closes = λ current before after kept. tt }
+wait_ends false = record { once = refl; some = refl; shorts = refl; settings = λ own. refl; place = λ own end. refl; written = λ settings own. tt; answer = refl; calm = λ is fails. absurd (cc); passes = λ before after. tt; kept = λ after. tt; moves = λ from to. tt; closes = λ current before after kept. tt }
 
 passing_faults : (closes : Bool) → Ends (Passing closes) (Refused fault.RawFault) false
-passing_faults true = record { once = refl; some = refl; shorts = refl; settings = λ own. refl; place = λ own end. refl; written = λ settings own. tt; answer = tt; calm = λ is fails. absurd (cc); passes = λ before after. tt; kept = λ after. tt; moves = λ from to. tt; closes = λ current before after. tt }
-passing_faults false = record { once = refl; some = refl; shorts = refl; settings = λ own. refl; place = λ own end. refl; written = λ settings own. tt; answer = tt; calm = λ is fails. absurd (cc); passes = λ before after. tt; kept = λ after. tt; moves = λ from to. tt; closes = λ current before after. tt }
+passing_faults true = record { once = refl; some = refl; shorts = refl; settings = λ own. refl; place = λ own end. refl; written = λ settings own. tt; answer = tt; calm = λ is fails. absurd (cc); passes = λ before after. tt; kept = λ after. tt; moves = λ from to. tt; closes = λ current before after kept. kept.attached }
+passing_faults false = record { once = refl; some = refl; shorts = refl; settings = λ own. refl; place = λ own end. refl; written = λ settings own. tt; answer = tt; calm = λ is fails. absurd (cc); passes = λ before after. tt; kept = λ after. tt; moves = λ from to. tt; closes = λ current before after kept. tt }
 
 passing_starves : (closes : Bool) → Ends (Passing closes) (Refused fault.NoMemory) false
-passing_starves true = record { once = refl; some = refl; shorts = refl; settings = λ own. refl; place = λ own end. refl; written = λ settings own. tt; answer = tt; calm = λ is fails. record { answer = tt; whole = refl }; passes = λ before after. tt; kept = λ after. tt; moves = λ from to. tt; closes = λ current before after. tt }
-passing_starves false = record { once = refl; some = refl; shorts = refl; settings = λ own. refl; place = λ own end. refl; written = λ settings own. tt; answer = tt; calm = λ is fails. record { answer = tt; whole = refl }; passes = λ before after. tt; kept = λ after. tt; moves = λ from to. tt; closes = λ current before after. tt }
+passing_starves true = record { once = refl; some = refl; shorts = refl; settings = λ own. refl; place = λ own end. refl; written = λ settings own. tt; answer = tt; calm = λ is fails. record { answer = tt; whole = refl }; passes = λ before after. tt; kept = λ after. tt; moves = λ from to. tt; closes = λ current before after kept. tt }
+passing_starves false = record { once = refl; some = refl; shorts = refl; settings = λ own. refl; place = λ own end. refl; written = λ settings own. tt; answer = tt; calm = λ is fails. record { answer = tt; whole = refl }; passes = λ before after. tt; kept = λ after. tt; moves = λ from to. tt; closes = λ current before after kept. tt }
 
 passing_life : (closes : Bool) (before after : Life) → after ≡ faulted_life closes → LifeMoves true (Passing closes) (Refused fault.RawFault) before after
 passing_life true before after is = is

@@ -1,5 +1,5 @@
 -- A text that is written: what it owes its buffer, and the steps of its calls.
-use Rattle.std.specs.Prelude.{◌≡◌, ◌≢◌, ℕ, ◌+◌, ◌-◌, ◌<◌, ◌≤◌, ◌⊎◌, Bool, true, false, IsTrue, List, [], ◌∷◌, ◌++◌, length, take, Option, Some, None, Result, Ok, Err}
+use Rattle.std.specs.Prelude.{◌≡◌, ◌≢◌, ℕ, ◌+◌, ◌-◌, ◌<◌, ◌≤◌, ◌⊎◌, Bool, true, false, IsTrue, List, [], ◌∷◌, ◌++◌, length, take, Option, Some, None, unwrap_or, Result, Ok, Err}
 use Rattle.py_flat.specs.declared.fault.IoFault.{IoFault}
 use Rattle.py_flat.specs.declared.fault.IoFault.TheVariants as fault
 use Rattle.py_flat.specs.declared.life.Life.{Life}
@@ -14,7 +14,7 @@ use Rattle.py_plain_text.specs.TextWriting.{writes_texts}
 use Rattle.py_raw.specs.RawStream.{AnswersFor}
 use Rattle.py_stream.specs.Stream.{size_of}
 use Rattle.py_stream.specs.Writing.{IsFull}
-use Rattle.py_stream.specs.Buffer.{Buffer, WhereShown, flat_of, stream_shown, KeepsBuffer}
+use Rattle.py_stream.specs.Buffer.{Buffer, WhereShown, flat_of, size_shown, stream_shown, KeepsBuffer}
 use Rattle.py_read_text.specs.TextState.{TextState, file_of}
 use Rattle.py_read_text.specs.Knowing.{TextView, place_of, over_of as read_of, IsClean}
 use Rattle.py_read_text.specs.Owing.{all_owed, IsJoined, PassesOwed, GaveOwn, StopsOwing, KeepsOpen}
@@ -64,6 +64,10 @@ pub record IsWritten (text : TextView) (pending : List ℕ) (current : Life) : T
   pub joined : IsJoined (read_of text)
   pub far : text.buffer.place + length pending ≤ greatest_place
   pub unwritten : text.buffer.can.writable ≡ false → (pending ≡ []) × (current ≡ text.buffer.life)
+
+-- a text that owes bytes itself has room for as many more as its buffer holds
+abbrev pub HasRoom : Buffer → List ℕ → ℕ → Type 0
+HasRoom buffer pending room = pending ≢ [] → unwrap_or (size_shown buffer.buffering) 0 ≤ room
 
 -- Handing on what is owed.
 

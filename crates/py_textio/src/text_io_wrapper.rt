@@ -1,11 +1,12 @@
 //! A text over any buffered stream: each call is refused by its life or an ability, or answered by the text below.
-ghost use Rattle.std.specs.Prelude.{◌≡◌, ◌-◌, true, false, Some, None, chars, length, if◌then◌else◌};
+ghost use Rattle.std.specs.Prelude.{◌≡◌, ◌≢◌, ◌≤◌, ◌-◌, true, false, [], Some, None, chars, length, unwrap_or, vec_len, vec_capacity, if◌then◌else◌};
 ghost use Rattle.py_flat.specs.Calls.{Refused};
 ghost use Rattle.py_flat.specs.ExactStep.{is_closed};
 ghost use Rattle.py_plain_text.specs.TextCalls.{Read, ReadLine, WriteText, SetChunkSize, Flush, Close, OtherKind};
 ghost use Rattle.py_stream.specs.Kinds.{says_wait};
 ghost use Rattle.py_stream.specs.Replies.{count_reply, done_reply};
 ghost use Rattle.py_stream.specs.Writing.{OwesUpTo};
+ghost use Rattle.py_stream.specs.Buffer.{size_shown};
 ghost use Rattle.py_read_text.specs.Reading.{call_of};
 ghost use Rattle.py_read_text.specs.Opening.{WrapOutcome};
 ghost use Rattle.py_read_text.specs.Owing.{IsJoined};
@@ -300,10 +301,12 @@ impl<B: BufferedStream> TextIOWrapper<B> {
     /// Hands the buffer back, in every life, with the bytes that were written and that it hasn't, behind those that it owes itself; and,
     /// where it can seek, with the place where they begin: without any the byte of the text place, where the text was made, or behind what
     /// was written last, or where a `read` of all came to the end; how many characters were taken since isn't told. The buffer isn't moved:
-    /// it stands behind the last chunk that was read. What was read and not taken is dropped. It takes no memory.
+    /// it stands behind the last chunk that was read. What was read and not taken is dropped. Bytes that the buffer hasn't come with room for
+    /// as many more as the buffer holds. It takes no memory.
     pub fn into_parts(self) -> TextDetached<B>
         ensures buffer { B.shows result.buffer ≡ self.text.buffer }
         ensures unwritten { result.unwritten.items ≡ self.text.owed }
+        ensures room { result.unwritten.items ≢ [] → unwrap_or (size_shown self.text.buffer.buffering) 0 ≤ vec_capacity result.unwritten - vec_len result.unwritten }
         ensures joined { IsJoined self.text }
         ensures place { result.place ≡ (if self.text.buffer.can.seekable then Some (self.text.place.at - length self.text.owed) else None) }
     {

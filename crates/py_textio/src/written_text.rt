@@ -1,5 +1,5 @@
 //! The text under a user's: it reads, and keeps what was written until its buffer takes it. Its calls are for a live text.
-ghost use Rattle.std.specs.Prelude.{◌≡◌, ◌≢◌, ◌+◌, ◌-◌, ◌<◌, ◌≤◌, ◌&&◌, Bool, true, false, None, [], ◌++◌, length, take, chars, OnOk, OnErr, IfErr};
+ghost use Rattle.std.specs.Prelude.{◌≡◌, ◌≢◌, ◌+◌, ◌-◌, ◌<◌, ◌≤◌, ◌&&◌, Bool, true, false, None, [], ◌++◌, length, take, chars, vec_len, vec_capacity, OnOk, OnErr, IfErr};
 ghost use Rattle.py_flat.specs.Limits.{greatest_place};
 ghost use Rattle.py_plain_text.specs.TextCalls.{WriteText, Flush, Close};
 ghost use Rattle.py_plain_text.specs.TextWriting.{writes_texts, written_bytes, written_refusal};
@@ -10,7 +10,7 @@ ghost use Rattle.py_read_text.specs.Reading.{call_of, asks_none, reply_of, waite
 ghost use Rattle.py_read_text.specs.Owing.{IsJoined};
 ghost use Rattle.py_read_text.specs.Knowing.{over_of as read_of};
 ghost use Rattle.py_read_text.specs.Answers.{Answers};
-ghost use Rattle.py_textio.specs.Written.{over_of, state_of, place_now, StandsToWrite, SettleOutcome, stopped_reply, with_taken, RoomFor, BackOutcome, PassOutcome, HandOutcome};
+ghost use Rattle.py_textio.specs.Written.{over_of, state_of, place_now, HasRoom, StandsToWrite, SettleOutcome, stopped_reply, with_taken, RoomFor, BackOutcome, PassOutcome, HandOutcome};
 
 use py_flat::{IoFault, Life};
 use py_held_text::{Coder, Wanted, drop_front};
@@ -74,13 +74,13 @@ pub(crate) struct WrittenText<B: BufferedStream> {
 
 impl<B: BufferedStream> Model for WrittenText<B> {
     ghost use Rattle.std.specs.Prelude.{◌-◌, vec_len, vec_capacity};
-    ghost use Rattle.py_textio.specs.Written.{WrittenView, IsWritten};
+    ghost use Rattle.py_textio.specs.Written.{WrittenView, IsWritten, HasRoom};
 
     ghost Value = { WrittenView };
 
     ghost view = { λ w. record { text = w.text; pending = w.pending.items; room = vec_capacity w.pending - vec_len w.pending; life = w.life } };
 
-    ghost invariant = { λ w. IsWritten w.text w.pending.items w.life };
+    ghost invariant = { λ w. IsWritten w.text w.pending.items w.life × HasRoom w.text.buffer w.pending.items (vec_capacity w.pending - vec_len w.pending) };
 }
 
 impl<B: BufferedStream> WrittenText<B> {
@@ -166,10 +166,12 @@ impl<B: BufferedStream> WrittenText<B> {
         self.text.set_chunksize(size);
     }
 
-    /// The buffer, the bytes that it hasn't taken, and the place where they begin: without any, the byte of the text place.
+    /// The buffer, the bytes that it hasn't taken, where there are some with room for as many more as the buffer holds, and the place where
+    /// they begin: without any, the byte of the text place.
     pub fn into_parts(self) -> (B, Vec<u8>, u64)
         ensures buffer { B.shows result.0 ≡ self.text.buffer }
         ensures unwritten { result.1.items ≡ self.pending }
+        ensures room { HasRoom self.text.buffer self.pending (vec_capacity result.1 - vec_len result.1) }
         ensures place { result.2 ≡ self.text.at }
         ensures joined { IsJoined (over_of self) }
     {

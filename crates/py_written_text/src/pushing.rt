@@ -1,4 +1,4 @@
-ghost use Rattle.std.specs.Prelude.{◌≡◌, ◌++◌, None, take, length, chars, IfErr, OnOk, OnErr};
+ghost use Rattle.std.specs.Prelude.{◌≡◌, ◌≤◌, ◌++◌, None, take, length, chars, vec_capacity, IfErr, OnOk, OnErr};
 ghost use Rattle.py_flat.specs.declared.fault.IoFault.TheVariants.{NoMemory};
 ghost use Rattle.py_plain_text.specs.TextWriting.{written_bytes, written_refusal};
 ghost use Rattle.py_written_text.specs.Written.{settings_of};
@@ -18,6 +18,7 @@ fn push_encoded(alloc: Global, coder: Coder, text: &str, out: &mut Vec<u8>) -> R
     ensures ok { OnOk result (out.new.items ≡ out.old.items ++ each_encoded coder (chars text.now)) }
     ensures err { IfErr result (λ why. why ≡ NoMemory) }
     ensures same { OnErr result (out.new.items ≡ out.old.items) }
+    ensures capacity { vec_capacity out.old ≤ vec_capacity out.new }
 {
     let errors: HandlerRef<NoHandler> = HandlerRef::Builtin(coder.errors);
     let (bytes, _) = encode(alloc, coder.encoding, text, errors)?;
@@ -31,6 +32,7 @@ fn push_as_is(alloc: Global, coder: Coder, text: &str, out: &mut Vec<u8>) -> Res
     ensures ok { OnOk result (out.new.items ≡ out.old.items ++ each_encoded coder (chars text.now)) }
     ensures err { IfErr result (λ why. why ≡ NoMemory) }
     ensures same { OnErr result (out.new.items ≡ out.old.items) }
+    ensures capacity { vec_capacity out.old ≤ vec_capacity out.new }
 {
     if stays(coder, text) {
         out.extend_from_slice(text.as_bytes())?;
@@ -51,6 +53,7 @@ fn push_lines(
     ensures ok { OnOk result (out.new.items ≡ out.old.items ++ each_written coder newline (chars text.now)) }
     ensures err { IfErr result (λ why. why ≡ NoMemory) }
     ensures kept { OnErr result (take (length out.old.items) out.new.items ≡ out.old.items) }
+    ensures capacity { vec_capacity out.old ≤ vec_capacity out.new }
 {
     let mut left = text;
     loop {
@@ -76,6 +79,7 @@ fn push_text(
     ensures ok { OnOk result (out.new.items ≡ out.old.items ++ each_written coder newline (chars text.now)) }
     ensures err { IfErr result (λ why. why ≡ NoMemory) }
     ensures kept { OnErr result (take (length out.old.items) out.new.items ≡ out.old.items) }
+    ensures capacity { vec_capacity out.old ≤ vec_capacity out.new }
 {
     match newline {
         Newlines::Cr | Newlines::Crlf => push_lines(alloc, coder, newline, text, out),
@@ -101,6 +105,7 @@ pub fn push_written_text(
     ensures ok { OnOk result (out.new.items ≡ out.old.items ++ written_bytes (settings_of coder newline) (chars text.now)) }
     ensures err { IfErr result (λ why. why ≡ NoMemory) }
     ensures same { OnErr result (out.new.items ≡ out.old.items) }
+    ensures capacity { vec_capacity out.old ≤ vec_capacity out.new }
 {
     let before = out.len();
     match push_text(alloc, coder, newline, text, out) {

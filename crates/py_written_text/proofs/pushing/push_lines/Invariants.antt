@@ -1,4 +1,5 @@
-use Rattle.std.proofs.Common.{length, chars}
+use Rattle.std.specs.Prelude.{vec_capacity}
+use Rattle.std.proofs.Common.{◌≤◌, length, chars}
 use denote.Text.{Utf8}
 use denote.Shadow.{shadow}
 use Rattle.py_written_text.specs.EachWritten.{IsWhole}
@@ -10,6 +11,7 @@ invariant-loop-out l = record {
   is_text : shadow (Utf8 l.left);
   whole : IsWhole l.coder.errors l.coder.encoding (chars l.left);
   done : IsDone l.coder l.newline l.fn.out.items l.out.items (chars l.text) (chars l.left);
+  room : vec_capacity l.fn.out ≤ vec_capacity l.out;
 }
 
 abbrev pub decreases-loop-out : goal.decreases-loop-out
