@@ -11,8 +11,7 @@ ghost use Rattle.py_binary.specs.Binary.{has_reply_room};
 ghost use Rattle.py_binary.specs.Kinds.{buffered_as};
 
 use crate::replies::copy_reply;
-use py_buffered::{BufferedReader, BufferedWriter};
-use py_buffered_random::BufferedRandom;
+use py_buffered::{BufferedRandom, BufferedReader, BufferedWriter};
 use py_calls::Reply;
 use py_raw::{IoFault, Life, Lines, RawStream};
 use py_stream::{Access, Detached, NewRefused};

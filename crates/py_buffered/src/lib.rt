@@ -1,11 +1,17 @@
-//! Buffered streams over raw ones: one buffer, filled in one piece and given out bit by bit, or filled bit by bit and passed on.
+//! Buffered streams over raw ones: one buffer, filled in one piece and given out bit by bit, or filled bit by bit and passed on, or both.
 #![tactic(auto)]
 
+mod buffered_over;
+mod buffered_random;
 mod buffered_reader;
 mod buffered_writer;
+mod kind;
 mod lines;
 
+pub use buffered_over::BufferedOver;
+pub use buffered_random::BufferedRandom;
 pub use buffered_reader::BufferedReader;
 pub use buffered_writer::BufferedWriter;
+pub use kind::{BufferedKind, ReadOnly, ReadWrite, WriteOnly, WritingKind};
 pub use lines::BufferedLines;
 pub use py_stream::{Detached, NewRefused, Whence, a_seek_to_the_told_place_keeps_all};

@@ -5,8 +5,7 @@ ghost use Rattle.std.specs.Prelude.{IfOk};
 ghost use Rattle.py_raw_memory.specs.MemRaw.{shown as raw_shown};
 ghost use Rattle.py_stream.specs.Opening.{StandsAtStart};
 
-use py_buffered::{BufferedReader, BufferedWriter};
-use py_buffered_random::{BufferedRandom, Whence};
+use py_buffered::{BufferedRandom, BufferedReader, BufferedWriter, Whence};
 use py_raw::{Data, IoFault, Lines, RawFlags};
 use py_raw_memory::{Cut, MemRaw};
 use py_stream::Detached;

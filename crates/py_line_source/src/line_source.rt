@@ -7,8 +7,7 @@ ghost use Rattle.py_read_text.specs.Answers as of_text;
 ghost use Rattle.py_line_source.specs.Lines.{line_reply};
 
 use crate::LineValue;
-use py_buffered::BufferedReader;
-use py_buffered_random::BufferedRandom;
+use py_buffered::{BufferedRandom, BufferedReader};
 use py_flat::{Chars, Data, IoFault};
 use py_raw::RawStream;
 use py_stream::BufferedStream;

@@ -9,7 +9,7 @@ mod task;
 
 use offsets::offsets_of;
 use py_bench::best_of;
-use py_buffered_random::{BufferedRandom, Whence};
+use py_buffered::{BufferedRandom, Whence};
 use py_raw::Opener;
 use py_raw_files::{FileOpener, FileRaw};
 use std::time::Duration;

@@ -1,5 +1,5 @@
 use crate::sum::Sum;
-use py_buffered_random::{BufferedRandom, Whence};
+use py_buffered::{BufferedRandom, Whence};
 use py_raw::{IoFault, RawStream};
 use std::alloc::Global;
 

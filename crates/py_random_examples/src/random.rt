@@ -1,5 +1,5 @@
 //! A buffered stream that is read and written: the example of docs/BUFFERED.md.
-use py_buffered_random::BufferedRandom;
+use py_buffered::BufferedRandom;
 use py_example_streams::{gives, random_over};
 use py_raw::{IoFault, RawFlags};
 use py_raw_memory::MemRaw;

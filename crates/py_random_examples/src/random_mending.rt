@@ -1,5 +1,5 @@
 //! Calls of a stream that is read and written, over a raw that fails in any of them: the three steps of docs/FAULTS.md lose no byte.
-use py_buffered_random::BufferedRandom;
+use py_buffered::BufferedRandom;
 use py_example_streams::{random_over, written_back};
 use py_raw::IoFault;
 use py_raw_memory::{Cut, MemRaw};

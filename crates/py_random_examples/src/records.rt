@@ -1,5 +1,5 @@
 //! A store of records that are changed in place, over a raw that fails in the middle: the example of docs/FAULTS.md.
-use py_buffered_random::{BufferedRandom, Whence};
+use py_buffered::{BufferedRandom, Whence};
 use py_example_streams::{gives, random_over, written_back};
 use py_raw::{IoFault, RawStream};
 use py_raw_memory::MemRaw;

@@ -1,6 +1,5 @@
 //! Streams under a text, and what stands once both are taken apart.
-use py_buffered::{BufferedReader, BufferedWriter};
-use py_buffered_random::BufferedRandom;
+use py_buffered::{BufferedRandom, BufferedReader, BufferedWriter};
 use py_flat::IoFault;
 use py_memio::BytesIO;
 use py_plain_text::laid;
