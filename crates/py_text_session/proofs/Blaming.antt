@@ -1,5 +1,5 @@
 -- A settled reply of a text blames neither the raw nor memory.
-use Rattle.std.proofs.Common.{◌≡◌, ◌≢◌, ℕ, zero, suc, ℤ, pos, Bool, true, false, ◌&&◌, not, nat_eq, nat_lt, List, length, Option, Some, None, if◌then◌else◌, refl, sym, ap, ◌∙◌, subst}
+use Rattle.std.proofs.Common.{◌≡◌, ◌≢◌, ℕ, ◌+◌, zero, suc, ℤ, pos, Bool, true, false, ◌&&◌, not, nat_eq, nat_lt, List, length, Option, Some, None, if◌then◌else◌, refl, sym, ap, ◌∙◌, subst}
 use Rattle.py_flat.specs.declared.fault.IoFault.{IoFault}
 use Rattle.py_flat.specs.declared.fault.IoFault.TheVariants as fault
 use Rattle.py_flat.specs.declared.life.Life.{Life}
@@ -21,13 +21,13 @@ use Rattle.py_plain_text.specs.TextExact.{carried_out, sought_cookie, after_land
 use Rattle.py_plain_text.specs.TextAllowed.{DetachesIn, Accepted, SettledBy, Settled, HandsBack}
 
 -- a reply that isn't ready, or of which the fault is the raw's or a want of memory
-pub blames_other : FileReply → Bool
+abbrev pub blames_other : FileReply → Bool
 blames_other NotReady = true
 blames_other (Refused why) = blames why
 blames_other reply = false
 
 -- a refusal that blames nothing but the text and the call
-IsOwn : Option IoFault → Type 0
+abbrev IsOwn : Option IoFault → Type 0
 IsOwn None = Unit {0}
 IsOwn (Some why) = blames why ≡ false
 

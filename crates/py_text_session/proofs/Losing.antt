@@ -1,5 +1,5 @@
 -- An answer of a text is the front of what is left, and what is left after it is the rest.
-use Rattle.std.proofs.Common.{◌≡◌, ◌≢◌, ℕ, ◌+◌, inl, inr, max, Bool, true, List, [], ◌++◌, length, drop, Option, Some, None, refl, sym, ap, subst, ◌∙◌, arith}
+use Rattle.std.proofs.Common.{◌≡◌, ◌≢◌, ℕ, ◌+◌, inl, inr, max, Bool, true, false, List, [], ◌++◌, length, drop, Option, Some, None, refl, sym, ap, subst, ◌∙◌, arith}
 use Rattle.std.proofs.Math.Seq.{drop-append_seam}
 use Rattle.std.proofs.lemmas.List.{append-nil, drop_all, drop-drop}
 use Rattle.py_flat.specs.declared.fault.IoFault.{IoFault}
@@ -89,11 +89,11 @@ along file refused expected answer left after done kept =
     subst (λ (cs : List ℕ). LosesNothing file cs after) (sym done.says) (subst (λ (f : TextFile). LosesNothing file expected f) (sym done.leaves) kept)
 
 -- whether a reply is a text, or a refusal
-says_text : FileReply → Bool
+abbrev says_text : FileReply → Bool
 says_text (Text characters) = true
 says_text reply = false
 
-says_refused : FileReply → Bool
+abbrev says_refused : FileReply → Bool
 says_refused (Refused why) = true
 says_refused reply = false
 

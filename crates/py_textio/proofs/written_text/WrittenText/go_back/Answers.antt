@@ -8,8 +8,7 @@ use Rattle.py_textio.proofs.written_text.WrittenText.go_back.Goals as goal
 pub invariant_of-self-in-Err : goal.invariant_of-self-in-Err
 invariant_of-self-in-Err g c =
     let live = ap (λ (view : WrittenView). view.life) c.self.view_is ∙ c.requires.live in
-    let writes = ap (λ (view : WrittenView). view.text.buffer.can.writable) c.self.view_is ∙ c.requires.writes in
-    (
+    let writes = ap (λ (view : WrittenView). view.text.buffer.can.writable) c.self.view_is ∙ c.requires.writes in (
       unback_written _ _ c.self.inside.pending.items _ _ c.in-Err.fault c.self.invariant.0 live c.in-Err.ensures.keeps c.in-Err.ensures.outcome writes c.life-self-inside.ensures.life c.in-Err.ensures.joined,
       room_kept c.self.inside.text.buffer c.return_to_place.new.self.buffer c.self.inside.pending.items (vec_capacity c.self.inside.pending - vec_len c.self.inside.pending) (back_buffering c.self.inside.text c.return_to_place.new.self c.in-Err.fault c.in-Err.ensures.outcome) c.self.invariant.1,
     )

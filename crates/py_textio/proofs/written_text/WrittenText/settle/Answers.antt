@@ -10,8 +10,7 @@ invariant_of-self g c =
     let some : c.self.inside.pending.items ≢ [] = λ none. c.requires.owes (sym (ap (λ (view : WrittenView). view.pending) c.self.view_is) ∙ none) in
     let live = ap (λ (view : WrittenView). view.life) c.self.view_is ∙ c.requires.live in
     let answers = rw c.deref.ensures.value at c.in-Ok.ensures.answers in
-    let takes = rw c.deref.ensures.value at c.in-Ok.ensures.takes in
-    (
+    let takes = rw c.deref.ensures.value at c.in-Ok.ensures.takes in (
       written_passed _ _ c.self.inside.pending.items _ _ _ _ c.self.invariant.0 some answers takes c.in-Ok.ensures.stands (rw c.taken.ensures at c.drop_front.ensures.items) (λ same. answers.moves.life_is ∙ c.self.invariant.0.lives live) c.in-Ok.ensures.joined,
       room_on c.self.inside.text.buffer c.pass-answer.new.self.buffer c.self.inside.pending.items _ (vec_capacity c.self.inside.pending - vec_len c.self.inside.pending) (vec_capacity c.drop_front.new.bytes - vec_len c.drop_front.new.bytes) answers.keeps.buffering some (omega (arith, c.drop_front.ensures.len, c.drop_front.ensures.capacity)) c.self.invariant.1,
     )
@@ -20,8 +19,7 @@ pub invariant_of-self-in-Err : goal.invariant_of-self-in-Err
 invariant_of-self-in-Err g c =
     let some : c.self.inside.pending.items ≢ [] = λ none. c.requires.owes (sym (ap (λ (view : WrittenView). view.pending) c.self.view_is) ∙ none) in
     let answers = rw c.deref.ensures.value at c.in-Err.ensures.answers in
-    let takes = rw c.deref.ensures.value at c.in-Err.ensures.takes in
-    (
+    let takes = rw c.deref.ensures.value at c.in-Err.ensures.takes in (
       written_passed _ _ c.self.inside.pending.items _ _ _ _ c.self.invariant.0 some answers takes c.in-Err.ensures.stands (rw c.taken.ensures at c.drop_front.ensures.items) (λ same. sym c.life-self-inside.ensures.life ∙ same) c.in-Err.ensures.joined,
       room_on c.self.inside.text.buffer c.pass-answer.new.self.buffer c.self.inside.pending.items _ (vec_capacity c.self.inside.pending - vec_len c.self.inside.pending) (vec_capacity c.drop_front.new.bytes - vec_len c.drop_front.new.bytes) answers.keeps.buffering some (omega (arith, c.drop_front.ensures.len, c.drop_front.ensures.capacity)) c.self.invariant.1,
     )

@@ -1,0 +1,8 @@
+use Rattle.std.proofs.Common.{refl}
+use Rattle.py_plain_text.specs.TextCalls.{Flush}
+use Rattle.py_stream.specs.Replies.{done_reply}
+use Rattle.py_text_session.proofs.Keeping.{session_on}
+use Rattle.py_text_session.proofs.text_session.TextSession.flush.Goals as goal
+
+pub invariant_of-self : goal.invariant_of-self
+invariant_of-self g c = session_on c.self.inside.text Flush (done_reply c.flush.result) c.flush.new.self refl c.self.invariant c.flush.ensures
