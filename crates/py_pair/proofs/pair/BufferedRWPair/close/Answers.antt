@@ -11,5 +11,5 @@ returns g c =
       writer = c.close-first.ensures.answers;
       taken = c.close-first.ensures.taken;
       waits = λ had. absurd (let wrong : true ≡ false = sym had ∙ waits in cc);
-      closes = λ _. record { second = c.close-second.result; reader = c.close-second.ensures; answer = c.and.ensures };
+      closes = λ _. record { second = c.close-second.result; reader = c.close-second.ensures.answers; answer = c.and.ensures };
     })
