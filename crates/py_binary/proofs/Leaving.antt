@@ -16,7 +16,9 @@ use Rattle.py_stream.specs.Handing.{HandsOver, owed_then, handed_over}
 use Rattle.py_stream.proofs.Refused.{is_own}
 use Rattle.py_stream.proofs.Refusing.{IsPlaced, refused_with}
 use Rattle.py_binary.specs.Binary.{has_reply_room, gone_stream, left_by, HandsOwed, detached_fault, AnswersCall}
-use Rattle.py_binary.specs.Kinds.{IsHeld, IsBuffered, IsUnbuffered}
+use Rattle.py_binary.specs.declared.kind.Kind.{Kind}
+use Rattle.py_binary.specs.declared.kind.Kind.TheVariants as kind
+use Rattle.py_binary.specs.Kinds.{shown, IsHeld, IsBuffered, IsUnbuffered, IsServed}
 use Rattle.py_binary.proofs.Answering.{with_reply_room}
 
 -- The life after a call that isn't a `detach` which was answered.
@@ -134,3 +136,8 @@ detach_answers old new raw unwritten place attached hands = record {
   leaves = ap (λ (left : Stream). gone_stream left.can left.buffer raw) hands.left ∙ sym (left_gone old.life (handed_over old raw (owed_then old.life old)) attached);
   marks = refl;
 }
+
+-- a stream of either kind is held
+pub served_held : {R : Type 0} (stream : Kind R) → IsServed stream → IsHeld (shown stream)
+served_held (kind.Buffered stream) is = is.held
+served_held (kind.Unbuffered stream) is = is.held

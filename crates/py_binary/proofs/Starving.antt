@@ -8,7 +8,7 @@ use Rattle.py_flat.specs.BinaryStep.{reaches_raw}
 use Rattle.py_stream.specs.Stream.{Stream, file_of}
 use Rattle.py_stream.specs.Kinds.{calls_none}
 use Rattle.py_stream.specs.Writing.{Writes}
-use Rattle.py_stream.specs.Answers.{AnswersWith, IsNear, refused_by}
+use Rattle.py_stream.specs.Answers.{AnswersWith, refused_by}
 use Rattle.py_stream.proofs.Coming.{near_seen, ahead_seen, came_still, each_still}
 use Rattle.py_stream.proofs.Refused.{lays_nothing}
 use Rattle.py_stream.proofs.Stopping.{starves_alive, starves_there}

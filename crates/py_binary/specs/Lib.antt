@@ -1,2 +1,3 @@
 pub mod Binary
 pub mod Kinds
+pub mod Space

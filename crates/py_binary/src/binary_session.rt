@@ -1,7 +1,7 @@
 //! The binary session.
 ghost use Rattle.std.specs.Prelude.{◌≡◌, ◌≢◌, None, false, IsTrue, IfErr};
 ghost use Rattle.py_flat.specs.Calls.{Detach, Refused};
-ghost use Rattle.py_flat.specs.Refusals.{is_getter};
+ghost use Rattle.py_flat.specs.Refusals.{is_getter, is_other_getter};
 ghost use Rattle.py_stream.specs.Handing.{PartsOutcome};
 ghost use Rattle.py_stream.specs.Opening.{StandsAtStart, NewOutcome};
 ghost use Rattle.py_stream.specs.Access.{can_of, is_able};
@@ -222,6 +222,24 @@ fn parts_of<R: RawStream>(alloc: Global, stream: Kind<R>) -> Option<Detached<R>>
 fn answer_stream<R: RawStream>(alloc: Global, stream: &mut Kind<R>, call: &Call) -> Reply
     requires served { IsServed stream.old }
     requires asks { is_getter (file_call call.now) ≡ false }
+    requires stays { file_call call.now ≢ Detach }
+    ensures answers { AnswersCall (shown stream.old) (file_call call.now) (said result) (shown stream.new) }
+    ensures served { IsServed stream.new }
+{
+    match call {
+        Call::ChunkSize | Call::Encoding | Call::Errors => {
+            stream.forget_wait();
+            Reply::Refused(IoFault::Unsupported)
+        }
+        _ => answer_kind(alloc, stream, call),
+    }
+}
+
+/// Makes a call that is no question, of bytes or of texts, and no `Detach` on a stream.
+fn answer_kind<R: RawStream>(alloc: Global, stream: &mut Kind<R>, call: &Call) -> Reply
+    requires served { IsServed stream.old }
+    requires asks { is_getter (file_call call.now) ≡ false }
+    requires known { is_other_getter (file_call call.now) ≡ false }
     requires stays { file_call call.now ≢ Detach }
     ensures answers { AnswersCall (shown stream.old) (file_call call.now) (said result) (shown stream.new) }
     ensures served { IsServed stream.new }

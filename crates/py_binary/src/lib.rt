@@ -9,6 +9,7 @@ mod buffered;
 mod buffered_calls;
 mod kind;
 mod replies;
+mod space;
 mod unbuffered_calls;
 
 pub use binary_session::BinarySession;

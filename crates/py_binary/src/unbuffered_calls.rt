@@ -1,19 +1,20 @@
 //! Calls on a stream without a buffer.
 ghost use Rattle.std.specs.Prelude.{◌≡◌, ◌≢◌, false};
 ghost use Rattle.py_flat.specs.Calls.{Detach, ReadInto};
-ghost use Rattle.py_flat.specs.Refusals.{is_getter};
+ghost use Rattle.py_flat.specs.Refusals.{is_getter, is_other_getter};
 ghost use Rattle.py_stream.specs.Answers.{AnswersWith};
 ghost use Rattle.py_calls.specs.Calls.{file_call, said};
 ghost use Rattle.py_binary.specs.Binary.{has_reply_room};
 ghost use Rattle.py_binary.specs.Kinds.{IsUnbuffered};
 
 use crate::replies::{bytes_reply, done_reply, into_reply, lines_reply, place_reply, taken_reply};
+use crate::space::{Space, space_for};
 use py_calls::{Call, Reply};
-use py_raw::{IoFault, Life, RawStream};
+use py_raw::{IoFault, RawStream};
 use py_unbuffered::UnbufferedStream;
 use std::alloc::Global;
 
-/// Makes a call that is no question and no `Detach`.
+/// Makes a call that is no question, of bytes or of texts, and no `Detach`.
 pub(crate) fn answer_unbuffered<R: RawStream>(
     alloc: Global,
     stream: &mut UnbufferedStream<R>,
@@ -21,6 +22,7 @@ pub(crate) fn answer_unbuffered<R: RawStream>(
 ) -> Reply
     requires served { IsUnbuffered stream.old }
     requires asks { is_getter (file_call call.now) ≡ false }
+    requires known { is_other_getter (file_call call.now) ≡ false }
     requires stays { file_call call.now ≢ Detach }
     ensures { AnswersWith has_reply_room stream.old (file_call call.now) (said result) stream.new }
 {
@@ -36,10 +38,6 @@ pub(crate) fn answer_unbuffered<R: RawStream>(
         Call::Truncate(size) => place_reply(stream.truncate(*size)),
         Call::Flush => done_reply(stream.flush()),
         Call::Close => done_reply(stream.close()),
-        Call::ChunkSize | Call::Encoding | Call::Errors => {
-            stream.forget_wait();
-            Reply::Refused(IoFault::Unsupported)
-        }
         _ => Reply::Refused(stream.refuse()),
     }
 }
@@ -49,20 +47,15 @@ fn readinto<R: RawStream>(alloc: Global, stream: &mut UnbufferedStream<R>, size:
     requires { IsUnbuffered stream.old }
     ensures { AnswersWith has_reply_room stream.old (ReadInto size) (said result) stream.new }
 {
-    if !stream.readable() {
-        return Reply::Refused(stream.refuse());
-    }
-    match stream.life() {
-        Life::Live => match vec![in alloc; 0u8; size] {
-            Ok(mut buffer) => {
-                let answer = stream.readinto(&mut buffer);
-                into_reply(answer, buffer)
-            }
-            Err(_) => {
-                stream.forget_wait();
-                Reply::Refused(IoFault::NoMemory)
-            }
-        },
-        _ => Reply::Refused(stream.refuse()),
+    match space_for(alloc, stream.readable(), stream.life(), size) {
+        Space::Taken(mut buffer) => {
+            let answer = stream.readinto(&mut buffer);
+            into_reply(answer, buffer)
+        }
+        Space::Lacking => {
+            stream.forget_wait();
+            Reply::Refused(IoFault::NoMemory)
+        }
+        Space::Unasked => Reply::Refused(stream.refuse()),
     }
 }

@@ -1,24 +1,12 @@
-use Rattle.py_calls.specs.Calls.{file_call, said}
-use Rattle.py_binary.specs.Kinds.{buffered_as, IsBuffered, IsUnbuffered}
-use Rattle.py_binary.proofs.Leaving.{answers_call, no_detach, buffered_on, unbuffered_on}
+use Rattle.py_flat.specs.declared.fault.IoFault.TheVariants as fault
+use Rattle.py_flat.specs.Calls.{Refused}
+use Rattle.py_calls.specs.Calls.{file_call}
+use Rattle.py_binary.specs.Kinds.{shown, IsHeld}
+use Rattle.py_binary.proofs.Answering.{other_refuses}
+use Rattle.py_binary.proofs.Leaving.{answers_call, no_detach, served_held}
 use Rattle.py_binary.proofs.binary_session.answer_stream.Goals as goal
 
-pub returns-in-Buffered-clause-answers : goal.returns-in-Buffered-clause-answers
-returns-in-Buffered-clause-answers g c =
-    let served : IsBuffered (buffered_as c.in-Buffered.stream) = rw c.in-Buffered.is at c.requires.served in
-    rw c.in-Buffered.is (answers_call (buffered_as c.in-Buffered.stream) (file_call c.args.call.now) (said c.answer_buffered.result) (buffered_as c.answer_buffered.new.stream) served.held (no_detach _ _ c.requires.stays) c.answer_buffered.ensures)
-
-pub returns-in-Buffered-clause-served : goal.returns-in-Buffered-clause-served
-returns-in-Buffered-clause-served g c =
-    let served : IsBuffered (buffered_as c.in-Buffered.stream) = rw c.in-Buffered.is at c.requires.served in
-    buffered_on (buffered_as c.in-Buffered.stream) (file_call c.args.call.now) (said c.answer_buffered.result) (buffered_as c.answer_buffered.new.stream) served (no_detach _ _ c.requires.stays) c.answer_buffered.ensures
-
-pub returns-in-Unbuffered-clause-answers : goal.returns-in-Unbuffered-clause-answers
-returns-in-Unbuffered-clause-answers g c =
-    let served : IsUnbuffered c.in-Unbuffered.stream = rw c.in-Unbuffered.is at c.requires.served in
-    rw c.in-Unbuffered.is (answers_call c.in-Unbuffered.stream (file_call c.args.call.now) (said c.answer_unbuffered.result) c.answer_unbuffered.new.stream served.held (no_detach _ _ c.requires.stays) c.answer_unbuffered.ensures)
-
-pub returns-in-Unbuffered-clause-served : goal.returns-in-Unbuffered-clause-served
-returns-in-Unbuffered-clause-served g c =
-    let served : IsUnbuffered c.in-Unbuffered.stream = rw c.in-Unbuffered.is at c.requires.served in
-    unbuffered_on c.in-Unbuffered.stream (file_call c.args.call.now) (said c.answer_unbuffered.result) c.answer_unbuffered.new.stream served (no_detach _ _ c.requires.stays) c.answer_unbuffered.ensures
+pub returns-in-ChunkSize-clause-answers : goal.returns-in-ChunkSize-clause-answers
+returns-in-ChunkSize-clause-answers g c =
+    let held : IsHeld (shown c.args.stream.now) = served_held c.args.stream.now c.requires.served in
+    answers_call (shown c.args.stream.now) (file_call c.args.call.now) (Refused fault.Unsupported) (shown c.forget_wait.new.self) held (no_detach _ _ c.requires.stays) (other_refuses (shown c.args.stream.now) (shown c.forget_wait.new.self) c.args.call.now held c.in-ChunkSize.is c.forget_wait.ensures.whole)

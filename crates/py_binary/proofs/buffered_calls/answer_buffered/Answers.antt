@@ -2,7 +2,7 @@ use Rattle.std.proofs.Common.{rules}
 use Rattle.py_stream.specs.Replies.{count_reply, place_reply, done_reply}
 use Rattle.py_calls.specs.Calls.{file_call}
 use Rattle.py_binary.specs.Kinds.{buffered_as}
-use Rattle.py_binary.proofs.Answering.{with_said, with_reply_room, other_refuses}
+use Rattle.py_binary.proofs.Answering.{with_said, with_reply_room}
 use Rattle.py_binary.proofs.Alone.{refuses_other}
 use Rattle.py_binary.proofs.buffered_calls.answer_buffered.Goals as goal
 
@@ -17,7 +17,4 @@ returns-in-Seek g c = rw c.in-Seek.is (with_said _ _ (place_reply c.seek.result)
 
 pub returns-in_default : goal.returns-in_default
 returns-in_default g c =
-    with_reply_room _ _ _ _ (c.refuse.ensures (file_call c.args.call.now) (refuses_other (buffered_as c.args.stream.now) c.args.call.now c.requires.asks c.requires.stays (λ size is. absurd (c.in_default.not-Read1 size is)) (λ is. absurd (c.in_default.not-Peek is)) (λ size is. absurd (c.in_default.not-ReadInto1 size is)) c.in_default.not-Read c.in_default.not-ReadLine c.in_default.not-ReadLines c.in_default.not-ReadInto c.in_default.not-Write c.in_default.not-WriteLines c.in_default.not-Seek c.in_default.not-Tell c.in_default.not-Truncate c.in_default.not-Flush c.in_default.not-Close c.in_default.not-ChunkSize c.in_default.not-Encoding c.in_default.not-Errors))
-
-pub returns-in-ChunkSize : goal.returns-in-ChunkSize
-returns-in-ChunkSize g c = other_refuses (buffered_as c.args.stream.now) (buffered_as c.forget_wait.new.self) c.args.call.now c.requires.served.held c.in-ChunkSize.is c.forget_wait.ensures
+    with_reply_room _ _ _ _ (c.refuse.ensures (file_call c.args.call.now) (refuses_other (buffered_as c.args.stream.now) c.args.call.now c.requires.asks c.requires.known c.requires.stays (λ size is. absurd (c.in_default.not-Read1 size is)) (λ is. absurd (c.in_default.not-Peek is)) (λ size is. absurd (c.in_default.not-ReadInto1 size is)) c.in_default.not-Read c.in_default.not-ReadLine c.in_default.not-ReadLines c.in_default.not-ReadInto c.in_default.not-Write c.in_default.not-WriteLines c.in_default.not-Seek c.in_default.not-Tell c.in_default.not-Truncate c.in_default.not-Flush c.in_default.not-Close))

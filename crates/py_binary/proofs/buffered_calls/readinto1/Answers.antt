@@ -1,15 +1,18 @@
-use Rattle.std.proofs.Common.{refl, sym, ◌∙◌}
+use Rattle.std.proofs.Common.{◌≡◌, ◌≢◌, ◌⊎◌, Bool, false, refl, subst₂}
+use Rattle.py_flat.specs.declared.life.Life.{Life}
+use Rattle.py_flat.specs.declared.life.Life.TheVariants as life
 use Rattle.py_flat.specs.Calls.{ReadInto1}
 use Rattle.py_binary.specs.Kinds.{buffered_as}
 use Rattle.py_binary.proofs.Answering.{with_reply_room, into_answers}
-use Rattle.py_binary.proofs.Alone.{unread_refuses, refuses_dead}
+use Rattle.py_binary.proofs.Alone.{unasked_refuses}
 use Rattle.py_binary.proofs.buffered_calls.readinto1.Goals as goal
 
-pub returns-then-not-readable : goal.returns-then-not-readable
-returns-then-not-readable g c = with_reply_room _ _ _ _ (c.refuse.ensures (ReadInto1 c.args.size) (unread_refuses (buffered_as c.args.stream.now) (ReadInto1 c.args.size) refl (sym c.if-not-readable.ensures)))
+pub returns-in-Unasked : goal.returns-in-Unasked
+returns-in-Unasked g c =
+    let space = rw c.in-Unasked.is at c.space_for.ensures in
+    with_reply_room _ _ _ _ (c.refuse.ensures (ReadInto1 c.args.size) (unasked_refuses (buffered_as c.args.stream.now) (ReadInto1 c.args.size) refl (subst₂ (λ (reads : Bool) (current : Life). (reads ≡ false) ⊎ (current ≢ life.Live)) c.readable.ensures c.life.ensures space)))
 
-pub returns-in_default : goal.returns-in_default
-returns-in_default g c = with_reply_room _ _ _ _ (c.refuse-in_default.ensures (ReadInto1 c.args.size) (refuses_dead (buffered_as c.args.stream.now) (ReadInto1 c.args.size) refl refl refl refl (λ live. c.in_default.not-Live (c.life.ensures ∙ live))))
-
-pub returns-in-Ok : goal.returns-in-Ok
-returns-in-Ok g c = into_answers (buffered_as c.args.stream.now) ReadInto1 c.args.size c.in-Ok.buffer.len c.in-Ok.buffer.items c.deref_mut.result.now c.readinto1-answer.new.buffer c.readinto1-answer.result _ _ c.deref_mut.ensures.len c.in-Ok.ensures.len c.readinto1-answer.ensures.length c.into_reply.ensures c.readinto1-answer.ensures.answers
+pub returns-in-Taken : goal.returns-in-Taken
+returns-in-Taken g c =
+    let space = rw c.in-Taken.is at c.space_for.ensures in
+    into_answers (buffered_as c.args.stream.now) ReadInto1 c.args.size c.in-Taken.buffer.len c.in-Taken.buffer.items c.deref_mut.result.now c.readinto1-answer.new.buffer c.readinto1-answer.result _ _ c.deref_mut.ensures.len space.0 c.readinto1-answer.ensures.length c.into_reply.ensures c.readinto1-answer.ensures.answers

@@ -13,7 +13,7 @@ returns-in-Seek g c = rw c.in-Seek.is (with_said _ _ (place_reply c.seek.result)
 
 pub returns-in_default : goal.returns-in_default
 returns-in_default g c =
-    with_reply_room _ _ _ _ (c.refuse.ensures (file_call c.args.call.now) (refuses_other c.args.stream.now c.args.call.now c.requires.asks c.requires.stays (λ size is. bare_reads_once c.args.stream.now size c.requires.served.bare) (λ is. bare_looks c.args.stream.now c.requires.served.bare) (λ size is. bare_reads_into_once c.args.stream.now size c.requires.served.bare) c.in_default.not-Read c.in_default.not-ReadLine c.in_default.not-ReadLines c.in_default.not-ReadInto c.in_default.not-Write c.in_default.not-WriteLines c.in_default.not-Seek c.in_default.not-Tell c.in_default.not-Truncate c.in_default.not-Flush c.in_default.not-Close c.in_default.not-ChunkSize c.in_default.not-Encoding c.in_default.not-Errors))
+    with_reply_room _ _ _ _ (c.refuse.ensures (file_call c.args.call.now) (refuses_other c.args.stream.now c.args.call.now c.requires.asks c.requires.known c.requires.stays (λ size is. bare_reads_once c.args.stream.now size c.requires.served.bare) (λ is. bare_looks c.args.stream.now c.requires.served.bare) (λ size is. bare_reads_into_once c.args.stream.now size c.requires.served.bare) c.in_default.not-Read c.in_default.not-ReadLine c.in_default.not-ReadLines c.in_default.not-ReadInto c.in_default.not-Write c.in_default.not-WriteLines c.in_default.not-Seek c.in_default.not-Tell c.in_default.not-Truncate c.in_default.not-Flush c.in_default.not-Close))
 
 pub returns-in-Write : goal.returns-in-Write
 returns-in-Write g c = rw c.in-Write.is (with_said _ _ (taken_reply c.write.result) _ _ c.taken_reply.ensures (rw c.as_slice.ensures at c.write.ensures))
