@@ -99,18 +99,18 @@ answered_line raw stream reply (TextSession text) session opens step is = absurd
 answered_line raw stream reply (BinarySession after) session opens step is = subst (λ (view : SessionView). AnswersLine raw (said reply) (raw_of view)) (sym is) (stream_line raw stream reply after opens step)
 
 abbrev plan_read : OpenPlan
-plan_read = record { mode = record { file = mode.Read; encode = encode.Bytes; plus = false }; buffer_size = Some 8192 }
+plan_read = record { mode = record { file = mode.Read; encode = encode.Bytes; plus = false }; buffer_size = Some 8192; coder = None; settings = None }
 
-session_line : (raw : Raw) (chunk : ℕ) (opened : SessionView) (session : SessionView) (reply : Reply) → OpensSession raw plan_read chunk opened → IsRun opened (call.ReadLine None ∷ []) (reply ∷ []) session → AnswersLine raw (said reply) (raw_of session)
-session_line raw chunk (TextSession text) session reply opens run = absurd opens
-session_line raw chunk (BinarySession stream) session reply opens run = answered_line raw stream reply run.0 session opens run.1 run.2
+session_line : (raw : Raw) (opened : SessionView) (session : SessionView) (reply : Reply) → OpensSession raw plan_read opened → IsRun opened (call.ReadLine None ∷ []) (reply ∷ []) session → AnswersLine raw (said reply) (raw_of session)
+session_line raw (TextSession text) session reply opens run = absurd opens
+session_line raw (BinarySession stream) session reply opens run = answered_line raw stream reply run.0 session opens run.1 run.2
 
 -- a run of that one call, as it was planned
-run_line : (raw : Raw) (plan : OpenPlan) (chunk : ℕ) (session : SessionView) (reply : Reply) → plan_of (codes "rb") default_args ≡ Ok plan → RunsCalls raw plan chunk (call.ReadLine None ∷ []) session (reply ∷ []) → AnswersLine raw (said reply) (raw_of session)
-run_line raw plan chunk session reply planned runs =
+run_line : (raw : Raw) (plan : OpenPlan) (session : SessionView) (reply : Reply) → plan_of (codes "rb") default_args ≡ Ok plan → RunsCalls raw plan (call.ReadLine None ∷ []) session (reply ∷ []) → AnswersLine raw (said reply) (raw_of session)
+run_line raw plan session reply planned runs =
     let is : plan_read ≡ plan = cc in
-    let same : RunsCalls raw plan_read chunk (call.ReadLine None ∷ []) session (reply ∷ []) = subst (λ (p : OpenPlan). RunsCalls raw p chunk (call.ReadLine None ∷ []) session (reply ∷ [])) (sym is) runs in
-    session_line raw chunk same.opened session reply same.opens same.run
+    let same : RunsCalls raw plan_read (call.ReadLine None ∷ []) session (reply ∷ []) = subst (λ (p : OpenPlan). RunsCalls raw p (call.ReadLine None ∷ []) session (reply ∷ [])) (sym is) runs in
+    session_line raw same.opened session reply same.opens same.run
 
 -- What follows from the clauses that `run_session` ensures.
 
@@ -119,14 +119,14 @@ only : (first : Reply) (front : List Reply) (reply : Reply) → first ∷ [] ≡
 only first [] reply e = e
 only first (one ∷ more) reply e = absurd (let n : length (first ∷ []) ≡ length ((one ∷ more) ++ (reply ∷ [])) = ap length e in omega (arith, length-append more (reply ∷ [])))
 
-single : (raw : Raw) (plan : OpenPlan) (chunk : ℕ) (session : SessionView) (replies front : List Reply) (reply : Reply) → RunsCalls raw plan chunk (call.ReadLine None ∷ []) session replies → replies ≡ front ++ (reply ∷ []) → RunsCalls raw plan chunk (call.ReadLine None ∷ []) session (reply ∷ [])
-single raw plan chunk session [] front reply runs e = absurd runs.run
-single raw plan chunk session (first ∷ []) front reply runs e = subst (λ (replies : List Reply). RunsCalls raw plan chunk (call.ReadLine None ∷ []) session replies) (only first front reply e) runs
-single raw plan chunk session (first ∷ (second ∷ more)) front reply runs e = absurd runs.run.2
+single : (raw : Raw) (plan : OpenPlan) (session : SessionView) (replies front : List Reply) (reply : Reply) → RunsCalls raw plan (call.ReadLine None ∷ []) session replies → replies ≡ front ++ (reply ∷ []) → RunsCalls raw plan (call.ReadLine None ∷ []) session (reply ∷ [])
+single raw plan session [] front reply runs e = absurd runs.run
+single raw plan session (first ∷ []) front reply runs e = subst (λ (replies : List Reply). RunsCalls raw plan (call.ReadLine None ∷ []) session replies) (only first front reply e) runs
+single raw plan session (first ∷ (second ∷ more)) front reply runs e = absurd runs.run.2
 
-pub outcome_line : (raw back : Raw) (args : OpenArgs) (session : SessionView) (replies front : List Reply) (reply : Reply) → args ≡ default_args → (plan : OpenPlan) × (plan_of (codes "rb") args ≡ Ok plan) × RunsCalls raw plan args.chunk_size (call.ReadLine None ∷ []) session replies → replies ≡ front ++ (reply ∷ []) → back ≡ raw_of session → AnswersLine raw (said reply) back
+pub outcome_line : (raw back : Raw) (args : OpenArgs) (session : SessionView) (replies front : List Reply) (reply : Reply) → args ≡ default_args → (plan : OpenPlan) × (plan_of (codes "rb") args ≡ Ok plan) × RunsCalls raw plan (call.ReadLine None ∷ []) session replies → replies ≡ front ++ (reply ∷ []) → back ≡ raw_of session → AnswersLine raw (said reply) back
 outcome_line raw back args session replies front reply is outcome last same =
     let plan : OpenPlan = outcome.0 in
     let planned : plan_of (codes "rb") default_args ≡ Ok plan = subst (λ (given : OpenArgs). plan_of (codes "rb") given ≡ Ok plan) is outcome.1 in
-    let runs : RunsCalls raw plan args.chunk_size (call.ReadLine None ∷ []) session (reply ∷ []) = single raw plan args.chunk_size session replies front reply outcome.2 last in
-    subst (λ (shown : Raw). AnswersLine raw (said reply) shown) (sym same) (run_line raw plan args.chunk_size session reply planned runs)
+    let runs : RunsCalls raw plan (call.ReadLine None ∷ []) session (reply ∷ []) = single raw plan session replies front reply outcome.2 last in
+    subst (λ (shown : Raw). AnswersLine raw (said reply) shown) (sym same) (run_line raw plan session reply planned runs)

@@ -1,19 +1,29 @@
 -- A session's calls and replies as the models see them.
 use Rattle.py_flat.specs.Calls.{FileCall, FileReply, Bytes, Text, Lines, Count, Place, Done, NotReady, Flag, Name, Unwritten, Refused}
 use Rattle.py_flat.specs.Calls as file
-use Rattle.py_plain_text.specs.TextStep as plain
-use Rattle.py_plain_text.specs.TextStep.{TextCall}
+use Rattle.py_plain_text.specs.TextCalls as text
+use Rattle.py_plain_text.specs.TextCalls.{TextFileCall}
 use Rattle.py_calls.specs.declared.call.Call.{Call}
 use Rattle.py_calls.specs.declared.call.Call.TheVariants as call
 use Rattle.py_calls.specs.declared.reply.Reply.{Reply}
 use Rattle.py_calls.specs.declared.reply.Reply.TheVariants as reply
 
 -- a call of a text session; so far a text has no others
-abbrev pub text_call : Call → TextCall
-text_call (call.Read size) = plain.Read size
-text_call (call.ReadLine limit) = plain.ReadLine limit
-text_call call.Close = plain.Close
-text_call _ = plain.OtherKind
+abbrev pub text_call : Call → TextFileCall
+text_call (call.Read size) = text.Read size
+text_call (call.ReadLine limit) = text.ReadLine limit
+text_call (call.WriteText characters) = text.WriteText characters
+text_call (call.SetChunkSize size) = text.SetChunkSize size
+text_call call.Flush = text.Flush
+text_call call.Close = text.Close
+text_call call.ChunkSize = text.ChunkSize
+text_call call.Readable = text.Readable
+text_call call.Writable = text.Writable
+text_call call.Seekable = text.Seekable
+text_call call.Closed = text.Closed
+text_call call.Encoding = text.Encoding
+text_call call.Errors = text.Errors
+text_call _ = text.OtherKind
 
 -- a call of a binary session
 abbrev pub file_call : Call → FileCall

@@ -210,11 +210,11 @@ fn is_left_by_a_fault(alloc: Global, opened: &mut Opened, failed: &Call) -> bool
 /// What a session hands back at the end, or by a detach; no place where the detach answers otherwise, or leaves more after.
 fn hand_over(alloc: Global, opened: Opened, detaches: bool) -> Result<Detached<MemRaw>> {
     if !detaches {
-        return Ok(opened.finish(alloc));
+        return Ok(opened.finish());
     }
     let mut opened = opened;
     let reply = opened.call(alloc, &Call::Detach);
-    let mut handed = opened.finish(alloc);
+    let mut handed = opened.finish();
     let leaves_more = handed.place.is_some() || !handed.unwritten.is_empty();
     match &reply {
         Reply::Unwritten { bytes, place } if !leaves_more => {

@@ -12,7 +12,8 @@ use py_raw::{GREATEST_PLACE, RawFlags, RawStream};
 use py_raw_memory::MemRaw;
 use py_script::{Command, parse_words};
 use py_stream::NewRefused;
-use py_text_reader::TextReader;
+use py_text::{Coder, Encoding, Handler, Newlines, TextSettings};
+use py_text_session::TextSession;
 use std::alloc::Global;
 
 /// A session: as a plan opens it, or with a buffer of any size.
@@ -20,7 +21,7 @@ use std::alloc::Global;
 pub(crate) enum Opened {
     Planned(Session<MemRaw>),
     Bytes(BinarySession<MemRaw>),
-    Text(TextReader<MemRaw>),
+    Text(TextSession<MemRaw>),
 }
 
 /// What an opening comes to.
@@ -51,17 +52,17 @@ impl Opened {
         }
     }
 
-    pub(crate) fn finish(self, alloc: Global) -> Detached<MemRaw> {
+    pub(crate) fn finish(self) -> Detached<MemRaw> {
         match self {
             Opened::Planned(session) => session.finish(),
             Opened::Bytes(session) => session.into_parts(),
-            Opened::Text(text) => text.into_parts(alloc),
+            Opened::Text(text) => text.into_parts(),
         }
     }
 }
 
 /// The calls of a text whose buffer has a size of its own; a planned session has the others too.
-fn answer_text(alloc: Global, text: &mut TextReader<MemRaw>, call: &Call) -> Reply {
+fn answer_text(alloc: Global, text: &mut TextSession<MemRaw>, call: &Call) -> Reply {
     let answer = match call {
         Call::Read(size) => text.read(alloc, *size),
         Call::ReadLine(limit) => text.readline(alloc, *limit),
@@ -171,7 +172,17 @@ fn open_text(alloc: Global, case: &SessionCase<'_>, raw: MemRaw, size: usize) ->
     if size == 0 || chunk == 0 {
         return case.open.malformed();
     }
-    Ok(TextReader::new(alloc, raw, size, chunk).map(Opened::Text))
+    let coder = Coder {
+        encoding: Encoding::Utf8,
+        errors: Handler::Strict,
+    };
+    let settings = TextSettings {
+        newline: Newlines::Lf,
+        line_buffering: false,
+        write_through: false,
+        chunk_size: chunk,
+    };
+    Ok(TextSession::new(alloc, raw, Access::Read, size, coder, settings).map(Opened::Text))
 }
 
 /// Opens a stream of bytes with a buffer of n bytes.

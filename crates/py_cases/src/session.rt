@@ -31,7 +31,7 @@ pub(crate) fn run_session_block(block: &Block<'_>, report: &mut Report) -> Resul
         report.reply(&reply, opened.short())?;
     }
     let life = life_word(opened.life());
-    report_end(life, opened.finish(alloc), report)
+    report_end(life, opened.finish(), report)
 }
 
 /// Reports the life of a session, and what is handed back.

@@ -2,12 +2,14 @@
 use py_flat::IoFault;
 use py_raw::RawFlags;
 use py_raw_memory::MemRaw;
-use py_text_reader::TextReader;
+use py_stream::Access;
+use py_text::{Coder, Encoding, Handler, Newlines, TextSettings};
+use py_text_session::TextSession;
 use std::alloc::Global;
 use std::test::Fail;
 
 /// A text over some bytes, with a buffer and chunks of 8 bytes.
-fn text_of(alloc: Global, bytes: &[u8]) -> Result<TextReader<MemRaw>, Fail> {
+fn text_of(alloc: Global, bytes: &[u8]) -> Result<TextSession<MemRaw>, Fail> {
     let flags = RawFlags::able(true, false, true);
     let raw = MemRaw::new(
         bytes.to_vec(alloc)?,
@@ -15,7 +17,17 @@ fn text_of(alloc: Global, bytes: &[u8]) -> Result<TextReader<MemRaw>, Fail> {
         Vec::new(alloc),
         Vec::new(alloc),
     );
-    Ok(TextReader::new(alloc, raw, 8, 8)?)
+    let coder = Coder {
+        encoding: Encoding::Utf8,
+        errors: Handler::Strict,
+    };
+    let settings = TextSettings {
+        newline: Newlines::Lf,
+        line_buffering: false,
+        write_through: false,
+        chunk_size: 8,
+    };
+    Ok(TextSession::new(alloc, raw, Access::Read, 8, coder, settings)?)
 }
 
 #[test]

@@ -1,7 +1,7 @@
 //! What an opening asks for: its mode and arguments, and the plan that they make.
 //!
-//! `plan_open` decides before any raw stream is asked: it says which mode, and through a buffer of which size, or why the
-//! opening is refused. `Mode` is read from its text by `parse`.
+//! `plan_open` decides before any raw stream is asked: it says which mode, through a buffer of which size, and of a text what it decodes
+//! and encodes by and its settings, or why the opening is refused. `Mode` is read from its text by `parse`.
 #![tactic(auto)]
 
 mod examples;
@@ -13,15 +13,16 @@ mod plan;
 
 pub use examples::{
     a_mode_is_refused_before_any_argument, a_text_is_read_through_a_buffer,
-    an_argument_is_refused_before_what_is_not_opened, binary_modes_are_opened,
-    bytes_are_read_and_written, modes_are_taken_apart, some_modes_are_not_opened_so_far,
-    the_first_letter_that_offends_decides,
+    a_text_is_written_through_a_buffer, an_argument_is_refused_before_what_is_not_opened,
+    binary_modes_are_opened, bytes_are_read_and_written, modes_are_taken_apart,
+    some_modes_are_not_opened_so_far, the_first_letter_that_offends_decides,
 };
 pub use laws::{
     an_accepted_binary_mode_has_no_text_argument, an_accepted_plan_is_what_was_asked,
-    an_accepted_text_is_read_through_a_buffer,
+    an_accepted_text_has_a_buffer_and_settings,
 };
 pub use mode::{EncodeMode, FileMode, Mode};
 pub use open_args::OpenArgs;
 pub use plan::{DEFAULT_BUFFER_SIZE, OpenPlan, plan_open};
 pub use py_flat::{Chars, IoFault, ParseModeError};
+pub use py_text::{Coder, TextSettings};

@@ -1,9 +1,12 @@
 //! What a mode and arguments set up, decided before any raw stream is asked.
 ghost use Rattle.std.specs.Prelude.{◌≡◌, chars};
-ghost use Rattle.py_mode.specs.Plan.{plan_of, is_given, is_lf, is_utf8, is_strict, buffer_size_of, gives_text_argument, has_bad_argument, are_planned_names, is_planned_text, is_planned_update, is_planned};
+ghost use Rattle.py_plain.specs.NewlineArgument.{rule_of};
+ghost use Rattle.py_mode.specs.Plan.{plan_of, text_plan, is_given, is_utf8, is_strict, buffer_size_of, gives_text_argument, has_bad_argument, are_planned_names};
 
-use crate::{Mode, OpenArgs};
+use crate::{EncodeMode, Mode, OpenArgs};
 use py_flat::{Chars, IoFault};
+use py_plain::{Encoding, Handler, Newlines};
+use py_text::{Coder, TextSettings};
 
 /// The size of a buffer where none is given, and how many bytes a text asks its buffer for at once: Python 3.11's
 /// `io.DEFAULT_BUFFER_SIZE` and the chunk size of its texts.
@@ -16,6 +19,10 @@ pub struct OpenPlan {
     pub mode: Mode,
     /// The buffer's size in bytes; `None` is unbuffered.
     pub buffer_size: Option<usize>,
+    /// What a text decodes and encodes by; `None` of a binary mode.
+    pub coder: Option<Coder>,
+    /// The settings of a text; `None` of a binary mode.
+    pub settings: Option<TextSettings>,
 }
 
 /// Whether an argument is given, as a text.
@@ -44,14 +51,6 @@ fn is_strict(errors: &Option<Chars>) -> bool
     errors.is_none() || is_given(errors, "strict")
 }
 
-/// Whether a newline argument is LF.
-#[tactic(auto, using(crate::proofs::Planning::line_feed_spelled))]
-fn is_line_feed(newline: &Option<Chars>) -> bool
-    ensures { result ≡ is_lf newline.now }
-{
-    is_given(newline, "\n")
-}
-
 /// The buffer's size that a `buffering` asks for; `None` is unbuffered.
 fn buffer_size_of(buffering: i64) -> Option<usize>
     ensures { result ≡ buffer_size_of buffering }
@@ -74,55 +73,78 @@ fn gives_text_argument(args: &OpenArgs) -> bool
 fn has_bad_argument(mode: Mode, args: &OpenArgs) -> bool
     ensures { result ≡ has_bad_argument mode args.now }
 {
-    args.chunk_size == 0 || !mode.encode.is_text() && gives_text_argument(args)
+    let misfits = match mode.encode {
+        EncodeMode::Text => buffer_size_of(args.buffering).is_none(),
+        EncodeMode::Bytes => gives_text_argument(args),
+    };
+    args.chunk_size == 0 || misfits
 }
 
 /// Whether the names are those of a text that is opened so far.
 fn are_planned_names(args: &OpenArgs) -> bool
     ensures { result ≡ are_planned_names args.now }
 {
-    is_utf8(&args.encoding) && is_strict(&args.errors) && is_line_feed(&args.newline)
+    is_utf8(&args.encoding) && is_strict(&args.errors)
 }
 
-/// Whether a text is opened so far.
-fn is_planned_text(mode: Mode, args: &OpenArgs) -> bool
-    ensures { result ≡ is_planned_text mode args.now }
+/// The rule of the line ends that a newline argument stands for; `None` where it is no newline text.
+fn newline_rule(newline: &Option<Chars>) -> Option<Newlines>
+    ensures { result ≡ rule_of newline.now }
 {
-    mode.file.is_read() && are_planned_names(args) && buffer_size_of(args.buffering).is_some()
+    match newline {
+        Some(characters) => Newlines::from_text(Some(characters.as_str())),
+        None => Newlines::from_text(None),
+    }
 }
 
-/// Whether reading and writing is opened so far.
-fn is_planned_update(mode: Mode) -> bool
-    ensures { result ≡ is_planned_update mode }
+/// The plan of a text whose arguments can be had.
+fn text_plan(mode: Mode, args: &OpenArgs) -> Result<OpenPlan, IoFault>
+    ensures { result ≡ text_plan mode args.now (rule_of args.now.newline) }
 {
-    !mode.encode.is_text() && !mode.file.is_append()
-}
-
-/// Whether mode and arguments are opened so far.
-fn is_planned(mode: Mode, args: &OpenArgs) -> bool
-    ensures { result ≡ is_planned mode args.now }
-{
-    (!mode.plus || is_planned_update(mode))
-        && (!mode.encode.is_text() || is_planned_text(mode, args))
+    let Some(newline) = newline_rule(&args.newline) else {
+        return Err(IoFault::BadArgument);
+    };
+    if !are_planned_names(args) {
+        return Err(IoFault::Unsupported);
+    }
+    Ok(OpenPlan {
+        mode,
+        buffer_size: buffer_size_of(args.buffering),
+        coder: Some(Coder {
+            encoding: Encoding::Utf8,
+            errors: Handler::Strict,
+        }),
+        settings: Some(TextSettings {
+            newline,
+            line_buffering: args.buffering == 1,
+            write_through: false,
+            chunk_size: args.chunk_size,
+        }),
+    })
 }
 
 /// What an opening by a mode and arguments sets up, before any raw is asked (Python's documentation of `open`): the mode,
-/// and a buffer of the size that `buffering` asks for. The arguments stay with the caller.
+/// a buffer of the size that `buffering` asks for, and of a text what it decodes and encodes by, and its settings. The arguments stay
+/// with the caller.
 ///
-/// 0 asks for no buffer, 1 and any negative number for 8192 bytes, any greater number for as many bytes.
+/// 0 asks for no buffer, 1 and any negative number for 8192 bytes, any greater number for as many bytes. With 1 a text is also flushed
+/// after each write that has a line end.
 ///
 /// It is refused, by the first of these that applies:
 /// - as `ParseMode` with the reason, where the mode is malformed (`Mode`'s `from_str`), whatever the arguments are;
 /// - as `BadArgument`, also with a mode that isn't opened so far: where an encoding, errors or a newline argument is given
-///   with a binary mode, whatever it says, also an empty text (Python's `open` takes no such argument in binary mode); and
-///   where the chunk size is 0, in any mode, since a text that asks for no bytes comes to no end (this project's choice);
-/// - as `Unsupported`, where it isn't opened so far, though Python's `open` takes more.
+///   with a binary mode, whatever it says, also an empty text (Python's `open` takes no such argument in binary mode); where a text is
+///   to be unbuffered; and where the chunk size is 0, in any mode, since a text that asks for no bytes comes to no end (this project's
+///   choice);
+/// - as `Unsupported`, where an `a` stands with a plus, which isn't opened so far, though Python's `open` takes it;
+/// - as `BadArgument`, where the newline argument of a text is another text than the empty one, LF, CR and CR LF;
+/// - as `Unsupported`, where the encoding or the errors of a text aren't opened so far, though Python's `open` takes more.
 ///
 /// So far these are opened:
 /// - the binary modes `rb`, `wb`, `xb` and `ab`, and with a plus `rb+`, `wb+` and `xb+`, with any `buffering`;
-/// - the text mode `r`, also spelled with `t`, where `buffering` is other than 0, with encoding `None`, `locale` or `utf-8`,
-///   all of which mean utf-8, errors `None` or `strict`, both of which mean strict, and newline LF; a name is compared
-///   letter for letter.
+/// - the text modes `r`, `w`, `x` and `a`, and with a plus `r+`, `w+` and `x+`, each also spelled with `t`, with any `buffering` but 0,
+///   with encoding `None`, `locale` or `utf-8`, all of which mean utf-8, errors `None` or `strict`, both of which mean strict, and any
+///   of the five newline arguments; a name is compared letter for letter.
 pub fn plan_open(mode: &str, args: &OpenArgs) -> Result<OpenPlan, IoFault>
     ensures { result ≡ plan_of mode.now args.now }
 {
@@ -130,11 +152,16 @@ pub fn plan_open(mode: &str, args: &OpenArgs) -> Result<OpenPlan, IoFault>
     if has_bad_argument(mode, args) {
         return Err(IoFault::BadArgument);
     }
-    if !is_planned(mode, args) {
+    if mode.plus && mode.file.is_append() {
         return Err(IoFault::Unsupported);
     }
-    Ok(OpenPlan {
-        mode,
-        buffer_size: buffer_size_of(args.buffering),
-    })
+    match mode.encode {
+        EncodeMode::Text => text_plan(mode, args),
+        EncodeMode::Bytes => Ok(OpenPlan {
+            mode,
+            buffer_size: buffer_size_of(args.buffering),
+            coder: None,
+            settings: None,
+        }),
+    }
 }

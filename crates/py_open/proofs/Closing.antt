@@ -18,11 +18,15 @@ use Rattle.py_calls.specs.Calls.{file_call, said}
 use Rattle.py_mode.specs.declared.mode.EncodeMode.{EncodeMode}
 use Rattle.py_mode.specs.declared.mode.EncodeMode.TheVariants.{Text, Bytes}
 use Rattle.py_mode.specs.declared.plan.OpenPlan.{OpenPlan}
-use Rattle.py_text_reader.specs.TextState.{TextState}
+use Rattle.py_plain_text.specs.TextCalls as text
+use Rattle.py_read_text.specs.TextState.{TextState}
+use Rattle.py_read_text.specs.Answers as over
+use Rattle.py_text_session.specs.Session.{IsOpen}
 use Rattle.py_binary.specs.Binary.{has_reply_room, AnswersBy}
-use Rattle.py_open.specs.Session.{SessionView, TextSession, BinarySession, raw_of, life_of, owed_of, IsInStep, HasOpenRaw, IsKept, IsShut, ClosesRaw, AnswersTextBy, Answers}
+use Rattle.py_open.specs.Session.{SessionView, TextSession, BinarySession, raw_of, life_of, owed_of, IsInStep, IsOpenBelow, HasOpenRaw, IsKept, IsShut, ClosesRaw, Answers}
 use Rattle.py_open.specs.Opening.{OpensBy, OpensSession}
 use Rattle.py_open.specs.Run.{IsRun}
+use Rattle.py_open.specs.Laws.{PassesAll}
 use Rattle.py_open.proofs.Steps.{left_raw, left_life, step_in_step}
 use Rattle.py_open.proofs.Ending.{step_passes, step_closed, left_closed}
 use Rattle.py_open.proofs.Resting.{run_rests}
@@ -60,18 +64,12 @@ binary_open false before call reply after step in_step was is lives =
     ap (λ (s : Stream). s.raw.closed) step.leaves ∙ ap (λ (raw : Raw). raw.closed) (left_raw before.life a.life a)
     ∙ answered_open a.owed.bytes before call reply a refl step.answers in_step was is (λ closed. lives (ap (λ (s : Stream). s.life) step.leaves ∙ left_life before.life a.life a refl ∙ closed))
 
-text_open : (getter : Bool) (before : TextState) (call : Call) (reply : FileReply) (after : TextState) → AnswersTextBy getter before call reply after → before.file.life ≢ life.Closed → before.raw.closed ≡ false → after.file.life ≢ life.Closed → after.raw.closed ≡ false
-text_open true before call reply after step was is lives = ap (λ (t : TextState). t.raw.closed) step.same ∙ is
-text_open false before call reply after step was is lives = with_open after.file.life after.raw (step.answers.shut (open_with before.file.life before.raw was is)) lives
-
 -- what isn't closed after a call wasn't closed before
 was_open : (current : Life) (before : SessionView) (call : Call) (reply : Reply) (after : SessionView) → life_of before ≡ current → Answers before call reply after → life_of after ≢ life.Closed → life_of before ≢ life.Closed
 was_open current before call reply after is step lives closed = lives ((step_closed before call reply after closed step).life_is ∙ closed)
 
 step_open : (before : SessionView) (call : Call) (reply : Reply) (after : SessionView) → Answers before call reply after → IsInStep before → HasOpenRaw before → HasOpenRaw after
-step_open (TextSession before) call reply (TextSession after) step in_step has lives =
-    let was = was_open before.file.life (TextSession before) call reply (TextSession after) refl step lives in
-    text_open (is_getter (file_call call)) before call (said reply) after step was (has was) lives
+step_open (TextSession before) call reply (TextSession after) step in_step has lives = step.is_open lives
 step_open (BinarySession before) call reply (BinarySession after) step in_step has lives =
     let was = was_open before.life (BinarySession before) call reply (BinarySession after) refl step lives in
     binary_open (is_getter (file_call call)) before (file_call call) (said reply) after step in_step was (has was) lives
@@ -95,20 +93,23 @@ binary_closes before after step live is none =
     let was : ClosedWith before.life before.raw = open_with before.life before.raw (live_open before.life live) is in
     ap (λ (s : Stream). s.raw.closed) same ∙ step.answers.shut refl (ap (λ (s : Stream). s.owed.bytes) (sym same) ∙ none) was ∙ ap is_closed closed
 
-text_closes : (before : TextState) (after : TextState) → AnswersTextBy false before call.Close Done after → before.file.life ≡ life.Live → before.raw.closed ≡ false → after.raw.closed ≡ true
-text_closes before after step live is =
-    let was : ClosedWith before.file.life before.raw = open_with before.file.life before.raw (live_open before.file.life live) is in
-    step.answers.shut was ∙ ap is_closed step.answers.moves.life_is
+text_closes : (before : TextState) (after : TextState) → over.Answers before text.Close Done after → before.text.life ≡ life.Live → IsOpen before → after.text.buffer.raw.closed ≡ true
+text_closes before after step live is = (step.closes live).1 (is.raw ∙ sym is.buffer)
 
-raw_closes : (before : SessionView) (after : SessionView) → Answers before call.Close reply.Done after → life_of before ≡ life.Live → (raw_of before).closed ≡ false → owed_of after ≡ [] → (raw_of after).closed ≡ true
-raw_closes (TextSession before) (TextSession after) step live is none = text_closes before after step live is
+raw_closes : (before : SessionView) (after : SessionView) → Answers before call.Close reply.Done after → life_of before ≡ life.Live → IsOpenBelow before → owed_of after ≡ [] → (raw_of after).closed ≡ true
+raw_closes (TextSession before) (TextSession after) step live is none = text_closes before after step.answers live is
 raw_closes (BinarySession before) (BinarySession after) step live is none = binary_closes before after step live is none
 raw_closes (TextSession before) (BinarySession after) step live is none = absurd step
 raw_closes (BinarySession before) (TextSession after) step live is none = absurd step
 
+-- a close that was done passes all on
+close_passes : (before : SessionView) → PassesAll before call.Close Done
+close_passes (TextSession before) = tt
+close_passes (BinarySession before) = tt
+
 done_closes : (before : SessionView) (after : SessionView) → Answers before call.Close reply.Done after → IsKept before → life_of before ≡ life.Live → IsShut after
 done_closes before after step is live =
-    let none = (step_passes before call.Close reply.Done after step is.in_step live tt).none in
+    let none = (step_passes before call.Close reply.Done after step is.in_step live (close_passes before)).none in
     record { none = none; closed = raw_closes before after step live (is.has_open (live_open (life_of before) live)) none }
 
 -- a session whose close was done isn't live
@@ -124,14 +125,14 @@ step_closes before call reply after step is = tt
 
 -- Openings, and runs.
 
-opened_open : (encode : EncodeMode) (raw : Raw) (plan : OpenPlan) (chunk : ℕ) (session : SessionView) → OpensBy encode raw plan chunk session → (raw_of session).closed ≡ false
-opened_open Text raw plan chunk (TextSession text) opens = opens.untouched.stays ∙ opens.was_open
-opened_open Bytes raw plan chunk (BinarySession stream) opens = opens.untouched.stays ∙ opens.was_open
-opened_open Text raw plan chunk (BinarySession stream) opens = absurd opens
-opened_open Bytes raw plan chunk (TextSession text) opens = absurd opens
+opened_open : (encode : EncodeMode) (raw : Raw) (plan : OpenPlan) (session : SessionView) → OpensBy encode raw plan session → IsOpenBelow session
+opened_open Text raw plan (TextSession text) opens = record { raw = opens.untouched.stays ∙ opens.was_open; buffer = ap is_closed opens.life_is }
+opened_open Bytes raw plan (BinarySession stream) opens = opens.untouched.stays ∙ opens.was_open
+opened_open Text raw plan (BinarySession stream) opens = absurd opens
+opened_open Bytes raw plan (TextSession text) opens = absurd opens
 
-pub opened_kept : (raw : Raw) (plan : OpenPlan) (chunk : ℕ) (session : SessionView) → OpensSession raw plan chunk session → IsKept session
-opened_kept raw plan chunk session opens = record { in_step = opened_in_step raw plan chunk session opens; has_open = λ lives. opened_open plan.mode.encode raw plan chunk session opens }
+pub opened_kept : (raw : Raw) (plan : OpenPlan) (session : SessionView) → OpensSession raw plan session → IsKept session
+opened_kept raw plan session opens = record { in_step = opened_in_step raw plan session opens; has_open = λ lives. opened_open plan.mode.encode raw plan session opens }
 
 pub run_kept : (before : SessionView) (calls : List Call) (replies : List Reply) (after : SessionView) → IsRun before calls replies after → IsKept before → IsKept after
 run_kept before [] [] after run is = subst IsKept (sym run) is
@@ -140,8 +141,8 @@ run_kept before [] (reply ∷ replies) after run is = absurd run
 run_kept before (call ∷ calls) [] after run is = absurd run
 
 -- wherever a live session of a run was closed, and that was done, its raw is closed in the end
-pub run_closes : (raw : Raw) (plan : OpenPlan) (chunk : ℕ) (opened mid next session : SessionView) (front rest : List Call) (replies others : List Reply) → OpensSession raw plan chunk opened → IsRun opened front replies mid → life_of mid ≡ life.Live → Answers mid call.Close reply.Done next → IsRun next rest others session → (raw_of session).closed ≡ true
-run_closes raw plan chunk opened mid next session front rest replies others opens first live step second =
-    let kept = run_kept opened front replies mid first (opened_kept raw plan chunk opened opens) in
+pub run_closes : (raw : Raw) (plan : OpenPlan) (opened mid next session : SessionView) (front rest : List Call) (replies others : List Reply) → OpensSession raw plan opened → IsRun opened front replies mid → life_of mid ≡ life.Live → Answers mid call.Close reply.Done next → IsRun next rest others session → (raw_of session).closed ≡ true
+run_closes raw plan opened mid next session front rest replies others opens first live step second =
+    let kept = run_kept opened front replies mid first (opened_kept raw plan opened opens) in
     let shut = done_closes mid next step kept live in
     ap (λ (raw : Raw). raw.closed) (run_rests next rest others session second (λ live. let wrong : life.Closed ≡ life.Live = sym (close_ends mid next step) ∙ live in absurd (cc))) ∙ shut.closed

@@ -1,30 +1,38 @@
 -- Calls that end something: what is passed on, and what a closed session answers.
-use Rattle.std.proofs.Common.{inl, ◌≡◌, ◌≢◌, pos, suc, zero, Bool, true, false, [], Some, refl, sym, ap, ◌∙◌}
+use Rattle.std.proofs.Common.{inl, ◌≡◌, ◌≢◌, pos, suc, zero, ℕ, Bool, true, false, IsTrue, List, [], ◌++◌, Option, Some, None, refl, sym, ap, ◌∙◌}
+use Rattle.py_flat.specs.declared.fault.IoFault.{IoFault}
 use Rattle.py_flat.specs.declared.fault.IoFault.TheVariants as fault
 use Rattle.py_flat.specs.declared.life.Life.{Life}
 use Rattle.py_flat.specs.declared.life.Life.TheVariants as life
 use Rattle.py_flat.specs.Bytes.{lay}
-use Rattle.py_flat.specs.Calls.{FileCall, Seek, Close, Flush, Detach, Readable, Writable, Seekable, Closed, OtherGetter, FileReply, Done, Unwritten}
+use Rattle.py_flat.specs.Calls.{FileCall, Seek, Close, Flush, Detach, Readable, Writable, Seekable, Closed, OtherGetter, FileReply, Done, Count, Unwritten, Refused}
 use Rattle.py_flat.specs.Owed.{Owed}
-use Rattle.py_flat.specs.Refusals.{is_getter, or_else, refused_if}
+use Rattle.py_flat.specs.Refusals.{is_getter}
 use Rattle.py_flat.specs.ExactStep.{is_closed}
-use Rattle.py_plain_text.specs.TextFile.{TextFile}
-use Rattle.py_plain_text.specs.TextStep.{TextCall, Read, ReadLine, OtherKind, text_life_refusal, text_lacks, TextSettled, TextStep}
-use Rattle.py_plain_text.specs.TextStep as plain
-use Rattle.py_raw.specs.RawStream.{Raw, WhereTold}
-use Rattle.py_raw.proofs.Telling.{tells_its_bytes}
+use Rattle.py_flat.specs.AllowedStep.{settled, waited_for, raw_faulted, out_of_memory}
+use Rattle.py_plain_text.specs.TextFile.{TextSettings, TextFile}
+use Rattle.py_plain_text.specs.TextCalls as text
+use Rattle.py_plain_text.specs.TextCalls.{TextFileCall, tells_name}
+use Rattle.py_plain_text.specs.TextRefusals as refusals
+use Rattle.py_plain_text.specs.TextAllowed as text_file
+use Rattle.py_plain_text.specs.TextAllowed.{TextFileStep}
+use Rattle.py_raw.specs.RawStream.{Raw, WhereTold, tells}
+use Rattle.py_raw.proofs.Telling.{tells_its_bytes, tells_still}
 use Rattle.py_stream.specs.Stream.{Stream, file_of, nothing_owed}
 use Rattle.py_stream.specs.Writing.{PassedOn}
 use Rattle.py_stream.specs.Answers.{AnswersWith, Leaves, refused_by}
 use Rattle.py_calls.specs.declared.call.Call.{Call}
 use Rattle.py_calls.specs.declared.reply.Reply.{Reply}
 use Rattle.py_calls.specs.Calls.{text_call, file_call, said}
-use Rattle.py_text_reader.specs.TextState.{TextState}
-use Rattle.py_text_reader.specs.Answers as text
+use Rattle.py_read_text.specs.TextState as state
+use Rattle.py_read_text.specs.TextState.{TextState}
+use Rattle.py_read_text.specs.Answers as over
+use Rattle.py_read_text.specs.Answers.{IsPassedOn}
+use Rattle.py_text_session.specs.Session.{OwesNothing}
 use Rattle.py_binary.specs.Binary.{has_reply_room, left_by, left_of, AnswersBy}
-use Rattle.py_open.specs.Session.{OfText, OfBinary, SessionView, TextSession, BinarySession, file_seen, raw_of, life_of, AnswersTextBy, Answers, IsInStep}
-use Rattle.py_open.specs.Laws.{PassesAll, HoldsFlat, closed_text_reply, closed_file_reply, closed_by, closed_reply, WhereShown}
-use Rattle.py_open.proofs.Steps.{left_raw, left_none, text_bytes}
+use Rattle.py_open.specs.Session.{OfText, OfBinary, SessionView, TextSession, BinarySession, SaysOrStarves, file_seen, raw_of, life_of, AnswersTextBy, Answers, IsInStep}
+use Rattle.py_open.specs.Laws.{FilePassesAll, TextPassesAll, PassesAll, text_left, HoldsFlat, ShownBy, asks_name, closed_text_by, closed_file_reply, closed_file_by, closed_reply, WhereShown}
+use Rattle.py_open.proofs.Steps.{left_raw, left_none, text_bytes, text_refused_by}
 
 -- What is passed on.
 
@@ -37,7 +45,7 @@ passed : (before answered : Stream) → PassedOn before answered → Passes befo
 passed before answered on = record { none = on.none; holds = on.holds }
 
 -- a live stream that writes has passed all on after a call whose reply promises it
-written : (before : Stream) (call : FileCall) (reply : FileReply) (answered : Stream) → AnswersWith has_reply_room before call reply answered → before.can.writable ≡ true → before.life ≡ life.Live → PassesAll call reply → Passes before answered
+written : (before : Stream) (call : FileCall) (reply : FileReply) (answered : Stream) → AnswersWith has_reply_room before call reply answered → before.can.writable ≡ true → before.life ≡ life.Live → FilePassesAll call reply → Passes before answered
 written before Flush Done answered a writes live all = passed before answered (a.writes writes).passes.0
 written before Close Done answered a writes live all = passed before answered ((a.writes writes).passes live)
 written before Detach (Unwritten bytes place) answered a writes live all = passed before answered ((a.writes writes).passes live).0
@@ -52,32 +60,100 @@ spared before call reply answered a reads none =
       holds = λ tells. spares.bytes (tells_its_bytes before.raw tells) ∙ sym (ap (λ (owed : Owed). lay before.raw.bytes owed.place owed.bytes) none);
     }
 
-passes_by : (writes : Bool) (before : Stream) (call : FileCall) (reply : FileReply) (answered : Stream) → before.can.writable ≡ writes → AnswersWith has_reply_room before call reply answered → IsInStep (BinarySession before) → before.life ≡ life.Live → PassesAll call reply → Passes before answered
+passes_by : (writes : Bool) (before : Stream) (call : FileCall) (reply : FileReply) (answered : Stream) → before.can.writable ≡ writes → AnswersWith has_reply_room before call reply answered → IsInStep (BinarySession before) → before.life ≡ life.Live → FilePassesAll call reply → Passes before answered
 passes_by true before call reply answered is a is_in live all = written before call reply answered a is live all
 passes_by false before call reply answered is a is_in live all = spared before call reply answered a is (is_in (inl is))
 
-no_question : (call : FileCall) (reply : FileReply) → is_getter call ≡ true → PassesAll call reply → ⊥
+no_question : (call : FileCall) (reply : FileReply) → is_getter call ≡ true → FilePassesAll call reply → ⊥
 no_question Flush reply asks all = let wrong : false ≡ true = asks in absurd (cc)
 no_question Close reply asks all = let wrong : false ≡ true = asks in absurd (cc)
 no_question Detach reply asks all = let wrong : false ≡ true = asks in absurd (cc)
 no_question call reply asks all = all
 
-binary_passes : (getter : Bool) (before : Stream) (call : FileCall) (reply : FileReply) (after : Stream) → is_getter call ≡ getter → AnswersBy getter before call reply after → IsInStep (BinarySession before) → before.life ≡ life.Live → PassesAll call reply → HoldsFlat (BinarySession before) (BinarySession after)
-binary_passes true before call reply after is step is_in live all = absurd (no_question call reply is all)
+binary_passes : (getter : Bool) (before : Stream) (call : Call) (reply : FileReply) (after : Stream) → is_getter (file_call call) ≡ getter → AnswersBy getter before (file_call call) reply after → IsInStep (BinarySession before) → before.life ≡ life.Live → FilePassesAll (file_call call) reply → HoldsFlat (BinarySession before) call (BinarySession after)
+binary_passes true before call reply after is step is_in live all = absurd (no_question (file_call call) reply is all)
 binary_passes false before call reply after is step is_in live all =
     let a : Stream = step.answered in
-    let passes = passes_by before.can.writable before call reply a refl step.answers is_in live all in
+    let passes = passes_by before.can.writable before (file_call call) reply a refl step.answers is_in live all in
     record {
       none = ap (λ (s : Stream). s.owed.bytes) step.leaves ∙ left_none before.life a.life a passes.none;
       holds = λ tells. ap (λ (s : Stream). s.raw.bytes) step.leaves ∙ ap (λ (raw : Raw). raw.bytes) (left_raw before.life a.life a) ∙ passes.holds tells;
     }
 
-text_holds : (getter : Bool) (before : TextState) (call : Call) (reply : FileReply) (after : TextState) → AnswersTextBy getter before call reply after → IsInStep (TextSession before) → HoldsFlat (TextSession before) (TextSession after)
-text_holds getter before call reply after step is_in = record { none = refl; holds = λ tells. text_bytes getter before call reply after step tells ∙ sym (is_in tells) }
+-- Texts.
 
-pub step_passes : (before : SessionView) (call : Call) (reply : Reply) (after : SessionView) → Answers before call reply after → IsInStep before → life_of before ≡ life.Live → PassesAll (file_call call) (said reply) → HoldsFlat before after
-step_passes (TextSession before) call reply (TextSession after) step is_in live all = text_holds (is_getter (file_call call)) before call (said reply) after step is_in
-step_passes (BinarySession before) call reply (BinarySession after) step is_in live all = binary_passes (is_getter (file_call call)) before (file_call call) (said reply) after refl step is_in live all
+no_text_question : (settings : TextSettings) (call : TextFileCall) (reply : FileReply) → text.is_getter call ≡ true → TextPassesAll settings call reply → ⊥
+no_text_question settings text.Flush reply asks all = let wrong : false ≡ true = asks in absurd (cc)
+no_text_question settings text.Close reply asks all = let wrong : false ≡ true = asks in absurd (cc)
+no_text_question settings (text.WriteText written) reply asks all = let wrong : false ≡ true = asks in absurd (cc)
+no_text_question settings call reply asks all = all
+
+-- a call that passes all on isn't refused
+not_refused : (settings : TextSettings) (call : TextFileCall) (reply : FileReply) (why : IoFault) → TextPassesAll settings call reply → reply ≡ Refused why → ⊥
+not_refused settings text.Flush Done why all is = cc
+not_refused settings text.Close Done why all is = cc
+not_refused settings (text.WriteText written) (Count count) why all is = cc
+not_refused settings call reply why all is = all
+
+settled_bytes : (file : TextFile) (call : TextFileCall) (reply : FileReply) (after : TextFile) (refused : Option IoFault) → TextPassesAll file.settings call reply → text_file.SettledBy file call refused reply after → after.bytes ≡ text_left file call
+settled_bytes file call reply after (Some why) all is = absurd (not_refused file.settings call reply why all is.0)
+settled_bytes file text.Flush Done after None all is = ap (λ (p : FileReply × TextFile). p.1.bytes) is
+settled_bytes file text.Close Done after None all is = ap (λ (p : FileReply × TextFile). p.1.bytes) is
+settled_bytes file (text.WriteText written) (Count count) after None all is = ap (λ (p : FileReply × TextFile). p.1.bytes) is
+settled_bytes file call reply after None all is = absurd all
+
+waited_none : (file : TextFile) (call : TextFileCall) (reply : FileReply) (after : TextFile) → TextPassesAll file.settings call reply → text_file.WaitedBy file call reply after → ⊥
+waited_none file text.Flush Done after all part = not_refused file.settings text.Flush Done _ all part.0
+waited_none file text.Close Done after all part = not_refused file.settings text.Close Done _ all part.0
+waited_none file (text.WriteText written) (Count count) after all part = not_refused file.settings (text.WriteText written) (Count count) _ all part.0
+waited_none file call reply after all part = all
+
+-- what a text has that passed all on
+left_bytes : (file : TextFile) (call : TextFileCall) (reply : FileReply) (waited faulted : Bool) (after : TextFile) → TextPassesAll file.settings call reply → TextFileStep file call reply waited faulted after → after.bytes ≡ text_left file call
+left_bytes file call reply waited faulted after all (settled exact) = settled_bytes file call reply after (refusals.refusal file call) all exact
+left_bytes file call reply waited faulted after all (waited_for rose part) = absurd (waited_none file call reply after all part.1)
+left_bytes file call reply waited faulted after all (raw_faulted rose says left) = absurd (not_refused file.settings call reply fault.RawFault all says)
+left_bytes file call reply waited faulted after all (out_of_memory says left) = absurd (not_refused file.settings call reply fault.NoMemory all says)
+
+text_passed_on : (before : TextState) (call : TextFileCall) (reply : FileReply) (after : TextState) → over.Answers before call reply after → before.text.life ≡ life.Live → TextPassesAll before.text.settings call reply → IsPassedOn after
+text_passed_on before text.Flush Done after step live all = step.passes
+text_passed_on before text.Close Done after step live all = step.passes live
+text_passed_on before (text.WriteText written) (Count count) after step live all = step.passes all.0 all.1
+text_passed_on before call reply after step live all = absurd all
+
+-- the flat bytes of a text that owes nothing are its raw's
+pub owing_none_bytes : (text : TextState) → OwesNothing text → (state.file_of text).bytes ≡ text.text.buffer.raw.bytes
+owing_none_bytes text none =
+    ap (λ (own : List ℕ). lay (lay text.text.buffer.raw.bytes text.text.buffer.owed.place text.text.buffer.owed.bytes) text.text.buffer.place own) none.own
+    ∙ ap (λ (owed : Owed). lay text.text.buffer.raw.bytes owed.place owed.bytes) none.none
+
+unsupported_write : (file : TextFile) (written : List ℕ) → file.life ≡ life.Live → file.can.writable ≡ false → refusals.refusal file (text.WriteText written) ≡ Some fault.Unsupported
+unsupported_write file written live reads = rw (live, reads) refl
+
+-- a text that isn't written has its raw's bytes, whatever call it answered
+text_spared : (before : TextState) (call : TextFileCall) (reply : FileReply) (after : TextState) → over.Answers before call reply after → before.text.buffer.can.writable ≡ false → OwesNothing before → before.text.life ≡ life.Live → TextPassesAll before.text.settings call reply → IsTrue before.text.buffer.raw.tells_bytes → after.text.buffer.raw.bytes ≡ text_left (state.file_of before) call
+text_spared before (text.WriteText written) reply after step reads none live all tells =
+    absurd (not_refused before.text.settings (text.WriteText written) reply fault.Unsupported all (step.refused fault.Unsupported (unsupported_write (state.file_of before) written live reads)).says)
+text_spared before call reply after step reads none live all tells = text_bytes false before call reply after step reads none tells ∙ sym (owing_none_bytes before none)
+
+text_shown : (writes : Bool) (before : TextState) (call : TextFileCall) (reply : FileReply) (after : TextState) → before.text.buffer.can.writable ≡ writes → over.Answers before call reply after → IsInStep (TextSession before) → before.text.life ≡ life.Live → TextPassesAll before.text.settings call reply → ShownBy writes before.text.buffer.raw (after.text.buffer.raw.bytes ≡ text_left (state.file_of before) call)
+text_shown true before call reply after is step is_in live all = λ tells.
+    (text_passed_on before call reply after step live all).holds (tells_still before.text.buffer.raw after.text.buffer.raw step.keeps.raw ∙ tells)
+    ∙ left_bytes (state.file_of before) call reply after.short _ (state.file_of after) all (step.told tells)
+text_shown false before call reply after is step is_in live all = λ tells. text_spared before call reply after step is (is_in is) live all tells
+
+text_passes : (getter : Bool) (before : TextState) (call : Call) (reply : FileReply) (after : TextState) → text.is_getter (text_call call) ≡ getter → AnswersTextBy getter before (text_call call) reply after → IsInStep (TextSession before) → before.text.life ≡ life.Live → TextPassesAll before.text.settings (text_call call) reply → HoldsFlat (TextSession before) call (TextSession after)
+text_passes true before call reply after is step is_in live all = absurd (no_text_question before.text.settings (text_call call) reply is all)
+text_passes false before call reply after is step is_in live all =
+    let on = text_passed_on before (text_call call) reply after step live all in
+    record {
+      none = ap (λ (front : List ℕ). front ++ after.text.owed) on.none ∙ on.own;
+      holds = text_shown before.text.buffer.can.writable before (text_call call) reply after refl step is_in live all;
+    }
+
+pub step_passes : (before : SessionView) (call : Call) (reply : Reply) (after : SessionView) → Answers before call reply after → IsInStep before → life_of before ≡ life.Live → PassesAll before call (said reply) → HoldsFlat before call after
+step_passes (TextSession before) call reply (TextSession after) step is_in live all = text_passes (text.is_getter (text_call call)) before call (said reply) after refl step.answers is_in live all
+step_passes (BinarySession before) call reply (BinarySession after) step is_in live all = binary_passes (is_getter (file_call call)) before call (said reply) after refl step is_in live all
 step_passes (TextSession before) call reply (BinarySession after) step is_in live all = absurd step
 step_passes (BinarySession before) call reply (TextSession after) step is_in live all = absurd step
 
@@ -85,28 +161,27 @@ step_passes (BinarySession before) call reply (TextSession after) step is_in liv
 
 -- what a step from a closed session leaves
 pub record Unmoved (before : SessionView) (call : Call) (reply : FileReply) (after : SessionView) : Type 0 where
-  pub says : reply ≡ closed_reply (file_seen before) call
+  pub says : SaysOrStarves (asks_name (file_seen before) call) (closed_reply (file_seen before) call) reply
   pub file : file_seen after ≡ file_seen before
   pub raw : raw_of after ≡ raw_of before
   pub life_is : life_of after ≡ life_of before
 
-closed_text_step : (before : TextState) (call : TextCall) (reply : FileReply) (after : TextState) → before.file.life ≡ life.Closed → text.Answers before call reply after → (reply ≡ closed_text_reply call) × (after.file ≡ before.file) × (after.raw ≡ before.raw)
-closed_text_step before (Read size) reply after closed step =
-    let left = step.answers.refused fault.Closed (ap (λ (current : Life). or_else (text_life_refusal current (Read size)) (refused_if (text_lacks before.file (Read size)) fault.Unsupported)) closed) in
-    (left.says, left.file, left.raw)
-closed_text_step before (ReadLine limit) reply after closed step =
-    let left = step.answers.refused fault.Closed (ap (λ (current : Life). or_else (text_life_refusal current (ReadLine limit)) (refused_if (text_lacks before.file (ReadLine limit)) fault.Unsupported)) closed) in
-    (left.says, left.file, left.raw)
-closed_text_step before plain.Close reply after closed step =
-    let left = step.answers.again (ap is_closed closed) in
-    (left.says, left.file, left.raw)
-closed_text_step before OtherKind reply after closed step =
-    let left = step.answers.refused fault.Closed (ap (λ (current : Life). or_else (text_life_refusal current OtherKind) (Some fault.Unsupported)) closed) in
-    (left.says, left.file, left.raw)
+pub closed_text_step : (before : TextState) (call : TextFileCall) (reply : FileReply) (after : TextState) → text.is_getter call ≡ false → before.text.life ≡ life.Closed → over.Answers before call reply after → SaysOrStarves (tells_name call) (closed_text_by false (state.file_of before) call) reply × (after ≡ record before { short = false })
+closed_text_step before text.Close reply after asks closed step = let left = step.again (ap is_closed closed) in (left.says, left.same)
+closed_text_step before text.ChunkSize reply after asks closed step = absurd (cc)
+closed_text_step before text.Readable reply after asks closed step = absurd (cc)
+closed_text_step before text.Writable reply after asks closed step = absurd (cc)
+closed_text_step before text.Seekable reply after asks closed step = absurd (cc)
+closed_text_step before text.Closed reply after asks closed step = absurd (cc)
+closed_text_step before text.Encoding reply after asks closed step = absurd (cc)
+closed_text_step before text.Errors reply after asks closed step = absurd (cc)
+closed_text_step before call reply after asks closed step =
+    let left = step.refused fault.Closed (text_refused_by (state.file_of before) call life.Closed fault.Closed closed refl refl refl) in
+    (left.says, left.same)
 
-text_closed : (getter : Bool) (before : TextState) (call : Call) (reply : FileReply) (after : TextState) → before.file.life ≡ life.Closed → AnswersTextBy getter before call reply after → (reply ≡ closed_by getter (OfText before.file) call) × (after.file ≡ before.file) × (after.raw ≡ before.raw)
-text_closed true before call reply after closed step = (step.says, ap (λ (t : TextState). t.file) step.same, ap (λ (t : TextState). t.raw) step.same)
-text_closed false before call reply after closed step = closed_text_step before (text_call call) reply after closed step
+text_closed : (getter : Bool) (before : TextState) (call : TextFileCall) (reply : FileReply) (after : TextState) → text.is_getter call ≡ getter → before.text.life ≡ life.Closed → AnswersTextBy getter before call reply after → SaysOrStarves (tells_name call) (closed_text_by getter (state.file_of before) call) reply × (after ≡ record before { short = false })
+text_closed true before call reply after is closed step = (step.says, step.same)
+text_closed false before call reply after is closed step = closed_text_step before call reply after is closed step
 
 -- a closed stream refuses all but another close
 closed_refuses : (stream : Stream) (call : FileCall) → stream.life ≡ life.Closed → is_getter call ≡ false → call ≢ Close → call ≢ OtherGetter → refused_by stream call ≡ Some fault.Closed
@@ -135,7 +210,7 @@ left_whole was stream = refl
 pub left_closed : (was : Life) (stream : Stream) → stream.life ≡ life.Closed → left_of was stream ≡ stream
 left_closed was stream closed = ap (λ (current : Life). left_by was current stream) closed ∙ left_whole was stream
 
-binary_closed : (getter : Bool) (before : Stream) (call : Call) (reply : FileReply) (after : Stream) → is_getter (file_call call) ≡ getter → before.life ≡ life.Closed → AnswersBy getter before (file_call call) reply after → (reply ≡ closed_by getter (OfBinary (file_of before)) call) × (after ≡ record before { short = false })
+binary_closed : (getter : Bool) (before : Stream) (call : Call) (reply : FileReply) (after : Stream) → is_getter (file_call call) ≡ getter → before.life ≡ life.Closed → AnswersBy getter before (file_call call) reply after → (reply ≡ closed_file_by getter (file_of before) call) × (after ≡ record before { short = false })
 binary_closed true before call reply after is closed step = (step.says, step.same)
 binary_closed false before call reply after is closed step =
     let a : Stream = step.answered in
@@ -144,8 +219,8 @@ binary_closed false before call reply after is closed step =
 
 pub step_closed : (before : SessionView) (call : Call) (reply : Reply) (after : SessionView) → life_of before ≡ life.Closed → Answers before call reply after → Unmoved before call (said reply) after
 step_closed (TextSession before) call reply (TextSession after) closed step =
-    let left = text_closed (is_getter (file_call call)) before call (said reply) after closed step in
-    record { says = left.0; file = ap OfText left.1; raw = left.2; life_is = ap (λ (file : TextFile). file.life) left.1 }
+    let left = text_closed (text.is_getter (text_call call)) before (text_call call) (said reply) after refl closed step.answers in
+    record { says = left.0; file = ap (λ (t : TextState). OfText (state.file_of t)) left.1; raw = ap (λ (t : TextState). t.text.buffer.raw) left.1; life_is = ap (λ (t : TextState). t.text.life) left.1 }
 step_closed (BinarySession before) call reply (BinarySession after) closed step =
     let left = binary_closed (is_getter (file_call call)) before call (said reply) after refl closed step in
     record { says = left.0; file = ap (λ (s : Stream). OfBinary (file_of s)) left.1; raw = ap (λ (s : Stream). s.raw) left.1; life_is = ap (λ (s : Stream). s.life) left.1 }
@@ -153,6 +228,10 @@ step_closed (TextSession before) call reply (BinarySession after) closed step = 
 step_closed (BinarySession before) call reply (TextSession after) closed step = absurd step
 
 -- what shows of a session's raw shows where it tells its bytes and its place
+shown_by_told : (writes : Bool) (raw : Raw) (Fact : Type 0) → ShownBy writes raw Fact → WhereTold raw Fact
+shown_by_told true raw Fact shown tells = shown tells
+shown_by_told false raw Fact shown tells = shown (tells_its_bytes raw tells)
+
 pub shown_where_told : (before : SessionView) (Fact : Type 0) → WhereShown before Fact → WhereTold (raw_of before) Fact
-shown_where_told (TextSession text) Fact shown tells = shown (tells_its_bytes text.raw tells)
+shown_where_told (TextSession text) Fact shown tells = shown_by_told text.text.buffer.can.writable text.text.buffer.raw Fact shown tells
 shown_where_told (BinarySession stream) Fact shown tells = shown tells

@@ -1,5 +1,6 @@
 -- What a detached session answers, and that it leaves its file as it was.
-use Rattle.std.proofs.Common.{◌≡◌, pos, suc, zero, Bool, true, false, List, [], ◌∷◌, Some, refl, sym, ap, ◌∙◌, subst}
+use Rattle.std.proofs.Common.{inl, inr, ◌≡◌, ◌||◌, pos, suc, zero, Bool, true, false, IsTrue, List, [], ◌∷◌, Option, Some, refl, sym, ap, ◌∙◌, subst}
+use Rattle.py_flat.specs.declared.fault.IoFault.{IoFault}
 use Rattle.py_flat.specs.declared.fault.IoFault.TheVariants as fault
 use Rattle.py_flat.specs.declared.life.Life.{Life}
 use Rattle.py_flat.specs.declared.life.Life.TheVariants as life
@@ -9,17 +10,23 @@ use Rattle.py_flat.specs.Refusals.{is_getter, refusal}
 use Rattle.py_flat.specs.AllowedStep.{settled, waited_for, raw_faulted, out_of_memory}
 use Rattle.py_flat.specs.BinaryStep.{does_work, reaches_raw, BinaryStep}
 use Rattle.py_plain_text.specs.TextFile.{TextFile}
-use Rattle.py_plain_text.specs.TextStep.{TextCall, Read, ReadLine, Close, OtherKind, text_answered, text_refusal, text_reaches_raw, TextStep}
+use Rattle.py_plain_text.specs.TextCalls as text
+use Rattle.py_plain_text.specs.TextCalls.{TextFileCall, tells_name}
+use Rattle.py_plain_text.specs.TextExact.{carried_out}
+use Rattle.py_plain_text.specs.TextAllowed as text_file
+use Rattle.py_plain_text.specs.TextAllowed.{TextFileStep}
 use Rattle.py_stream.specs.Stream.{Stream, file_of}
 use Rattle.py_stream.specs.Answers.{AnswersWith, Leaves}
 use Rattle.py_calls.specs.declared.call.Call.{Call}
 use Rattle.py_calls.specs.declared.reply.Reply.{Reply}
 use Rattle.py_calls.specs.Calls.{text_call, file_call, said}
-use Rattle.py_text_reader.specs.TextState.{TextState}
+use Rattle.py_read_text.specs.TextState as state
+use Rattle.py_read_text.specs.TextState.{TextState}
 use Rattle.py_binary.specs.Binary.{has_reply_room, left_by, detached_fault, AnswersBy}
-use Rattle.py_open.specs.Session.{SessionFile, OfText, OfBinary, SessionView, TextSession, BinarySession, FileLeftBy, StepBy, file_seen, raw_of, life_of, life_in, AnswersTextBy, Answers}
-use Rattle.py_open.specs.Run.{Entry, IsRun, IsHistory, calls_of}
-use Rattle.py_open.specs.Laws.{detached_by, detached_reply, detached_replies, StaysDetached, FileStaysDetached}
+use Rattle.py_open.specs.Session.{SessionFile, OfText, OfBinary, SessionView, TextSession, BinarySession, FileLeftBy, SaysOrStarves, FileStepBy, SessionStep, file_seen, raw_of, life_of, life_in, AnswersTextBy, Answers}
+use Rattle.py_open.specs.Run.{Entry, IsRun, IsHistory, calls_of, replies_of, all_said}
+use Rattle.py_open.specs.Laws.{asks_name, SayAll, detached_text_by, detached_file_by, detached_reply, StaysDetached, FileStaysDetached}
+use Rattle.py_open.proofs.Steps.{text_refused_by}
 use Rattle.py_open.proofs.Resting.{detached_refuses}
 
 -- Flat files.
@@ -50,41 +57,74 @@ file_refused before call reply waited faulted file gone asks (out_of_memory says
 left_gone : (was is : Life) (file : FlatFile) (reply : FileReply) (after : FlatFile) → was ≡ life.Detached → FileLeftBy was is file reply after → after ≡ file
 left_gone was is file reply after gone left = let same : FileLeftBy life.Detached is file reply after = subst (λ (current : Life). FileLeftBy current is file reply after) gone left in same
 
-text_refused : (file : TextFile) (call : TextCall) → file.life ≡ life.Detached → text_refusal file call ≡ Some fault.Detached
-text_refused file (Read size) gone = rw gone refl
-text_refused file (ReadLine limit) gone = rw gone refl
-text_refused file Close gone = rw gone refl
-text_refused file OtherKind gone = rw gone refl
+-- Texts.
 
-text_reaches_none : (file : TextFile) (call : TextCall) → file.life ≡ life.Detached → text_reaches_raw file call ≡ false
+says_so : (names : Bool) (expected reply : FileReply) → reply ≡ expected → SaysOrStarves names expected reply
+says_so true expected reply is = inl is
+says_so false expected reply is = is
+
+-- a question is answered by what it asks for, and leaves the text
+asked_settled : (file : TextFile) (call : TextFileCall) (reply : FileReply) (after : TextFile) → text.is_getter call ≡ true → text_file.Settled file call reply after → (reply ≡ (carried_out file call).0) × (after ≡ file)
+asked_settled file text.ChunkSize reply after asks is = (ap (λ (p : FileReply × TextFile). p.0) is, ap (λ (p : FileReply × TextFile). p.1) is)
+asked_settled file text.Readable reply after asks is = (ap (λ (p : FileReply × TextFile). p.0) is, ap (λ (p : FileReply × TextFile). p.1) is)
+asked_settled file text.Writable reply after asks is = (ap (λ (p : FileReply × TextFile). p.0) is, ap (λ (p : FileReply × TextFile). p.1) is)
+asked_settled file text.Seekable reply after asks is = (ap (λ (p : FileReply × TextFile). p.0) is, ap (λ (p : FileReply × TextFile). p.1) is)
+asked_settled file text.Closed reply after asks is = (ap (λ (p : FileReply × TextFile). p.0) is, ap (λ (p : FileReply × TextFile). p.1) is)
+asked_settled file text.Encoding reply after asks is = (ap (λ (p : FileReply × TextFile). p.0) is, ap (λ (p : FileReply × TextFile). p.1) is)
+asked_settled file text.Errors reply after asks is = (ap (λ (p : FileReply × TextFile). p.0) is, ap (λ (p : FileReply × TextFile). p.1) is)
+asked_settled file call reply after asks is = absurd (cc)
+
+gone_settled : (getter : Bool) (file : TextFile) (call : TextFileCall) (reply : FileReply) (after : TextFile) → text.is_getter call ≡ getter → file.life ≡ life.Detached → text_file.Settled file call reply after → (reply ≡ detached_text_by getter file call) × (after ≡ file)
+gone_settled true file call reply after is gone settles = asked_settled file call reply after is settles
+gone_settled false file call reply after is gone settles =
+    subst (λ (refused : Option IoFault). text_file.SettledBy file call refused reply after) (text_refused_by file call life.Detached fault.Detached gone is refl refl) settles
+
+text_works_none : (file : TextFile) (call : TextFileCall) → file.life ≡ life.Detached → text_file.does_work file call ≡ false
+text_works_none file call gone = rw gone refl
+
+text_reaches_none : (file : TextFile) (call : TextFileCall) → file.life ≡ life.Detached → text_file.reaches_raw file call ≡ false
+text_reaches_none file (text.SeekText cookie (pos (suc (suc zero)))) gone = rw gone refl
 text_reaches_none file call gone = rw gone refl
 
-text_stays : (before : TextFile) (call : TextCall) (reply : FileReply) (waited faulted : Bool) (after : TextFile) → before.life ≡ life.Detached → TextStep before call reply waited faulted after → (reply ≡ Refused fault.Detached) × (after ≡ before)
-text_stays before call reply waited faulted after gone (settled exact) =
-    let is : (reply, after) ≡ (Refused fault.Detached, before) = exact ∙ ap (text_answered before call) (text_refused before call gone) in
-    (ap (λ (p : FileReply × TextFile). p.0) is, ap (λ (p : FileReply × TextFile). p.1) is)
-text_stays before call reply waited faulted after gone (waited_for rose part) = let wrong : true ≡ false = sym part.0 ∙ text_reaches_none before call gone in absurd (cc)
-text_stays before call reply waited faulted after gone (raw_faulted rose says left) = let wrong : true ≡ false = sym left.0 ∙ text_reaches_none before call gone in absurd (cc)
-text_stays before call reply waited faulted after gone (out_of_memory says left) = let wrong : true ≡ false = sym left.0 ∙ text_reaches_none before call gone in absurd (cc)
+-- the second of two of which the first doesn't hold
+second_of : (first second : Bool) → first ≡ false → IsTrue (first || second) → second ≡ true
+second_of false second none is = is
+second_of true second none is = absurd (cc)
 
-step_stays : (getter : Bool) (before : SessionFile) (call : Call) (reply : FileReply) (waited faulted : Bool) (after : SessionFile) → is_getter (file_call call) ≡ getter → life_in before ≡ life.Detached → StepBy getter before call reply waited faulted after → (reply ≡ detached_by getter before call) × (after ≡ before)
-step_stays true before call reply waited faulted after is gone step = (step.says, step.same)
-step_stays false (OfText before) call reply waited faulted (OfText after) is gone step =
-    let left = text_stays before (text_call call) reply waited faulted after gone step in
-    (left.0, ap OfText left.1)
-step_stays false (OfBinary before) call reply waited faulted (OfBinary after) is gone step =
+text_stays : (getter : Bool) (before : TextFile) (call : TextFileCall) (reply : FileReply) (waited faulted : Bool) (after : TextFile) → text.is_getter call ≡ getter → before.life ≡ life.Detached → TextFileStep before call reply waited faulted after → SaysOrStarves (tells_name call) (detached_text_by getter before call) reply × (after ≡ before)
+text_stays getter before call reply waited faulted after is gone (settled exact) =
+    let left = gone_settled getter before call reply after is gone exact in
+    (says_so (tells_name call) (detached_text_by getter before call) reply left.0, left.1)
+text_stays getter before call reply waited faulted after is gone (waited_for rose part) = let wrong : true ≡ false = sym part.0 ∙ text_works_none before call gone in absurd (cc)
+text_stays getter before call reply waited faulted after is gone (raw_faulted rose says left) = let wrong : true ≡ false = sym left.0 ∙ text_reaches_none before call gone in absurd (cc)
+text_stays getter before call reply waited faulted after is gone (out_of_memory says (inl left)) =
+    let names : tells_name call ≡ true = second_of (text_file.reaches_raw before call) (tells_name call) (text_reaches_none before call gone) left.0 in
+    (subst (λ (named : Bool). SaysOrStarves named (detached_text_by getter before call) reply) (sym names) (inr says), left.1)
+text_stays getter before call reply waited faulted after is gone (out_of_memory says (inr left)) = let wrong : true ≡ false = sym left.0 ∙ text_reaches_none before call gone in absurd (cc)
+
+file_stays : (getter : Bool) (before : FlatFile) (call : Call) (reply : FileReply) (waited faulted : Bool) (after : FlatFile) → is_getter (file_call call) ≡ getter → before.life ≡ life.Detached → FileStepBy getter before call reply waited faulted after → (reply ≡ detached_file_by getter before call) × (after ≡ before)
+file_stays true before call reply waited faulted after is gone step = (step.says, step.same)
+file_stays false before call reply waited faulted after is gone step =
     let left = file_refused before (file_call call) reply waited faulted step.file gone is step.step in
-    (left.0, ap OfBinary (left_gone before.life step.file.life step.file reply after gone step.left ∙ left.1))
-step_stays false (OfText before) call reply waited faulted (OfBinary after) is gone step = absurd step
-step_stays false (OfBinary before) call reply waited faulted (OfText after) is gone step = absurd step
+    (left.0, left_gone before.life step.file.life step.file reply after gone step.left ∙ left.1)
+
+step_stays : (before : SessionFile) (call : Call) (reply : FileReply) (waited faulted : Bool) (after : SessionFile) → life_in before ≡ life.Detached → SessionStep before call reply waited faulted after → SaysOrStarves (asks_name before call) (detached_reply before call) reply × (after ≡ before)
+step_stays (OfText before) call reply waited faulted (OfText after) gone step =
+    let left = text_stays (text.is_getter (text_call call)) before (text_call call) reply waited faulted after refl gone step in
+    (left.0, ap OfText left.1)
+step_stays (OfBinary before) call reply waited faulted (OfBinary after) gone step =
+    let left = file_stays (is_getter (file_call call)) before call reply waited faulted after refl gone step in
+    (left.0, ap OfBinary left.1)
+step_stays (OfText before) call reply waited faulted (OfBinary after) gone step = absurd step
+step_stays (OfBinary before) call reply waited faulted (OfText after) gone step = absurd step
 
 pub history_stays : (before : SessionFile) (entries : List Entry) (after : SessionFile) → IsHistory before entries after → life_in before ≡ life.Detached → FileStaysDetached before entries after
-history_stays before [] after steps gone = record { says = refl; same = steps }
+history_stays before [] after steps gone = record { says = tt; same = steps }
 history_stays before (entry ∷ entries) after steps gone =
-    let here = step_stays (is_getter (file_call entry.call)) before entry.call (said entry.reply) entry.waited entry.faulted steps.0 refl gone steps.1 in
+    let here = step_stays before entry.call (said entry.reply) entry.waited entry.faulted steps.0 gone steps.1 in
     let rest = history_stays steps.0 entries after steps.2 (ap life_in here.1 ∙ gone) in
     record {
-      says = ap (λ (more : List FileReply). said entry.reply ∷ more) (rest.says ∙ ap (λ (file : SessionFile). detached_replies file (calls_of entries)) here.1) ∙ ap (λ (first : FileReply). first ∷ detached_replies before (calls_of entries)) here.0;
+      says = (here.0, subst (λ (file : SessionFile). SayAll detached_reply file (calls_of entries) (all_said (replies_of entries))) here.1 rest.says);
       same = rest.same ∙ here.1;
     }
 
@@ -92,16 +132,16 @@ history_stays before (entry ∷ entries) after steps gone =
 
 -- what a call leaves of a detached session
 record Stays (before : SessionView) (call : Call) (reply : FileReply) (after : SessionView) : Type 0 where
-  says : reply ≡ detached_reply (file_seen before) call
+  says : SaysOrStarves (asks_name (file_seen before) call) (detached_reply (file_seen before) call) reply
   file : file_seen after ≡ file_seen before
   raw : raw_of after ≡ raw_of before
   life_is : life_of after ≡ life_of before
 
-text_answered_gone : (getter : Bool) (before : TextState) (call : Call) (reply : FileReply) (after : TextState) → before.file.life ≡ life.Detached → AnswersTextBy getter before call reply after → (reply ≡ detached_by getter (OfText before.file) call) × (after.file ≡ before.file) × (after.raw ≡ before.raw)
-text_answered_gone true before call reply after gone step = (step.says, ap (λ (t : TextState). t.file) step.same, ap (λ (t : TextState). t.raw) step.same)
-text_answered_gone false before call reply after gone step =
-    let left = step.answers.refused fault.Detached (text_refused before.file (text_call call) gone) in
-    (left.says, left.file, left.raw)
+text_answered_gone : (getter : Bool) (before : TextState) (call : TextFileCall) (reply : FileReply) (after : TextState) → text.is_getter call ≡ getter → before.text.life ≡ life.Detached → AnswersTextBy getter before call reply after → SaysOrStarves (tells_name call) (detached_text_by getter (state.file_of before) call) reply × (after ≡ record before { short = false })
+text_answered_gone true before call reply after is gone step = (step.says, step.same)
+text_answered_gone false before call reply after is gone step =
+    let left = step.refused fault.Detached (text_refused_by (state.file_of before) call life.Detached fault.Detached gone is refl refl) in
+    (says_so (tells_name call) (Refused fault.Detached) reply left.says, left.same)
 
 stream_gone : (before : Stream) (call : FileCall) (reply : FileReply) (answered : Stream) → before.life ≡ life.Detached → is_getter call ≡ false → AnswersWith has_reply_room before call reply answered → Leaves before (Refused (detached_fault call)) reply answered
 stream_gone before OtherGetter reply answered gone asks a = a.refused fault.Unsupported refl
@@ -111,7 +151,7 @@ stream_gone before Seekable reply answered gone asks a = absurd (cc)
 stream_gone before Closed reply answered gone asks a = absurd (cc)
 stream_gone before call reply answered gone asks a = a.refused fault.Detached (detached_refuses before call gone asks (λ is. cc))
 
-binary_answered_gone : (getter : Bool) (before : Stream) (call : Call) (reply : FileReply) (after : Stream) → is_getter (file_call call) ≡ getter → before.life ≡ life.Detached → AnswersBy getter before (file_call call) reply after → (reply ≡ detached_by getter (OfBinary (file_of before)) call) × (after ≡ record before { short = false })
+binary_answered_gone : (getter : Bool) (before : Stream) (call : Call) (reply : FileReply) (after : Stream) → is_getter (file_call call) ≡ getter → before.life ≡ life.Detached → AnswersBy getter before (file_call call) reply after → (reply ≡ detached_file_by getter (file_of before) call) × (after ≡ record before { short = false })
 binary_answered_gone true before call reply after is gone step = (step.says, step.same)
 binary_answered_gone false before call reply after is gone step =
     let a : Stream = step.answered in
@@ -120,8 +160,8 @@ binary_answered_gone false before call reply after is gone step =
 
 session_stays : (before : SessionView) (call : Call) (reply : Reply) (after : SessionView) → life_of before ≡ life.Detached → Answers before call reply after → Stays before call (said reply) after
 session_stays (TextSession before) call reply (TextSession after) gone step =
-    let left = text_answered_gone (is_getter (file_call call)) before call (said reply) after gone step in
-    record { says = left.0; file = ap OfText left.1; raw = left.2; life_is = ap (λ (file : TextFile). file.life) left.1 }
+    let left = text_answered_gone (text.is_getter (text_call call)) before (text_call call) (said reply) after refl gone step.answers in
+    record { says = left.0; file = ap (λ (t : TextState). OfText (state.file_of t)) left.1; raw = ap (λ (t : TextState). t.text.buffer.raw) left.1; life_is = ap (λ (t : TextState). t.text.life) left.1 }
 session_stays (BinarySession before) call reply (BinarySession after) gone step =
     let left = binary_answered_gone (is_getter (file_call call)) before call (said reply) after refl gone step in
     record { says = left.0; file = ap (λ (s : Stream). OfBinary (file_of s)) left.1; raw = ap (λ (s : Stream). s.raw) left.1; life_is = ap (λ (s : Stream). s.life) left.1 }
@@ -129,13 +169,13 @@ session_stays (TextSession before) call reply (BinarySession after) gone step = 
 session_stays (BinarySession before) call reply (TextSession after) gone step = absurd step
 
 pub run_stays : (before : SessionView) (calls : List Call) (replies : List Reply) (after : SessionView) → IsRun before calls replies after → life_of before ≡ life.Detached → StaysDetached before calls replies after
-run_stays before [] [] after run gone = record { says = refl; file = ap file_seen run; raw = ap raw_of run }
+run_stays before [] [] after run gone = record { says = tt; file = ap file_seen run; raw = ap raw_of run }
 run_stays before (call ∷ calls) (reply ∷ replies) after run gone =
     let mid : SessionView = run.0 in
     let here = session_stays before call reply mid gone run.1 in
     let rest = run_stays mid calls replies after run.2 (here.life_is ∙ gone) in
     record {
-      says = ap (λ (more : List FileReply). said reply ∷ more) (rest.says ∙ ap (λ (file : SessionFile). detached_replies file calls) here.file) ∙ ap (λ (first : FileReply). first ∷ detached_replies (file_seen before) calls) here.says;
+      says = (here.says, subst (λ (file : SessionFile). SayAll detached_reply file calls (all_said replies)) here.file rest.says);
       file = rest.file ∙ here.file;
       raw = rest.raw ∙ here.raw;
     }

@@ -6,3 +6,4 @@ pub mod Running
 pub mod Closing
 pub mod Gone
 pub mod InRaw
+pub mod Names

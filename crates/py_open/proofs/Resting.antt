@@ -1,30 +1,28 @@
 -- A session that isn't live calls no raw.
-use Rattle.std.proofs.Common.{◌≡◌, ◌≢◌, pos, suc, zero, Bool, true, false, [], Some, refl, sym, ap, ◌∙◌}
+use Rattle.std.proofs.Common.{inl, inr, ◌≡◌, ◌≢◌, pos, suc, zero, ℕ, Bool, true, false, List, [], ◌∷◌, Option, Some, None, refl, sym, ap, ◌∙◌}
 use Rattle.py_flat.specs.declared.fault.IoFault.TheVariants as fault
 use Rattle.py_flat.specs.declared.life.Life.{Life}
 use Rattle.py_flat.specs.declared.life.Life.TheVariants as life
 use Rattle.py_flat.specs.Calls.{FileCall, Seek, Close, Detach, Readable, Writable, Seekable, Closed, OtherGetter, FileReply, Done, Unwritten, Refused}
 use Rattle.py_flat.specs.Refusals.{is_getter}
-use Rattle.py_plain_text.specs.TextFile.{TextFile}
-use Rattle.py_plain_text.specs.TextStep.{TextCall, Read, ReadLine, OtherKind, text_life_refusal, text_lacks, TextSettled, TextStep}
-use Rattle.py_plain_text.specs.TextStep as plain
+use Rattle.py_plain_text.specs.TextCalls as text
+use Rattle.py_plain_text.specs.TextCalls.{TextFileCall}
 use Rattle.py_stream.specs.Stream.{Stream}
-use Rattle.py_stream.specs.Answers.{AnswersWith, Leaves, refused_by}
+use Rattle.py_stream.specs.Kinds.{goes_on}
+use Rattle.py_stream.specs.Answers.{AnswersWith, Leaves, LifeMoves, StarvesTo, refused_by}
 use Rattle.py_calls.specs.declared.call.Call.{Call}
+use Rattle.py_calls.specs.declared.call.Call.TheVariants as call
 use Rattle.py_calls.specs.declared.reply.Reply.{Reply}
 use Rattle.py_calls.specs.Calls.{text_call, file_call, said}
-use Rattle.py_text_reader.specs.TextState.{TextState}
-use Rattle.py_text_reader.specs.Answers as text
+use Rattle.py_read_text.specs.TextState as state
+use Rattle.py_read_text.specs.TextState.{TextState}
+use Rattle.py_read_text.specs.Answers as over
 use Rattle.py_binary.specs.Binary.{has_reply_room, AnswersBy}
 use Rattle.py_open.specs.Session.{SessionView, TextSession, BinarySession, raw_of, life_of, AnswersTextBy, Answers}
 use Rattle.py_open.specs.Laws.{closed_file_reply}
-use Rattle.std.proofs.Common.{inl, inr, ℕ, List, [], ◌∷◌, Option, None}
-use Rattle.py_stream.specs.Kinds.{goes_on}
-use Rattle.py_stream.specs.Answers.{LifeMoves, StarvesTo}
-use Rattle.py_plain_text.specs.TextStep.{text_refusal}
 use Rattle.py_open.specs.Run.{IsRun}
-use Rattle.py_open.proofs.Steps.{left_raw, left_life}
-use Rattle.py_open.proofs.Ending.{closed_leaves}
+use Rattle.py_open.proofs.Steps.{left_raw, left_life, text_refused_by}
+use Rattle.py_open.proofs.Ending.{closed_leaves, closed_text_step}
 
 -- Streams.
 
@@ -94,29 +92,26 @@ binary_rests false before call reply after is dead step =
 
 -- Texts.
 
-text_dead_raw : (current : Life) (before : TextState) (call : TextCall) (reply : FileReply) (after : TextState) → before.file.life ≡ current → current ≢ life.Live → text.Answers before call reply after → (after.raw ≡ before.raw) × (after.file ≡ before.file)
-text_dead_raw life.Live before call reply after is dead step = absurd (dead refl)
-text_dead_raw life.Failed before (Read size) reply after is dead step = let left = step.answers.refused fault.Failed (rw is refl) in (left.raw, left.file)
-text_dead_raw life.Failed before (ReadLine limit) reply after is dead step = let left = step.answers.refused fault.Failed (rw is refl) in (left.raw, left.file)
-text_dead_raw life.Failed before plain.Close reply after is dead step = let left = step.answers.refused fault.Failed (rw is refl) in (left.raw, left.file)
-text_dead_raw life.Failed before OtherKind reply after is dead step = let left = step.answers.refused fault.Failed (rw is refl) in (left.raw, left.file)
-text_dead_raw life.Closed before (Read size) reply after is dead step = let left = step.answers.refused fault.Closed (rw is refl) in (left.raw, left.file)
-text_dead_raw life.Closed before (ReadLine limit) reply after is dead step = let left = step.answers.refused fault.Closed (rw is refl) in (left.raw, left.file)
-text_dead_raw life.Closed before plain.Close reply after is dead step = let left = step.answers.again (rw is refl) in (left.raw, left.file)
-text_dead_raw life.Closed before OtherKind reply after is dead step = let left = step.answers.refused fault.Closed (rw is refl) in (left.raw, left.file)
-text_dead_raw life.Detached before (Read size) reply after is dead step = let left = step.answers.refused fault.Detached (rw is refl) in (left.raw, left.file)
-text_dead_raw life.Detached before (ReadLine limit) reply after is dead step = let left = step.answers.refused fault.Detached (rw is refl) in (left.raw, left.file)
-text_dead_raw life.Detached before plain.Close reply after is dead step = let left = step.answers.refused fault.Detached (rw is refl) in (left.raw, left.file)
-text_dead_raw life.Detached before OtherKind reply after is dead step = let left = step.answers.refused fault.Detached (rw is refl) in (left.raw, left.file)
+-- a session detaches no text so far
+pub never_detaches : (call : Call) → text.is_detach (text_call call) ≡ false
+never_detaches (call.Read size) = refl
+never_detaches call = refl
 
-text_rests : (getter : Bool) (before : TextState) (call : Call) (reply : FileReply) (after : TextState) → before.file.life ≢ life.Live → AnswersTextBy getter before call reply after → Rests (TextSession before) (TextSession after)
-text_rests true before call reply after dead step = record { raw = ap (λ (t : TextState). t.raw) step.same; dead = λ live. dead (sym (ap (λ (t : TextState). t.file.life) step.same) ∙ live) }
-text_rests false before call reply after dead step =
-    let left = text_dead_raw before.file.life before (text_call call) reply after refl dead step in
-    record { raw = left.0; dead = λ live. dead (sym (ap (λ (file : TextFile). file.life) left.1) ∙ live) }
+text_dead : (current : Life) (before : TextState) (call : TextFileCall) (reply : FileReply) (after : TextState) → before.text.life ≡ current → current ≢ life.Live → text.is_getter call ≡ false → text.is_detach call ≡ false → over.Answers before call reply after → after ≡ record before { short = false }
+text_dead life.Live before call reply after is dead asks stays step = absurd (dead refl)
+text_dead life.Failed before call reply after is dead asks stays step = (step.refused fault.Failed (text_refused_by (state.file_of before) call life.Failed fault.Failed is asks stays refl)).same
+text_dead life.Closed before call reply after is dead asks stays step = (closed_text_step before call reply after asks is step).1
+text_dead life.Detached before call reply after is dead asks stays step = (step.refused fault.Detached (text_refused_by (state.file_of before) call life.Detached fault.Detached is asks refl refl)).same
+
+text_left_as_was : (before : TextState) (after : TextState) → before.text.life ≢ life.Live → after ≡ record before { short = false } → Rests (TextSession before) (TextSession after)
+text_left_as_was before after dead same = record { raw = ap (λ (t : TextState). t.text.buffer.raw) same; dead = λ live. dead (sym (ap (λ (t : TextState). t.text.life) same) ∙ live) }
+
+text_rests : (getter : Bool) (before : TextState) (call : Call) (reply : FileReply) (after : TextState) → text.is_getter (text_call call) ≡ getter → before.text.life ≢ life.Live → AnswersTextBy getter before (text_call call) reply after → Rests (TextSession before) (TextSession after)
+text_rests true before call reply after is dead step = text_left_as_was before after dead step.same
+text_rests false before call reply after is dead step = text_left_as_was before after dead (text_dead before.text.life before (text_call call) reply after refl dead is (never_detaches call) step)
 
 step_rests : (before : SessionView) (call : Call) (reply : Reply) (after : SessionView) → life_of before ≢ life.Live → Answers before call reply after → Rests before after
-step_rests (TextSession before) call reply (TextSession after) dead step = text_rests (is_getter (file_call call)) before call (said reply) after dead step
+step_rests (TextSession before) call reply (TextSession after) dead step = text_rests (text.is_getter (text_call call)) before call (said reply) after refl dead step.answers
 step_rests (BinarySession before) call reply (BinarySession after) dead step = binary_rests (is_getter (file_call call)) before (file_call call) (said reply) after refl dead step
 step_rests (TextSession before) call reply (BinarySession after) dead step = absurd step
 step_rests (BinarySession before) call reply (TextSession after) dead step = absurd step

@@ -1,11 +1,16 @@
 -- What holds of whole runs, from what holds of each call.
-use Rattle.std.proofs.Common.{◌≡◌, ℕ, suc, ◌+◌, ◌≤◌, min, nat_le, Bool, true, false, IsTrue, List, [], ◌∷◌, ◌++◌, length, refl, sym, ap, subst, ◌∙◌, arith}
+use Rattle.std.proofs.Common.{◌≡◌, ℕ, Option, Some, None, suc, ◌+◌, ◌≤◌, min, nat_le, false, IsTrue, List, [], ◌∷◌, ◌++◌, length, refl, sym, ap, subst, ◌∙◌, arith}
 use Rattle.std.proofs.lemmas.Bool.{leb-false, lt-leb}
 use Rattle.py_flat.specs.declared.life.Life.TheVariants as life
 use Rattle.py_flat.specs.Limits.{greatest_count}
-use Rattle.py_flat.specs.Calls.{FileReply}
-use Rattle.py_flat.specs.Refusals.{is_getter}
-use Rattle.py_plain_text.specs.TextFile.{TextFile}
+use Rattle.py_flat.specs.Calls.{FileReply, Refused}
+use Rattle.py_flat.specs.declared.fault.IoFault.{IoFault}
+use Rattle.py_plain_text.specs.TextFile.{TextSettings, TextFile}
+use Rattle.py_plain_text.specs.TextCalls as text
+use Rattle.py_plain_text.specs.TextCalls.{TextFileCall}
+use Rattle.py_plain_text.specs.TextRefusals as refusals
+use Rattle.py_plain_text.specs.TextExact.{answered}
+use Rattle.py_plain_text.specs.TextAllowed as text_file
 use Rattle.py_raw.specs.RawStream.{Raw, Keeps, tells, AnswersFor}
 use Rattle.py_raw.proofs.Telling.{keeps_same, tells_still}
 use Rattle.py_raw.proofs.ReadingOn.{Keeps-then}
@@ -13,16 +18,17 @@ use Rattle.py_stream.specs.Kinds.{says_fault}
 use Rattle.py_stream.specs.Answers.{ClosedWith}
 use Rattle.py_calls.specs.declared.call.Call.{Call}
 use Rattle.py_calls.specs.declared.reply.Reply.{Reply}
-use Rattle.py_calls.specs.Calls.{file_call, said}
+use Rattle.py_calls.specs.Calls.{text_call, said}
 use Rattle.py_mode.specs.declared.mode.EncodeMode.{EncodeMode}
 use Rattle.py_mode.specs.declared.mode.EncodeMode.TheVariants.{Text, Bytes}
 use Rattle.py_mode.specs.declared.plan.OpenPlan.{OpenPlan}
-use Rattle.py_open.specs.Session.{SessionFile, OfText, OfBinary, SessionView, TextSession, BinarySession, SettlesBy, file_seen, raw_of, life_of, short_of, IsInStep}
+use Rattle.py_open.specs.Session.{SessionFile, OfText, OfBinary, SessionView, TextSession, BinarySession, Settles, file_seen, raw_of, life_of, short_of, IsInStep}
 use Rattle.py_open.specs.Opening.{OpensBy, OpensSession}
 use Rattle.py_open.specs.Run.{Entry, IsRun, IsHistory, IsCalm, IsSmooth, NoneLacksMemory, AllSettle, all_said, calls_of, replies_of}
-use Rattle.py_open.specs.Laws.{exact_by, exact_replies, exact_after, IsExact, HasHistory, RunsInTwo, RunsComplete, KeepsSettings, OnlyReads, closed_replies, StaysClosed}
+use Rattle.py_open.specs.Laws.{session_exact, exact_replies, exact_after, IsExact, HasHistory, RunsInTwo, RunsComplete, KeepsSettings, OnlyReads, SayAll, closed_reply, StaysClosed}
 use Rattle.py_open.proofs.Steps.{step_keeps, step_told, step_settles, smooth_step, step_completes, step_in_step, step_reads, step_spares, step_writes_none, step_shuts}
 use Rattle.py_open.proofs.Ending.{step_closed}
+use Rattle.py_open.proofs.Resting.{never_detaches}
 
 pub one_reply_each : (before : SessionView) (calls : List Call) (replies : List Reply) (after : SessionView) → IsRun before calls replies after → length replies ≡ length calls
 one_reply_each before [] [] after run = refl
@@ -38,21 +44,28 @@ run_keeps_raw before (call ∷ calls) (reply ∷ replies) after run = Keeps-then
 run_keeps_raw before [] (reply ∷ replies) after run = absurd run
 run_keeps_raw before (call ∷ calls) [] after run = absurd run
 
-settings_self : (session : SessionView) → KeepsSettings session session
-settings_self (TextSession text) = (refl, refl, refl)
+settings_self : (session : SessionView) → KeepsSettings session [] session
+settings_self (TextSession text) = (refl, record { others = refl; chunk = λ none. refl }, refl)
 settings_self (BinarySession stream) = (refl, refl)
 
-settings_on : (first mid last : SessionView) → KeepsSettings first mid → KeepsSettings mid last → KeepsSettings first last
-settings_on (TextSession first) (TextSession mid) (TextSession last) a b = (b.0 ∙ a.0, b.1 ∙ a.1, b.2 ∙ a.2)
-settings_on (BinarySession first) (BinarySession mid) (BinarySession last) a b = (b.0 ∙ a.0, b.1 ∙ a.1)
-settings_on (TextSession first) (TextSession mid) (BinarySession last) a b = absurd b
-settings_on (TextSession first) (BinarySession mid) last a b = absurd a
-settings_on (BinarySession first) (BinarySession mid) (TextSession last) a b = absurd b
-settings_on (BinarySession first) (TextSession mid) last a b = absurd a
+settings_on : (first mid last : SessionView) (call : Call) (calls : List Call) → KeepsSettings first (call ∷ []) mid → KeepsSettings mid calls last → KeepsSettings first (call ∷ calls) last
+settings_on (TextSession first) (TextSession mid) (TextSession last) call calls a b = (
+  b.0 ∙ a.0,
+  record {
+    others = b.1.others ∙ ap (λ (settings : TextSettings). record settings { chunk_size = last.text.settings.chunk_size }) a.1.others;
+    chunk = λ none. b.1.chunk none.1 ∙ a.1.chunk (none.0, tt);
+  },
+  b.2 ∙ a.2,
+)
+settings_on (BinarySession first) (BinarySession mid) (BinarySession last) call calls a b = (b.0 ∙ a.0, b.1 ∙ a.1)
+settings_on (TextSession first) (TextSession mid) (BinarySession last) call calls a b = absurd b
+settings_on (TextSession first) (BinarySession mid) last call calls a b = absurd a
+settings_on (BinarySession first) (BinarySession mid) (TextSession last) call calls a b = absurd b
+settings_on (BinarySession first) (TextSession mid) last call calls a b = absurd a
 
-pub run_keeps_settings : (before : SessionView) (calls : List Call) (replies : List Reply) (after : SessionView) → IsRun before calls replies after → KeepsSettings before after
-run_keeps_settings before [] [] after run = subst (λ (view : SessionView). KeepsSettings before view) (sym run) (settings_self before)
-run_keeps_settings before (call ∷ calls) (reply ∷ replies) after run = settings_on before run.0 after (step_keeps before call reply run.0 run.1).1 (run_keeps_settings run.0 calls replies after run.2)
+pub run_keeps_settings : (before : SessionView) (calls : List Call) (replies : List Reply) (after : SessionView) → IsRun before calls replies after → KeepsSettings before calls after
+run_keeps_settings before [] [] after run = subst (λ (view : SessionView). KeepsSettings before [] view) (sym run) (settings_self before)
+run_keeps_settings before (call ∷ calls) (reply ∷ replies) after run = settings_on before run.0 after call calls (step_keeps before call reply run.0 run.1).1 (run_keeps_settings run.0 calls replies after run.2)
 run_keeps_settings before [] (reply ∷ replies) after run = absurd run
 run_keeps_settings before (call ∷ calls) [] after run = absurd run
 
@@ -84,14 +97,14 @@ run_in_step before (call ∷ calls) (reply ∷ replies) after run is = run_in_st
 run_in_step before [] (reply ∷ replies) after run is = absurd run
 run_in_step before (call ∷ calls) [] after run is = absurd run
 
-opened_by : (encode : EncodeMode) (raw : Raw) (plan : OpenPlan) (chunk : ℕ) (session : SessionView) → OpensBy encode raw plan chunk session → IsInStep session
-opened_by Text raw plan chunk (TextSession text) opens = λ _. ap (λ (file : TextFile). file.bytes) opens.file
-opened_by Bytes raw plan chunk (BinarySession stream) opens = λ _. opens.owed
-opened_by Text raw plan chunk (BinarySession stream) opens = absurd opens
-opened_by Bytes raw plan chunk (TextSession text) opens = absurd opens
+opened_by : (encode : EncodeMode) (raw : Raw) (plan : OpenPlan) (session : SessionView) → OpensBy encode raw plan session → IsInStep session
+opened_by Text raw plan (TextSession view) opens = λ _. record { none = opens.none; own = opens.own; life_is = opens.life_is ∙ sym (ap (λ (file : TextFile). file.life) opens.file) }
+opened_by Bytes raw plan (BinarySession stream) opens = λ _. opens.owed
+opened_by Text raw plan (BinarySession stream) opens = absurd opens
+opened_by Bytes raw plan (TextSession text) opens = absurd opens
 
-pub opened_in_step : (raw : Raw) (plan : OpenPlan) (chunk : ℕ) (session : SessionView) → OpensSession raw plan chunk session → IsInStep session
-opened_in_step raw plan chunk session opens = opened_by plan.mode.encode raw plan chunk session opens
+pub opened_in_step : (raw : Raw) (plan : OpenPlan) (session : SessionView) → OpensSession raw plan session → IsInStep session
+opened_in_step raw plan session opens = opened_by plan.mode.encode raw plan session opens
 
 -- Runs in which no count rose.
 
@@ -136,15 +149,22 @@ smooth_completes before (call ∷ calls) [] after run smooth = absurd run
 
 -- Texts.
 
-exact_step_by : (getter : Bool) (before : TextFile) (call : Call) (reply : FileReply) (after : SessionFile) → SettlesBy getter (OfText before) call reply after → (file : TextFile) × (after ≡ OfText file) × ((reply, file) ≡ exact_by getter before call)
-exact_step_by true before call reply after step = (before, step.same, ap (λ (says : FileReply). (says, before)) step.says)
-exact_step_by false before call reply (OfText after) step = (after, refl, step)
-exact_step_by false before call reply (OfBinary after) step = absurd step
+accepted_is : (file : TextFile) (call : TextFileCall) (reply : FileReply) (after : TextFile) → text.is_detach call ≡ false → text_file.Accepted file call reply after → (reply, after) ≡ answered file call None
+accepted_is file text.Detach reply after stays is = absurd (cc)
+accepted_is file call reply after stays is = is
+
+settled_is : (refused : Option IoFault) (file : TextFile) (call : TextFileCall) (reply : FileReply) (after : TextFile) → text.is_detach call ≡ false → text_file.SettledBy file call refused reply after → (reply, after) ≡ answered file call refused
+settled_is None file call reply after stays is = accepted_is file call reply after stays is
+settled_is (Some why) file call reply after stays is = ap (λ (says : FileReply). (says, after)) is.0 ∙ ap (λ (left : TextFile). (Refused why, left)) is.1
+
+exact_step : (before : TextFile) (call : Call) (reply : FileReply) (after : SessionFile) → Settles (OfText before) call reply after → (file : TextFile) × (after ≡ OfText file) × ((reply, file) ≡ session_exact before call)
+exact_step before call reply (OfText after) step = (after, refl, settled_is (refusals.refusal before (text_call call)) before (text_call call) reply after (never_detaches call) step)
+exact_step before call reply (OfBinary after) step = absurd step
 
 pub settled_is_exact : (before : TextFile) (calls : List Call) (replies : List FileReply) (after : SessionFile) → AllSettle (OfText before) calls replies after → IsExact before calls replies after
 settled_is_exact before [] [] after settles = record { says = refl; leaves = settles }
 settled_is_exact before (call ∷ calls) (reply ∷ replies) after settles =
-    let step = exact_step_by (is_getter (file_call call)) before call reply settles.0 settles.1 in
+    let step = exact_step before call reply settles.0 settles.1 in
     let rest = settled_is_exact step.0 calls replies after (subst (λ (mid : SessionFile). AllSettle mid calls replies after) step.1 settles.2) in
     record {
       says = ap (λ (more : List FileReply). reply ∷ more) rest.says ∙ ap (λ (p : FileReply × TextFile). p.0 ∷ exact_replies p.1 calls) step.2;
@@ -186,13 +206,13 @@ calm_settles before (entry ∷ entries) after steps calm = (steps.0, step_settle
 -- Closed sessions.
 
 pub closed_stays : (before : SessionView) (calls : List Call) (replies : List Reply) (after : SessionView) → IsRun before calls replies after → life_of before ≡ life.Closed → StaysClosed before calls replies after
-closed_stays before [] [] after run closed = record { says = refl; file = ap file_seen run; raw = ap raw_of run }
+closed_stays before [] [] after run closed = record { says = tt; file = ap file_seen run; raw = ap raw_of run }
 closed_stays before (call ∷ calls) (reply ∷ replies) after run closed =
     let mid : SessionView = run.0 in
     let here = step_closed before call reply mid closed run.1 in
     let rest = closed_stays mid calls replies after run.2 (here.life_is ∙ closed) in
     record {
-      says = ap (λ (more : List FileReply). said reply ∷ more) (rest.says ∙ ap (λ (file : SessionFile). closed_replies file calls) here.file) ∙ ap (λ (first : FileReply). first ∷ closed_replies (file_seen before) calls) here.says;
+      says = (here.says, subst (λ (file : SessionFile). SayAll closed_reply file calls (all_said replies)) here.file rest.says);
       file = rest.file ∙ here.file;
       raw = rest.raw ∙ here.raw;
     }

@@ -1,39 +1,46 @@
 -- What one call of a session does, by its kind.
-use Rattle.std.proofs.Common.{inl, inr, ◌≡◌, ◌≢◌, ◌⊎◌, ℕ, Bool, true, false, not, IsTrue, List, [], length, Option, Some, None, refl, sym, ap, ◌∙◌, subst, if◌then◌else◌}
+use Rattle.std.proofs.Common.{inl, inr, ◌≡◌, ◌≢◌, ◌⊎◌, ◌||◌, ℕ, Bool, true, false, IsTrue, List, [], ◌∷◌, Some, None, refl, sym, ap, ◌∙◌, subst, if◌then◌else◌, arith}
 use Rattle.std.proofs.lemmas.Bool.{le-leb}
 use Rattle.py_flat.specs.declared.fault.IoFault.{IoFault}
 use Rattle.py_flat.specs.declared.fault.IoFault.TheVariants as fault
 use Rattle.py_flat.specs.declared.life.Life.{Life}
 use Rattle.py_flat.specs.declared.life.Life.TheVariants as life
-use Rattle.py_flat.specs.Bytes.{lay, first_of}
-use Rattle.py_flat.specs.Lines.{first_line, is_ended}
+use Rattle.py_flat.specs.Bytes.{lay}
 use Rattle.py_flat.specs.Causes.{Rose, rose}
 use Rattle.py_flat.specs.Calls.{FileCall, Detach, FileReply, Unwritten, Refused}
+use Rattle.py_flat.specs.Calls as binary
 use Rattle.py_flat.specs.FlatFile.{Abilities, FlatFile}
 use Rattle.py_flat.specs.Owed.{Owed}
-use Rattle.py_flat.specs.Refusals.{is_getter}
+use Rattle.py_flat.specs.Refusals.{is_getter, life_fault}
 use Rattle.py_flat.specs.AllowedStep.{settled, waited_for, raw_faulted, out_of_memory}
 use Rattle.py_flat.specs.BinaryStep.{Settled, BinaryStep}
-use Rattle.py_plain.specs.NewlineRule.{line_end}
-use Rattle.py_plain_text.specs.TextFile.{TextFile}
-use Rattle.py_plain_text.specs.Rest.{Rest, text_rest}
-use Rattle.py_plain_text.specs.TextStep.{TextCall, Read, ReadLine, OtherKind, text_refusal, range_refusal, asks_past, asks_any, after_taking, after_text_read, answered_text, text_read, text_line, text_answered, ReadsTextPart, TextWaitedBy, TextSettled, TextStep}
-use Rattle.py_plain_text.specs.TextStep as plain
+use Rattle.py_plain_text.specs.TextFile.{TextSettings, TextFile}
+use Rattle.py_plain_text.specs.TextCalls as text
+use Rattle.py_plain_text.specs.TextCalls.{TextFileCall, tells_name}
+use Rattle.py_plain_text.specs.TextRefusals as refusals
+use Rattle.py_plain_text.specs.TextExact.{carried_out, exact}
+use Rattle.py_plain_text.specs.TextAllowed as text_file
+use Rattle.py_plain_text.specs.TextAllowed.{TextFileStep}
 use Rattle.py_raw.specs.RawStream.{Raw, Keeps, tells, AnswersFor}
 use Rattle.py_raw.proofs.Telling.{keeps_same}
 use Rattle.py_stream.specs.Stream.{Stream, file_of, nothing_owed}
 use Rattle.py_stream.specs.Kinds.{says_fault}
 use Rattle.py_stream.specs.Answers.{HasCauses, ClosedWith, LifeMoves}
+use Rattle.py_stream.specs.Buffer.{Buffer, parts_when_closed}
 use Rattle.py_stream.specs.Handing.{owed_then}
 use Rattle.py_calls.specs.declared.call.Call.{Call}
+use Rattle.py_calls.specs.declared.call.Call.TheVariants as call
 use Rattle.py_calls.specs.declared.reply.Reply.{Reply}
 use Rattle.py_calls.specs.Calls.{text_call, file_call, said}
-use Rattle.py_text_reader.specs.TextState.{TextState}
+use Rattle.py_read_text.specs.TextState as state
+use Rattle.py_read_text.specs.TextState.{TextState}
+use Rattle.py_read_text.specs.Answers as over
+use Rattle.py_text_session.specs.Session.{OwesNothing}
 use Rattle.py_binary.specs.Binary.{gone_stream, left_by, left_of, HandsOwed, AnswersCall, AnswersBy}
 use Rattle.py_binary.proofs.Leaving.{attached_on}
-use Rattle.py_open.specs.Session.{SessionFile, OfText, OfBinary, SessionView, TextSession, BinarySession, IsDetached, FileLeftBy, FileLeft, StepBy, SessionStep, SettlesBy, Settles, file_seen, raw_of, life_of, short_of, AnswersTextBy, Answers, IsInStep}
+use Rattle.py_open.specs.Session.{SessionFile, OfText, OfBinary, SessionView, TextSession, BinarySession, IsDetached, FileLeftBy, FileLeft, SaysOrStarves, AnswersTextBy, StaysOpenWithText, FileStepBy, SessionStep, FileSettlesBy, Settles, file_seen, raw_of, life_of, short_of, Answers, IsInStep}
 use Rattle.py_open.specs.Run.{IsSmooth}
-use Rattle.py_open.specs.Laws.{CompletesBy, Completes, KeepsSettings, OnlyReads}
+use Rattle.py_open.specs.Laws.{CompletesText, CompletesFile, Completes, sets_chunk, KeepsText, KeepsSettings, OnlyReads}
 use Rattle.py_stream.proofs.Closing.{closes_whole}
 
 -- What is left of a stream.
@@ -93,16 +100,43 @@ left_file life.Failed life.Detached before call reply a was is moves hands = det
 left_file life.Closed life.Detached before call reply a was is moves hands = detached_left before call reply a (λ gone. let wrong : life.Closed ≡ life.Detached = sym was ∙ gone in absurd (cc)) is moves hands
 left_file was current before call reply a was_is is moves hands = refl
 
+-- What refuses a call of a text by its life.
+
+pub text_refused_by : (file : TextFile) (call : TextFileCall) (current : Life) (why : IoFault) → file.life ≡ current → text.is_getter call ≡ false → refusals.lets_through current call ≡ false → life_fault current ≡ Some why → refusals.refusal file call ≡ Some why
+text_refused_by file call current why is asks passes fails = rw (asks, is, passes, fails) refl
+
 -- What every call keeps.
 
-text_keeps : (getter : Bool) (before : TextState) (call : Call) (reply : FileReply) (after : TextState) → AnswersTextBy getter before call reply after → Keeps before.raw after.raw × KeepsSettings (TextSession before) (TextSession after)
-text_keeps true before call reply after step = (
-  subst (λ (raw : Raw). Keeps before.raw raw) (sym (ap (λ (t : TextState). t.raw) step.same)) (keeps_same before.raw),
-  (ap (λ (t : TextState). t.file.can) step.same, ap (λ (t : TextState). t.file.settings) step.same, ap (λ (t : TextState). t.buffer) step.same),
-)
-text_keeps false before call reply after step = (step.answers.keeps, (step.answers.moves.can, step.answers.moves.settings, step.buffer))
+-- the settings that a text has after a call
+settings_stay : (call : TextFileCall) (reply : FileReply) (settings : TextSettings) → over.settings_after call reply settings ≡ record settings { chunk_size = (over.settings_after call reply settings).chunk_size }
+settings_stay call reply settings = grind arith
 
-binary_keeps : (getter : Bool) (before : Stream) (call : FileCall) (reply : FileReply) (after : Stream) → AnswersBy getter before call reply after → Keeps before.raw after.raw × KeepsSettings (BinarySession before) (BinarySession after)
+chunk_stays : (call : Call) (reply : FileReply) (settings : TextSettings) → sets_chunk call ≡ false → over.settings_after (text_call call) reply settings ≡ settings
+chunk_stays (call.SetChunkSize size) reply settings is = absurd (cc)
+chunk_stays call reply settings is = refl
+
+text_settings_keep : (before : TextSettings) (call : Call) (reply : FileReply) (after : TextSettings) → after ≡ over.settings_after (text_call call) reply before → KeepsText before (call ∷ []) after
+text_settings_keep before call reply after is = record {
+  others = subst (λ (settings : TextSettings). settings ≡ record before { chunk_size = settings.chunk_size }) (sym is) (settings_stay (text_call call) reply before);
+  chunk = λ none. ap (λ (settings : TextSettings). settings.chunk_size) (is ∙ chunk_stays call reply before none.0);
+}
+
+text_keeps : (getter : Bool) (before : TextState) (call : Call) (reply : FileReply) (after : TextState) → AnswersTextBy getter before (text_call call) reply after → Keeps before.text.buffer.raw after.text.buffer.raw × KeepsSettings (TextSession before) (call ∷ []) (TextSession after)
+text_keeps true before call reply after step = (
+  subst (λ (raw : Raw). Keeps before.text.buffer.raw raw) (sym (ap (λ (t : TextState). t.text.buffer.raw) step.same)) (keeps_same before.text.buffer.raw),
+  (
+    ap (λ (t : TextState). t.text.buffer.can) step.same,
+    record {
+      others = ap (λ (t : TextState). t.text.settings) step.same ∙ ap (λ (size : ℕ). record before.text.settings { chunk_size = size }) (sym (ap (λ (t : TextState). t.text.settings.chunk_size) step.same));
+      chunk = λ none. ap (λ (t : TextState). t.text.settings.chunk_size) step.same;
+    },
+    ap (λ (t : TextState). t.text.buffer.buffering) step.same,
+  ),
+)
+text_keeps false before call reply after step =
+    (step.keeps.raw, (step.keeps.can, text_settings_keep before.text.settings call reply after.text.settings step.moves.settings, step.keeps.buffering))
+
+binary_keeps : (getter : Bool) (before : Stream) (call : FileCall) (reply : FileReply) (after : Stream) → AnswersBy getter before call reply after → Keeps before.raw after.raw × ((after.can ≡ before.can) × (after.buffer ≡ before.buffer))
 binary_keeps true before call reply after step = (
   subst (λ (raw : Raw). Keeps before.raw raw) (sym (ap (λ (s : Stream). s.raw) step.same)) (keeps_same before.raw),
   (ap (λ (s : Stream). s.can) step.same, ap (λ (s : Stream). s.buffer) step.same),
@@ -113,8 +147,8 @@ binary_keeps false before call reply after step =
       (ap (λ (s : Stream). s.can) step.leaves ∙ left_can before.life a.life a ∙ step.answers.keeps.can, ap (λ (s : Stream). s.buffer) step.leaves ∙ left_buffer before.life a.life a ∙ step.answers.keeps.buffer),
     )
 
-pub step_keeps : (before : SessionView) (call : Call) (reply : Reply) (after : SessionView) → Answers before call reply after → Keeps (raw_of before) (raw_of after) × KeepsSettings before after
-step_keeps (TextSession before) call reply (TextSession after) step = text_keeps (is_getter (file_call call)) before call (said reply) after step
+pub step_keeps : (before : SessionView) (call : Call) (reply : Reply) (after : SessionView) → Answers before call reply after → Keeps (raw_of before) (raw_of after) × KeepsSettings before (call ∷ []) after
+step_keeps (TextSession before) call reply (TextSession after) step = text_keeps (text.is_getter (text_call call)) before call (said reply) after step.answers
 step_keeps (BinarySession before) call reply (BinarySession after) step = binary_keeps (is_getter (file_call call)) before (file_call call) (said reply) after step
 step_keeps (TextSession before) call reply (BinarySession after) step = absurd step
 step_keeps (BinarySession before) call reply (TextSession after) step = absurd step
@@ -125,9 +159,26 @@ step_keeps (BinarySession before) call reply (TextSession after) step = absurd s
 caused_none : (old new : Raw) (reply : FileReply) (short : Bool) → short ≡ false → says_fault reply ≡ false → HasCauses old reply new short
 caused_none old new reply short whole sound = record { waits = λ is. absurd (let wrong : true ≡ false = sym is ∙ whole in cc); faults = λ is. absurd (let wrong : true ≡ false = sym is ∙ sound in cc) }
 
-text_causes : (getter : Bool) (before : TextState) (call : Call) (reply : FileReply) (after : TextState) → AnswersTextBy getter before call reply after → HasCauses before.raw reply after.raw after.short
-text_causes true before call reply after step = caused_none before.raw after.raw reply after.short (ap (λ (t : TextState). t.short) step.same) (ap says_fault step.says)
-text_causes false before call reply after step = step.answers.causes
+-- what a question is answered by is no fault
+no_fault : (file : TextFile) (call : TextFileCall) → text.is_getter call ≡ true → says_fault (carried_out file call).0 ≡ false
+no_fault file text.ChunkSize is = refl
+no_fault file text.Readable is = refl
+no_fault file text.Writable is = refl
+no_fault file text.Seekable is = refl
+no_fault file text.Closed is = refl
+no_fault file text.Encoding is = refl
+no_fault file text.Errors is = refl
+no_fault file call is = absurd (cc)
+
+told_sound : (names : Bool) (expected reply : FileReply) → says_fault expected ≡ false → SaysOrStarves names expected reply → says_fault reply ≡ false
+told_sound true expected reply sound (inl says) = ap says_fault says ∙ sound
+told_sound true expected reply sound (inr none) = ap says_fault none
+told_sound false expected reply sound says = ap says_fault says ∙ sound
+
+text_causes : (getter : Bool) (before : TextState) (call : TextFileCall) (reply : FileReply) (after : TextState) → text.is_getter call ≡ getter → AnswersTextBy getter before call reply after → HasCauses before.text.buffer.raw reply after.text.buffer.raw after.short
+text_causes true before call reply after is step =
+    caused_none before.text.buffer.raw after.text.buffer.raw reply after.short (ap (λ (t : TextState). t.short) step.same) (told_sound (tells_name call) (carried_out (state.file_of before) call).0 reply (no_fault (state.file_of before) call is) step.says)
+text_causes false before call reply after is step = step.causes
 
 binary_causes : (getter : Bool) (before : Stream) (call : FileCall) (reply : FileReply) (after : Stream) → AnswersBy getter before call reply after → HasCauses before.raw reply after.raw after.short
 binary_causes true before call reply after step = caused_none before.raw after.raw reply after.short (ap (λ (s : Stream). s.short) step.same) (ap says_fault step.says)
@@ -137,19 +188,37 @@ binary_causes false before call reply after step =
     (subst (λ (raw : Raw). HasCauses before.raw reply raw a.short) (sym (ap (λ (s : Stream). s.raw) step.leaves ∙ left_raw before.life a.life a)) step.answers.causes)
 
 pub step_causes : (before : SessionView) (call : Call) (reply : Reply) (after : SessionView) → Answers before call reply after → HasCauses (raw_of before) (said reply) (raw_of after) (short_of after)
-step_causes (TextSession before) call reply (TextSession after) step = text_causes (is_getter (file_call call)) before call (said reply) after step
+step_causes (TextSession before) call reply (TextSession after) step = text_causes (text.is_getter (text_call call)) before (text_call call) (said reply) after refl step.answers
 step_causes (BinarySession before) call reply (BinarySession after) step = binary_causes (is_getter (file_call call)) before (file_call call) (said reply) after step
 step_causes (TextSession before) call reply (BinarySession after) step = absurd step
 step_causes (BinarySession before) call reply (TextSession after) step = absurd step
 
 -- The model's step.
 
-text_told : (getter : Bool) (before : TextState) (call : Call) (reply : FileReply) (after : TextState) → AnswersTextBy getter before call reply after → IsTrue (tells before.raw) → StepBy getter (OfText before.file) call reply after.short (says_fault reply) (OfText after.file)
-text_told true before call reply after step tells = record { says = step.says; same = ap (λ (t : TextState). OfText t.file) step.same }
-text_told false before call reply after step tells = step.answers.told tells
+or_true : (first : Bool) → (first || true) ≡ true
+or_true true = refl
+or_true false = refl
 
-binary_told : (getter : Bool) (before : Stream) (call : Call) (reply : FileReply) (after : Stream) → AnswersBy getter before (file_call call) reply after → IsTrue (tells before.raw) → StepBy getter (OfBinary (file_of before)) call reply after.short (says_fault reply) (OfBinary (file_of after))
-binary_told true before call reply after step tells = record { says = step.says; same = ap (λ (s : Stream). OfBinary (file_of s)) step.same }
+-- a question is a step of the model, whatever the raw does
+text_asked : (file : TextFile) (call : TextFileCall) (reply : FileReply) (waited faulted : Bool) → text.is_getter call ≡ true → SaysOrStarves (tells_name call) (carried_out file call).0 reply → TextFileStep file call reply waited faulted file
+text_asked file text.ChunkSize reply waited faulted is says = settled (ap (λ (said : FileReply). (said, file)) says)
+text_asked file text.Readable reply waited faulted is says = settled (ap (λ (said : FileReply). (said, file)) says)
+text_asked file text.Writable reply waited faulted is says = settled (ap (λ (said : FileReply). (said, file)) says)
+text_asked file text.Seekable reply waited faulted is says = settled (ap (λ (said : FileReply). (said, file)) says)
+text_asked file text.Closed reply waited faulted is says = settled (ap (λ (said : FileReply). (said, file)) says)
+text_asked file text.Encoding reply waited faulted is (inl says) = settled (ap (λ (said : FileReply). (said, file)) says)
+text_asked file text.Encoding reply waited faulted is (inr none) = out_of_memory none (inl (or_true (text_file.reaches_raw file text.Encoding), refl))
+text_asked file text.Errors reply waited faulted is (inl says) = settled (ap (λ (said : FileReply). (said, file)) says)
+text_asked file text.Errors reply waited faulted is (inr none) = out_of_memory none (inl (or_true (text_file.reaches_raw file text.Errors), refl))
+text_asked file call reply waited faulted is says = absurd (cc)
+
+text_told : (getter : Bool) (before : TextState) (call : TextFileCall) (reply : FileReply) (after : TextState) → text.is_getter call ≡ getter → AnswersTextBy getter before call reply after → IsTrue (tells before.text.buffer.raw) → TextFileStep (state.file_of before) call reply after.short (says_fault reply) (state.file_of after)
+text_told true before call reply after is step tells =
+    subst (λ (file : TextFile). TextFileStep (state.file_of before) call reply after.short (says_fault reply) file) (sym (ap state.file_of step.same)) (text_asked (state.file_of before) call reply after.short (says_fault reply) is step.says)
+text_told false before call reply after is step tells = step.told tells
+
+binary_told : (getter : Bool) (before : Stream) (call : Call) (reply : FileReply) (after : Stream) → AnswersBy getter before (file_call call) reply after → IsTrue (tells before.raw) → FileStepBy getter (file_of before) call reply after.short (says_fault reply) (file_of after)
+binary_told true before call reply after step tells = record { says = step.says; same = ap (λ (s : Stream). file_of s) step.same }
 binary_told false before call reply after step tells =
     let a : Stream = step.answered in
     record {
@@ -159,14 +228,14 @@ binary_told false before call reply after step tells =
     }
 
 pub step_told : (before : SessionView) (call : Call) (reply : Reply) (after : SessionView) → Answers before call reply after → IsTrue (tells (raw_of before)) → SessionStep (file_seen before) call (said reply) (short_of after) (says_fault (said reply)) (file_seen after)
-step_told (TextSession before) call reply (TextSession after) step tells = text_told (is_getter (file_call call)) before call (said reply) after step tells
+step_told (TextSession before) call reply (TextSession after) step tells = text_told (text.is_getter (text_call call)) before (text_call call) (said reply) after refl step.answers tells
 step_told (BinarySession before) call reply (BinarySession after) step tells = binary_told (is_getter (file_call call)) before call (said reply) after step tells
 step_told (TextSession before) call reply (BinarySession after) step tells = absurd step
 step_told (BinarySession before) call reply (TextSession after) step tells = absurd step
 
 -- A step that has neither cause, and had memory, is settled.
 
-text_alone : (before : TextFile) (call : TextCall) (reply : FileReply) (waited faulted : Bool) (after : TextFile) → waited ≡ false → faulted ≡ false → reply ≢ Refused fault.NoMemory → TextStep before call reply waited faulted after → TextSettled before call reply after
+text_alone : (before : TextFile) (call : TextFileCall) (reply : FileReply) (waited faulted : Bool) (after : TextFile) → waited ≡ false → faulted ≡ false → reply ≢ Refused fault.NoMemory → TextFileStep before call reply waited faulted after → text_file.Settled before call reply after
 text_alone before call reply waited faulted after no_wait no_fault had (settled exact) = exact
 text_alone before call reply waited faulted after no_wait no_fault had (waited_for rose part) = let wrong : true ≡ false = sym rose ∙ no_wait in absurd (cc)
 text_alone before call reply waited faulted after no_wait no_fault had (raw_faulted rose said left) = let wrong : true ≡ false = sym rose ∙ no_fault in absurd (cc)
@@ -178,15 +247,15 @@ binary_alone before call reply waited faulted after no_wait no_fault had (waited
 binary_alone before call reply waited faulted after no_wait no_fault had (raw_faulted rose said left) = let wrong : true ≡ false = sym rose ∙ no_fault in absurd (cc)
 binary_alone before call reply waited faulted after no_wait no_fault had (out_of_memory said left) = absurd (had said)
 
-settles_by : (getter : Bool) (before : SessionFile) (call : Call) (reply : FileReply) (waited faulted : Bool) (after : SessionFile) → waited ≡ false → faulted ≡ false → reply ≢ Refused fault.NoMemory → StepBy getter before call reply waited faulted after → SettlesBy getter before call reply after
+settles_by : (getter : Bool) (before : FlatFile) (call : Call) (reply : FileReply) (waited faulted : Bool) (after : FlatFile) → waited ≡ false → faulted ≡ false → reply ≢ Refused fault.NoMemory → FileStepBy getter before call reply waited faulted after → FileSettlesBy getter before call reply after
 settles_by true before call reply waited faulted after no_wait no_fault had step = step
-settles_by false (OfText before) call reply waited faulted (OfText after) no_wait no_fault had step = text_alone before (text_call call) reply waited faulted after no_wait no_fault had step
-settles_by false (OfBinary before) call reply waited faulted (OfBinary after) no_wait no_fault had step = record { file = step.file; settled = binary_alone before (file_call call) reply waited faulted step.file no_wait no_fault had step.step; left = step.left }
-settles_by false (OfText before) call reply waited faulted (OfBinary after) no_wait no_fault had step = absurd step
-settles_by false (OfBinary before) call reply waited faulted (OfText after) no_wait no_fault had step = absurd step
+settles_by false before call reply waited faulted after no_wait no_fault had step = record { file = step.file; settled = binary_alone before (file_call call) reply waited faulted step.file no_wait no_fault had step.step; left = step.left }
 
 pub step_settles : (before : SessionFile) (call : Call) (reply : FileReply) (waited faulted : Bool) (after : SessionFile) → waited ≡ false → faulted ≡ false → reply ≢ Refused fault.NoMemory → SessionStep before call reply waited faulted after → Settles before call reply after
-step_settles before call reply waited faulted after no_wait no_fault had step = settles_by (is_getter (file_call call)) before call reply waited faulted after no_wait no_fault had step
+step_settles (OfText before) call reply waited faulted (OfText after) no_wait no_fault had step = text_alone before (text_call call) reply waited faulted after no_wait no_fault had step
+step_settles (OfBinary before) call reply waited faulted (OfBinary after) no_wait no_fault had step = settles_by (is_getter (file_call call)) before call reply waited faulted after no_wait no_fault had step
+step_settles (OfText before) call reply waited faulted (OfBinary after) no_wait no_fault had step = absurd step
+step_settles (OfBinary before) call reply waited faulted (OfText after) no_wait no_fault had step = absurd step
 
 -- what has no cause isn't so
 pub uncaused : (said : Bool) (old new : ℕ) → (IsTrue said → Rose old new) → rose old new ≡ false → said ≡ false
@@ -207,11 +276,11 @@ smooth_step before call reply after step tells smooth had =
 
 -- Completeness.
 
-text_completes : (getter : Bool) (before : TextState) (call : Call) (reply : FileReply) (after : TextState) → AnswersTextBy getter before call reply after → IsSmooth before.raw after.raw → CompletesBy getter (TextSession before) call reply
+text_completes : (getter : Bool) (before : TextState) (call : TextFileCall) (reply : FileReply) (after : TextState) → AnswersTextBy getter before call reply after → IsSmooth before.text.buffer.raw after.text.buffer.raw → CompletesText getter before call reply
 text_completes true before call reply after step smooth = step.says
-text_completes false before call reply after step smooth = λ accepted. (step.answers.complete accepted smooth.waits smooth.faults).answer
+text_completes false before call reply after step smooth = λ accepted. (step.complete accepted smooth.waits smooth.faults).answer
 
-binary_completes : (getter : Bool) (before : Stream) (call : Call) (reply : FileReply) (after : Stream) → AnswersBy getter before (file_call call) reply after → IsSmooth before.raw after.raw → CompletesBy getter (BinarySession before) call reply
+binary_completes : (getter : Bool) (before : Stream) (call : Call) (reply : FileReply) (after : Stream) → AnswersBy getter before (file_call call) reply after → IsSmooth before.raw after.raw → CompletesFile getter before call reply
 binary_completes true before call reply after step smooth = step.says
 binary_completes false before call reply after step smooth =
     let a : Stream = step.answered in
@@ -219,66 +288,35 @@ binary_completes false before call reply after step smooth =
     λ accepted. (step.answers.complete accepted same.waits same.faults).0
 
 pub step_completes : (before : SessionView) (call : Call) (reply : Reply) (after : SessionView) → Answers before call reply after → IsSmooth (raw_of before) (raw_of after) → Completes before call (said reply)
-step_completes (TextSession before) call reply (TextSession after) step smooth = text_completes (is_getter (file_call call)) before call (said reply) after step smooth
+step_completes (TextSession before) call reply (TextSession after) step smooth = text_completes (text.is_getter (text_call call)) before (text_call call) (said reply) after step.answers smooth
 step_completes (BinarySession before) call reply (BinarySession after) step smooth = binary_completes (is_getter (file_call call)) before call (said reply) after step smooth
 step_completes (TextSession before) call reply (BinarySession after) step smooth = absurd step
 step_completes (BinarySession before) call reply (TextSession after) step smooth = absurd step
 
--- A step of a text leaves its bytes.
-
-answered_bytes : (file : TextFile) (refused : Option IoFault) (characters : List ℕ) (after : TextFile) → after.bytes ≡ file.bytes → (answered_text file refused characters after).1.bytes ≡ file.bytes
-answered_bytes file (Some why) characters after same = refl
-answered_bytes file None characters after same = same
-
-after_read_bytes : (file : TextFile) (size : Option ℕ) (characters : List ℕ) → (after_text_read file size characters).bytes ≡ file.bytes
-after_read_bytes file None characters = refl
-after_read_bytes file (Some size) characters = refl
-
-read_bytes : (file : TextFile) (size : Option ℕ) (rest : Rest) → (text_read file size rest).1.bytes ≡ file.bytes
-read_bytes file size rest =
-    let characters : List ℕ = first_of size rest.characters in
-    answered_bytes file (range_refusal (asks_past size rest.characters) rest.refusal) characters (after_text_read file size characters) (after_read_bytes file size characters)
-
-line_bytes : (file : TextFile) (limit : Option ℕ) (rest : Rest) → (text_line file limit rest).1.bytes ≡ file.bytes
-line_bytes file limit rest =
-    let end = line_end file.settings.newline in
-    let line : List ℕ = first_line end limit rest.characters in
-    answered_bytes file (range_refusal (not (is_ended end limit rest.characters)) rest.refusal) line (after_taking file (length line) (asks_any limit)) refl
-
-exact_bytes : (file : TextFile) (call : TextCall) (refused : Option IoFault) → (text_answered file call refused).1.bytes ≡ file.bytes
-exact_bytes file call (Some why) = refl
-exact_bytes file (Read size) None = read_bytes file size (text_rest file)
-exact_bytes file (ReadLine limit) None = line_bytes file limit (text_rest file)
-exact_bytes file plain.Close None = refl
-exact_bytes file OtherKind None = refl
-
-part_bytes : (file : TextFile) (wanted : List ℕ) (reply : FileReply) (after : TextFile) → ReadsTextPart file wanted reply after → after.bytes ≡ file.bytes
-part_bytes file wanted reply after (inl none) = ap (λ (f : TextFile). f.bytes) none.1
-part_bytes file wanted reply after (inr some) = ap (λ (f : TextFile). f.bytes) some.4
-
-waited_bytes : (file : TextFile) (call : TextCall) (reply : FileReply) (after : TextFile) → TextWaitedBy file call reply after → after.bytes ≡ file.bytes
-waited_bytes file (Read size) reply after part = part_bytes file (first_of size (text_rest file).characters) reply after part
-waited_bytes file (ReadLine limit) reply after part = part_bytes file (first_line (line_end file.settings.newline) limit (text_rest file).characters) reply after part
-waited_bytes file plain.Close reply after part = ap (λ (f : TextFile). f.bytes) part.1
-waited_bytes file OtherKind reply after part = absurd part
-
-kept_bytes : (before : TextFile) (call : TextCall) (reply : FileReply) (waited faulted : Bool) (after : TextFile) → TextStep before call reply waited faulted after → after.bytes ≡ before.bytes
-kept_bytes before call reply waited faulted after (settled exact) = ap (λ (p : FileReply × TextFile). p.1.bytes) exact ∙ exact_bytes before call (text_refusal before call)
-kept_bytes before call reply waited faulted after (waited_for rose part) = waited_bytes before call reply after part.1
-kept_bytes before call reply waited faulted after (raw_faulted rose said left) = left.1.bytes
-kept_bytes before call reply waited faulted after (out_of_memory said left) = ap (λ (f : TextFile). f.bytes) left.1
-
 -- Sessions that are in step with their raw, or only read.
 
-pub text_bytes : (getter : Bool) (before : TextState) (call : Call) (reply : FileReply) (after : TextState) → AnswersTextBy getter before call reply after → IsTrue before.raw.tells_bytes → after.raw.bytes ≡ before.raw.bytes
-text_bytes true before call reply after step tells = ap (λ (t : TextState). t.raw.bytes) step.same
-text_bytes false before call reply after step tells = step.answers.bytes tells
+-- a text that isn't written, and owes nothing, goes on so
+pub text_owes_none : (getter : Bool) (before : TextState) (call : TextFileCall) (reply : FileReply) (after : TextState) → AnswersTextBy getter before call reply after → before.text.buffer.can.writable ≡ false → OwesNothing before → OwesNothing after
+text_owes_none true before call reply after step reads none = subst OwesNothing (sym step.same) (record { none = none.none; own = none.own; life_is = none.life_is })
+text_owes_none false before call reply after step reads none = record {
+  none = (step.spares reads none.none).owed;
+  own = step.tied.owed reads ∙ none.own;
+  life_is = step.tied.life_is reads none.life_is;
+}
 
-text_in_step : (getter : Bool) (before : TextState) (call : Call) (reply : FileReply) (after : TextState) → AnswersTextBy getter before call reply after → IsInStep (TextSession before) → IsInStep (TextSession after)
-text_in_step true before call reply after step is = subst (λ (t : TextState). IsInStep (TextSession t)) (sym step.same) is
-text_in_step false before call reply after step is = λ now.
-    let told : IsTrue before.raw.tells_bytes = sym step.answers.keeps.tells_bytes ∙ now in
-    step.answers.flat told ∙ is told ∙ sym (step.answers.bytes told)
+pub text_bytes : (getter : Bool) (before : TextState) (call : TextFileCall) (reply : FileReply) (after : TextState) → AnswersTextBy getter before call reply after → before.text.buffer.can.writable ≡ false → OwesNothing before → IsTrue before.text.buffer.raw.tells_bytes → after.text.buffer.raw.bytes ≡ before.text.buffer.raw.bytes
+text_bytes true before call reply after step reads none tells = ap (λ (t : TextState). t.text.buffer.raw.bytes) step.same
+text_bytes false before call reply after step reads none tells = (step.spares reads none.none).bytes tells
+
+-- what a text can do stays
+pub text_can : (getter : Bool) (before : TextState) (call : TextFileCall) (reply : FileReply) (after : TextState) → AnswersTextBy getter before call reply after → after.text.buffer.can ≡ before.text.buffer.can
+text_can true before call reply after step = ap (λ (t : TextState). t.text.buffer.can) step.same
+text_can false before call reply after step = step.keeps.can
+
+text_in_step : (getter : Bool) (before : TextState) (call : TextFileCall) (reply : FileReply) (after : TextState) → AnswersTextBy getter before call reply after → IsInStep (TextSession before) → IsInStep (TextSession after)
+text_in_step getter before call reply after step is = λ reads.
+    let read : before.text.buffer.can.writable ≡ false = sym (ap (λ (can : Abilities). can.writable) (text_can getter before call reply after step)) ∙ reads in
+    text_owes_none getter before call reply after step read (is read)
 
 -- what a stream that doesn't write, or has no buffer, leaves owed
 owes_none : (before : Stream) (call : FileCall) (reply : FileReply) (after : Stream) → (step : AnswersCall before call reply after) → IsInStep (BinarySession before) → (after.can.writable ≡ false) ⊎ (after.buffer ≡ None) → step.answered.owed ≡ nothing_owed step.answered.place
@@ -296,13 +334,14 @@ binary_in_step true before call reply after step is = subst (λ (s : Stream). Is
 binary_in_step false before call reply after step is = λ none. subst (λ (s : Stream). s.owed ≡ nothing_owed s.place) (sym step.leaves) (left_settled before.life step.answered.life step.answered (owes_none before call reply after step is none))
 
 pub step_in_step : (before : SessionView) (call : Call) (reply : Reply) (after : SessionView) → Answers before call reply after → IsInStep before → IsInStep after
-step_in_step (TextSession before) call reply (TextSession after) step is = text_in_step (is_getter (file_call call)) before call (said reply) after step is
+step_in_step (TextSession before) call reply (TextSession after) step is = text_in_step (text.is_getter (text_call call)) before (text_call call) (said reply) after step.answers is
 step_in_step (BinarySession before) call reply (BinarySession after) step is = binary_in_step (is_getter (file_call call)) before (file_call call) (said reply) after step is
 step_in_step (TextSession before) call reply (BinarySession after) step is = absurd step
 step_in_step (BinarySession before) call reply (TextSession after) step is = absurd step
 
 pub step_reads : (before : SessionView) (call : Call) (reply : Reply) (after : SessionView) → Answers before call reply after → OnlyReads before → OnlyReads after
-step_reads (TextSession before) call reply (TextSession after) step reads = tt
+step_reads (TextSession before) call reply (TextSession after) step reads =
+    (ap (λ (can : Abilities). can.writable) (text_can (text.is_getter (text_call call)) before (text_call call) (said reply) after step.answers) ∙ reads.0, text_owes_none (text.is_getter (text_call call)) before (text_call call) (said reply) after step.answers reads.0 reads.1)
 step_reads (BinarySession before) call reply (BinarySession after) step reads =
     let can = (binary_keeps (is_getter (file_call call)) before (file_call call) (said reply) after step).1.0 in
     let read : after.can.writable ≡ false = ap (λ (can : Abilities). can.writable) can ∙ reads.0 in
@@ -317,7 +356,7 @@ binary_bytes false before call reply after step reads tells =
     ap (λ (s : Stream). s.raw.bytes) step.leaves ∙ ap (λ (raw : Raw). raw.bytes) (left_raw before.life a.life a) ∙ (step.answers.spares reads.0 reads.1).bytes tells
 
 pub step_spares : (before : SessionView) (call : Call) (reply : Reply) (after : SessionView) → Answers before call reply after → OnlyReads before → IsTrue (raw_of before).tells_bytes → (raw_of after).bytes ≡ (raw_of before).bytes
-step_spares (TextSession before) call reply (TextSession after) step reads tells = text_bytes (is_getter (file_call call)) before call (said reply) after step tells
+step_spares (TextSession before) call reply (TextSession after) step reads tells = text_bytes (text.is_getter (text_call call)) before (text_call call) (said reply) after step.answers reads.0 reads.1 tells
 step_spares (BinarySession before) call reply (BinarySession after) step reads tells = binary_bytes (is_getter (file_call call)) before (file_call call) (said reply) after step reads tells
 step_spares (TextSession before) call reply (BinarySession after) step reads tells = absurd step
 step_spares (BinarySession before) call reply (TextSession after) step reads tells = absurd step
@@ -328,20 +367,59 @@ binary_writes_none false before call reply after step reads =
     let a : Stream = step.answered in
     subst (λ (s : Stream). AnswersFor 0 before.raw s.raw) (sym step.leaves) (subst (AnswersFor 0 before.raw) (sym (left_raw before.life a.life a)) (step.answers.spares reads.0 reads.1).written)
 
-text_writes_none : (getter : Bool) (before : TextState) (call : Call) (reply : FileReply) (after : TextState) → AnswersTextBy getter before call reply after → AnswersFor 0 before.raw after.raw
-text_writes_none true before call reply after step = subst (λ (t : TextState). AnswersFor 0 before.raw t.raw) (sym step.same) (λ _. refl)
-text_writes_none false before call reply after step = step.answers.written
+text_writes_none : (getter : Bool) (before : TextState) (call : TextFileCall) (reply : FileReply) (after : TextState) → AnswersTextBy getter before call reply after → before.text.buffer.can.writable ≡ false → OwesNothing before → AnswersFor 0 before.text.buffer.raw after.text.buffer.raw
+text_writes_none true before call reply after step reads none = subst (λ (t : TextState). AnswersFor 0 before.text.buffer.raw t.text.buffer.raw) (sym step.same) (λ _. refl)
+text_writes_none false before call reply after step reads none = (step.spares reads none.none).written
 
 pub step_writes_none : (before : SessionView) (call : Call) (reply : Reply) (after : SessionView) → Answers before call reply after → OnlyReads before → AnswersFor 0 (raw_of before) (raw_of after)
-step_writes_none (TextSession before) call reply (TextSession after) step reads = text_writes_none (is_getter (file_call call)) before call (said reply) after step
+step_writes_none (TextSession before) call reply (TextSession after) step reads = text_writes_none (text.is_getter (text_call call)) before (text_call call) (said reply) after step.answers reads.0 reads.1
 step_writes_none (BinarySession before) call reply (BinarySession after) step reads = binary_writes_none (is_getter (file_call call)) before (file_call call) (said reply) after step reads
 step_writes_none (TextSession before) call reply (BinarySession after) step reads = absurd step
 step_writes_none (BinarySession before) call reply (TextSession after) step reads = absurd step
 
 -- a raw that is closed with its session
-text_shuts : (getter : Bool) (before : TextState) (call : Call) (reply : FileReply) (after : TextState) → AnswersTextBy getter before call reply after → ClosedWith before.file.life before.raw → ClosedWith after.file.life after.raw
-text_shuts true before call reply after step shut = subst (λ (t : TextState). ClosedWith t.file.life t.raw) (sym step.same) shut
-text_shuts false before call reply after step shut = step.answers.shut shut
+
+parts_none : (before after : Buffer) (reply : FileReply) → before.can.writable ≡ false → parts_when_closed before binary.Close reply after ≡ false
+parts_none before after reply unwritten = grind arith
+
+-- only a close closes a text
+not_closed : (writes : Bool) (call : TextFileCall) (reply : FileReply) (before after : Life) → over.LifeMoves writes call reply before after → text.is_close call ≡ false → after ≡ life.Closed → before ≡ life.Closed
+not_closed writes call reply before after moves is closed = grind arith
+
+-- a call of a closed text leaves its raw
+closed_stays_raw : (before : TextState) (call : TextFileCall) (reply : FileReply) (after : TextState) → text.is_getter call ≡ false → before.text.life ≡ life.Closed → text.is_close call ≡ false → over.Answers before call reply after → after.text.buffer.raw ≡ before.text.buffer.raw
+closed_stays_raw before call reply after asks closed is step =
+    ap (λ (t : TextState). t.text.buffer.raw) (step.refused fault.Closed (text_refused_by (state.file_of before) call life.Closed fault.Closed closed asks (let same : refusals.lets_through life.Closed call ≡ false = is in same) refl)).same
+
+open_by : (current : Life) (raw : Raw) → current ≢ life.Closed → raw.closed ≡ false → ClosedWith current raw
+open_by life.Closed raw lives is = absurd (lives refl)
+open_by current raw lives is = is
+
+-- a text that isn't written is closed with its raw, which its buffer is
+text_shut : (before : TextState) (call : TextFileCall) (reply : FileReply) (after : TextState) → text.is_getter call ≡ false → over.Answers before call reply after → OnlyReads (TextSession before) → OwesNothing after → after.text.life ≡ life.Closed → ClosedWith before.text.life before.text.buffer.raw → ClosedWith after.text.life after.text.buffer.raw
+text_shut before text.Close reply after asks step reads still closed shut =
+    subst (λ (current : Life). ClosedWith current after.text.buffer.raw) still.life_is
+    (step.shut reads.1.own (parts_none before.text.buffer after.text.buffer reply reads.0) (ap (λ (owed : Owed). owed.bytes) still.none) (subst (λ (current : Life). ClosedWith current before.text.buffer.raw) (sym reads.1.life_is) shut))
+text_shut before call reply after asks step reads still closed shut =
+    let was : before.text.life ≡ life.Closed = not_closed before.text.buffer.can.writable call reply before.text.life after.text.life step.moves.life_is refl closed in
+    subst (λ (current : Life). ClosedWith current after.text.buffer.raw) (was ∙ sym closed)
+    (subst (λ (raw : Raw). ClosedWith before.text.life raw) (sym (closed_stays_raw before call reply after asks was refl step)) shut)
+
+text_shuts_by : (current : Life) (before : TextState) (call : TextFileCall) (reply : FileReply) (after : TextState) → after.text.life ≡ current → text.is_getter call ≡ false → over.Answers before call reply after → StaysOpenWithText after → OnlyReads (TextSession before) → OwesNothing after → ClosedWith before.text.life before.text.buffer.raw → ClosedWith after.text.life after.text.buffer.raw
+text_shuts_by life.Closed before call reply after is asks step opens reads still shut = text_shut before call reply after asks step reads still is shut
+text_shuts_by life.Live before call reply after is asks step opens reads still shut =
+    let lives : after.text.life ≢ life.Closed = λ closed. let wrong : life.Live ≡ life.Closed = sym is ∙ closed in absurd (cc) in
+    open_by after.text.life after.text.buffer.raw lives (opens lives).raw
+text_shuts_by life.Failed before call reply after is asks step opens reads still shut =
+    let lives : after.text.life ≢ life.Closed = λ closed. let wrong : life.Failed ≡ life.Closed = sym is ∙ closed in absurd (cc) in
+    open_by after.text.life after.text.buffer.raw lives (opens lives).raw
+text_shuts_by life.Detached before call reply after is asks step opens reads still shut =
+    let lives : after.text.life ≢ life.Closed = λ closed. let wrong : life.Detached ≡ life.Closed = sym is ∙ closed in absurd (cc) in
+    open_by after.text.life after.text.buffer.raw lives (opens lives).raw
+
+text_shuts : (getter : Bool) (before : TextState) (call : TextFileCall) (reply : FileReply) (after : TextState) → text.is_getter call ≡ getter → AnswersTextBy getter before call reply after → StaysOpenWithText after → OnlyReads (TextSession before) → ClosedWith before.text.life before.text.buffer.raw → ClosedWith after.text.life after.text.buffer.raw
+text_shuts true before call reply after is step opens reads shut = subst (λ (t : TextState). ClosedWith t.text.life t.text.buffer.raw) (sym step.same) shut
+text_shuts false before call reply after is step opens reads shut = text_shuts_by after.text.life before call reply after refl is step opens reads (text_owes_none false before call reply after step reads.0 reads.1) shut
 
 binary_shuts : (getter : Bool) (before : Stream) (call : FileCall) (reply : FileReply) (after : Stream) → AnswersBy getter before call reply after → OnlyReads (BinarySession before) → ClosedWith before.life before.raw → ClosedWith after.life after.raw
 binary_shuts true before call reply after step reads shut = subst (λ (s : Stream). ClosedWith s.life s.raw) (sym step.same) shut
@@ -353,7 +431,7 @@ binary_shuts false before call reply after step reads shut =
     (subst (λ (raw : Raw). ClosedWith (left_of before.life a).life raw) (sym (left_raw before.life a.life a)) (subst (λ (current : Life). ClosedWith current a.raw) (sym (left_life before.life a.life a refl)) closed))
 
 pub step_shuts : (before : SessionView) (call : Call) (reply : Reply) (after : SessionView) → Answers before call reply after → OnlyReads before → ClosedWith (life_of before) (raw_of before) → ClosedWith (life_of after) (raw_of after)
-step_shuts (TextSession before) call reply (TextSession after) step reads shut = text_shuts (is_getter (file_call call)) before call (said reply) after step shut
+step_shuts (TextSession before) call reply (TextSession after) step reads shut = text_shuts (text.is_getter (text_call call)) before (text_call call) (said reply) after refl step.answers step.is_open reads shut
 step_shuts (BinarySession before) call reply (BinarySession after) step reads shut = binary_shuts (is_getter (file_call call)) before (file_call call) (said reply) after step reads shut
 step_shuts (TextSession before) call reply (BinarySession after) step reads shut = absurd step
 step_shuts (BinarySession before) call reply (TextSession after) step reads shut = absurd step

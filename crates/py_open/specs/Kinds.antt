@@ -1,8 +1,9 @@
 -- Private: the kinds of sessions, and what a plan says of a text.
-use Rattle.std.specs.Prelude.{◌≡◌, ℕ, ◌<◌, true, Some}
-use Rattle.py_mode.specs.declared.mode.EncodeMode.TheVariants.{Text, Bytes}
-use Rattle.py_mode.specs.declared.mode.FileMode.TheVariants.{Read}
+use Rattle.std.specs.Prelude.{◌≡◌, ℕ, ◌<◌, Some}
+use Rattle.py_text.specs.declared.text_settings.TextSettings.{TextSettings}
+use Rattle.py_mode.specs.declared.mode.EncodeMode.TheVariants.{Text}
 use Rattle.py_mode.specs.declared.plan.OpenPlan.{OpenPlan}
+use Rattle.py_mode.specs.Plan.{planned_coder}
 use Rattle.py_open.specs.declared.session.Kind.{Kind}
 use Rattle.py_open.specs.declared.session.Kind.TheVariants as kind
 use Rattle.py_open.specs.Session.{SessionView, TextSession, BinarySession, IsKept}
@@ -16,9 +17,14 @@ seen (kind.Binary stream) = BinarySession stream
 abbrev pub IsSession : {R : Type 0} → Kind R → Type 0
 IsSession kind = IsKept (seen kind)
 
--- a planned text is read through a buffer of some bytes, in chunks of some; what is both read and written is bytes
-pub record IsPlanned (plan : OpenPlan) (chunk : ℕ) : Type 0 where
-  pub reads : plan.mode.encode ≡ Text → plan.mode.file ≡ Read
+-- settings of a text, in chunks of some bytes
+pub record HasSettings (plan : OpenPlan) : Type 0 where
+  pub settings : TextSettings
+  pub is : plan.settings ≡ Some settings
+  pub chunk : 0 < settings.chunk_size
+
+-- a planned text goes through a buffer of some bytes, by utf-8 and strict, and has settings
+pub record IsPlanned (plan : OpenPlan) : Type 0 where
   pub buffer : plan.mode.encode ≡ Text → (size : ℕ) × (plan.buffer_size ≡ Some size) × (0 < size)
-  pub chunk_size : 0 < chunk
-  pub plus : plan.mode.plus ≡ true → plan.mode.encode ≡ Bytes
+  pub coder : plan.mode.encode ≡ Text → plan.coder ≡ Some planned_coder
+  pub settings : plan.mode.encode ≡ Text → HasSettings plan

@@ -1,31 +1,37 @@
 -- What holds of whole runs, whatever raw is below.
-use Rattle.std.specs.Prelude.{◌≡◌, Bool, true, false, List, [], ◌∷◌, None}
+use Rattle.std.specs.Prelude.{◌≡◌, Bool, true, false, ℕ, List, [], ◌∷◌, None}
 use Rattle.py_flat.specs.declared.fault.IoFault.TheVariants as fault
-use Rattle.py_flat.specs.Calls.{FileCall, Close, Detach, Flush, OtherGetter, FileReply, Done, Unwritten, Refused}
+use Rattle.py_flat.specs.Calls.{FileCall, FileReply, Done, Count, Unwritten, Refused}
+use Rattle.py_flat.specs.Calls as file
+use Rattle.py_flat.specs.FlatFile.{FlatFile}
 use Rattle.py_flat.specs.Refusals.{is_getter}
-use Rattle.py_plain_text.specs.TextFile.{TextFile}
-use Rattle.py_plain_text.specs.TextStep.{TextCall, text_refusal, text_exact}
-use Rattle.py_plain_text.specs.TextStep as plain
-use Rattle.py_raw.specs.RawStream.{WhereTold, WhereBytes}
-use Rattle.py_stream.specs.Stream.{nothing_owed}
+use Rattle.py_plain_text.specs.TextFile.{TextSettings, TextFile}
+use Rattle.py_plain_text.specs.TextCalls as text
+use Rattle.py_plain_text.specs.TextCalls.{TextFileCall, tells_name}
+use Rattle.py_plain_text.specs.TextRefusals.{refusal}
+use Rattle.py_plain_text.specs.TextWriting.{written_bytes}
+use Rattle.py_plain_text.specs.TextExact.{carried_out, after_writing, exact}
+use Rattle.py_raw.specs.RawStream.{Raw, WhereTold, WhereBytes}
+use Rattle.py_stream.specs.Stream.{Stream, file_of, nothing_owed}
 use Rattle.py_stream.specs.Answers as stream
 use Rattle.py_calls.specs.declared.call.Call.{Call}
+use Rattle.py_calls.specs.declared.call.Call.TheVariants as call
 use Rattle.py_calls.specs.declared.reply.Reply.{Reply}
 use Rattle.py_calls.specs.Calls.{text_call, file_call, said}
-use Rattle.py_text_reader.specs.Answers as text
+use Rattle.py_read_text.specs.TextState as state
+use Rattle.py_read_text.specs.TextState.{TextState}
+use Rattle.py_read_text.specs.Answers as over
+use Rattle.py_read_text.specs.Answers.{has_line_end}
+use Rattle.py_text_session.specs.Session.{OwesNothing}
 use Rattle.py_binary.specs.Binary.{detached_fault}
-use Rattle.py_open.specs.Session.{SessionFile, OfText, OfBinary, SessionView, TextSession, BinarySession, raw_of, file_seen, owed_of, flat_bytes, flag_seen, Answers}
+use Rattle.py_open.specs.Session.{SessionFile, OfText, OfBinary, SessionView, TextSession, BinarySession, raw_of, file_seen, owed_of, flat_bytes, SaysOrStarves, flag_seen, Answers}
 use Rattle.py_open.specs.Run.{Entry, IsRun, IsMarkedRun, IsHistory, calls_of, replies_of, all_said}
 
 -- Texts.
 
 -- what a text answers and leaves where nothing waits, fails or runs out of memory
-abbrev pub exact_by : Bool → TextFile → Call → FileReply × TextFile
-exact_by true file call = (flag_seen (OfText file) call, file)
-exact_by false file call = text_exact file (text_call call)
-
 abbrev pub session_exact : TextFile → Call → FileReply × TextFile
-session_exact file call = exact_by (is_getter (file_call call)) file call
+session_exact file call = exact file (text_call call)
 
 -- the replies of a list of calls, and the text after them
 abbrev pub exact_replies : TextFile → List Call → List FileReply
@@ -59,14 +65,18 @@ pub record RunsInTwo (before : SessionView) (calls more : List Call) (replies ot
 
 -- Completeness.
 
--- a question is answered by its flag; a call that isn't refused by an answer of its own, or when out of memory
-abbrev pub CompletesBy : Bool → SessionView → Call → FileReply → Type 0
-CompletesBy true before call reply = reply ≡ flag_seen (file_seen before) call
-CompletesBy false (TextSession before) call reply = text_refusal before.file (text_call call) ≡ None → text.IsAnswerTo (text_call call) reply
-CompletesBy false (BinarySession before) call reply = stream.refused_by before (file_call call) ≡ None → stream.IsAnswerTo (file_call call) reply
+-- a question is answered by what it asks for; a call that isn't refused by an answer of its own, or when out of memory
+abbrev pub CompletesText : Bool → TextState → TextFileCall → FileReply → Type 0
+CompletesText true before call reply = SaysOrStarves (tells_name call) (carried_out (state.file_of before) call).0 reply
+CompletesText false before call reply = refusal (state.file_of before) call ≡ None → over.IsAnswerTo call reply
+
+abbrev pub CompletesFile : Bool → Stream → Call → FileReply → Type 0
+CompletesFile true before call reply = reply ≡ flag_seen (file_of before) call
+CompletesFile false before call reply = stream.refused_by before (file_call call) ≡ None → stream.IsAnswerTo (file_call call) reply
 
 abbrev pub Completes : SessionView → Call → FileReply → Type 0
-Completes before call reply = CompletesBy (is_getter (file_call call)) before call reply
+Completes (TextSession before) call reply = CompletesText (text.is_getter (text_call call)) before (text_call call) reply
+Completes (BinarySession before) call reply = CompletesFile (is_getter (file_call call)) before call reply
 
 -- a run whose every call is answered so
 abbrev pub RunsComplete : SessionView → List Call → List Reply → SessionView → Type 0
@@ -77,90 +87,142 @@ RunsComplete before (call ∷ calls) [] after = ⊥
 
 -- What stays.
 
--- what a session can do, its kind and its settings, stay
-abbrev pub KeepsSettings : SessionView → SessionView → Type 0
-KeepsSettings (TextSession before) (TextSession after) = (after.file.can ≡ before.file.can) × (after.file.settings ≡ before.file.settings) × (after.buffer ≡ before.buffer)
-KeepsSettings (BinarySession before) (BinarySession after) = (after.can ≡ before.can) × (after.buffer ≡ before.buffer)
-KeepsSettings before after = ⊥
+-- whether a call sets how many bytes a text asks for at once
+abbrev pub sets_chunk : Call → Bool
+sets_chunk (call.SetChunkSize size) = true
+sets_chunk call = false
+
+-- none of these calls does
+abbrev pub SetsNone : List Call → Type 0
+SetsNone [] = Unit {0}
+SetsNone (call ∷ calls) = (sets_chunk call ≡ false) × SetsNone calls
+
+-- the settings of a text stay, but for its chunk size, which only such a call sets
+pub record KeepsText (before : TextSettings) (calls : List Call) (after : TextSettings) : Type 0 where
+  pub others : after ≡ record before { chunk_size = after.chunk_size }
+  pub chunk : SetsNone calls → after.chunk_size ≡ before.chunk_size
+
+-- what a session can do, its kind and its settings, stay over these calls
+abbrev pub KeepsSettings : SessionView → List Call → SessionView → Type 0
+KeepsSettings (TextSession before) calls (TextSession after) =
+    (after.text.buffer.can ≡ before.text.buffer.can) × KeepsText before.text.settings calls after.text.settings × (after.text.buffer.buffering ≡ before.text.buffer.buffering)
+KeepsSettings (BinarySession before) calls (BinarySession after) = (after.can ≡ before.can) × (after.buffer ≡ before.buffer)
+KeepsSettings before calls after = ⊥
 
 -- a session that doesn't write, and owes nothing
 abbrev pub OnlyReads : SessionView → Type 0
-OnlyReads (TextSession text) = Unit {0}
+OnlyReads (TextSession text) = (text.text.buffer.can.writable ≡ false) × OwesNothing text
 OnlyReads (BinarySession stream) = (stream.can.writable ≡ false) × (stream.owed ≡ nothing_owed stream.place)
 
 -- What is passed on.
 
--- a call that leaves nothing owed of a live session: a `flush`, a `close` or a `detach` that was done
-abbrev pub PassesAll : FileCall → FileReply → Type 0
-PassesAll Flush Done = Unit {0}
-PassesAll Close Done = Unit {0}
-PassesAll Detach (Unwritten bytes place) = Unit {0}
-PassesAll call reply = ⊥
+-- a call that leaves nothing owed of a live stream: a `flush`, a `close` or a `detach` that was done
+abbrev pub FilePassesAll : FileCall → FileReply → Type 0
+FilePassesAll file.Flush Done = Unit {0}
+FilePassesAll file.Close Done = Unit {0}
+FilePassesAll file.Detach (Unwritten bytes place) = Unit {0}
+FilePassesAll call reply = ⊥
 
--- where the raw tells what it takes to know what it holds: of a text, which writes nothing, its bytes; of a stream of bytes its place
--- too
+-- of a live text: a `flush` or a `close` that was done, and with line buffering an answered write of a text with a line end
+abbrev pub TextPassesAll : TextSettings → TextFileCall → FileReply → Type 0
+TextPassesAll settings text.Flush Done = Unit {0}
+TextPassesAll settings text.Close Done = Unit {0}
+TextPassesAll settings (text.WriteText written) (Count count) = (settings.line_buffering ≡ true) × (has_line_end written ≡ true)
+TextPassesAll settings call reply = ⊥
+
+-- a call that leaves nothing owed of a live session
+abbrev pub PassesAll : SessionView → Call → FileReply → Type 0
+PassesAll (TextSession before) call reply = TextPassesAll before.text.settings (text_call call) reply
+PassesAll (BinarySession before) call reply = FilePassesAll (file_call call) reply
+
+-- the bytes that a text has once a call is carried out: a write lays its own on
+abbrev pub text_left : TextFile → TextFileCall → List ℕ
+text_left file (text.WriteText written) = (after_writing file (written_bytes file.settings written)).bytes
+text_left file call = file.bytes
+
+-- the flat bytes of the session that a call came to, with those of a write of a text
+abbrev pub flat_left : SessionView → Call → List ℕ
+flat_left (TextSession before) call = text_left (state.file_of before) (text_call call)
+flat_left (BinarySession before) call = flat_bytes (BinarySession before)
+
+abbrev pub ShownBy : (writes : Bool) → Raw → Type 0 → Type 0
+ShownBy true raw Fact = WhereTold raw Fact
+ShownBy false raw Fact = WhereBytes raw Fact
+
+-- where the raw tells what it takes to know what it holds: of a text that isn't written its bytes; of others its place too
 abbrev pub WhereShown : SessionView → Type 0 → Type 0
-WhereShown (TextSession text) Fact = WhereBytes text.raw Fact
+WhereShown (TextSession text) Fact = ShownBy text.text.buffer.can.writable text.text.buffer.raw Fact
 WhereShown (BinarySession stream) Fact = WhereTold stream.raw Fact
 
--- nothing is owed any more; where it shows, the raw holds the flat bytes of the session that the call came to
-pub record HoldsFlat (before after : SessionView) : Type 0 where
+-- nothing is owed any more; where it shows, the raw holds the flat bytes of the session that the call came to, and those of a write
+pub record HoldsFlat (before : SessionView) (call : Call) (after : SessionView) : Type 0 where
   pub none : owed_of after ≡ []
-  pub holds : WhereShown before ((raw_of after).bytes ≡ flat_bytes before)
+  pub holds : WhereShown before ((raw_of after).bytes ≡ flat_left before call)
+
+-- What sessions answer that have ended.
+
+-- whether a call asks a text for a name, whose answer may be refused for want of memory
+abbrev pub asks_name : SessionFile → Call → Bool
+asks_name (OfText file) call = tells_name (text_call call)
+asks_name (OfBinary file) call = false
+
+-- each reply is the one that a file as it is answers to its call
+abbrev pub SayAll : (SessionFile → Call → FileReply) → SessionFile → List Call → List FileReply → Type 0
+SayAll expected file [] [] = Unit {0}
+SayAll expected file (call ∷ calls) (reply ∷ replies) = SaysOrStarves (asks_name file call) (expected file call) reply × SayAll expected file calls replies
+SayAll expected file [] (reply ∷ replies) = ⊥
+SayAll expected file (call ∷ calls) [] = ⊥
 
 -- Closed sessions.
 
--- what a closed text answers: another close is done, all else is refused
-abbrev pub closed_text_reply : TextCall → FileReply
-closed_text_reply plain.Close = Done
-closed_text_reply call = Refused fault.Closed
+-- what a closed text answers: another close is done, a question answered, all else is refused
+abbrev pub closed_text_by : Bool → TextFile → TextFileCall → FileReply
+closed_text_by true file call = (carried_out file call).0
+closed_text_by false file text.Close = Done
+closed_text_by false file call = Refused fault.Closed
 
 -- a closed stream the same, but that it lacks some questions
 abbrev pub closed_file_reply : FileCall → FileReply
-closed_file_reply Close = Done
-closed_file_reply OtherGetter = Refused fault.Unsupported
+closed_file_reply file.Close = Done
+closed_file_reply file.OtherGetter = Refused fault.Unsupported
 closed_file_reply call = Refused fault.Closed
 
-abbrev pub closed_by : Bool → SessionFile → Call → FileReply
-closed_by true file call = flag_seen file call
-closed_by false (OfText file) call = closed_text_reply (text_call call)
-closed_by false (OfBinary file) call = closed_file_reply (file_call call)
+abbrev pub closed_file_by : Bool → FlatFile → Call → FileReply
+closed_file_by true file call = flag_seen file call
+closed_file_by false file call = closed_file_reply (file_call call)
 
 abbrev pub closed_reply : SessionFile → Call → FileReply
-closed_reply file call = closed_by (is_getter (file_call call)) file call
-
-abbrev pub closed_replies : SessionFile → List Call → List FileReply
-closed_replies file [] = []
-closed_replies file (call ∷ calls) = closed_reply file call ∷ closed_replies file calls
+closed_reply (OfText file) call = closed_text_by (text.is_getter (text_call call)) file (text_call call)
+closed_reply (OfBinary file) call = closed_file_by (is_getter (file_call call)) file call
 
 -- a closed session answers so, and the session, with its raw, stays as it was
 pub record StaysClosed (before : SessionView) (calls : List Call) (replies : List Reply) (after : SessionView) : Type 0 where
-  pub says : all_said replies ≡ closed_replies (file_seen before) calls
+  pub says : SayAll closed_reply (file_seen before) calls (all_said replies)
   pub file : file_seen after ≡ file_seen before
   pub raw : raw_of after ≡ raw_of before
 
 -- Detached sessions.
 
-abbrev pub detached_by : Bool → SessionFile → Call → FileReply
-detached_by true file call = flag_seen file call
-detached_by false (OfText file) call = Refused fault.Detached
-detached_by false (OfBinary file) call = Refused (detached_fault (file_call call))
+abbrev pub detached_text_by : Bool → TextFile → TextFileCall → FileReply
+detached_text_by true file call = (carried_out file call).0
+detached_text_by false file call = Refused fault.Detached
 
--- what a detached session answers: the four questions as ever, all else is refused
+abbrev pub detached_file_by : Bool → FlatFile → Call → FileReply
+detached_file_by true file call = flag_seen file call
+detached_file_by false file call = Refused (detached_fault (file_call call))
+
+-- what a detached session answers: the questions as ever, all else is refused
 abbrev pub detached_reply : SessionFile → Call → FileReply
-detached_reply file call = detached_by (is_getter (file_call call)) file call
-
-abbrev pub detached_replies : SessionFile → List Call → List FileReply
-detached_replies file [] = []
-detached_replies file (call ∷ calls) = detached_reply file call ∷ detached_replies file calls
+detached_reply (OfText file) call = detached_text_by (text.is_getter (text_call call)) file (text_call call)
+detached_reply (OfBinary file) call = detached_file_by (is_getter (file_call call)) file call
 
 -- a detached file answers so, and stays as it was, its bytes and its place too
 pub record FileStaysDetached (before : SessionFile) (entries : List Entry) (after : SessionFile) : Type 0 where
-  pub says : all_said (replies_of entries) ≡ detached_replies before (calls_of entries)
+  pub says : SayAll detached_reply before (calls_of entries) (all_said (replies_of entries))
   pub same : after ≡ before
 
 -- a detached session answers so, and its file, with its raw, stays as it was
 pub record StaysDetached (before : SessionView) (calls : List Call) (replies : List Reply) (after : SessionView) : Type 0 where
-  pub says : all_said replies ≡ detached_replies (file_seen before) calls
+  pub says : SayAll detached_reply (file_seen before) calls (all_said replies)
   pub file : file_seen after ≡ file_seen before
   pub raw : raw_of after ≡ raw_of before

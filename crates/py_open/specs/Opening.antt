@@ -13,7 +13,12 @@ use Rattle.py_mode.specs.declared.mode.Mode.{Mode}
 use Rattle.py_mode.specs.declared.mode.EncodeMode.{EncodeMode}
 use Rattle.py_mode.specs.declared.mode.EncodeMode.TheVariants.{Text, Bytes}
 use Rattle.py_mode.specs.declared.plan.OpenPlan.{OpenPlan}
-use Rattle.py_text_reader.specs.Opening.{OpensText, handed_at}
+use Rattle.py_mode.specs.Plan.{planned_coder}
+use Rattle.py_text.specs.Settings.{default_settings}
+use Rattle.py_plain_text.specs.TextFile.{TextSettings}
+use Rattle.py_read_text.specs.TextState.{settings_of}
+use Rattle.py_text_session.specs.Opening.{OpensText}
+use Rattle.py_text_session.specs.Handing as text
 use Rattle.py_binary.specs.Binary.{place_left}
 use Rattle.py_open.specs.Session.{SessionView, TextSession, BinarySession}
 
@@ -28,26 +33,30 @@ access_by file false = access.Write
 abbrev pub access_of : Mode → Access
 access_of mode = access_by mode.file mode.plus
 
--- an open session by the plan's kind: a text; or a stream of bytes, with a buffer or without, which begins where the raw
--- stands, one that appends at the end, and at 0 where the raw can't seek
-abbrev pub OpensBy : EncodeMode → Raw → OpenPlan → ℕ → SessionView → Type 0
-OpensBy Text raw plan chunk (TextSession text) = OpensText raw (unwrap_or plan.buffer_size 1) chunk text
-OpensBy Bytes raw plan chunk (BinarySession stream) = Opens (is_able (access_of plan.mode) plan.buffer_size) (can_of (access_of plan.mode)) raw plan.buffer_size stream
-OpensBy encode raw plan chunk session = ⊥
+-- the settings that a plan opens a text with
+abbrev pub text_settings : OpenPlan → TextSettings
+text_settings plan = settings_of (unwrap_or plan.coder planned_coder) (unwrap_or plan.settings default_settings)
 
-abbrev pub OpensSession : Raw → OpenPlan → ℕ → SessionView → Type 0
-OpensSession raw plan chunk session = OpensBy plan.mode.encode raw plan chunk session
+-- an open session by the plan's kind: a text; or a stream of bytes, with a buffer or without. Either begins where the raw
+-- stands, one that appends at the end, and at 0 where the raw can't seek
+abbrev pub OpensBy : EncodeMode → Raw → OpenPlan → SessionView → Type 0
+OpensBy Text raw plan (TextSession text) = OpensText raw (access_of plan.mode) (unwrap_or plan.buffer_size 1) (text_settings plan) text
+OpensBy Bytes raw plan (BinarySession stream) = Opens (is_able (access_of plan.mode) plan.buffer_size) (can_of (access_of plan.mode)) raw plan.buffer_size stream
+OpensBy encode raw plan session = ⊥
+
+abbrev pub OpensSession : Raw → OpenPlan → SessionView → Type 0
+OpensSession raw plan session = OpensBy plan.mode.encode raw plan session
 
 -- why a raw isn't opened by a plan
 abbrev pub RefusesSession : Raw → OpenPlan → IoFault → Raw → Type 0
 RefusesSession raw plan why back = RefusesRaw (is_able (access_of plan.mode) plan.buffer_size) (can_of (access_of plan.mode) raw.seekable).appending raw plan.buffer_size why back
 
-abbrev pub SessionOutcome : {R : Type 0} → (R → Raw) → R → OpenPlan → ℕ → Result SessionView (NewRefused R) → Type 0
-SessionOutcome shows raw plan chunk (Ok session) = OpensSession (shows raw) plan chunk session
-SessionOutcome shows raw plan chunk (Err refused) = RefusesSession (shows raw) plan refused.fault (shows refused.raw)
+abbrev pub SessionOutcome : {R : Type 0} → (R → Raw) → R → OpenPlan → Result SessionView (NewRefused R) → Type 0
+SessionOutcome shows raw plan (Ok session) = OpensSession (shows raw) plan session
+SessionOutcome shows raw plan (Err refused) = RefusesSession (shows raw) plan refused.fault (shows refused.raw)
 
--- the place that is handed back with the raw: of a text the byte of its place; else of the first byte that is owed, the
--- stream's own where none is; none where the raw can't seek, and of a detached session
+-- the place that is handed back with the raw: of the first byte that is owed; where none is a stream's own, and of a text the byte of
+-- its place; none where the raw can't seek, and of a detached session
 abbrev pub place_handed : SessionView → Option ℕ
-place_handed (TextSession text) = handed_at text.file
+place_handed (TextSession view) = text.place_handed view.text
 place_handed (BinarySession stream) = place_left stream.life stream

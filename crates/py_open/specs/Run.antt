@@ -92,16 +92,16 @@ RefusesPlanned raw (Err planned) refused back = (refused ≡ planned) × (back �
 RefusesPlanned raw (Ok plan) refused back = RefusesOpening raw plan refused back
 
 -- the session opens over the raw, and the replies are a run from there to the session
-pub record RunsCalls (raw : Raw) (plan : OpenPlan) (chunk : ℕ) (calls : List Call) (session : SessionView) (replies : List Reply) : Type 0 where
+pub record RunsCalls (raw : Raw) (plan : OpenPlan) (calls : List Call) (session : SessionView) (replies : List Reply) : Type 0 where
   pub opened : SessionView
-  pub opens : OpensSession raw plan chunk opened
+  pub opens : OpensSession raw plan opened
   pub run : IsRun opened calls replies session
 
-abbrev pub OpenedOutcome : {R : Type 0} → (R → Raw) → R → OpenPlan → ℕ → List Call → Result (Run R) (OpenRefused R) → Type 0
-OpenedOutcome shows raw plan chunk calls (Ok run) = RunsCalls (shows raw) plan chunk calls run.session run.replies.items
-OpenedOutcome shows raw plan chunk calls (Err refused) = RefusesOpening (shows raw) plan refused.fault (shows refused.raw)
+abbrev pub OpenedOutcome : {R : Type 0} → (R → Raw) → R → OpenPlan → List Call → Result (Run R) (OpenRefused R) → Type 0
+OpenedOutcome shows raw plan calls (Ok run) = RunsCalls (shows raw) plan calls run.session run.replies.items
+OpenedOutcome shows raw plan calls (Err refused) = RefusesOpening (shows raw) plan refused.fault (shows refused.raw)
 
 -- a run comes only of a plan that is accepted
 abbrev pub RunOutcome : {R : Type 0} → (R → Raw) → R → List ℕ → OpenArgs → List Call → Result (Run R) (OpenRefused R) → Type 0
-RunOutcome shows raw mode args calls (Ok run) = (plan : OpenPlan) × (plan_of mode args ≡ Ok plan) × RunsCalls (shows raw) plan args.chunk_size calls run.session run.replies.items
+RunOutcome shows raw mode args calls (Ok run) = (plan : OpenPlan) × (plan_of mode args ≡ Ok plan) × RunsCalls (shows raw) plan calls run.session run.replies.items
 RunOutcome shows raw mode args calls (Err refused) = RefusesPlanned (shows raw) (plan_of mode args) refused.fault (shows refused.raw)

@@ -2,22 +2,30 @@
 use Rattle.std.specs.Prelude.{◌≡◌, ◌≢◌, ◌⊎◌, ℕ, Bool, true, false, List, [], Option, Some, None}
 use Rattle.py_flat.specs.declared.life.Life.{Life}
 use Rattle.py_flat.specs.declared.life.Life.TheVariants as life
+use Rattle.py_flat.specs.declared.fault.IoFault.TheVariants as fault
 use Rattle.py_flat.specs.Bytes.{lay}
-use Rattle.py_flat.specs.Calls.{FileReply, Flag, Unwritten}
+use Rattle.py_flat.specs.Calls.{FileReply, Flag, Unwritten, Refused}
 use Rattle.py_flat.specs.FlatFile.{FlatFile}
 use Rattle.py_flat.specs.Refusals.{is_getter}
 use Rattle.py_flat.specs.BinaryStep.{Settled, BinaryStep}
 use Rattle.py_plain_text.specs.TextFile.{TextFile}
-use Rattle.py_plain_text.specs.TextStep.{TextSettled, TextStep}
-use Rattle.py_raw.specs.RawStream.{Raw, WhereBytes}
+use Rattle.py_plain_text.specs.TextCalls.{TextFileCall, tells_name}
+use Rattle.py_plain_text.specs.TextCalls as text
+use Rattle.py_plain_text.specs.TextExact.{carried_out}
+use Rattle.py_plain_text.specs.TextAllowed as text_file
+use Rattle.py_plain_text.specs.TextAllowed.{TextFileStep}
+use Rattle.py_raw.specs.RawStream.{Raw}
 use Rattle.py_stream.specs.Stream.{Stream, file_of, nothing_owed}
 use Rattle.py_calls.specs.declared.call.Call.{Call}
 use Rattle.py_calls.specs.declared.call.Call.TheVariants as call
 use Rattle.py_calls.specs.declared.reply.Reply.{Reply}
 use Rattle.py_calls.specs.declared.reply.Reply.TheVariants as reply
 use Rattle.py_calls.specs.Calls.{text_call, file_call, said}
-use Rattle.py_text_reader.specs.TextState.{TextState}
-use Rattle.py_text_reader.specs.Answers as text
+use Rattle.py_read_text.specs.TextState as state
+use Rattle.py_read_text.specs.TextState.{TextState}
+use Rattle.py_read_text.specs.Owing.{all_owed}
+use Rattle.py_read_text.specs.Answers as over
+use Rattle.py_text_session.specs.Session.{IsOpen, OwesNothing}
 use Rattle.py_binary.specs.Binary.{flag_of, AnswersBinary}
 
 -- a session, by its kind
@@ -32,7 +40,7 @@ pub data SessionFile : Type 0 where
 
 -- the flat file that a session stands for
 abbrev pub file_seen : SessionView → SessionFile
-file_seen (TextSession text) = OfText text.file
+file_seen (TextSession text) = OfText (state.file_of text)
 file_seen (BinarySession stream) = OfBinary (file_of stream)
 
 -- the bytes of a session's file
@@ -47,11 +55,11 @@ life_in (OfBinary file) = file.life
 
 -- the raw under a session, with its counts
 abbrev pub raw_of : SessionView → Raw
-raw_of (TextSession text) = text.raw
+raw_of (TextSession text) = text.text.buffer.raw
 raw_of (BinarySession stream) = stream.raw
 
 abbrev pub life_of : SessionView → Life
-life_of (TextSession text) = text.file.life
+life_of (TextSession text) = text.text.life
 life_of (BinarySession stream) = stream.life
 
 -- whether a wait of the raw cut the last answer short
@@ -61,28 +69,40 @@ short_of (BinarySession stream) = stream.short
 
 -- the bytes that callers handed over and the raw isn't known to have
 abbrev pub owed_of : SessionView → List ℕ
-owed_of (TextSession text) = []
+owed_of (TextSession text) = all_owed text.text
 owed_of (BinarySession stream) = stream.owed.bytes
 
--- the bytes of the flat file: of a text those of its file; of a stream the raw's, with the owed ones laid at their place
+-- the bytes of the flat file: the raw's, with the owed ones laid at their place
 abbrev pub flat_bytes : SessionView → List ℕ
-flat_bytes (TextSession text) = text.file.bytes
+flat_bytes (TextSession text) = (state.file_of text).bytes
 flat_bytes (BinarySession stream) = (file_of stream).bytes
 
 -- The one clause of every call.
 
--- a question leaves a text as it was
-pub record LeavesText (before : TextState) (expected reply : FileReply) (after : TextState) : Type 0 where
-  pub says : reply ≡ expected
+-- what a question answers; the name of an encoding or a handler may be refused for want of memory
+abbrev pub SaysOrStarves : (names : Bool) → (expected reply : FileReply) → Type 0
+SaysOrStarves true expected reply = (reply ≡ expected) ⊎ (reply ≡ Refused fault.NoMemory)
+SaysOrStarves false expected reply = reply ≡ expected
+
+-- a question answers what the text says of it, over any raw, and leaves the text as it was
+pub record TellsText (before : TextState) (call : TextFileCall) (reply : FileReply) (after : TextState) : Type 0 where
+  pub says : SaysOrStarves (tells_name call) (carried_out (state.file_of before) call).0 reply
   pub same : after ≡ record before { short = false }
 
-abbrev pub AnswersTextBy : Bool → TextState → Call → FileReply → TextState → Type 0
-AnswersTextBy true before call reply after = LeavesText before (Flag (flag_of before.file.can before.file.life (file_call call))) reply after
-AnswersTextBy false before call reply after = text.Answers before (text_call call) reply after
+-- a call of a text: a question, or one that a text over a buffered stream answers
+abbrev pub AnswersTextBy : (asks : Bool) → TextState → TextFileCall → FileReply → TextState → Type 0
+AnswersTextBy true before call reply after = TellsText before call reply after
+AnswersTextBy false before call reply after = over.Answers before call reply after
 
--- a call of a text session: one of the four questions, or one of the text
-abbrev pub AnswersText : TextState → Call → Reply → TextState → Type 0
-AnswersText before call reply after = AnswersTextBy (is_getter (file_call call)) before call (said reply) after
+-- as long as a text isn't closed its raw is open, and so is its buffer
+abbrev pub StaysOpenWithText : TextState → Type 0
+StaysOpenWithText text = text.text.life ≢ life.Closed → IsOpen text
+
+-- a call of a text session
+pub record AnswersText (before : TextState) (call : Call) (reply : Reply) (after : TextState) : Type 0 where
+  pub answers : AnswersTextBy (text.is_getter (text_call call)) before (text_call call) (said reply) after
+  -- the raw is open as long as the text isn't closed
+  pub is_open : StaysOpenWithText after
 
 -- one call of a session, which stays of its kind
 abbrev pub Answers : SessionView → Call → Reply → SessionView → Type 0
@@ -92,15 +112,20 @@ Answers before call reply after = ⊥
 
 -- What holds of a session between calls.
 
--- a session is in step with its raw, as every session is from its opening on: the bytes of a text's flat file are the raw's,
--- where that tells them; and a stream that doesn't write, or has no buffer, owes nothing
+-- a session is in step with its raw, as every session is from its opening on: one that doesn't write owes nothing, and so does a
+-- stream of bytes without a buffer
 abbrev pub IsInStep : SessionView → Type 0
-IsInStep (TextSession text) = WhereBytes text.raw (text.file.bytes ≡ text.raw.bytes)
+IsInStep (TextSession text) = text.text.buffer.can.writable ≡ false → OwesNothing text
 IsInStep (BinarySession stream) = (stream.can.writable ≡ false) ⊎ (stream.buffer ≡ None) → stream.owed ≡ nothing_owed stream.place
+
+-- the raw is open, and of a text its buffer too
+abbrev pub IsOpenBelow : SessionView → Type 0
+IsOpenBelow (TextSession text) = IsOpen text
+IsOpenBelow (BinarySession stream) = stream.raw.closed ≡ false
 
 -- the raw is open as long as its session isn't closed
 abbrev pub HasOpenRaw : SessionView → Type 0
-HasOpenRaw session = life_of session ≢ life.Closed → (raw_of session).closed ≡ false
+HasOpenRaw session = life_of session ≢ life.Closed → IsOpenBelow session
 
 -- a session is in step with its raw, which is open as long as the session isn't closed
 pub record IsKept (session : SessionView) : Type 0 where
@@ -161,33 +186,32 @@ pub record SettlesFile (before : FlatFile) (call : Call) (reply : FileReply) (af
   pub settled : Settled before (file_call call) reply file
   pub left : FileLeft before.life file reply after
 
--- what a session answers to one of the four questions
-abbrev pub flag_seen : SessionFile → Call → FileReply
-flag_seen (OfText file) call = Flag (flag_of file.can file.life (file_call call))
-flag_seen (OfBinary file) call = Flag (flag_of file.can file.life (file_call call))
+-- what a stream of bytes answers to one of the four questions
+abbrev pub flag_seen : FlatFile → Call → FileReply
+flag_seen file call = Flag (flag_of file.can file.life (file_call call))
 
--- a question answers what the session's file says of it, and leaves the file as it was
-pub record Tells (before : SessionFile) (call : Call) (reply : FileReply) (after : SessionFile) : Type 0 where
+-- a question answers what the file says of it, and leaves the file as it was
+pub record Tells (before : FlatFile) (call : Call) (reply : FileReply) (after : FlatFile) : Type 0 where
   pub says : reply ≡ flag_seen before call
   pub same : after ≡ before
 
-abbrev pub StepBy : Bool → SessionFile → Call → FileReply → Bool → Bool → SessionFile → Type 0
-StepBy true before call reply waited faulted after = Tells before call reply after
-StepBy false (OfText before) call reply waited faulted (OfText after) = TextStep before (text_call call) reply waited faulted after
-StepBy false (OfBinary before) call reply waited faulted (OfBinary after) = LeavesFile before call reply waited faulted after
-StepBy false before call reply waited faulted after = ⊥
+abbrev pub FileStepBy : Bool → FlatFile → Call → FileReply → Bool → Bool → FlatFile → Type 0
+FileStepBy true before call reply waited faulted after = Tells before call reply after
+FileStepBy false before call reply waited faulted after = LeavesFile before call reply waited faulted after
 
 -- the allowed step of a session's file: what a call may answer and leave, by whether the raw waited or failed
 abbrev pub SessionStep : SessionFile → Call → FileReply → Bool → Bool → SessionFile → Type 0
-SessionStep before call reply waited faulted after = StepBy (is_getter (file_call call)) before call reply waited faulted after
+SessionStep (OfText before) call reply waited faulted (OfText after) = TextFileStep before (text_call call) reply waited faulted after
+SessionStep (OfBinary before) call reply waited faulted (OfBinary after) = FileStepBy (is_getter (file_call call)) before call reply waited faulted after
+SessionStep before call reply waited faulted after = ⊥
 
-abbrev pub SettlesBy : Bool → SessionFile → Call → FileReply → SessionFile → Type 0
-SettlesBy true before call reply after = Tells before call reply after
-SettlesBy false (OfText before) call reply (OfText after) = TextSettled before (text_call call) reply after
-SettlesBy false (OfBinary before) call reply (OfBinary after) = SettlesFile before call reply after
-SettlesBy false before call reply after = ⊥
+abbrev pub FileSettlesBy : Bool → FlatFile → Call → FileReply → FlatFile → Type 0
+FileSettlesBy true before call reply after = Tells before call reply after
+FileSettlesBy false before call reply after = SettlesFile before call reply after
 
 -- what a call answers and leaves where nothing waits, fails or runs out of memory: the exact answer, but that a single transfer
 -- gives some front of what is asked
 abbrev pub Settles : SessionFile → Call → FileReply → SessionFile → Type 0
-Settles before call reply after = SettlesBy (is_getter (file_call call)) before call reply after
+Settles (OfText before) call reply (OfText after) = text_file.Settled before (text_call call) reply after
+Settles (OfBinary before) call reply (OfBinary after) = FileSettlesBy (is_getter (file_call call)) before call reply after
+Settles before call reply after = ⊥

@@ -1,7 +1,7 @@
 //! Laws of the definitions that the contracts cite: what any run of a session has to be.
 //!
 //! No function here does anything; what each ensures is a law.
-ghost use Rattle.std.specs.Prelude.{◌≡◌, ◌≢◌, ℕ, ◌≤◌, true, IsTrue, List, [], ◌∷◌, ◌++◌, length};
+ghost use Rattle.std.specs.Prelude.{◌≡◌, ◌≢◌, ◌≤◌, true, IsTrue, List, [], ◌∷◌, ◌++◌, length};
 ghost use Rattle.py_flat.specs.declared.life.Life.TheVariants as life;
 ghost use Rattle.py_flat.specs.Calls.{FileReply};
 ghost use Rattle.py_plain_text.specs.TextFile.{TextFile};
@@ -11,7 +11,7 @@ ghost use Rattle.py_calls.specs.declared.call.Call.{Call};
 ghost use Rattle.py_calls.specs.declared.call.Call.TheVariants.{Close};
 ghost use Rattle.py_calls.specs.declared.reply.Reply.{Reply};
 ghost use Rattle.py_calls.specs.declared.reply.Reply.TheVariants.{Done};
-ghost use Rattle.py_calls.specs.Calls.{file_call, said};
+ghost use Rattle.py_calls.specs.Calls.{said};
 ghost use Rattle.py_open.specs.Session.{SessionFile, OfText, SessionView, Answers, IsInStep, HasOpenRaw, file_seen, raw_of, life_of, life_in, bytes_in};
 ghost use Rattle.py_mode.specs.declared.plan.OpenPlan.{OpenPlan};
 ghost use Rattle.py_open.specs.Opening.{OpensSession};
@@ -66,10 +66,11 @@ pub fn counts_never_fall()
     ensures waits { (before : SessionView) (calls : List Call) (replies : List Reply) (after : SessionView) → IsRun before calls replies after → (raw_of before).waits ≤ (raw_of after).waits }
 {}
 
-/// Over a run what the raw and the session can do stays, and so do the session's kind, a text's settings and the buffer's size.
+/// Over a run what the raw and the session can do stays, and so do the session's kind, the buffer's size and a text's settings, but for
+/// its chunk size where a call sets it.
 pub fn a_run_keeps_the_settings()
     ensures raw { (before : SessionView) (calls : List Call) (replies : List Reply) (after : SessionView) → IsRun before calls replies after → Keeps (raw_of before) (raw_of after) }
-    ensures session { (before : SessionView) (calls : List Call) (replies : List Reply) (after : SessionView) → IsRun before calls replies after → KeepsSettings before after }
+    ensures session { (before : SessionView) (calls : List Call) (replies : List Reply) (after : SessionView) → IsRun before calls replies after → KeepsSettings before calls after }
 {}
 
 /// A session that only reads leaves the raw's bytes, where it tells them, as they were; and where it tells its transfers, as files do,
@@ -79,14 +80,15 @@ pub fn a_session_that_reads_spares_the_bytes()
     ensures bytes { (before : SessionView) (calls : List Call) (replies : List Reply) (after : SessionView) → IsRun before calls replies after → OnlyReads before → IsTrue (raw_of before).tells_bytes → (raw_of after).bytes ≡ (raw_of before).bytes }
 {}
 
-/// What is passed on is in the raw: after a `flush`, a `close` or a `detach` of a live session that was done nothing is owed, and the
-/// raw holds the flat bytes of the session that the call came to, of a text also where it tells its bytes alone.
+/// What is passed on is in the raw: after a `flush`, a `close` or a `detach` of a live session that was done, and with line buffering after
+/// an answered write of a text with a line end, nothing is owed, and the raw holds the flat bytes of the session that the call came to,
+/// with those of the write; of a text that isn't written also where it tells its bytes alone.
 ///
-/// For this the session is in step with its raw: a text has the raw's bytes, and only a stream that writes through a buffer owes
-/// anything. So it is where a session opens, and over every run.
+/// For this the session is in step with its raw: only one that writes through a buffer owes anything. So it is where a session opens, and
+/// over every run.
 pub fn what_is_passed_on_is_in_the_raw()
-    ensures passed { (before : SessionView) (call : Call) (reply : Reply) (after : SessionView) → Answers before call reply after → IsInStep before → life_of before ≡ life.Live → PassesAll (file_call call) (said reply) → HoldsFlat before after }
-    ensures opened { (raw : Raw) (plan : OpenPlan) (chunk : ℕ) (session : SessionView) → OpensSession raw plan chunk session → IsInStep session }
+    ensures passed { (before : SessionView) (call : Call) (reply : Reply) (after : SessionView) → Answers before call reply after → IsInStep before → life_of before ≡ life.Live → PassesAll before call (said reply) → HoldsFlat before call after }
+    ensures opened { (raw : Raw) (plan : OpenPlan) (session : SessionView) → OpensSession raw plan session → IsInStep session }
     ensures kept { (before : SessionView) (calls : List Call) (replies : List Reply) (after : SessionView) → IsRun before calls replies after → IsInStep before → IsInStep after }
 {}
 
@@ -106,18 +108,18 @@ pub fn a_raw_is_closed_with_its_session()
 /// stream of bytes with a buffer or without; and it stays closed, whatever calls come after. As long as the session isn't closed, its
 /// raw is open.
 pub fn a_done_close_closes_its_raw()
-    ensures closed { (raw : Raw) (plan : OpenPlan) (chunk : ℕ) (opened mid next session : SessionView) (front rest : List Call) (replies others : List Reply) → OpensSession raw plan chunk opened → IsRun opened front replies mid → life_of mid ≡ life.Live → Answers mid Close Done next → IsRun next rest others session → (raw_of session).closed ≡ true }
-    ensures opened { (raw : Raw) (plan : OpenPlan) (chunk : ℕ) (opened session : SessionView) (calls : List Call) (replies : List Reply) → OpensSession raw plan chunk opened → IsRun opened calls replies session → HasOpenRaw session }
+    ensures closed { (raw : Raw) (plan : OpenPlan) (opened mid next session : SessionView) (front rest : List Call) (replies others : List Reply) → OpensSession raw plan opened → IsRun opened front replies mid → life_of mid ≡ life.Live → Answers mid Close Done next → IsRun next rest others session → (raw_of session).closed ≡ true }
+    ensures opened { (raw : Raw) (plan : OpenPlan) (opened session : SessionView) (calls : List Call) (replies : List Reply) → OpensSession raw plan opened → IsRun opened calls replies session → HasOpenRaw session }
 {}
 
-/// A run from a closed session answers `Done` to each further `Close`, the four questions as ever, and refuses every other call, by
-/// `Closed` but for the questions that a stream lacks; it leaves the file and the raw as they were, whether the raw tells or not
+/// A run from a closed session answers `Done` to each further `Close`, the questions as ever, and refuses every other call, by
+/// `Closed` but for the questions that a stream lacks, and the name of an encoding or a handler for want of memory; it leaves the file and the raw as they were, whether the raw tells or not
 /// (Python's documentation of `close`).
 pub fn a_closed_session_stays_closed()
     ensures { (before : SessionView) (calls : List Call) (replies : List Reply) (after : SessionView) → IsRun before calls replies after → life_of before ≡ life.Closed → StaysClosed before calls replies after }
 {}
 
-/// A detached file stays as it is over every later call, its bytes and its place too: the four questions are answered as ever, and
+/// A detached file stays as it is over every later call, its bytes and its place too: the questions are answered as ever, and
 /// every other call is refused, by `Detached` but for the questions that a stream lacks. So it is in the model, whatever the marks
 /// of the entries are, and over every raw, told or not, which stays as it was too (Python's documentation of `detach`).
 pub fn a_detached_file_stays_as_it_is()

@@ -20,7 +20,7 @@ pub struct Run<R: RawStream> {
 }
 
 /// Opens a session over a raw by a mode and arguments, and makes calls in order: through a buffer of the size that the
-/// plan gives, or without one, and of a text with chunks of `args.chunk_size` bytes.
+/// plan gives, or without one, and of a text with the settings of the plan.
 ///
 /// The replies are a run of the model from the opening's flat file to the session's own: for every raw, told or not,
 /// each has its cause; where the raw tells, each is the model's, whatever pieces the raw moves and whatever the sizes of
@@ -41,7 +41,7 @@ pub fn run_session<R: RawStream>(
     ensures { RunOutcome R.shows raw mode.now args calls.now result }
 {
     match plan_open(mode, &args) {
-        Ok(plan) => run_opened(alloc, raw, plan, args.chunk_size, calls),
+        Ok(plan) => run_opened(alloc, raw, plan, calls),
         Err(fault) => Err(OpenRefused { raw, fault }),
     }
 }
@@ -51,12 +51,11 @@ pub(crate) fn run_opened<R: RawStream>(
     alloc: Global,
     raw: R,
     plan: OpenPlan,
-    chunk_size: usize,
     calls: &[Call],
 ) -> Result<Run<R>, OpenRefused<R>>
-    requires planned { IsPlanned plan chunk_size }
+    requires planned { IsPlanned plan }
     requires start { StandsAtStart (R.shows raw) }
-    ensures { OpenedOutcome R.shows raw plan chunk_size calls.now result }
+    ensures { OpenedOutcome R.shows raw plan calls.now result }
 {
     if let Some(fault) = raw_refusal(&raw, plan) {
         return Err(OpenRefused { raw, fault });
@@ -68,7 +67,7 @@ pub(crate) fn run_opened<R: RawStream>(
             fault: IoFault::NoMemory,
         });
     }
-    let mut session = match Session::open(alloc, raw, plan, chunk_size) {
+    let mut session = match Session::open(alloc, raw, plan) {
         Ok(session) => session,
         Err(refused) => {
             let NewRefused { raw, fault } = refused;

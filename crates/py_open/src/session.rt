@@ -10,30 +10,31 @@ use crate::text_calls::answer_text;
 use crate::{Call, EncodeMode, FileMode, Mode, OpenPlan, Reply};
 use py_binary::{Access, BinarySession};
 use py_flat::{IoFault, Life};
+use py_plain::{Encoding, Handler};
 use py_raw::RawStream;
 use py_stream::{Detached, NewRefused, refused_at_first};
-use py_text_reader::TextReader;
+use py_text::Coder;
+use py_text_session::TextSession;
 use std::alloc::Global;
 use std::marker::Model;
 
 /// What a session calls.
 #[derive(Debug, Drop)]
 pub(crate) enum Kind<R: RawStream> {
-    /// A text that is read.
-    Text(TextReader<R>),
+    /// A text that is read or written, or both.
+    Text(TextSession<R>),
     /// A stream of bytes.
     Binary(BinarySession<R>),
 }
 
-/// A stream that was opened, and on which calls are made one by one: a text that is read, or a stream of bytes that is read,
-/// written, both read and written, or appended to, with a buffer or without.
+/// A stream that was opened, and on which calls are made one by one: a text, or a stream of bytes with a buffer or without, that is read,
+/// written, both read and written, or appended to.
 ///
 /// It is seen as a text's state or as a stream: the flat file, the raw under it, its buffer's size, whether its last answer was
-/// short, and of a stream the bytes that it owes the raw. A session that is dropped drops its raw, and what it owes;
+/// short, and the bytes that it owes the raw. A session that is dropped drops its raw, and what it owes;
 /// `finish` hands both back.
 #[derive(Debug, Drop)]
 pub struct Session<R: RawStream> {
-    alloc: Global,
     kind: Kind<R>,
 }
 
@@ -55,32 +56,30 @@ impl<R: RawStream> Session<R> {
     /// Refused, the raw is handed back with nothing read or written: `Closed`, then `Unsupported` where it can't do what it is
     /// opened for (one that is both read and written through a buffer has to seek), `NoMemory`, and `RawFault` where it fails to say where it stands or ends, or to move there. But for the last one
     /// that tells still stands where it stood.
-    pub(crate) fn open(
-        alloc: Global,
-        raw: R,
-        plan: OpenPlan,
-        chunk_size: usize,
-    ) -> Result<Self, NewRefused<R>>
-        requires planned { IsPlanned plan chunk_size }
+    pub(crate) fn open(alloc: Global, raw: R, plan: OpenPlan) -> Result<Self, NewRefused<R>>
+        requires planned { IsPlanned plan }
         requires start { StandsAtStart (R.shows raw) }
-        ensures { SessionOutcome R.shows raw plan chunk_size result }
+        ensures { SessionOutcome R.shows raw plan result }
     {
+        let access = access_of(plan.mode);
         match plan.mode.encode {
             EncodeMode::Text => {
                 let buffer_size = plan.buffer_size.unwrap_or(1);
-                match TextReader::new(alloc, raw, buffer_size, chunk_size) {
+                let coder = plan.coder.unwrap_or(Coder {
+                    encoding: Encoding::Utf8,
+                    errors: Handler::Strict,
+                });
+                let settings = plan.settings.unwrap_or_default();
+                match TextSession::new(alloc, raw, access, buffer_size, coder, settings) {
                     Ok(text) => Ok(Session {
-                        alloc,
                         kind: Kind::Text(text),
                     }),
                     Err(refused) => Err(refused),
                 }
             }
             EncodeMode::Bytes => {
-                let access = access_of(plan.mode);
                 match BinarySession::new(alloc, raw, access, plan.buffer_size) {
                     Ok(session) => Ok(Session {
-                        alloc,
                         kind: Kind::Binary(session),
                     }),
                     Err(refused) => Err(refused),
@@ -91,17 +90,20 @@ impl<R: RawStream> Session<R> {
 
     /// Makes one call.
     ///
-    /// A text has `Read`, `ReadLine` and `Close`; a stream of bytes all but the calls of texts, as far as it reads,
-    /// writes and can be moved, and without a buffer no `Read1`, `ReadInto1`, `Peek` and `Detach`. The four questions `Readable`,
-    /// `Writable`, `Seekable` and `Closed` are answered by a `Flag` in every life.
+    /// A text has `Read`, `ReadLine`, `WriteText`, as far as it reads and writes, `SetChunkSize`, `Flush` and `Close`; a stream of bytes
+    /// all but the calls of texts, as far as it reads, writes and can be moved, and without a buffer no `Read1`, `ReadInto1`, `Peek` and
+    /// `Detach`. The four questions `Readable`, `Writable`, `Seekable` and `Closed` are answered by a `Flag` in every life, and so are a
+    /// text's `ChunkSize` by a `Count` of bytes, `Encoding` and `Errors` by a `Name`, or `NoMemory` for that.
     ///
     /// - Readings answer bytes, lines or characters, as many as asked for, or all that are left; fewer come only at the end.
     ///   `Read1`, `ReadInto1`, `Peek` and, without a buffer, `Read` of a size and `ReadInto` answer what one transfer of the raw gives,
     ///   none only where none is asked for or left. Where the raw would have blocked, what came by then is answered, never nothing, or it is
     ///   `NotReady` with nothing taken; `short` says so. Of a stream that is both read and written through a buffer, a reading that the bytes
     ///   held don't answer passes on first what is owed: it is `NotReady` too where that would have blocked, with the place as it was.
-    /// - `Write` answers how many bytes were taken: all, or without a buffer those of one transfer; `WriteLines` is `Done`.
-    /// - `Seek` and `Tell` answer the place, `Truncate` the size, `Flush` and `Close` `Done`. `Detach` answers what is unwritten, and its place; the
+    /// - `Write` answers how many bytes were taken: all, or without a buffer those of one transfer; `WriteLines` is `Done`. `WriteText`
+    ///   answers how many characters the text has: it is written whole, by the text's newline rule, or not at all. With line buffering a text
+    ///   that has LF or CR is passed on at once.
+    /// - `SetChunkSize` is `Done`. `Seek` and `Tell` answer the place, `Truncate` the size, `Flush` and `Close` `Done`. `Detach` answers what is unwritten, and its place; the
     ///   raw stays with the session, and every call is `Detached` from then on, but the questions.
     ///
     /// A write without a buffer whose raw would have blocked is `NotReady`, with nothing taken. Else a call is `Refused`:
@@ -110,13 +112,16 @@ impl<R: RawStream> Session<R> {
     ///   `Close` (which may be made again), `Detached` after a `Detach`; then `Unsupported` to a call that the session lacks,
     ///   `BadWhence`, `NegativeSeek` and `TooFar`: no raw is called, but for a `Seek` from the end, and all stays as it was.
     ///   `ChunkSize`, `Encoding` and `Errors` are `Unsupported` in every life of a stream of bytes.
+    /// - `BadArgument` for a chunk size of 0, `SeekFirst` where a text was read since it was opened and is written, which can't be so far,
+    ///   `TooFar` where a write would end past the greatest place: with all as it was.
     /// - `UnicodeDecodeError`, with byte places from the start of the stream, where a range that is no UTF-8 stands before the end of a
     ///   text's answer: place and life stay, and a shorter read gives the characters before it.
     /// - `WouldBlock` where the raw would have blocked and the rest of a `Write` had no room in the buffer, or some of `WriteLines` wasn't
-    ///   taken: the first `taken` bytes were. Of a `Seek`, `Truncate`, `Flush`, `Close` or `Detach` none were, and it may be made again.
+    ///   taken: the first `taken` bytes were; of a `WriteText` all its bytes, which later calls pass on. Of a `Seek`, `Truncate`, `Flush`, `Close` or `Detach` none were, and it may be made again.
     /// - `RawFault` where the raw failed: the session is failed from then on; after `Close` it is closed.
     /// - `NoMemory`: place and life stay, and the call may be made again; but a `Read`, `ReadInto`, `ReadLine` or `ReadLines` of bytes
-    ///   fails the session once bytes left the raw, and a write once the raw took some of its bytes.
+    ///   fails the session once bytes left the raw, a write of bytes once the raw took some of its bytes, and each call of a text that
+    ///   passes on what was written once its buffer took some.
     ///
     /// A `Close` of a live session that is `Done` has closed the raw, of every kind of session, and leaves nothing owed.
     ///
@@ -152,8 +157,8 @@ impl<R: RawStream> Session<R> {
     }
 
     /// Hands the raw back, in every life, with the bytes that it isn't known to have, and the place of the first of them: with
-    /// none unwritten a stream's own place, and of a text the byte from which its place counts characters, where it was opened, or
-    /// the end once all was read. No place comes where the raw can't seek, nor of a session that was detached, whose reply had what
+    /// none unwritten a stream's own place, and of a text the byte from which its place counts characters: where it was opened, behind what
+    /// was written last, or the end once all was read. No place comes where the raw can't seek, nor of a session that was detached, whose reply had what
     /// was unwritten. The raw is closed where a `Close` closed it, and else stands wherever its last call left it. What was read and
     /// not taken is dropped. It takes no memory.
     pub fn finish(self) -> Detached<R>
@@ -161,9 +166,9 @@ impl<R: RawStream> Session<R> {
         ensures unwritten { result.unwritten.items ≡ owed_of self }
         ensures place { result.place ≡ place_handed self }
     {
-        let Session { alloc, kind } = self;
+        let Session { kind } = self;
         match kind {
-            Kind::Text(text) => text.into_parts(alloc),
+            Kind::Text(text) => text.into_parts(),
             Kind::Binary(session) => session.into_parts(),
         }
     }

@@ -84,7 +84,7 @@ script_counts : (words : List (List ℕ)) (ended : Status) (old new : SourceView
 script_counts words ended old new before after did =
     elim did.does [
       | inl refused ↦ counts_same before.opener after.opener refused.opener
-      | inr follows ↦ calls_counts did.path (asked_by follows.plan did.args did.calls) ended before after follows.does
+      | inr follows ↦ calls_counts did.path (asked_by follows.plan did.calls) ended before after follows.does
     ]
 
 counts_by : (ended : Status) (words : List (List ℕ)) (old new : SourceView) (before after : Outside) → Outcome ended words old new before after → Counts before.opener after.opener
@@ -131,7 +131,7 @@ calls_one path asked ended before after is did = absurd is
 
 planned_one : (path mode : List ℕ) (args : OpenArgs) (plan : OpenPlan) (calls : List Call) (ended : Status) (before after : Outside) → IsOpening ended → plan_of mode args ≡ Ok plan → PlannedOutcome path mode args calls ended before after → OpensOne before.opener after.opener
 planned_one path mode args plan calls ended before after is accepted (inl refuses) = let both : Ok plan ≡ Err refuses.refused = sym accepted ∙ refuses.planned in absurd (cc)
-planned_one path mode args plan calls ended before after is accepted (inr follows) = calls_one path (asked_by follows.plan args calls) ended before after is follows.does
+planned_one path mode args plan calls ended before after is accepted (inr follows) = calls_one path (asked_by follows.plan calls) ended before after is follows.does
 
 script_one : (words : List (List ℕ)) (ended : Status) (old new : SourceView) (before after : Outside) (path : List ℕ) (plan : OpenPlan) → IsOpening ended → IsAcceptedAt path plan (command_of words) → RunsScript words ended old new before after → OpensOne before.opener after.opener
 script_one words ended old new before after path plan is accepted did =

@@ -54,7 +54,7 @@ PlansToRead mode args = (plan : OpenPlan) → plan_of mode args ≡ Ok plan → 
 
 planned_keeps : (path mode : List ℕ) (args : OpenArgs) (calls : List Call) (ended : Status) (before after : Outside) → PlansToRead mode args → PlannedOutcome path mode args calls ended before after → IsTrue before.opener.tells → HoldsTheSame before.opener after.opener
 planned_keeps path mode args calls ended before after reads (inl refused) tells = opener_same before.opener after.opener refused.opener
-planned_keeps path mode args calls ended before after reads (inr follows) tells = calls_keep path (asked_by follows.plan args calls) ended before after (reads follows.plan follows.planned) follows.does tells
+planned_keeps path mode args calls ended before after reads (inr follows) tells = calls_keep path (asked_by follows.plan calls) ended before after (reads follows.plan follows.planned) follows.does tells
 
 -- the plan that the words ask for, if there is one, reads
 abbrev pub WordsToRead : Option Command → Type 0
@@ -96,7 +96,7 @@ asked_reads None asked = absurd asked
 
 failed_keeps : (path mode : List ℕ) (args : OpenArgs) (calls : List Call) (before after : Outside) → PlannedOutcome path mode args calls status.OpenerFailed before after → IsTrue before.opener.tells → HoldsTheSame before.opener after.opener
 failed_keeps path mode args calls before after (inl refused) tells = opener_same before.opener after.opener refused.opener
-failed_keeps path mode args calls before after (inr follows) tells = opener_keeps path (asked_by follows.plan args calls) before after follows.does tells
+failed_keeps path mode args calls before after (inr follows) tells = opener_keeps path (asked_by follows.plan calls) before after follows.does tells
 
 code_keeps : (ended : Status) (words : List (List ℕ)) (old new : SourceView) (before after : Outside) → (code_of ended ≡ 2) ⊎ ((code_of ended ≡ 3) ⊎ ((code_of ended ≡ 5) ⊎ (code_of ended ≡ 8))) → Outcome ended words old new before after → IsTrue before.opener.tells → HoldsTheSame before.opener after.opener
 code_keeps status.WordsMalformed words old new before after is did tells = same_keeps before after did.1.same
@@ -133,7 +133,7 @@ calls_spare path asked status.SourceFailed before after did tells = absurd did
 
 planned_spares : (path mode : List ℕ) (args : OpenArgs) (calls : List Call) (ended : Status) (before after : Outside) → PlannedOutcome path mode args calls ended before after → IsTrue before.opener.tells → OthersHoldTheSame path before.opener after.opener
 planned_spares path mode args calls ended before after (inl refused) tells = λ other differs. opener_same before.opener after.opener refused.opener other
-planned_spares path mode args calls ended before after (inr follows) tells = calls_spare path (asked_by follows.plan args calls) ended before after follows.does tells
+planned_spares path mode args calls ended before after (inr follows) tells = calls_spare path (asked_by follows.plan calls) ended before after follows.does tells
 
 script_spares : (words : List (List ℕ)) (ended : Status) (old new : SourceView) (before after : Outside) → RunsScript words ended old new before after → IsTrue before.opener.tells → KeepsOthers (command_of words) before.opener after.opener
 script_spares words ended old new before after did tells =
@@ -185,7 +185,7 @@ left_by path named mode args plan calls before after is accepted (inl refuses) t
 left_by path named mode args plan calls before after is accepted (inr follows) tells =
     let P : List ℕ → Type 0 = λ at. after.opener.holds at ≡ Some (opened_bytes (raw_mode plan) (before.opener.holds at)) in
     let Q : OpenPlan → Type 0 = λ by. after.opener.holds named ≡ Some (opened_bytes (raw_mode by) (before.opener.holds named)) in
-    subst P is (subst Q (one_plan (plan_of mode args) follows.plan plan follows.planned accepted) (path_left named (asked_by follows.plan args calls) before after follows.does tells))
+    subst P is (subst Q (one_plan (plan_of mode args) follows.plan plan follows.planned accepted) (path_left named (asked_by follows.plan calls) before after follows.does tells))
 
 -- with the number 4 the path holds what its opening left
 pub path_left_by : (words : List (List ℕ)) (old new : SourceView) (before after : Outside) (path : List ℕ) (plan : OpenPlan) → Ends 4 words old new before after → IsAcceptedAt path plan (command_of words) → IsTrue before.opener.tells → after.opener.holds path ≡ Some (opened_bytes (raw_mode plan) (before.opener.holds path))
@@ -213,7 +213,7 @@ opened_refused path asked before after opened _ why = absurd why
 planned_refused : (path mode : List ℕ) (args : OpenArgs) (calls : List Call) (before after : Outside) → PlannedOutcome path mode args calls status.Refused before after → IsErr (plan_of mode args) ⊎ (Rose before.opener.raw_faults after.opener.raw_faults ⊎ MayNotMove before.opener (Some (Run path mode args)))
 planned_refused path mode args calls before after (inl refuses) = inl (rw refuses.planned refl)
 planned_refused path mode args calls before after (inr follows) =
-    elim (opened_refused path (asked_by follows.plan args calls) before after follows.does follows.does.does.1.refused follows.does.does.1.why) [
+    elim (opened_refused path (asked_by follows.plan calls) before after follows.does follows.does.does.1.refused follows.does.does.1.why) [
       | inl rose ↦ inr (inl rose)
       | inr still ↦ inr (inr (still.0, (follows.plan, follows.planned, still.1)))
     ]
@@ -245,7 +245,7 @@ missed_by path named mode args plan calls before after is accepted (inl refuses)
 missed_by path named mode args plan calls before after is accepted (inr follows) tells =
     let P : List ℕ → Type 0 = λ at. misses (raw_mode plan) (before.opener.holds at) ≡ true in
     let Q : OpenPlan → Type 0 = λ by. misses (raw_mode by) (before.opener.holds named) ≡ true in
-    subst P is (subst Q (one_plan (plan_of mode args) follows.plan plan follows.planned accepted) (opener_misses named (asked_by follows.plan args calls) before after follows.does tells))
+    subst P is (subst Q (one_plan (plan_of mode args) follows.plan plan follows.planned accepted) (opener_misses named (asked_by follows.plan calls) before after follows.does tells))
 
 -- with the number 8 the plan's mode can't open what the path held
 pub path_missed : (words : List (List ℕ)) (old new : SourceView) (before after : Outside) (path : List ℕ) (plan : OpenPlan) → Ends 8 words old new before after → IsAcceptedAt path plan (command_of words) → IsTrue before.opener.tells → misses (raw_mode plan) (before.opener.holds path) ≡ true

@@ -9,8 +9,8 @@ use Rattle.py_flat.specs.Owed.{Owed}
 use Rattle.py_flat.specs.FlatFile.{Abilities, FlatFile}
 use Rattle.py_flat.specs.declared.life.Life.{Life}
 use Rattle.py_flat.specs.Calls.{FileReply}
-use Rattle.py_plain_text.specs.TextFile.{TextFile}
-use Rattle.py_text_reader.specs.TextState.{TextState}
+use Rattle.py_plain_text.specs.TextFile.{TextSettings, TextFile}
+use Rattle.py_read_text.specs.TextState.{TextState, file_of as text_seen}
 use Rattle.py_raw.specs.RawStream.{Raw, tells}
 use Rattle.py_raw.proofs.Telling.{tells_its_bytes, tells_its_place, tells_still}
 use Rattle.py_raw.specs.RawMode.{raw_mode_text}
@@ -25,17 +25,16 @@ use Rattle.py_calls.specs.declared.reply.Reply.{Reply}
 use Rattle.py_mode.specs.declared.mode.EncodeMode.{EncodeMode}
 use Rattle.py_mode.specs.declared.mode.EncodeMode.TheVariants.{Text, Bytes}
 use Rattle.py_mode.specs.declared.mode.FileMode.{FileMode}
-use Rattle.py_mode.specs.declared.mode.FileMode.TheVariants.{Read}
+use Rattle.py_stream.specs.declared.access.Access.TheVariants as access
 use Rattle.py_mode.specs.declared.open_args.OpenArgs.{OpenArgs}
 use Rattle.py_mode.specs.declared.plan.OpenPlan.{OpenPlan}
 use Rattle.py_mode.specs.Mode.{letter_of}
 use Rattle.py_mode.specs.Plan.{plan_of}
-use Rattle.py_mode.proofs.Planning.{planned_text_is_read}
-use Rattle.py_text_reader.specs.Opening.{text_opened, OpensText}
+use Rattle.py_text_session.specs.Opening.{text_opened, OpensText}
 use Rattle.py_open.specs.Session.{SessionFile, OfText, OfBinary, SessionView, TextSession, BinarySession, file_seen, raw_of, life_of, bytes_in}
-use Rattle.py_open.specs.Opening.{access_of, OpensBy}
+use Rattle.py_open.specs.Opening.{access_of, text_settings, OpensBy}
 use Rattle.py_open.specs.Run.{IsRun, IsSmooth, NoneLacksMemory, RunsCalls, AllSettle, all_said}
-use Rattle.py_open.specs.Laws.{IsExact, OnlyReads}
+use Rattle.py_open.specs.Laws.{IsExact}
 use Rattle.py_open.proofs.Runs.{smooth_completes, run_spares, opened_in_step}
 use Rattle.py_open.proofs.InRaw.{close_leaves_in_raw}
 use Rattle.py_script.specs.CommandWords.{Command, Run, command_of}
@@ -43,9 +42,9 @@ use Rattle.py_program.specs.declared.status.Status.{Status}
 use Rattle.py_program.specs.declared.status.Status.TheVariants as status
 use Rattle.py_program.specs.Status.{code_of}
 use Rattle.py_program.specs.Outcome.{Outside, raw_mode, asked_by, own_text, closed_calls, OpensPath, FollowsPlan, PlannedOutcome, RunsScript, Outcome, Ends}
-use Rattle.py_program.specs.Meaning.{RawsAreReady, PrintsReplies, PrintsSettled, PrintsExactly, begins_with, file_by, opened_file}
+use Rattle.py_program.specs.Meaning.{RawsAreReady, PrintsReplies, PrintsSettled, PrintsExactly, begins_with, text_by, file_by, opened_file}
 use Rattle.py_program.proofs.Planned.{one_plan}
-use Rattle.py_program.proofs.Keeping.{opening_keeps}
+use Rattle.py_program.proofs.Keeping.{opening_keeps, opened_to_read, file_read}
 
 -- a count that was added, and with which the sum didn't rise, was 0
 stays_unrisen : (before mid after opened back : ℕ) → mid ≡ before → after ≡ counted mid back → rose before after ≡ false → rose opened back ≡ false
@@ -59,13 +58,6 @@ smooth_raw before after opened session ready waits faults = record {
 }
 
 -- The file that was opened.
-
-text_file : (raw : Raw) (buffer chunk : ℕ) (bytes : List ℕ) (text : TextState) → OpensText raw buffer chunk text → tells raw ≡ true → raw.seekable ≡ true → raw.place ≡ 0 → raw.bytes ≡ bytes → text.file ≡ text_opened bytes 0 true chunk
-text_file raw buffer chunk bytes text opens told seeks place are =
-    opens.file
-    ∙ ap (λ (all : List ℕ). text_opened all opens.place raw.seekable chunk) (opens.untouched.bytes (tells_its_bytes raw told) ∙ are)
-    ∙ ap (λ (at : ℕ). text_opened bytes at raw.seekable chunk) ((opens.told (tells_its_place raw told)).1 ∙ place)
-    ∙ ap (λ (can : Bool). text_opened bytes 0 can chunk) seeks
 
 -- where a stream begins on a raw that can seek and stands at its start
 begins : (appends : Bool) (raw : Raw) (bytes : List ℕ) → raw.seekable ≡ true → raw.place ≡ 0 → raw.bytes ≡ bytes → begins_at appends raw ≡ begins_with appends bytes
@@ -100,11 +92,18 @@ binary_file raw access buffer bytes stream opens told seeks place are =
     opens.buffer_is
     opens.life_is
 
-file_opened : (encode : EncodeMode) (raw : Raw) (plan : OpenPlan) (chunk : ℕ) (bytes : List ℕ) (session : SessionView) → OpensBy encode raw plan chunk session → tells raw ≡ true → raw.seekable ≡ true → raw.place ≡ 0 → raw.bytes ≡ bytes → file_seen session ≡ file_by encode plan chunk bytes
-file_opened Text raw plan chunk bytes (TextSession text) opens tells seeks place are = ap OfText (text_file raw _ chunk bytes text opens tells seeks place are)
-file_opened Bytes raw plan chunk bytes (BinarySession stream) opens tells seeks place are = ap OfBinary (binary_file raw (access_of plan.mode) plan.buffer_size bytes stream opens tells seeks place are)
-file_opened Text raw plan chunk bytes (BinarySession stream) opens tells seeks place are = absurd opens
-file_opened Bytes raw plan chunk bytes (TextSession text) opens tells seeks place are = absurd opens
+text_file : (raw : Raw) (opened : Access) (buffer : ℕ) (settings : TextSettings) (bytes : List ℕ) (text : TextState) → OpensText raw opened buffer settings text → tells raw ≡ true → raw.seekable ≡ true → raw.place ≡ 0 → raw.bytes ≡ bytes → text_seen text ≡ text_opened bytes (begins_with (can_of opened true).appending bytes) (can_of opened true) settings
+text_file raw opened buffer settings bytes text opens told seeks place are =
+    opens.file
+    ∙ ap (λ (all : List ℕ). text_opened all text.text.buffer.place (can_of opened raw.seekable) settings) (opens.untouched.bytes (tells_its_bytes raw told) ∙ are)
+    ∙ ap (λ (at : ℕ). text_opened bytes at (can_of opened raw.seekable) settings) (opens.place (starts_told (can_of opened true).appending raw told) ∙ begins (can_of opened true).appending raw bytes seeks place are)
+    ∙ ap (λ (can : Abilities). text_opened bytes (begins_with (can_of opened true).appending bytes) can settings) (ap (can_of opened) seeks)
+
+file_opened : (encode : EncodeMode) (raw : Raw) (plan : OpenPlan) (bytes : List ℕ) (session : SessionView) → OpensBy encode raw plan session → tells raw ≡ true → raw.seekable ≡ true → raw.place ≡ 0 → raw.bytes ≡ bytes → file_seen session ≡ file_by encode plan bytes
+file_opened Text raw plan bytes (TextSession text) opens tells seeks place are = ap OfText (text_file raw (access_of plan.mode) _ (text_settings plan) bytes text opens tells seeks place are)
+file_opened Bytes raw plan bytes (BinarySession stream) opens tells seeks place are = ap OfBinary (binary_file raw (access_of plan.mode) plan.buffer_size bytes stream opens tells seeks place are)
+file_opened Text raw plan bytes (BinarySession stream) opens tells seeks place are = absurd opens
+file_opened Bytes raw plan bytes (TextSession text) opens tells seeks place are = absurd opens
 
 -- with the number 0 all was done
 all_done : (ended : Status) (words : List (List ℕ)) (old new : SourceView) (before after : Outside) → code_of ended ≡ 0 → Outcome ended words old new before after → Outcome status.Done words old new before after
@@ -121,23 +120,23 @@ all_done status.OpenerFailed words old new before after is did = absurd (omega a
 abbrev pub SmoothRunsSettle : Type 0
 SmoothRunsSettle = (before : SessionView) (calls : List Call) (replies : List Reply) (after : SessionView) → IsRun before calls replies after → IsTrue (tells (raw_of before)) → IsSmooth (raw_of before) (raw_of after) → NoneLacksMemory (all_said replies) → AllSettle (file_seen before) calls (all_said replies) (file_seen after)
 
-settles_over : SmoothRunsSettle → (raw : Raw) (plan : OpenPlan) (chunk : ℕ) (session : SessionView) (calls : List Call) (replies : List Reply) (bytes : List ℕ) → (run : RunsCalls raw plan chunk calls session replies) → IsSmooth (raw_of run.opened) (raw_of session) → tells raw ≡ true → raw.seekable ≡ true → raw.place ≡ 0 → raw.bytes ≡ bytes → NoneLacksMemory (all_said replies) → AllSettle (opened_file plan chunk bytes) calls (all_said replies) (file_seen session)
-settles_over law raw plan chunk session calls replies bytes run smooth told seeks place are memory =
-    subst (λ (file : SessionFile). AllSettle file calls (all_said replies) (file_seen session)) (file_opened plan.mode.encode raw plan chunk bytes run.opened run.opens told seeks place are)
-    (law run.opened calls replies session run.run (tells_still raw (raw_of run.opened) (opening_keeps plan.mode.encode raw plan chunk run.opened run.opens).keeps ∙ told) smooth memory)
+settles_over : SmoothRunsSettle → (raw : Raw) (plan : OpenPlan) (session : SessionView) (calls : List Call) (replies : List Reply) (bytes : List ℕ) → (run : RunsCalls raw plan calls session replies) → IsSmooth (raw_of run.opened) (raw_of session) → tells raw ≡ true → raw.seekable ≡ true → raw.place ≡ 0 → raw.bytes ≡ bytes → NoneLacksMemory (all_said replies) → AllSettle (opened_file plan bytes) calls (all_said replies) (file_seen session)
+settles_over law raw plan session calls replies bytes run smooth told seeks place are memory =
+    subst (λ (file : SessionFile). AllSettle file calls (all_said replies) (file_seen session)) (file_opened plan.mode.encode raw plan bytes run.opened run.opens told seeks place are)
+    (law run.opened calls replies session run.run (tells_still raw (raw_of run.opened) (opening_keeps plan.mode.encode raw plan run.opened run.opens).keeps ∙ told) smooth memory)
 
 -- a session is live as it was opened
-opened_live : (encode : EncodeMode) (raw : Raw) (plan : OpenPlan) (chunk : ℕ) (session : SessionView) → OpensBy encode raw plan chunk session → life_of session ≡ life.Live
-opened_live Text raw plan chunk (TextSession text) opens = ap (λ (file : TextFile). file.life) opens.file
-opened_live Bytes raw plan chunk (BinarySession stream) opens = opens.life_is
-opened_live Text raw plan chunk (BinarySession stream) opens = absurd opens
-opened_live Bytes raw plan chunk (TextSession text) opens = absurd opens
+opened_live : (encode : EncodeMode) (raw : Raw) (plan : OpenPlan) (session : SessionView) → OpensBy encode raw plan session → life_of session ≡ life.Live
+opened_live Text raw plan (TextSession text) opens = ap (λ (file : TextFile). file.life) opens.file
+opened_live Bytes raw plan (BinarySession stream) opens = opens.life_is
+opened_live Text raw plan (BinarySession stream) opens = absurd opens
+opened_live Bytes raw plan (TextSession text) opens = absurd opens
 
 -- what the session comes to by the calls and a Close is in the raw
-closed_in_raw : (raw : Raw) (plan : OpenPlan) (chunk : ℕ) (session : SessionView) (calls : List Call) (replies : List Reply) → (run : RunsCalls raw plan chunk (closed_calls calls) session replies) → IsSmooth (raw_of run.opened) (raw_of session) → tells raw ≡ true → NoneLacksMemory (all_said replies) → bytes_in (file_seen session) ≡ (raw_of session).bytes
-closed_in_raw raw plan chunk session calls replies run smooth told memory =
-    close_leaves_in_raw run.opened calls replies session run.run (opened_in_step raw plan chunk run.opened run.opens) (opened_live plan.mode.encode raw plan chunk run.opened run.opens)
-    (tells_still raw (raw_of run.opened) (opening_keeps plan.mode.encode raw plan chunk run.opened run.opens).keeps ∙ told) smooth memory
+closed_in_raw : (raw : Raw) (plan : OpenPlan) (session : SessionView) (calls : List Call) (replies : List Reply) → (run : RunsCalls raw plan (closed_calls calls) session replies) → IsSmooth (raw_of run.opened) (raw_of session) → tells raw ≡ true → NoneLacksMemory (all_said replies) → bytes_in (file_seen session) ≡ (raw_of session).bytes
+closed_in_raw raw plan session calls replies run smooth told memory =
+    close_leaves_in_raw run.opened calls replies session run.run (opened_in_step raw plan run.opened run.opens) (opened_live plan.mode.encode raw plan run.opened run.opens)
+    (tells_still raw (raw_of run.opened) (opening_keeps plan.mode.encode raw plan run.opened run.opens).keeps ∙ told) smooth memory
 
 -- what the path holds is what the raw gives
 raw_bytes : (held : Option (List ℕ)) (bytes : List ℕ) → held ≡ Some bytes → unwrap_or held [] ≡ bytes
@@ -168,7 +167,7 @@ one_run path path' mode mode' args args' same = (cc, cc, cc)
 replies_of : (path mode : List ℕ) (args : OpenArgs) (words : List (List ℕ)) (old new : SourceView) (before after : Outside) → (did : RunsScript words status.Done old new before after) → (did.path ≡ path) × (did.mode ≡ mode) × (did.args ≡ args) → PrintsReplies did.path did.mode did.args old new before after
 replies_of path mode args words old new before after did same =
     let follows = follows_done did.path did.mode did.args did.calls before after did.does in
-    let opened : OpensPath did.path (asked_by follows.plan did.args did.calls) status.Done before after = follows.does in
+    let opened : OpensPath did.path (asked_by follows.plan did.calls) status.Done before after = follows.does in
     let ran = opened.does.1 in
     record {
       calls = did.calls;
@@ -203,7 +202,7 @@ prints_replies words old new before after path mode args ends form =
 
 -- What was printed, where nothing went wrong.
 
-settled : SmoothRunsSettle → (path mode : List ℕ) (args : OpenArgs) (old new : SourceView) (before after : Outside) → (printed : PrintsReplies path mode args old new before after) → IsTrue old.tells → IsTrue before.opener.tells → RawsAreReady before after → PrintsSettled path printed.plan args.chunk_size old before after
+settled : SmoothRunsSettle → (path mode : List ℕ) (args : OpenArgs) (old new : SourceView) (before after : Outside) → (printed : PrintsReplies path mode args old new before after) → IsTrue old.tells → IsTrue before.opener.tells → RawsAreReady before after → PrintsSettled path printed.plan old before after
 settled law path mode args old new before after printed told tells ready =
     let begun = printed.begins tells in
     let smooth : IsSmooth (raw_of printed.run.opened) (raw_of printed.session) = smooth_raw before after (raw_of printed.run.opened) (raw_of printed.session) ready printed.waits printed.faults in
@@ -214,62 +213,57 @@ settled law path mode args old new before after printed told tells ready =
       prints = printed.prints;
       says = λ memory. record {
         last = file_seen printed.session;
-        settles = settles_over law printed.raw printed.plan args.chunk_size printed.session (closed_calls printed.calls) printed.replies (opened_bytes (raw_mode printed.plan) (before.opener.holds path)) printed.run smooth begun.tells begun.seeks begun.place begun.bytes_are memory;
-        holds = printed.holds tells ∙ ap Some (sym (closed_in_raw printed.raw printed.plan args.chunk_size printed.session printed.calls printed.replies printed.run smooth begun.tells memory));
+        settles = settles_over law printed.raw printed.plan printed.session (closed_calls printed.calls) printed.replies (opened_bytes (raw_mode printed.plan) (before.opener.holds path)) printed.run smooth begun.tells begun.seeks begun.place begun.bytes_are memory;
+        holds = printed.holds tells ∙ ap Some (sym (closed_in_raw printed.raw printed.plan printed.session printed.calls printed.replies printed.run smooth begun.tells memory));
       };
     }
 
 -- with the number 0 a run in which no raw failed or waited printed what settles
-pub prints_settled : SmoothRunsSettle → (words : List (List ℕ)) (old new : SourceView) (before after : Outside) (path mode : List ℕ) (args : OpenArgs) (plan : OpenPlan) → Ends 0 words old new before after → command_of words ≡ Some (Run path mode args) → plan_of mode args ≡ Ok plan → IsTrue old.tells → IsTrue before.opener.tells → RawsAreReady before after → PrintsSettled path plan args.chunk_size old before after
+pub prints_settled : SmoothRunsSettle → (words : List (List ℕ)) (old new : SourceView) (before after : Outside) (path mode : List ℕ) (args : OpenArgs) (plan : OpenPlan) → Ends 0 words old new before after → command_of words ≡ Some (Run path mode args) → plan_of mode args ≡ Ok plan → IsTrue old.tells → IsTrue before.opener.tells → RawsAreReady before after → PrintsSettled path plan old before after
 prints_settled law words old new before after path mode args plan ends form accepted told tells ready =
     let printed = prints_replies words old new before after path mode args ends form in
-    subst (λ (by : OpenPlan). PrintsSettled path by args.chunk_size old before after) (one_plan (plan_of mode args) printed.plan plan printed.planned accepted) (settled law path mode args old new before after printed told tells ready)
-
--- the text that is opened of what the path holds
-text_opened_of : (plan : OpenPlan) (chunk : ℕ) (held : Option (List ℕ)) (bytes : List ℕ) → plan.mode.encode ≡ Text → plan.mode.file ≡ Read → held ≡ Some bytes → opened_file plan chunk (opened_bytes (raw_mode plan) held) ≡ OfText (text_opened bytes 0 true chunk)
-text_opened_of plan chunk held bytes is_text reads holds =
-    ap (λ (encode : EncodeMode). file_by encode plan chunk (opened_bytes (raw_mode plan) held)) is_text
-    ∙ ap (λ (file : FileMode). OfText (text_opened (opened_bytes (raw_mode_text (letter_of file) plan.mode.plus) held) 0 true chunk)) reads
-    ∙ ap (λ (some : Option (List ℕ)). OfText (text_opened (unwrap_or some []) 0 true chunk)) holds
+    subst (λ (by : OpenPlan). PrintsSettled path by old before after) (one_plan (plan_of mode args) printed.plan plan printed.planned accepted) (settled law path mode args old new before after printed told tells ready)
 
 -- calls of a text that all settle are answered by the exact replies
 abbrev pub SettledTextsAreExact : Type 0
 SettledTextsAreExact = (before : TextFile) (calls : List Call) (replies : List FileReply) (after : SessionFile) → AllSettle (OfText before) calls replies after → IsExact before calls replies after
 
--- a text only reads
-text_only_reads : (encode : EncodeMode) (raw : Raw) (plan : OpenPlan) (chunk : ℕ) (session : SessionView) → encode ≡ Text → OpensBy encode raw plan chunk session → OnlyReads session
-text_only_reads Text raw plan chunk (TextSession text) is opens = tt
-text_only_reads Text raw plan chunk (BinarySession stream) is opens = absurd opens
-text_only_reads Bytes raw plan chunk session is opens = let wrong : Bytes ≡ Text = is in absurd (cc)
-
--- what a run of a text leaves at the path is what it held
-held_still : (path : List ℕ) (plan : OpenPlan) (chunk : ℕ) (calls : List Call) (replies : List Reply) (raw : Raw) (session : SessionView) (held : Option (List ℕ)) (bytes : List ℕ) → plan.mode.encode ≡ Text → plan.mode.file ≡ Read → held ≡ Some bytes → tells raw ≡ true → raw.bytes ≡ opened_bytes (raw_mode plan) held → (run : RunsCalls raw plan chunk calls session replies) → (raw_of session).bytes ≡ bytes
-held_still path plan chunk calls replies raw session held bytes is_text reads holds told are run =
-    let opened = opening_keeps plan.mode.encode raw plan chunk run.opened run.opens in
-    run_spares run.opened calls replies session run.run (text_only_reads plan.mode.encode raw plan chunk run.opened is_text run.opens) (opened.keeps.tells_bytes ∙ tells_its_bytes raw told)
+-- what a run that only reads leaves at the path is what it held
+held_still : (plan : OpenPlan) (calls : List Call) (replies : List Reply) (raw : Raw) (session : SessionView) (held : Option (List ℕ)) (bytes : List ℕ) → access_of plan.mode ≡ access.Read → held ≡ Some bytes → tells raw ≡ true → raw.bytes ≡ opened_bytes (raw_mode plan) held → (run : RunsCalls raw plan calls session replies) → (raw_of session).bytes ≡ bytes
+held_still plan calls replies raw session held bytes reads holds told are run =
+    let opened = opening_keeps plan.mode.encode raw plan run.opened run.opens in
+    run_spares run.opened calls replies session run.run (opened_to_read plan.mode.encode raw plan run.opened reads run.opens) (opened.keeps.tells_bytes ∙ tells_its_bytes raw told)
     ∙ opened.bytes (tells_its_bytes raw told)
     ∙ are
-    ∙ ap (λ (file : FileMode). opened_bytes (raw_mode_text (letter_of file) plan.mode.plus) held) reads
+    ∙ ap (λ (file : FileMode). opened_bytes (raw_mode_text (letter_of file) plan.mode.plus) held) (file_read plan.mode.file plan.mode.plus reads)
     ∙ ap (λ (some : Option (List ℕ)). unwrap_or some []) holds
 
-text_holds : (path mode : List ℕ) (args : OpenArgs) (old new : SourceView) (before after : Outside) (plan : OpenPlan) (bytes : List ℕ) → PrintsReplies path mode args old new before after → plan_of mode args ≡ Ok plan → plan.mode.encode ≡ Text → IsTrue before.opener.tells → before.opener.holds path ≡ Some bytes → after.opener.holds path ≡ Some bytes
-text_holds path mode args old new before after plan bytes printed accepted is_text tells holds =
+path_still : (path mode : List ℕ) (args : OpenArgs) (old new : SourceView) (before after : Outside) (plan : OpenPlan) (bytes : List ℕ) → PrintsReplies path mode args old new before after → plan_of mode args ≡ Ok plan → access_of plan.mode ≡ access.Read → IsTrue before.opener.tells → before.opener.holds path ≡ Some bytes → after.opener.holds path ≡ Some bytes
+path_still path mode args old new before after plan bytes printed accepted is_read tells holds =
     let begun = printed.begins tells in
     let one : printed.plan ≡ plan = one_plan (plan_of mode args) printed.plan plan printed.planned accepted in
-    let text : printed.plan.mode.encode ≡ Text = ap (λ (by : OpenPlan). by.mode.encode) one ∙ is_text in
-    printed.holds tells ∙ ap Some (held_still path printed.plan args.chunk_size (closed_calls printed.calls) printed.replies printed.raw printed.session (before.opener.holds path) bytes text (planned_text_is_read mode args printed.plan printed.planned text) holds begun.tells begun.bytes_are printed.run)
+    let reads : access_of printed.plan.mode ≡ access.Read = ap (λ (by : OpenPlan). access_of by.mode) one ∙ is_read in
+    printed.holds tells ∙ ap Some (held_still printed.plan (closed_calls printed.calls) printed.replies printed.raw printed.session (before.opener.holds path) bytes reads holds begun.tells begun.bytes_are printed.run)
+
+-- what a text is opened to of these bytes
+text_opened_by : (plan : OpenPlan) (bytes : List ℕ) → plan.mode.encode ≡ Text → opened_file plan bytes ≡ OfText (text_by plan bytes)
+text_opened_by plan bytes is_text = ap (λ (encode : EncodeMode). file_by encode plan bytes) is_text
 
 -- with the number 0 a run of a text in which no raw failed or waited printed the exact replies
-pub prints_exactly : SmoothRunsSettle → SettledTextsAreExact → (words : List (List ℕ)) (old new : SourceView) (before after : Outside) (path mode bytes : List ℕ) (args : OpenArgs) (plan : OpenPlan) → Ends 0 words old new before after → command_of words ≡ Some (Run path mode args) → plan_of mode args ≡ Ok plan → plan.mode.encode ≡ Text → IsTrue old.tells → IsTrue before.opener.tells → before.opener.holds path ≡ Some bytes → RawsAreReady before after → PrintsExactly path bytes args.chunk_size old before after
-prints_exactly law exact words old new before after path mode bytes args plan ends form accepted is_text told tells holds ready =
+pub prints_exactly : SmoothRunsSettle → SettledTextsAreExact → (words : List (List ℕ)) (old new : SourceView) (before after : Outside) (path mode : List ℕ) (args : OpenArgs) (plan : OpenPlan) → Ends 0 words old new before after → command_of words ≡ Some (Run path mode args) → plan_of mode args ≡ Ok plan → plan.mode.encode ≡ Text → IsTrue old.tells → IsTrue before.opener.tells → RawsAreReady before after → PrintsExactly path plan old before after
+prints_exactly law exact words old new before after path mode args plan ends form accepted is_text told tells ready =
     let printed = prints_settled law words old new before after path mode args plan ends form accepted told tells ready in
-    let file = text_opened_of plan args.chunk_size (before.opener.holds path) bytes is_text (planned_text_is_read mode args plan accepted is_text) holds in
+    let bytes : List ℕ = opened_bytes (raw_mode plan) (before.opener.holds path) in
+    let made : List Call = closed_calls printed.calls in
+    let is_exact : (memory : NoneLacksMemory (all_said printed.replies)) → IsExact (text_by plan bytes) made (all_said printed.replies) (printed.says memory).last = λ memory.
+    let settles = printed.says memory in
+    exact (text_by plan bytes) made (all_said printed.replies) settles.last (subst (λ (begun : SessionFile). AllSettle begun made (all_said printed.replies) settles.last) (text_opened_by plan bytes is_text) settles.settles) in
     record {
       calls = printed.calls;
       form = printed.form;
       replies = printed.replies;
       prints = printed.prints;
-      says = λ memory. let settles = printed.says memory in
-          (exact (text_opened bytes 0 true args.chunk_size) (closed_calls printed.calls) (all_said printed.replies) settles.last (subst (λ (begun : SessionFile). AllSettle begun (closed_calls printed.calls) (all_said printed.replies) settles.last) file settles.settles)).says;
-      holds = text_holds path mode args old new before after plan bytes (prints_replies words old new before after path mode args ends form) accepted is_text tells holds;
+      says = λ memory. (is_exact memory).says;
+      holds = λ memory. (printed.says memory).holds ∙ ap (λ (last : SessionFile). Some (bytes_in last)) (is_exact memory).leaves;
+      kept = λ reads held holds. path_still path mode args old new before after plan held (prints_replies words old new before after path mode args ends form) accepted reads tells holds;
     }

@@ -4,6 +4,7 @@ use Rattle.std.proofs.lemmas.Slice.Eq.{bytes_eq-Decides}
 use Rattle.py_flat.specs.declared.fault.IoFault.{IoFault}
 use Rattle.py_flat.specs.declared.fault.IoFault.TheVariants as fault
 use Rattle.py_flat.specs.FlatFile.{Abilities}
+use Rattle.py_plain_text.specs.TextFile.{TextFile}
 use Rattle.py_raw.specs.RawStream.{Raw}
 use Rattle.py_raw.proofs.Telling.{tells_its_bytes}
 use Rattle.py_raw.specs.RawMode.{raw_mode_text}
@@ -53,24 +54,27 @@ others_of_both path old mid new first second other differs = second other differ
 -- A raw that is only read keeps its bytes.
 
 -- an opening leaves a raw's bytes
-pub opening_keeps : (encode : EncodeMode) (raw : Raw) (plan : OpenPlan) (chunk : ℕ) (session : SessionView) → OpensBy encode raw plan chunk session → Untouched raw (raw_of session)
-opening_keeps Text raw plan chunk (TextSession text) opens = opens.untouched
-opening_keeps Bytes raw plan chunk (BinarySession stream) opens = opens.untouched
-opening_keeps Text raw plan chunk (BinarySession stream) opens = absurd opens
-opening_keeps Bytes raw plan chunk (TextSession text) opens = absurd opens
+pub opening_keeps : (encode : EncodeMode) (raw : Raw) (plan : OpenPlan) (session : SessionView) → OpensBy encode raw plan session → Untouched raw (raw_of session)
+opening_keeps Text raw plan (TextSession text) opens = opens.untouched
+opening_keeps Bytes raw plan (BinarySession stream) opens = opens.untouched
+opening_keeps Text raw plan (BinarySession stream) opens = absurd opens
+opening_keeps Bytes raw plan (TextSession text) opens = absurd opens
 
 -- a session that is opened to be read only reads
-opened_to_read : (encode : EncodeMode) (raw : Raw) (plan : OpenPlan) (chunk : ℕ) (session : SessionView) → access_of plan.mode ≡ access.Read → OpensBy encode raw plan chunk session → OnlyReads session
-opened_to_read Text raw plan chunk (TextSession text) reads opens = tt
-opened_to_read Bytes raw plan chunk (BinarySession stream) reads opens = (ap (λ (can : Abilities). can.writable) (opens.can_do ∙ ap (λ (opened : Access). can_of opened raw.seekable) reads), opens.owed)
-opened_to_read Text raw plan chunk (BinarySession stream) reads opens = absurd opens
-opened_to_read Bytes raw plan chunk (TextSession text) reads opens = absurd opens
+pub opened_to_read : (encode : EncodeMode) (raw : Raw) (plan : OpenPlan) (session : SessionView) → access_of plan.mode ≡ access.Read → OpensBy encode raw plan session → OnlyReads session
+opened_to_read Text raw plan (TextSession view) reads opens = (
+  ap (λ (file : TextFile). file.can.writable) opens.file ∙ ap (λ (opened : Access). (can_of opened raw.seekable).writable) reads,
+  record { none = opens.none; own = opens.own; life_is = opens.life_is ∙ sym (ap (λ (file : TextFile). file.life) opens.file) },
+)
+opened_to_read Bytes raw plan (BinarySession stream) reads opens = (ap (λ (can : Abilities). can.writable) (opens.can_do ∙ ap (λ (opened : Access). can_of opened raw.seekable) reads), opens.owed)
+opened_to_read Text raw plan (BinarySession stream) reads opens = absurd opens
+opened_to_read Bytes raw plan (TextSession text) reads opens = absurd opens
 
 run_keeps : (raw back : Raw) (asked : Asked) (lines : List ℕ) → access_of asked.plan.mode ≡ access.Read → RanCalls raw asked back lines → IsTrue raw.tells_bytes → back.bytes ≡ raw.bytes
 run_keeps raw back asked lines reads ran tells =
-    let opened = opening_keeps asked.plan.mode.encode raw asked.plan asked.chunk ran.run.opened ran.run.opens in
+    let opened = opening_keeps asked.plan.mode.encode raw asked.plan ran.run.opened ran.run.opens in
     ap (λ (last : Raw). last.bytes) ran.raw_is
-    ∙ run_spares ran.run.opened (closed_calls asked.calls) ran.replies ran.session ran.run.run (opened_to_read asked.plan.mode.encode raw asked.plan asked.chunk ran.run.opened reads ran.run.opens) (opened.keeps.tells_bytes ∙ tells)
+    ∙ run_spares ran.run.opened (closed_calls asked.calls) ran.replies ran.session ran.run.run (opened_to_read asked.plan.mode.encode raw asked.plan ran.run.opened reads ran.run.opens) (opened.keeps.tells_bytes ∙ tells)
     ∙ opened.bytes tells
 
 lacking_keeps : (appends : Bool) (raw back : Raw) → Lacking appends raw back → IsTrue raw.tells_bytes → back.bytes ≡ raw.bytes
@@ -107,7 +111,7 @@ outcome_keeps raw back asked status.OpenerFailed old new reads does tells = absu
 -- Paths.
 
 -- what is opened to be read alone has the file letter of reading
-file_read : (file : FileMode) (plus : Bool) → access_by file plus ≡ access.Read → file ≡ Read
+pub file_read : (file : FileMode) (plus : Bool) → access_by file plus ≡ access.Read → file ≡ Read
 file_read Read plus reads = refl
 file_read Write true reads = cc
 file_read Write false reads = cc

@@ -8,7 +8,8 @@ use Rattle.py_source_sink.specs.Sink.{SinkView}
 use Rattle.py_raw.specs.Opener.{OpenerView, OpenKeeps, Opens, DoneKeeps, DoneOutcome, PutsAway}
 use Rattle.py_program.specs.declared.status.Status.{Status}
 use Rattle.py_program.specs.declared.status.Status.TheVariants as status
-use Rattle.py_open.specs.Session.{raw_of, flat_bytes}
+use Rattle.py_open.specs.Session.{raw_of}
+use Rattle.py_open.specs.Laws.{flat_left}
 use Rattle.py_open.proofs.Runs.{run_keeps_raw, run_in_step, opened_in_step}
 use Rattle.py_open.proofs.Resting.{run_rests}
 use Rattle.py_open.proofs.Ending.{step_passes, shown_where_told}
@@ -29,12 +30,12 @@ puts_away path asked raw back before mid after (Err open_error.Memory) keeps ope
 holds_flat : (path : List ℕ) (asked : Asked) (raw back : Raw) (before mid after : OpenerView) (old new : SinkView) (lines : List ℕ) → Opens before path (raw_mode asked.plan) raw mid → (IsTrue before.tells → PutsAway back mid path after) → (ran : RanCalls raw asked back lines) → PathHoldsFlat path ran.run.opened ran.session (record { opener = before; sink = old }) (record { opener = after; sink = new })
 holds_flat path asked raw back before mid after old new lines opens puts ran front rest replies others live_view next call reply first step second live ended passes tells =
     let told = opens.told tells in
-    let begun = opening_keeps asked.plan.mode.encode raw asked.plan asked.chunk ran.run.opened ran.run.opens in
+    let begun = opening_keeps asked.plan.mode.encode raw asked.plan ran.run.opened ran.run.opens in
     let kept = run_keeps_raw ran.run.opened front replies live_view first in
-    let in_step = run_in_step ran.run.opened front replies live_view first (opened_in_step raw asked.plan asked.chunk ran.run.opened ran.run.opens) in
+    let in_step = run_in_step ran.run.opened front replies live_view first (opened_in_step raw asked.plan ran.run.opened ran.run.opens) in
     let flat = step_passes live_view call reply next step in_step live passes in
     (puts tells).held
-    ∙ ap Some (ap (λ (raw : Raw). raw.bytes) (ran.raw_is ∙ run_rests next rest others ran.session second ended) ∙ shown_where_told live_view ((raw_of next).bytes ≡ flat_bytes live_view) flat.holds (tells_still (raw_of ran.run.opened) (raw_of live_view) kept ∙ tells_still raw (raw_of ran.run.opened) begun.keeps ∙ told.tells))
+    ∙ ap Some (ap (λ (raw : Raw). raw.bytes) (ran.raw_is ∙ run_rests next rest others ran.session second ended) ∙ shown_where_told live_view ((raw_of next).bytes ≡ flat_left live_view call) flat.holds (tells_still (raw_of ran.run.opened) (raw_of live_view) kept ∙ tells_still raw (raw_of ran.run.opened) begun.keeps ∙ told.tells))
 
 -- all that comes of a path that was opened, by how the calls ended
 opened : (path : List ℕ) (asked : Asked) (ended : Status) (raw back : Raw) (before mid after : OpenerView) (old new : SinkView) (done : Result (Unit {0}) OpenError) → OpenKeeps before mid → Opens before path (raw_mode asked.plan) raw mid → RawOutcome raw asked ended back old new → DoneKeeps back mid after → DoneOutcome back mid path done after → OpensPath path asked ended (record { opener = before; sink = old }) (record { opener = after; sink = new })

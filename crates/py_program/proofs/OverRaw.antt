@@ -35,7 +35,7 @@ run_printed raw asked back lines old new (Err status.SourceFailed) ended ran pri
 run_printed raw asked back lines old new (Err status.OpenerFailed) ended ran prints is = absurd prints
 
 -- the replies of a run over a raw were printed, or a front of them
-pub replies_printed : (raw : Raw) (asked : Asked) (session : SessionView) (back : Raw) (replies : List Reply) (old new : SinkView) (printed : Result (Unit {0}) Status) (ended : Status) → RunsCalls raw asked.plan asked.chunk (closed_calls asked.calls) session replies → back ≡ raw_of session → PrintOutcome old (reply_lines replies) printed new → MatchResult printed (λ done. ended ≡ status.Done) (λ stop. ended ≡ stop) → RawOutcome raw asked ended back old new
+pub replies_printed : (raw : Raw) (asked : Asked) (session : SessionView) (back : Raw) (replies : List Reply) (old new : SinkView) (printed : Result (Unit {0}) Status) (ended : Status) → RunsCalls raw asked.plan (closed_calls asked.calls) session replies → back ≡ raw_of session → PrintOutcome old (reply_lines replies) printed new → MatchResult printed (λ done. ended ≡ status.Done) (λ stop. ended ≡ stop) → RawOutcome raw asked ended back old new
 replies_printed raw asked session back replies old new printed ended run is prints ends =
     run_printed raw asked back (reply_lines replies) old new printed ended (record { session = session; replies = replies; run = run; raw_is = is; lines_are = refl }) prints ends
 
@@ -56,8 +56,8 @@ pub starved : (raw back : Raw) (asked : Asked) (refused : IoFault) (sink : SinkV
 starved raw back asked refused sink why is = inr (record { hands = inr (subst (λ (by : IoFault). RefusesOpening raw asked.plan by back) is why); sink = refl })
 
 -- a session that couldn't be opened over a raw had its refusal printed, or a front of it
-pub refused_printed : (raw back : Raw) (mode : List ℕ) (args : OpenArgs) (asked : Asked) (refused : IoFault) (old new : SinkView) (printed : Result (Unit {0}) Status) (ended : Status) → plan_of mode args ≡ Ok asked.plan → asked.chunk ≡ args.chunk_size → IsOpened (raw_mode asked.plan) raw → RefusesOpening raw asked.plan refused back → (refused ≡ fault.NoMemory → ⊥) → PrintOutcome old (refused_line refused) printed new → MatchResult printed (λ done. ended ≡ status.Refused) (λ stop. ended ≡ stop) → RawOutcome raw asked ended back old new
-refused_printed raw back mode args asked refused old new printed ended accepted chunk opened why not_memory prints ends =
+pub refused_printed : (raw back : Raw) (mode : List ℕ) (args : OpenArgs) (asked : Asked) (refused : IoFault) (old new : SinkView) (printed : Result (Unit {0}) Status) (ended : Status) → plan_of mode args ≡ Ok asked.plan → IsOpened (raw_mode asked.plan) raw → RefusesOpening raw asked.plan refused back → (refused ≡ fault.NoMemory → ⊥) → PrintOutcome old (refused_line refused) printed new → MatchResult printed (λ done. ended ≡ status.Refused) (λ stop. ended ≡ stop) → RawOutcome raw asked ended back old new
+refused_printed raw back mode args asked refused old new printed ended accepted opened why not_memory prints ends =
     elim (refused_by raw back mode args asked.plan refused accepted opened why) [
       | inl is ↦ absurd (not_memory is)
       | inr by ↦ refusal_printed raw asked back (refused_line refused) old new printed ended (record { refused = refused; why = by; lines_are = refl }) prints ends

@@ -32,9 +32,9 @@ pub one_plan : (result : Result OpenPlan IoFault) (first second : OpenPlan) → 
 one_plan result first second one two = let both : Ok first ≡ Ok second = sym one ∙ two in cc
 
 -- a run by the plan of a mode and arguments is one by their plan as it is named here
-pub run_by : (raw : Raw) (mode : List ℕ) (args : OpenArgs) (first plan : OpenPlan) (calls : List Call) (session : SessionView) (replies : List Reply) → plan_of mode args ≡ Ok first → plan_of mode args ≡ Ok plan → RunsCalls raw first args.chunk_size calls session replies → RunsCalls raw plan args.chunk_size calls session replies
+pub run_by : (raw : Raw) (mode : List ℕ) (args : OpenArgs) (first plan : OpenPlan) (calls : List Call) (session : SessionView) (replies : List Reply) → plan_of mode args ≡ Ok first → plan_of mode args ≡ Ok plan → RunsCalls raw first calls session replies → RunsCalls raw plan calls session replies
 run_by raw mode args first plan calls session replies one two run =
-    subst (λ (by : OpenPlan). RunsCalls raw by args.chunk_size calls session replies) (one_plan (plan_of mode args) first plan one two) run
+    subst (λ (by : OpenPlan). RunsCalls raw by calls session replies) (one_plan (plan_of mode args) first plan one two) run
 
 -- a refusal of an opening that the plan accepts is the session's
 pub refused_raw : (raw : Raw) (mode : List ℕ) (args : OpenArgs) (plan : OpenPlan) (refused : IoFault) (back : Raw) → plan_of mode args ≡ Ok plan → RefusesPlanned raw (plan_of mode args) refused back → RefusesOpening raw plan refused back

@@ -28,7 +28,7 @@ accepted_plan command path mode args plan form accepted refused =
     absurd (let wrong : IsErr {T = OpenPlan} {E = IoFault} (Ok plan) = subst (λ (planned : Result OpenPlan IoFault). IsErr planned) accepted asked in cc)
 
 -- with the number 0 all is as the model says
-done_as_model : (words : List (List ℕ)) (old new : SourceView) (before after : Outside) (path mode : List ℕ) (args : OpenArgs) (plan : OpenPlan) (calls : List Call) → Ends 0 words old new before after → command_of words ≡ Some (Run path mode args) → plan_of mode args ≡ Ok plan → TellsCalls old calls → IsTrue before.opener.tells → IsSmoothOutside old new before after → DoesAsTheModel 0 path plan args.chunk_size calls before after
+done_as_model : (words : List (List ℕ)) (old new : SourceView) (before after : Outside) (path mode : List ℕ) (args : OpenArgs) (plan : OpenPlan) (calls : List Call) → Ends 0 words old new before after → command_of words ≡ Some (Run path mode args) → plan_of mode args ≡ Ok plan → TellsCalls old calls → IsTrue before.opener.tells → IsSmoothOutside old new before after → DoesAsTheModel 0 path plan calls before after
 done_as_model words old new before after path mode args plan calls ends form accepted script tells smooth =
     let printed = prints_settled smooth_settles words old new before after path mode args plan ends form accepted script.told tells (record { faults = smooth.fails.raws; waits = smooth.waits }) in
     let same : printed.calls ≡ calls = let both : Some printed.calls ≡ Some calls = sym printed.form ∙ script.form in cc in
@@ -36,7 +36,7 @@ done_as_model words old new before after path mode args plan calls ends form acc
       done = refl;
       replies = printed.replies;
       prints = printed.prints;
-      says = λ memory. subst (λ (made : List Call). SettlesAtPath path plan args.chunk_size (opened_bytes (raw_mode plan) (before.opener.holds path)) (closed_calls made) printed.replies after.opener) same (printed.says memory);
+      says = λ memory. subst (λ (made : List Call). SettlesAtPath path plan (opened_bytes (raw_mode plan) (before.opener.holds path)) (closed_calls made) printed.replies after.opener) same (printed.says memory);
       others = subst (λ (command : Option Command). KeepsOthers command before.opener after.opener) form (others_kept 0 words old new before after ends tells);
     }
 
@@ -45,10 +45,10 @@ done_as_model words old new before after path mode args plan calls ends form acc
 pub does_as_model : (code : ℕ) (words : List (List ℕ)) (old new : SourceView) (before after : Outside) → Ends code words old new before after
     → (command_of words ≢ None → ¬ IsRefusedPlan (command_of words) → NothingFails old new before after → (code ≡ 0) ⊎ ((code ≡ 3) ⊎ ((code ≡ 7) ⊎ ((code ≡ 4) × MayNotMove before.opener (command_of words)))))
     → (code ≡ 3 → IsTrue old.tells → IsMalformed old.left)
-    → (path mode : List ℕ) (args : OpenArgs) (plan : OpenPlan) (calls : List Call) → command_of words ≡ Some (Run path mode args) → plan_of mode args ≡ Ok plan → TellsCalls old calls → IsTrue before.opener.tells → IsSmoothOutside old new before after → code ≢ 7 → DoesAsTheModel code path plan args.chunk_size calls before after
+    → (path mode : List ℕ) (args : OpenArgs) (plan : OpenPlan) (calls : List Call) → command_of words ≡ Some (Run path mode args) → plan_of mode args ≡ Ok plan → TellsCalls old calls → IsTrue before.opener.tells → IsSmoothOutside old new before after → code ≢ 7 → DoesAsTheModel code path plan calls before after
 does_as_model code words old new before after ends complete malformed path mode args plan calls form accepted script tells smooth had =
     elim (complete (λ none. let wrong : Some (Run path mode args) ≡ None = sym form ∙ none in absurd (cc)) (accepted_plan (command_of words) path mode args plan form accepted) smooth.fails) [
-      | inl is ↦ subst (λ (number : ℕ). DoesAsTheModel number path plan args.chunk_size calls before after) (sym is) (done_as_model words old new before after path mode args plan calls (subst (λ (number : ℕ). Ends number words old new before after) is ends) form accepted script tells smooth)
+      | inl is ↦ subst (λ (number : ℕ). DoesAsTheModel number path plan calls before after) (sym is) (done_as_model words old new before after path mode args plan calls (subst (λ (number : ℕ). Ends number words old new before after) is ends) form accepted script tells smooth)
       | inr (inl is) ↦ absurd (well_formed old.left calls script.short script.form (malformed is script.told))
       | inr (inr (inl is)) ↦ absurd (had is)
       | inr (inr (inr still)) ↦ let both : true ≡ false = sym tells ∙ still.1.0 in absurd (cc)

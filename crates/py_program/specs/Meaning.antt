@@ -16,11 +16,12 @@ use Rattle.py_mode.specs.declared.mode.EncodeMode.TheVariants.{Text, Bytes}
 use Rattle.py_mode.specs.declared.open_args.OpenArgs.{OpenArgs}
 use Rattle.py_mode.specs.declared.plan.OpenPlan.{OpenPlan}
 use Rattle.py_mode.specs.Plan.{plan_of}
-use Rattle.py_text_reader.specs.Opening.{text_opened}
+use Rattle.py_plain_text.specs.TextFile.{TextFile}
+use Rattle.py_text_session.specs.Opening.{text_opened}
 use Rattle.py_open.specs.Session.{SessionFile, OfText, OfBinary, SessionView, raw_of, bytes_in}
-use Rattle.py_open.specs.Opening.{access_of}
+use Rattle.py_open.specs.Opening.{access_of, text_settings}
 use Rattle.py_open.specs.Run.{NoneLacksMemory, RunsCalls, AllSettle, all_said}
-use Rattle.py_open.specs.Laws.{RunsComplete, exact_replies}
+use Rattle.py_open.specs.Laws.{RunsComplete, exact_replies, exact_after}
 use Rattle.py_script.specs.CommandWords.{Command, Run, Help, Version}
 use Rattle.py_script.specs.Help.{help_text, version_text}
 use Rattle.py_script.specs.Script.{script_calls}
@@ -96,7 +97,7 @@ pub record PrintsReplies (path mode : List ℕ) (args : OpenArgs) (old new : Sou
   pub begins : IsTrue before.opener.tells → BeginsWith raw (opened_bytes (raw_mode plan) (before.opener.holds path))
   pub session : SessionView
   pub replies : List Reply
-  pub run : RunsCalls raw plan args.chunk_size (closed_calls calls) session replies
+  pub run : RunsCalls raw plan (closed_calls calls) session replies
   pub prints : Prints before.sink (reply_lines replies) after.sink
   pub faults : RoseBy (raw_of session).faults before.opener.raw_faults after.opener.raw_faults
   pub waits : RoseBy (raw_of session).waits before.opener.raw_waits after.opener.raw_waits
@@ -144,15 +145,18 @@ KeepsOthers command old new = HoldsTheSame old new
 
 -- Runs in which nothing went wrong.
 
--- the flat file of a session that an opener's raw, which can seek and stands at its start, is opened to: a text, or a stream of
--- bytes; one that appends begins at the end
+-- where a session begins on an opener's raw, which can seek and stands at its start: one that appends begins at the end
 abbrev pub begins_with : Bool → List ℕ → ℕ
 begins_with appends bytes = if appends then length bytes else 0
 
+-- the text that a plan opens over bytes
+abbrev pub text_by : OpenPlan → List ℕ → TextFile
+text_by plan bytes = text_opened bytes (begins_with (can_of (access_of plan.mode) true).appending bytes) (can_of (access_of plan.mode) true) (text_settings plan)
+
 -- the flat file of a session over bytes, by whether it is of a text or of bytes
-abbrev pub file_by : EncodeMode → OpenPlan → ℕ → List ℕ → SessionFile
-file_by Text plan chunk bytes = OfText (text_opened bytes 0 true chunk)
-file_by Bytes plan chunk bytes = OfBinary (record {
+abbrev pub file_by : EncodeMode → OpenPlan → List ℕ → SessionFile
+file_by Text plan bytes = OfText (text_by plan bytes)
+file_by Bytes plan bytes = OfBinary (record {
   bytes = bytes;
   place = begins_with (can_of (access_of plan.mode) true).appending bytes;
   can = can_of (access_of plan.mode) true;
@@ -161,33 +165,35 @@ file_by Bytes plan chunk bytes = OfBinary (record {
 })
 
 -- the flat file that a plan opens over bytes
-abbrev pub opened_file : OpenPlan → ℕ → List ℕ → SessionFile
-opened_file plan chunk bytes = file_by plan.mode.encode plan chunk bytes
+abbrev pub opened_file : OpenPlan → List ℕ → SessionFile
+opened_file plan bytes = file_by plan.mode.encode plan bytes
 
 -- replies settle on the file that a plan opens over bytes, from there to a last file, of which the path holds the bytes in the end
-pub record SettlesAtPath (path : List ℕ) (plan : OpenPlan) (chunk : ℕ) (bytes : List ℕ) (calls : List Call) (replies : List Reply) (after : OpenerView) : Type 0 where
+pub record SettlesAtPath (path : List ℕ) (plan : OpenPlan) (bytes : List ℕ) (calls : List Call) (replies : List Reply) (after : OpenerView) : Type 0 where
   pub last : SessionFile
-  pub settles : AllSettle (opened_file plan chunk bytes) calls (all_said replies) last
+  pub settles : AllSettle (opened_file plan bytes) calls (all_said replies) last
   pub holds : after.holds path ≡ Some (bytes_in last)
 
 -- what was printed is the lines of replies to the script's calls and a Close; unless one says out of memory, they settle on the
 -- file that the mode opens of what the path held, and the path holds the bytes of the file that they come to
-pub record PrintsSettled (path : List ℕ) (plan : OpenPlan) (chunk : ℕ) (old : SourceView) (before after : Outside) : Type 0 where
+pub record PrintsSettled (path : List ℕ) (plan : OpenPlan) (old : SourceView) (before after : Outside) : Type 0 where
   pub calls : List Call
   pub form : script_calls old.left ≡ Some calls
   pub replies : List Reply
   pub prints : Prints before.sink (reply_lines replies) after.sink
-  pub says : NoneLacksMemory (all_said replies) → SettlesAtPath path plan chunk (opened_bytes (raw_mode plan) (before.opener.holds path)) (closed_calls calls) replies after.opener
+  pub says : NoneLacksMemory (all_said replies) → SettlesAtPath path plan (opened_bytes (raw_mode plan) (before.opener.holds path)) (closed_calls calls) replies after.opener
 
 -- what was printed is the lines of replies to the script's calls and a Close; unless one says out of memory, they are the exact ones
--- of a text on these bytes, begun at place 0, with chunks of this size; and the path holds these bytes
-pub record PrintsExactly (path bytes : List ℕ) (chunk : ℕ) (old : SourceView) (before after : Outside) : Type 0 where
+-- of the text that the mode opens of what the path held, and the path holds the bytes of the text that they come to. Of a text that is
+-- only read it holds what it held
+pub record PrintsExactly (path : List ℕ) (plan : OpenPlan) (old : SourceView) (before after : Outside) : Type 0 where
   pub calls : List Call
   pub form : script_calls old.left ≡ Some calls
   pub replies : List Reply
   pub prints : Prints before.sink (reply_lines replies) after.sink
-  pub says : NoneLacksMemory (all_said replies) → all_said replies ≡ exact_replies (text_opened bytes 0 true chunk) (closed_calls calls)
-  pub holds : after.opener.holds path ≡ Some bytes
+  pub says : NoneLacksMemory (all_said replies) → all_said replies ≡ exact_replies (text_by plan (opened_bytes (raw_mode plan) (before.opener.holds path))) (closed_calls calls)
+  pub holds : NoneLacksMemory (all_said replies) → after.opener.holds path ≡ Some (exact_after (text_by plan (opened_bytes (raw_mode plan) (before.opener.holds path))) (closed_calls calls)).bytes
+  pub kept : access_of plan.mode ≡ access.Read → (bytes : List ℕ) → before.opener.holds path ≡ Some bytes → after.opener.holds path ≡ Some bytes
 
 -- the source tells a script that is well formed, and has these calls
 pub record TellsCalls (source : SourceView) (calls : List Call) : Type 0 where
@@ -203,11 +209,11 @@ pub record IsSmoothOutside (old new : SourceView) (before after : Outside) : Typ
 -- The program does what the model says: it ends with 0; the lines of replies to these calls and a Close were printed; and, unless one of
 -- them says out of memory, they are the model's on the file that the mode opens of what the path held, and the path holds the
 -- bytes of the file that they come to. Every other path holds what it held
-pub record DoesAsTheModel (code : ℕ) (path : List ℕ) (plan : OpenPlan) (chunk : ℕ) (calls : List Call) (before after : Outside) : Type 0 where
+pub record DoesAsTheModel (code : ℕ) (path : List ℕ) (plan : OpenPlan) (calls : List Call) (before after : Outside) : Type 0 where
   pub done : code ≡ 0
   pub replies : List Reply
   pub prints : Prints before.sink (reply_lines replies) after.sink
-  pub says : NoneLacksMemory (all_said replies) → SettlesAtPath path plan chunk (opened_bytes (raw_mode plan) (before.opener.holds path)) (closed_calls calls) replies after.opener
+  pub says : NoneLacksMemory (all_said replies) → SettlesAtPath path plan (opened_bytes (raw_mode plan) (before.opener.holds path)) (closed_calls calls) replies after.opener
   pub others : OthersHoldTheSame path before.opener after.opener
 
 -- The program's promises.
@@ -241,7 +247,7 @@ pub record Promises (code : ℕ) (asked : Option Command) (old new : SourceView)
   pub left : (path : List ℕ) (plan : OpenPlan) → IsAcceptedAt path plan asked → code ≡ 4 → TellsPaths before.opener
       → after.opener.holds path ≡ Some (opened_bytes (raw_mode plan) (before.opener.holds path))
   pub smooth : (path mode : List ℕ) (args : OpenArgs) (plan : OpenPlan) (calls : List Call) → asked ≡ Some (Run path mode args) → plan_of mode args ≡ Ok plan → TellsCalls old calls → TellsPaths before.opener
-      → IsSmoothOutside old new before after → code ≢ 7 → DoesAsTheModel code path plan args.chunk_size calls before after
+      → IsSmoothOutside old new before after → code ≢ 7 → DoesAsTheModel code path plan calls before after
   pub printed : (path mode : List ℕ) (args : OpenArgs) → code ≡ 0 → asked ≡ Some (Run path mode args) → PrintsReplies path mode args old new before after
   pub help : code ≡ 0 → asked ≡ Some Help → Prints before.sink help_text after.sink
   pub version : code ≡ 0 → asked ≡ Some Version → Prints before.sink version_text after.sink

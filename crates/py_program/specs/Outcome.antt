@@ -12,13 +12,13 @@ use Rattle.py_raw.specs.RawMode.{raw_mode_text}
 use Rattle.py_calls.specs.declared.call.Call.{Call}
 use Rattle.py_calls.specs.declared.call.Call.TheVariants.{Close}
 use Rattle.py_calls.specs.declared.reply.Reply.{Reply}
-use Rattle.py_calls.specs.Calls.{file_call, said}
+use Rattle.py_calls.specs.Calls.{said}
 use Rattle.py_mode.specs.Mode.{letter_of}
-use Rattle.py_open.specs.Session.{SessionView, Answers, raw_of, life_of, flat_bytes}
+use Rattle.py_open.specs.Session.{SessionView, Answers, raw_of, life_of}
 use Rattle.py_stream.specs.declared.access.Access.TheVariants as access
 use Rattle.py_open.specs.Opening.{RefusesSession, access_of}
 use Rattle.py_open.specs.Run.{IsRun, RefusesOpening, RunsCalls}
-use Rattle.py_open.specs.Laws.{PassesAll}
+use Rattle.py_open.specs.Laws.{PassesAll, flat_left}
 use Rattle.py_script.specs.ReplyLine.{reply_lines}
 use Rattle.py_script.specs.Faults.{refused_line}
 use Rattle.py_script.specs.CommandWords.{Command, Run, Help, Version, command_of}
@@ -49,10 +49,9 @@ asked_in words = command_of (texts words)
 
 -- What is done over a raw that was opened.
 
--- what is asked of a raw: a session as it is planned, of a text with chunks of this size in bytes, and the calls of a script
+-- what is asked of a raw: a session as it is planned, and the calls of a script
 pub record Asked : Type 0 where
   pub plan : OpenPlan
-  pub chunk : ℕ
   pub calls : List Call
 
 -- the mode by which the raw is opened
@@ -67,7 +66,7 @@ closed_calls calls = calls ++ Close ∷ []
 pub record RanCalls (raw : Raw) (asked : Asked) (back : Raw) (lines : List ℕ) : Type 0 where
   pub session : SessionView
   pub replies : List Reply
-  pub run : RunsCalls raw asked.plan asked.chunk (closed_calls asked.calls) session replies
+  pub run : RunsCalls raw asked.plan (closed_calls asked.calls) session replies
   pub raw_is : back ≡ raw_of session
   pub lines_are : lines ≡ reply_lines replies
 
@@ -88,8 +87,8 @@ pub record RefusedRaw (raw : Raw) (asked : Asked) (back : Raw) (lines : List ℕ
   pub lines_are : lines ≡ refused_line refused
 
 -- what a plan asks with the calls of a script
-abbrev pub asked_by : OpenPlan → OpenArgs → List Call → Asked
-asked_by plan args calls = record { plan = plan; chunk = args.chunk_size; calls = calls }
+abbrev pub asked_by : OpenPlan → List Call → Asked
+asked_by plan calls = record { plan = plan; calls = calls }
 
 -- what there is to print over a raw
 abbrev pub HasLines : Raw → Asked → Raw → List ℕ → Type 0
@@ -118,8 +117,8 @@ RawOutcome raw asked _ back old new = ⊥
 abbrev pub PathHoldsFlat : List ℕ → SessionView → SessionView → Outside → Outside → Type 0
 PathHoldsFlat path opened session before after =
     (front rest : List Call) (replies others : List Reply) (mid next : SessionView) (call : Call) (reply : Reply) → IsRun opened front replies mid → Answers mid call reply next → IsRun next rest others session
-    → life_of mid ≡ life.Live → life_of next ≢ life.Live → PassesAll (file_call call) (said reply)
-    → IsTrue before.opener.tells → after.opener.holds path ≡ Some (flat_bytes mid)
+    → life_of mid ≡ life.Live → life_of next ≢ life.Live → PassesAll mid call (said reply)
+    → IsTrue before.opener.tells → after.opener.holds path ≡ Some (flat_left mid call)
 
 -- the path was opened as it is planned, the calls ended so, and the raw was put away again, whatever the opener answered; where that
 -- tells, the path holds the raw's bytes, the flat ones where a close or detach of a live session was done
@@ -177,7 +176,7 @@ pub record RefusesPlan (mode : List ℕ) (args : OpenArgs) (ended : Status) (bef
 pub record FollowsPlan (path mode : List ℕ) (args : OpenArgs) (calls : List Call) (ended : Status) (before after : Outside) : Type 0 where
   pub plan : OpenPlan
   pub planned : plan_of mode args ≡ Ok plan
-  pub does : CallsOutcome path (asked_by plan args calls) ended before after
+  pub does : CallsOutcome path (asked_by plan calls) ended before after
 
 -- what came of the script's calls, by whether the plan refuses the opening or accepts it
 abbrev pub PlannedOutcome : List ℕ → List ℕ → OpenArgs → List Call → Status → Outside → Outside → Type 0

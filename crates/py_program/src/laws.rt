@@ -16,18 +16,19 @@ use py_open::{a_settled_text_is_exact, a_smooth_run_settles};
 /// transfer gives some front of what it is asked for; and the path holds the bytes of the file that these calls come to. Only a reply
 /// when out of memory frees the others, and that.
 pub fn a_smooth_run_prints_what_settles()
-    ensures { (words : List (List ℕ)) (old new : SourceView) (before after : Outside) (path mode : List ℕ) (args : OpenArgs) (plan : OpenPlan) → Ends 0 words old new before after → command_of words ≡ Some (Run path mode args) → plan_of mode args ≡ Ok plan → IsTrue old.tells → IsTrue before.opener.tells → RawsAreReady before after → PrintsSettled path plan args.chunk_size old before after }
+    ensures { (words : List (List ℕ)) (old new : SourceView) (before after : Outside) (path mode : List ℕ) (args : OpenArgs) (plan : OpenPlan) → Ends 0 words old new before after → command_of words ≡ Some (Run path mode args) → plan_of mode args ≡ Ok plan → IsTrue old.tells → IsTrue before.opener.tells → RawsAreReady before after → PrintsSettled path plan old before after }
 {
     a_smooth_run_settles();
 }
 
 /// A run of a text that ends with 0, over a file in which no call failed or would have blocked, prints the lines of the model's exact
-/// replies, begun at place 0, unless one says out of memory; and the path holds the bytes that it held. The sizes of buffer and chunks change no
-/// reply.
+/// replies, begun at place 0, or at the end where it appends, unless one says out of memory; and the path holds the bytes of the text that
+/// these calls come to, of a text that is only read those that it held. The sizes of buffer and chunks change no reply but that to a
+/// question for the chunk size.
 ///
 /// Two such runs of one script over equal files print the same, whatever pieces the file was read in.
 pub fn a_smooth_run_prints_the_exact_replies()
-    ensures { (words : List (List ℕ)) (old new : SourceView) (before after : Outside) (path mode bytes : List ℕ) (args : OpenArgs) (plan : OpenPlan) → Ends 0 words old new before after → command_of words ≡ Some (Run path mode args) → plan_of mode args ≡ Ok plan → plan.mode.encode ≡ Text → IsTrue old.tells → IsTrue before.opener.tells → before.opener.holds path ≡ Some bytes → RawsAreReady before after → PrintsExactly path bytes args.chunk_size old before after }
+    ensures { (words : List (List ℕ)) (old new : SourceView) (before after : Outside) (path mode : List ℕ) (args : OpenArgs) (plan : OpenPlan) → Ends 0 words old new before after → command_of words ≡ Some (Run path mode args) → plan_of mode args ≡ Ok plan → plan.mode.encode ≡ Text → IsTrue old.tells → IsTrue before.opener.tells → RawsAreReady before after → PrintsExactly path plan old before after }
 {
     a_smooth_run_prints_what_settles();
     a_settled_text_is_exact();

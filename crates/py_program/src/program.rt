@@ -163,7 +163,7 @@ fn run_raw<R: RawStream, K: Sink>(
     requires start { StandsAtStart (R.shows raw) }
     ensures sink { SinkKeeps (K.shows out.old) (K.shows out.new) }
     ensures outcome { (plan : Plan) → plan_of mode.now args ≡ Ok plan
-        → RawOutcome (R.shows raw) (asked_by plan args calls.items) result.0 (R.shows result.1) (K.shows out.old) (K.shows out.new) }
+        → RawOutcome (R.shows raw) (asked_by plan calls.items) result.0 (R.shows result.1) (K.shows out.old) (K.shows out.new) }
     ensures exact { result.0 ≢ Status.SinkFailed → NoSinkFault (K.shows out.old) (K.shows out.new) }
 {
     let mut calls = calls;

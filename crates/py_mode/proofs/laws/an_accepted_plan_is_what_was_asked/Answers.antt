@@ -4,11 +4,8 @@ use Rattle.py_mode.proofs.laws.an_accepted_plan_is_what_was_asked.Goals as goal
 pub returns-clause-mode : goal.returns-clause-mode
 returns-clause-mode c = λ mode args plan planned. planned_mode mode args plan planned
 
-pub returns-clause-plus_of_bytes : goal.returns-clause-plus_of_bytes
-returns-clause-plus_of_bytes c = λ mode args plan planned plus. (planned_plus mode args plan planned plus).0
-
 pub returns-clause-plus_not_at_the_end : goal.returns-clause-plus_not_at_the_end
-returns-clause-plus_not_at_the_end c = λ mode args plan planned plus. (planned_plus mode args plan planned plus).1
+returns-clause-plus_not_at_the_end c = λ mode args plan planned plus. planned_plus mode args plan planned plus
 
 pub returns-clause-buffer : goal.returns-clause-buffer
 returns-clause-buffer c = λ mode args plan planned. planned_buffer mode args plan planned

@@ -5,4 +5,4 @@ pub returns-clause-closed : goal.returns-clause-closed
 returns-clause-closed c = run_closes
 
 pub returns-clause-opened : goal.returns-clause-opened
-returns-clause-opened c = λ raw plan chunk opened session calls replies opens run. (run_kept opened calls replies session run (opened_kept raw plan chunk opened opens)).has_open
+returns-clause-opened c = λ raw plan opened session calls replies opens run. (run_kept opened calls replies session run (opened_kept raw plan opened opens)).has_open

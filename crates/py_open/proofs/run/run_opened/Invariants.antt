@@ -5,6 +5,6 @@ use Rattle.py_open.proofs.run.run_opened.Given as goal
 -- the replies so far are those of a run of the calls so far, and there is room for the others
 abbrev pub invariant-loop-call : goal.invariant-loop-call
 invariant-loop-call g l = record {
-  run : RunsCalls (g.R.RawStream.shows l.fn.raw) l.fn.plan l.fn.chunk_size (take l.call-index l.calls) l.session l.replies.items;
+  run : RunsCalls (g.R.RawStream.shows l.fn.raw) l.fn.plan (take l.call-index l.calls) l.session l.replies.items;
   room : vec_len l.replies + (length l.calls - l.call-index) ≤ vec_capacity l.replies;
 }

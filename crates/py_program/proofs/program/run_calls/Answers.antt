@@ -34,7 +34,7 @@ returns-in-Ok-open_raw-clause-outcome g c =
     inr (record {
       plan = c.in-Ok.plan;
       planned = accepted;
-      does = ended_outcome c.args.path.now (asked_by c.in-Ok.plan c.args.args c.args.calls.items) c.run_raw-status.result.0 c.put_away.result raw (g.O.Raw.RawStream.shows c.run_raw-status.result.1) old mid (g.O.Opener.shows c.done.new.self) (g.K.Sink.shows c.args.out.now) (g.K.Sink.shows c.run_raw-status.new.out) c.done.result
+      does = ended_outcome c.args.path.now (asked_by c.in-Ok.plan c.args.calls.items) c.run_raw-status.result.0 c.put_away.result raw (g.O.Raw.RawStream.shows c.run_raw-status.result.1) old mid (g.O.Opener.shows c.done.new.self) (g.K.Sink.shows c.args.out.now) (g.K.Sink.shows c.run_raw-status.new.out) c.done.result
           c.put_away.ensures c.in-Ok-open_raw.ensures.keeps opens (c.run_raw-status.ensures.outcome c.in-Ok.plan accepted) c.done.ensures.keeps c.done.ensures.outcome;
     })
 

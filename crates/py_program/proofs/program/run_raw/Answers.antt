@@ -1,4 +1,4 @@
-use Rattle.std.proofs.Common.{◌≡◌, Bool, true, List, ◌∷◌, ◌++◌, [], is_ok, refl, if◌then◌else◌, ap, ◌∙◌, subst}
+use Rattle.std.proofs.Common.{◌≡◌, Bool, true, List, ◌∷◌, ◌++◌, [], is_ok, if◌then◌else◌, ap, ◌∙◌, subst}
 use Rattle.py_flat.specs.declared.fault.IoFault.{IoFault}
 use Rattle.py_raw.specs.RawStream.{Raw}
 use Rattle.py_source_sink.specs.Sink.{SinkView}
@@ -26,9 +26,9 @@ returns-in-Ok-clause-outcome g c = λ plan accepted.
     let replies : List Reply = c.in-Ok.field-0.replies.items in
     let calls_are : c.deref.result.now ≡ closed_calls c.args.calls.items = calls_closed c.args.calls.items c.push.new.self.items c.deref.result.now (is_ok c.push.result) c.if-is_err.ensures.negation c.push.ensures.items c.deref.ensures.value in
     let ran = c.in-Ok.ensures in
-    let planned : RunsCalls raw plan c.args.args.chunk_size c.deref.result.now session replies = run_by raw c.args.mode.now c.args.args ran.0 plan c.deref.result.now session replies ran.1 accepted ran.2 in
-    replies_printed raw (asked_by plan c.args.args c.args.calls.items) session (g.R.RawStream.shows c.finish.result.raw) replies old new c.print_replies.result c.status_of-status.result
-    (subst (λ (calls : List Call). RunsCalls raw plan c.args.args.chunk_size calls session replies) calls_are planned) c.finish.ensures.raw
+    let planned : RunsCalls raw plan c.deref.result.now session replies = run_by raw c.args.mode.now c.args.args ran.0 plan c.deref.result.now session replies ran.1 accepted ran.2 in
+    replies_printed raw (asked_by plan c.args.calls.items) session (g.R.RawStream.shows c.finish.result.raw) replies old new c.print_replies.result c.status_of-status.result
+    (subst (λ (calls : List Call). RunsCalls raw plan calls session replies) calls_are planned) c.finish.ensures.raw
     (subst (λ (printed : List Reply). PrintOutcome old (reply_lines printed) c.print_replies.result new) c.deref-in-Ok.ensures.value c.print_replies.ensures.outcome) c.status_of-status.ensures
 
 pub returns-clause-outcome : goal.returns-clause-outcome
@@ -36,5 +36,5 @@ returns-clause-outcome g c = λ plan accepted.
     let raw : Raw = g.R.RawStream.shows c.args.raw in
     let back : Raw = g.R.RawStream.shows c.in-Err.field-0.raw in
     let refused : IoFault = c.in-Err.field-0.fault in
-    refused_printed raw back c.args.mode.now c.args.args (asked_by plan c.args.args c.args.calls.items) refused (g.K.Sink.shows c.args.out.now) (g.K.Sink.shows c.print_refused.new.out) c.print_refused.result c.status_of-status-in_default.result
-    accepted refl (c.requires.opened plan accepted) (refused_raw raw c.args.mode.now c.args.args plan refused back accepted c.in-Err.ensures) c.in_default.not-NoMemory c.print_refused.ensures.outcome c.status_of-status-in_default.ensures
+    refused_printed raw back c.args.mode.now c.args.args (asked_by plan c.args.calls.items) refused (g.K.Sink.shows c.args.out.now) (g.K.Sink.shows c.print_refused.new.out) c.print_refused.result c.status_of-status-in_default.result
+    accepted (c.requires.opened plan accepted) (refused_raw raw c.args.mode.now c.args.args plan refused back accepted c.in-Err.ensures) c.in_default.not-NoMemory c.print_refused.ensures.outcome c.status_of-status-in_default.ensures

@@ -1,4 +1,0 @@
-mod SoFar
-mod OverBuffer
-mod Parting
-mod Losing

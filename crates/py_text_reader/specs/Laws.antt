@@ -1,9 +1,0 @@
--- What holds of the steps of a text, whatever raw is below.
-use Rattle.std.specs.Prelude.{◌≡◌, ℕ, List, ◌++◌}
-use Rattle.py_plain_text.specs.Rest.{text_rest}
-use Rattle.py_plain_text.specs.TextFile.{TextFile}
-
--- what was left of a text is the characters that were answered and what is left now, up to the same refused range
-pub record LosesNothing (before : TextFile) (answer : List ℕ) (after : TextFile) : Type 0 where
-  pub characters : (text_rest before).characters ≡ answer ++ (text_rest after).characters
-  pub refusal : (text_rest after).refusal ≡ (text_rest before).refusal

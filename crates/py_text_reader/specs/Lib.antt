@@ -1,6 +1,0 @@
-pub mod TextState
-pub mod Seen
-pub mod Answers
-pub mod Opening
-pub mod Laws
-pub mod Lines
