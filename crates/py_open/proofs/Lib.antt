@@ -7,3 +7,4 @@ pub mod Closing
 pub mod Gone
 pub mod InRaw
 pub mod Names
+pub mod Joining

@@ -12,7 +12,7 @@ ghost use Rattle.py_calls.specs.declared.call.Call.TheVariants.{Close};
 ghost use Rattle.py_calls.specs.declared.reply.Reply.{Reply};
 ghost use Rattle.py_calls.specs.declared.reply.Reply.TheVariants.{Done};
 ghost use Rattle.py_calls.specs.Calls.{said};
-ghost use Rattle.py_open.specs.Session.{SessionFile, OfText, SessionView, Answers, IsInStep, HasOpenRaw, file_seen, raw_of, life_of, life_in, bytes_in};
+ghost use Rattle.py_open.specs.Session.{SessionFile, OfText, SessionView, Answers, IsInStep, HasOpenRaw, file_seen, raw_of, life_of, life_in, bytes_in, SessionStep};
 ghost use Rattle.py_mode.specs.declared.plan.OpenPlan.{OpenPlan};
 ghost use Rattle.py_open.specs.Opening.{OpensSession};
 ghost use Rattle.py_open.specs.Run.{Entry, IsRun, IsHistory, IsCalm, IsSmooth, NoneLacksMemory, AllSettle, all_said, calls_of, replies_of};
@@ -41,6 +41,16 @@ pub fn a_smooth_run_is_complete()
 /// the second goes on. So what holds of a run up to its first wait, fault or running out of memory holds whatever comes after.
 pub fn a_run_splits_anywhere()
     ensures { (before : SessionView) (calls more : List Call) (replies others : List Reply) (after : SessionView) → length replies ≡ length calls → IsRun before (calls ++ more) (replies ++ others) after → RunsInTwo before calls more replies others after }
+{}
+
+/// Two runs one behind the other are a run: of the calls of both, with the replies of both.
+pub fn two_runs_are_a_run()
+    ensures { (before mid after : SessionView) (calls more : List Call) (replies others : List Reply) → IsRun before calls replies mid → IsRun mid more others after → IsRun before (calls ++ more) (replies ++ others) after }
+{}
+
+/// A history gains an entry at its end: a step from the file that it came to.
+pub fn a_history_gains_an_entry()
+    ensures { (before mid after : SessionFile) (entries : List Entry) (entry : Entry) → IsHistory before entries mid → SessionStep mid entry.call (said entry.reply) entry.waited entry.faulted after → IsHistory before (entries ++ entry ∷ []) after }
 {}
 
 /// A run over a raw that tells is a history of its flat files: the same calls and replies, each a step of the model, marked
