@@ -83,24 +83,6 @@ fn a_truncate_that_fails_to_pass_on_is_made_again(rt: HostRuntime) -> Result<(),
 }
 
 #[test]
-fn a_raw_that_fails_to_take_a_size_has_what_was_written(rt: HostRuntime) -> Result<(), Fail> {
-    let alloc = rt.alloc();
-    // the third call of the raw fails: it was asked where it stands, then written to, then given the size
-    let mut stream = random_over(alloc, b"0123456789", &[], &[2], 4)?;
-    assert!(rt; stream.write(b"abc") == Ok(3));
-    assert!(rt; stream.truncate(Some(5)) == Err(IoFault::RawFault));
-    let detached = stream.detach()?;
-    assert!(rt; detached.unwritten.is_empty());
-    assert!(rt; detached.place == Some(3)); // the stream's own
-    assert!(rt; detached.raw.bytes_of() == &b"abc3456789"[..]); // of another raw they might be cut
-    let mut stream = written_back(alloc, detached, 4)?;
-    assert!(rt; stream.truncate(Some(5)) == Ok(5));
-    let detached = stream.detach()?;
-    assert!(rt; detached.raw.bytes_of() == &b"abc34"[..]);
-    Ok(())
-}
-
-#[test]
 fn a_close_that_fails_to_pass_on_is_made_again(rt: HostRuntime) -> Result<(), Fail> {
     let alloc = rt.alloc();
     // the raw takes one byte, and then fails
@@ -137,24 +119,5 @@ fn a_raw_that_fails_to_be_moved_back_stays_open(rt: HostRuntime) -> Result<(), F
     assert!(rt; parts.place == Some(1));
     assert!(rt; !parts.raw.closed()); // it wasn't asked to close
     assert!(rt; parts.raw.close().is_ok());
-    Ok(())
-}
-
-#[test]
-fn a_raw_that_is_read_and_written_and_fails_to_close_is_closed(
-    rt: HostRuntime,
-) -> Result<(), Fail> {
-    let alloc = rt.alloc();
-    // the third call of the raw fails: it was asked where it stands, then written to, then closed
-    let mut stream = random_over(alloc, b"0123456789", &[], &[2], 4)?;
-    assert!(rt; stream.write(b"abc") == Ok(3));
-    assert!(rt; stream.close() == Err(IoFault::RawFault));
-    assert!(rt; stream.life() == Life::Closed);
-    let Some(parts) = stream.into_parts() else {
-        return Err(Fail::from("detached"));
-    };
-    assert!(rt; parts.raw.closed()); // closed it is, though it said that it failed
-    assert!(rt; parts.unwritten.is_empty());
-    assert!(rt; parts.raw.bytes_of() == &b"abc3456789"[..]);
     Ok(())
 }
