@@ -13,7 +13,7 @@ fn all_that_a_reader_has_left_is_copied(rt: HostRuntime) -> Result<(), Fail> {
     let mut reader = reader_of(alloc, b"one\ntwo\n", &[Cut::Take(3)], &[], 4)?;
     let mut writer = writer_to(alloc, b"", &[Cut::Take(5)], &[], 2)?;
     assert!(rt; copy_all(alloc, &mut reader, &mut writer) == Ok(true));
-    assert!(rt; writer.detach()?.raw.bytes_of() == &b"one\ntwo\n"[..]);
+    assert!(rt; writer.detach().expect(&rt, "a raw").raw.bytes_of() == &b"one\ntwo\n"[..]);
     Ok(())
 }
 
@@ -24,7 +24,7 @@ fn a_copy_says_that_it_had_to_wait(rt: HostRuntime) -> Result<(), Fail> {
     let mut writer = writer_to(alloc, b"", &[], &[], 2)?;
     assert!(rt; copy_all(alloc, &mut reader, &mut writer) == Ok(false));
     assert!(rt; copy_all(alloc, &mut reader, &mut writer) == Ok(true));
-    assert!(rt; writer.detach()?.raw.bytes_of() == &b"one"[..]);
+    assert!(rt; writer.detach().expect(&rt, "a raw").raw.bytes_of() == &b"one"[..]);
     Ok(())
 }
 

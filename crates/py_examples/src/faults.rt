@@ -13,9 +13,7 @@ fn lines_are_collected_and_passed_on(rt: HostRuntime) -> Result<(), Fail> {
     assert!(rt; writer.tell() == Ok(8));
     assert!(rt; writer.flush() == Ok(())); // the raw has all eight bytes
     assert!(rt; writer.close() == Ok(()));
-    let Some(parts) = writer.into_parts() else {
-        return Err(Fail::from("detached"));
-    };
+    let parts = writer.into_parts().expect(&rt, "a raw");
     assert!(rt; parts.raw.bytes_of() == &b"one\ntwo\n"[..]);
     Ok(())
 }
@@ -29,7 +27,7 @@ fn a_write_that_has_to_wait_goes_on_past_what_was_taken(rt: HostRuntime) -> Resu
     assert!(rt; writer.short()); // a wait cut it short: three bytes went, and four fill the buffer
     assert!(rt; writer.write(b"789") == Ok(3)); // later: what is left of them
     assert!(rt; writer.flush() == Ok(()));
-    let detached = writer.detach()?;
+    let detached = writer.detach().expect(&rt, "a raw");
     assert!(rt; detached.raw.bytes_of() == &b"0123456789"[..]);
     assert!(rt; detached.unwritten.is_empty());
     Ok(())
@@ -38,13 +36,13 @@ fn a_write_that_has_to_wait_goes_on_past_what_was_taken(rt: HostRuntime) -> Resu
 #[test]
 fn lines_that_have_to_wait_are_counted_over_all_of_them(rt: HostRuntime) -> Result<(), Fail> {
     let alloc = rt.alloc();
+    let lines = three_lines(alloc)?;
     // the raw takes three bytes, and then asks to wait
     let mut writer = writer_to(alloc, b"", &[Cut::Take(3), Cut::Wait], &[], 4)?;
-    let lines = three_lines(alloc)?;
     assert!(rt; writer.writelines(&lines) == Err(IoFault::WouldBlock { taken: 7 }));
     assert!(rt; writer.write(b"\nghi\n") == Ok(5)); // later: what is left of the lines joined
     assert!(rt; writer.flush() == Ok(()));
-    let detached = writer.detach()?;
+    let detached = writer.detach().expect(&rt, "a raw");
     assert!(rt; detached.raw.bytes_of() == &b"abc\ndef\nghi\n"[..]);
     Ok(())
 }
@@ -59,7 +57,7 @@ fn a_flush_that_has_to_wait_is_called_again(rt: HostRuntime) -> Result<(), Fail>
     assert!(rt; writer.life() == Life::Live);
     assert!(rt; writer.flush() == Ok(())); // later: now the raw has them
     assert!(rt; writer.tell() == Ok(6));
-    let detached = writer.detach()?;
+    let detached = writer.detach().expect(&rt, "a raw");
     assert!(rt; detached.raw.bytes_of() == &b"abcdef"[..]);
     Ok(())
 }
@@ -80,7 +78,7 @@ fn what_a_fault_leaves_is_written_elsewhere(rt: HostRuntime) -> Result<(), Fail>
     let mut writer = writer_to(alloc, detached.raw.bytes_of(), &[], &[], 8)?;
     assert!(rt; writer.seek(2, 0) == Ok(2));
     assert!(rt; writer.write(&detached.unwritten) == Ok(4));
-    let detached = writer.detach()?;
+    let detached = writer.detach().expect(&rt, "a raw");
     assert!(rt; detached.raw.bytes_of() == &b"abcdef"[..]);
     Ok(())
 }
@@ -117,9 +115,7 @@ fn a_close_that_has_to_wait_is_called_again(rt: HostRuntime) -> Result<(), Fail>
     assert!(rt; writer.close() == Err(IoFault::WouldBlock { taken: 0 }));
     assert!(rt; writer.life() == Life::Live);
     assert!(rt; writer.close() == Ok(())); // later
-    let Some(parts) = writer.into_parts() else {
-        return Err(Fail::from("detached"));
-    };
+    let parts = writer.into_parts().expect(&rt, "a raw");
     assert!(rt; parts.raw.bytes_of() == &b"abc"[..]);
     Ok(())
 }
@@ -149,7 +145,7 @@ fn a_seek_that_has_to_wait_stands_where_it_stood(rt: HostRuntime) -> Result<(), 
     assert!(rt; writer.seek(0, 0) == Err(IoFault::WouldBlock { taken: 0 }));
     assert!(rt; writer.tell() == Ok(6)); // it stands where it stood
     assert!(rt; writer.seek(0, 0) == Ok(0)); // later
-    let detached = writer.detach()?;
+    let detached = writer.detach().expect(&rt, "a raw");
     assert!(rt; detached.raw.bytes_of() == &b"abcdef"[..]);
     Ok(())
 }
@@ -157,9 +153,9 @@ fn a_seek_that_has_to_wait_stands_where_it_stood(rt: HostRuntime) -> Result<(), 
 #[test]
 fn lines_that_fail_are_counted_by_place_and_rest(rt: HostRuntime) -> Result<(), Fail> {
     let alloc = rt.alloc();
+    let lines = three_lines(alloc)?;
     // the raw takes three bytes, and then fails
     let mut writer = writer_to(alloc, b"", &[Cut::Take(3), Cut::Break(0)], &[], 4)?;
-    let lines = three_lines(alloc)?;
     assert!(rt; writer.writelines(&lines) == Err(IoFault::RawFault)); // three lines of four bytes, from place 0
     let detached = writer.detach()?;
     assert!(rt; detached.raw.bytes_of() == &b"abc"[..]);

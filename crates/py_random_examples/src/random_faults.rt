@@ -13,7 +13,7 @@ fn a_reading_waits_until_what_is_owed_is_passed_on(rt: HostRuntime) -> Result<()
     assert!(rt; stream.read(alloc, Some(4)) == Ok(None)); // two bytes are still owed
     assert!(rt; stream.tell() == Ok(3));
     assert!(rt; gives(&stream.read(alloc, Some(4)), b"3456")); // later
-    let detached = stream.detach()?;
+    let detached = stream.detach().expect(&rt, "a raw");
     assert!(rt; detached.raw.bytes_of() == &b"abc3456789"[..]);
     Ok(())
 }
@@ -77,7 +77,7 @@ fn a_seek_past_the_bytes_held_waits_for_what_is_owed(rt: HostRuntime) -> Result<
     assert!(rt; stream.tell() == Ok(1)); // it stands where it stood
     assert!(rt; stream.seek(9, 0) == Ok(9)); // later
     assert!(rt; gives(&stream.read(alloc, None), b"9"));
-    let detached = stream.detach()?;
+    let detached = stream.detach().expect(&rt, "a raw");
     assert!(rt; detached.raw.bytes_of() == &b"abc3456789"[..]);
     Ok(())
 }

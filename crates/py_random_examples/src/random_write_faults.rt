@@ -19,7 +19,7 @@ fn a_write_that_has_no_room_is_made_again_where_it_began(rt: HostRuntime) -> Res
     let mut stream = written_back(alloc, detached, 4)?;
     assert!(rt; stream.seek(1, 0) == Ok(1)); // 1 and 0: it stood behind `bc`
     assert!(rt; stream.write(b"wxyz") == Ok(4));
-    let detached = stream.detach()?;
+    let detached = stream.detach().expect(&rt, "a raw");
     assert!(rt; detached.raw.bytes_of() == &b"awxyz56789"[..]);
     Ok(())
 }
@@ -37,7 +37,7 @@ fn a_large_write_that_fails_goes_on_behind_what_was_taken(rt: HostRuntime) -> Re
     assert!(rt; detached.place == Some(4));
     let mut stream = written_back(alloc, detached, 4)?;
     assert!(rt; stream.write(b"efghi") == Ok(5)); // from the fifth byte on
-    let detached = stream.detach()?;
+    let detached = stream.detach().expect(&rt, "a raw");
     assert!(rt; detached.raw.bytes_of() == &b"abcdefghi9"[..]);
     Ok(())
 }
@@ -45,10 +45,10 @@ fn a_large_write_that_fails_goes_on_behind_what_was_taken(rt: HostRuntime) -> Re
 #[test]
 fn lines_that_fail_go_on_behind_what_was_taken(rt: HostRuntime) -> Result<(), Fail> {
     let alloc = rt.alloc();
+    let lines = three_lines(alloc)?;
     // the raw is read, takes three bytes, and then fails
     let plan = [Cut::Take(4), Cut::Take(3), Cut::Break(0)];
     let mut stream = random_over(alloc, b"0123456789", &plan, &[], 4)?;
-    let lines = three_lines(alloc)?;
     assert!(rt; gives(&stream.read(alloc, Some(2)), b"01"));
     assert!(rt; stream.writelines(&lines) == Err(IoFault::RawFault)); // three lines of four bytes, from place 2
     assert!(rt; stream.taken() == 4); // the first line
@@ -58,7 +58,7 @@ fn lines_that_fail_go_on_behind_what_was_taken(rt: HostRuntime) -> Result<(), Fa
     let mut stream = written_back(alloc, detached, 4)?;
     assert!(rt; stream.seek(6, 0) == Ok(6)); // 2 and 4
     assert!(rt; stream.write(b"def\nghi\n") == Ok(8)); // what is left of the lines joined
-    let detached = stream.detach()?;
+    let detached = stream.detach().expect(&rt, "a raw");
     assert!(rt; detached.raw.bytes_of() == &b"01abc\ndef\nghi\n"[..]);
     Ok(())
 }
@@ -77,7 +77,7 @@ fn a_truncate_that_fails_to_pass_on_is_made_again(rt: HostRuntime) -> Result<(),
     assert!(rt; detached.place == Some(1));
     let mut stream = written_back(alloc, detached, 4)?;
     assert!(rt; stream.truncate(Some(5)) == Ok(5));
-    let detached = stream.detach()?;
+    let detached = stream.detach().expect(&rt, "a raw");
     assert!(rt; detached.raw.bytes_of() == &b"abc34"[..]);
     Ok(())
 }
